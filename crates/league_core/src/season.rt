@@ -1,0 +1,141 @@
+//! The season: each fixture's score or none, each club's deduction, and the events that change it.
+//!
+//! Contracts see a season as the record `Results`. Every call but `unplayed` and `copy` takes no
+//! memory.
+
+ghost use Rattle.std.specs.Prelude.{◌≡◌, ◌<◌, ◌↔◌, length, slice_index, slice_index_or, slice_set, IfOk, IsTrue, None};
+ghost use Rattle.league_core.specs.Results.{are_results, is_score_or_none};
+ghost use Rattle.league_core.specs.Seasons.{unplayed_season, event_applied, IsEventOf};
+
+use crate::memory::OutOfMemory;
+use std::alloc::Global;
+use std::marker::Model;
+
+/// Goals of the home side and of the away side, 0 to 99 each in a season.
+#[derive(Clone, Copy, Debug, PartialEq, Eq)]
+pub struct Score {
+    pub home: u8,
+    pub away: u8,
+}
+
+/// What a feed may report of one fixture, by its number from 0.
+#[derive(Clone, Copy, Debug, PartialEq, Eq)]
+pub enum Event {
+    /// The fixture has this score, as a result or as a correction.
+    Set { fixture: u16, score: Score },
+    /// The fixture counts as not played.
+    Clear { fixture: u16 },
+}
+
+/// What has been played. No score has more than 99 goals a side, no deduction more than 99 points.
+#[derive(Drop)]
+pub struct Season {
+    scores: Vec<Option<Score>>,
+    deductions: Vec<u8>,
+}
+
+impl Model for Season {
+    ghost use Rattle.league_core.specs.Results.{Results};
+
+    ghost Value = { Results };
+
+    ghost use Rattle.std.specs.Prelude.{IsTrue};
+    ghost use Rattle.league_core.specs.Results.{are_results};
+
+    ghost view = { λ season. record { scores = season.scores.items; deductions = season.deductions.items } };
+
+    ghost invariant = { λ season.
+        IsTrue (are_results (record { scores = season.scores.items; deductions = season.deductions.items })) };
+}
+
+impl Season {
+    /// No score, and no deduction, for so many clubs and fixtures.
+    pub fn unplayed(alloc: Global, clubs: usize, fixtures: usize) -> Result<Season, OutOfMemory>
+        ensures { IfOk result (λ season. season ≡ unplayed_season clubs fixtures) }
+    {
+        let scores = vec![in alloc; None; fixtures]?;
+        let deductions = vec![in alloc; 0; clubs]?;
+        Ok(Season { scores, deductions })
+    }
+
+    /// The scores in the order of the fixtures.
+    pub fn scores(&self) -> &[Option<Score>]
+        ensures scores { result.now ≡ self.now.scores }
+        ensures within { IsTrue (are_results self.now) }
+    {
+        self.scores.as_slice()
+    }
+
+    /// The deductions in the order of the clubs, in points.
+    pub fn deductions(&self) -> &[u8]
+        ensures deductions { result.now ≡ self.now.deductions }
+        ensures within { IsTrue (are_results self.now) }
+    {
+        self.deductions.as_slice()
+    }
+
+    /// The score of a fixture, by its number from 0.
+    pub fn score(&self, fixture: u16) -> Option<Score>
+        requires { fixture < length self.now.scores }
+        ensures score { result ≡ slice_index_or self.now.scores fixture None }
+        ensures within { IsTrue (is_score_or_none result) }
+    {
+        self.scores[fixture as usize]
+    }
+
+    /// The points taken off a club, by its number from 0.
+    pub fn deducted(&self, club: u8) -> u8
+        requires { club < length self.now.deductions }
+        ensures { result ≡ slice_index self.now.deductions club }
+    {
+        self.deductions[club as usize]
+    }
+
+    /// Takes one event: `Set` puts its score, also over another, `Clear` takes the score away.
+    pub fn apply(&mut self, event: &Event)
+        requires { IsEventOf self.old event.now }
+        ensures { self.new ≡ event_applied self.old event.now }
+    {
+        match event {
+            Event::Set { fixture, score } => self.write(*fixture, Some(*score)),
+            Event::Clear { fixture } => self.write(*fixture, None),
+        }
+    }
+
+    fn write(&mut self, fixture: u16, score: Option<Score>)
+        requires in_range { fixture < length self.old.scores }
+        requires may_be { IsTrue (is_score_or_none score) }
+        ensures { self.new ≡ record self.old { scores = slice_set self.old.scores fixture score } }
+    {
+        self.scores[fixture as usize] = score;
+    }
+
+    /// The same season once more.
+    pub fn copy(&self, alloc: Global) -> Result<Season, OutOfMemory>
+        ensures { IfOk result (λ season. season ≡ self.now) }
+    {
+        let scores = self.scores.as_slice().to_vec(alloc)?;
+        let deductions = self.deductions.as_slice().to_vec(alloc)?;
+        Ok(Season { scores, deductions })
+    }
+
+    /// Both seasons have the same scores and the same deductions.
+    pub fn equals(&self, other: &Season) -> bool
+        ensures { IsTrue result ↔ (self.now ≡ other.now) }
+    {
+        same_scores(self.scores(), other.scores())
+            && same_points(self.deductions(), other.deductions())
+    }
+}
+
+fn same_scores(scores: &[Option<Score>], others: &[Option<Score>]) -> bool
+    ensures { IsTrue result ↔ (scores.now ≡ others.now) }
+{
+    scores == others
+}
+
+fn same_points(points: &[u8], others: &[u8]) -> bool
+    ensures { IsTrue result ↔ (points.now ≡ others.now) }
+{
+    points == others
+}
