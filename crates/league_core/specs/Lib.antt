@@ -9,4 +9,6 @@ pub mod Ahead
 pub mod Ranking
 pub mod Questions
 pub mod Verdicts
+pub mod LotsFor
+pub mod Laws
 pub mod WorkedRows

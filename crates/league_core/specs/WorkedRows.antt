@@ -17,7 +17,7 @@ use Rattle.league_core.specs.Ranking.{place_of, are_lots}
 use Rattle.league_core.specs.Questions.{holds_at, full_question}
 
 -- a sheet of clubs with these ranks, and of these fixtures
-abbrev sheet_of : List ℕ → List Fixture → Sheet
+abbrev pub sheet_of : List ℕ → List Fixture → Sheet
 sheet_of ranks fixtures = record {
   name = [];
   clubs = map (λ rank. record { name = []; rank = rank }) ranks;
@@ -28,15 +28,15 @@ sheet_of ranks fixtures = record {
 }
 
 -- home against away
-abbrev vs : ℕ → ℕ → Fixture
+abbrev pub vs : ℕ → ℕ → Fixture
 vs home away = record { home = home; away = away }
 
 -- a match that ended so
-abbrev ended : ℕ → ℕ → Option Score
+abbrev pub ended : ℕ → ℕ → Option Score
 ended home away = Some (record { home = home; away = away })
 
 -- a season with these scores and deductions
-abbrev played : List (Option Score) → List ℕ → Results
+abbrev pub played : List (Option Score) → List ℕ → Results
 played scores deductions = record { scores = scores; deductions = deductions }
 
 -- the places of all clubs, in sheet order
@@ -45,7 +45,7 @@ places sheet season lots = map (place_of sheet season lots) (clubs_of sheet)
 
 -- ---- two clubs, one match
 
-abbrev pair : List ℕ → Sheet
+abbrev pub pair : List ℕ → Sheet
 pair ranks = sheet_of ranks (vs 0 1 ∷ [])
 
 -- 0:0: all is level, and the fixed rank puts A first, against the lots

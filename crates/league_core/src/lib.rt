@@ -6,6 +6,7 @@
 #![tactic(auto)]
 
 mod finish;
+mod laws;
 mod listing;
 mod lots;
 mod memory;
@@ -14,6 +15,13 @@ mod season;
 mod sheet;
 
 pub use finish::Finish;
+pub use laws::{
+    a_played_season_is_its_only_finish, each_season_has_a_finish, events_are_taken_in_order,
+    lots_give_each_table, more_points_rank_before, one_verdict_at_most,
+    points_are_in_the_full_window, ranking_is_a_total_order, standing_is_a_total_order,
+    standing_is_the_recursion, times_are_enough, two_lots_suffice,
+    two_places_decide_a_played_season,
+};
 pub use listing::{Listing, Name};
 pub use lots::Lots;
 pub use memory::OutOfMemory;

@@ -139,3 +139,23 @@ fn same_points(points: &[u8], others: &[u8]) -> bool
 {
     points == others
 }
+
+#[cfg(test)]
+mod tests {
+    use super::*;
+    use std::test::Fail;
+
+    #[test]
+    fn a_season_is_told_corrected_and_annulled(rt: HostRuntime) -> Result<(), Fail> {
+        let mut season = Season::unplayed(rt.alloc(), 2, 1).ok().ok_or("room")?;
+        assert_eq!(rt; season.scores().len(), 1);
+        let before = season.copy(rt.alloc()).ok().ok_or("room")?;
+        let score = Score { home: 2, away: 1 };
+        season.apply(&Event::Set { fixture: 0, score });
+        assert_eq!(rt; season.score(0), Some(score));
+        assert!(rt; !season.equals(&before));
+        season.apply(&Event::Clear { fixture: 0 });
+        assert!(rt; season.equals(&before));
+        Ok(())
+    }
+}

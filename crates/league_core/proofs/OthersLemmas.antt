@@ -1,0 +1,88 @@
+-- The clubs beside one, in the order of their numbers: who they are, how many, and where lots place a
+-- club that stands before or behind them.
+use Rattle.std.proofs.Common.{◌≡◌, ◌≢◌, ℕ, zero, suc, ◌+◌, ◌<◌, ◌≤◌, Bool, true, false, not, ◌||◌, ◌==◌, cond, List, [], ◌∷◌, ◌++◌, length, filter, refl, sym, ◌∙◌, ap, subst, inl, inr, arith}
+use Rattle.std.specs.List.{range_with_len}
+use Rattle.std.proofs.lemmas.Bool.{false≢true, true≢false, eqb-true, eq-eqb, ne_eqb, cases_eq}
+use Rattle.std.proofs.lemmas.List.Filters.{length-filter_both}
+use Rattle.std.proofs.lemmas.List.FromFn.{length-range_with_len}
+use Rattle.std.proofs.lemmas.Map.Views.{any-filter_same}
+use Rattle.league_core.specs.Sums.{has_club}
+use Rattle.league_core.specs.Ranking.{lot_of}
+use Rattle.league_core.specs.LotsFor.{others_of}
+use Rattle.league_core.proofs.ClubLemmas.{range_has}
+
+-- what a list has not stands in what follows it
+pub lot_of-absent : (lots more : List ℕ) (club : ℕ) → has_club lots club ≡ false
+    → lot_of (lots ++ more) club ≡ length lots + lot_of more club
+lot_of-absent [] more club h = omega arith
+lot_of-absent (drawn ∷ lots) more club h =
+    elim (drawn == club) as (λ b. (b || has_club lots club) ≡ false
+    → cond (not b) (1 + lot_of (lots ++ more) club) 0 ≡ suc (length lots) + lot_of more club) [
+      | true ↦ λ e. absurd (true≢false e)
+      | false ↦ λ e. omega (arith, lot_of-absent lots more club e)
+    ] h
+
+-- what a list has stands in it, whatever follows
+pub lot_of-present : (lots more : List ℕ) (club : ℕ) → has_club lots club ≡ true
+    → lot_of (lots ++ more) club < length lots
+lot_of-present [] more club h = absurd (false≢true h)
+lot_of-present (drawn ∷ lots) more club h =
+    elim (drawn == club) as (λ b. (b || has_club lots club) ≡ true
+    → cond (not b) (1 + lot_of (lots ++ more) club) 0 < suc (length lots)) [
+      | true ↦ λ e. omega arith
+      | false ↦ λ e. omega (arith, lot_of-present lots more club e)
+    ] h
+
+-- the others have not the club
+pub others_have_not : (clubs club : ℕ) → has_club (others_of clubs club) club ≡ false
+others_have_not clubs club =
+    any-filter_same (λ member. member == club) (λ other. not (other == club)) false
+    (λ k same. ap not same) (range_with_len 0 clubs)
+
+-- they have each other one
+pub others_have : (clubs club other : ℕ) → other < clubs → other ≢ club
+    → has_club (others_of clubs club) other ≡ true
+others_have clubs club other below different =
+    any-filter_same (λ member. member == other) (λ third. not (third == club)) true
+    (λ k same. ap not (ne_eqb k club (λ e. different (sym (eqb-true k other same) ∙ e))))
+    (range_with_len 0 clubs)
+    ∙ range_has clubs other below
+
+-- from a later number on a club is not met
+none_of : (from count club : ℕ) → club < from
+    → length (filter (λ other. other == club) (range_with_len from count)) ≡ 0
+none_of from zero club h = refl
+none_of from (suc count) club h =
+    subst (λ (b : Bool). length
+    (cond b (from ∷ filter (λ other. other == club) (range_with_len (from + 1) count))
+    (filter (λ other. other == club) (range_with_len (from + 1) count))) ≡ 0)
+    (sym (ne_eqb from club (omega arith))) (none_of (from + 1) count club (omega arith))
+
+-- of numbers in a row a club is one
+one_of : (from count club : ℕ) → from ≤ club → club < from + count
+    → length (filter (λ other. other == club) (range_with_len from count)) ≡ 1
+one_of from zero club low high = absurd (omega arith)
+one_of from (suc count) club low high =
+    let rest = filter (λ other. other == club) (range_with_len (from + 1) count) in
+    elim (cases_eq from club) [
+      | inl same ↦
+          subst (λ (b : Bool). length (cond b (from ∷ rest) rest) ≡ 1) (sym (eq-eqb from club same))
+          (ap suc (none_of (from + 1) count club (omega arith)))
+      | inr different ↦
+          subst (λ (b : Bool). length (cond b (from ∷ rest) rest) ≡ 1)
+          (sym (ne_eqb from club different))
+          (one_of (from + 1) count club (omega arith) (omega arith))
+    ]
+
+-- the others are one club fewer
+pub length-others_of : (clubs club : ℕ) → club < clubs → length (others_of clubs club) + 1 ≡ clubs
+length-others_of clubs club below =
+    let both = length-filter_both (λ (other : ℕ). not (other == club))
+    (λ (other : ℕ). other == club) (λ other. twice (other == club)) (range_with_len 0 clubs) in
+    let one = one_of 0 clubs club (omega arith) (omega arith) in
+    let all = length-range_with_len 0 clubs in
+    omega arith
+  where
+    twice : (b : Bool) → b ≡ not (not b)
+    twice true = refl
+    twice false = refl

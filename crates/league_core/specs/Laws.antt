@@ -1,0 +1,260 @@
+-- What holds of every season, by the definitions alone: each statement is the contract of a
+-- function of src/laws.rt that does nothing.
+use Rattle.std.specs.Prelude.{◌≡◌, ◌≢◌, ◌⊎◌, ◌<◌, ◌≤◌, ℕ, ◌<ℤ◌, ◌≤ℤ◌, ◌==◌, IsTrue, List, [], ◌∷◌, ◌++◌, length, if◌then◌else◌}
+use Rattle.std.specs.Cmp.{IsTotalOrder}
+use Rattle.std.specs.declared.cmp.Ordering.{Ordering}
+use Rattle.std.specs.declared.cmp.Ordering.TheVariants.{Less, Equal}
+use Rattle.std.specs.Ordering.{nat_cmp, ordering_then}
+use Rattle.league_core.specs.declared.sheet.Sheet.{Sheet}
+use Rattle.league_core.specs.declared.season.Event.{Event}
+use Rattle.league_core.specs.declared.question.Claim.{Claim}
+use Rattle.league_core.specs.declared.question.Claim.TheVariants.{Inside, Outside}
+use Rattle.league_core.specs.declared.question.Question.{Question}
+use Rattle.league_core.specs.Sheets.{IsWithinLimits}
+use Rattle.league_core.specs.Results.{Results, are_results}
+use Rattle.league_core.specs.Seasons.{event_applied, season_after}
+use Rattle.league_core.specs.Finishes.{IsFinishOf, is_played}
+use Rattle.league_core.specs.Sums.{has_club, points_of}
+use Rattle.league_core.specs.HeadToHead.{by_head_to_head, level_with}
+use Rattle.league_core.specs.Ahead.{by_overall, standing_within, standing_in, IsAheadIn}
+use Rattle.league_core.specs.Ranking.{are_lots, lot_of, order_of, ranks_before, place_of, is_inside}
+use Rattle.league_core.specs.Questions.{is_on_side, is_in_window, holds_at, IsExample, full_question}
+use Rattle.league_core.specs.Verdicts.{IsClinched, IsLost, IsPossible}
+use Rattle.league_core.specs.LotsFor.{lots_for_claim, IsFavoured, best_place_of, worst_place_of, order_without_lots}
+
+-- the club ranks before the other
+abbrev pub RanksBefore : Sheet → Results → List ℕ → ℕ → ℕ → Type 0
+RanksBefore sheet season lots club other = IsTrue (ranks_before sheet season lots club other)
+
+-- a club that some lots put on one side of a line is put there by any lots that favour it
+abbrev pub FavouredLotsAreBest : Type 0
+FavouredLotsAreBest =
+    (sheet : Sheet) (finish : Results) (claim : Claim) (club line : ℕ) (lots best : List ℕ)
+    → IsFavoured claim (length sheet.clubs) best club
+    → IsTrue (is_on_side (is_inside sheet finish lots club line) claim)
+    → IsTrue (is_on_side (is_inside sheet finish best club line) claim)
+
+-- a question that holds with some lots holds with any lots that favour its claim
+abbrev pub FavouredLotsAnswer : Type 0
+FavouredLotsAnswer =
+    (sheet : Sheet) (question : Question) (finish : Results) (lots best : List ℕ)
+    → IsFavoured question.claim (length sheet.clubs) best question.club
+    → IsTrue (holds_at sheet question finish lots)
+    → IsTrue (holds_at sheet question finish best)
+
+-- a club's lots for a claim name each club once
+abbrev pub LotsForAClaimAreLots : Type 0
+LotsForAClaimAreLots =
+    (clubs club : ℕ) (claim : Claim) → club < clubs
+    → IsTrue (are_lots clubs (lots_for_claim clubs club claim))
+
+-- they favour the claim
+abbrev pub LotsForAClaimFavourIt : Type 0
+LotsForAClaimFavourIt =
+    (clubs club : ℕ) (claim : Claim) → IsFavoured claim clubs (lots_for_claim clubs club claim) club
+
+-- no lots give a club a better place than its best
+abbrev pub BestPlaceIsLeast : Type 0
+BestPlaceIsLeast =
+    (sheet : Sheet) (season : Results) (lots : List ℕ) (club : ℕ)
+    → best_place_of sheet season club ≤ place_of sheet season lots club
+
+-- no lots give it a worse place than its worst
+abbrev pub WorstPlaceIsGreatest : Type 0
+WorstPlaceIsGreatest =
+    (sheet : Sheet) (season : Results) (lots : List ℕ) (club : ℕ)
+    → place_of sheet season lots club ≤ worst_place_of sheet season club
+
+-- a season in which every fixture has a score is a finish of itself
+abbrev pub PlayedSeasonFinishesItself : Type 0
+PlayedSeasonFinishesItself =
+    (sheet : Sheet) (season : Results) → IsTrue (is_played season) → IsFinishOf sheet season season
+
+-- and it has no other finish
+abbrev pub PlayedSeasonIsItsOnlyFinish : Type 0
+PlayedSeasonIsItsOnlyFinish =
+    (sheet : Sheet) (season finish : Results)
+    → IsTrue (is_played season) → IsFinishOf sheet season finish → finish ≡ season
+
+-- in a played season a club has clinched a line if its worst place is inside it
+abbrev pub ClinchedByTheWorstPlace : Type 0
+ClinchedByTheWorstPlace =
+    (sheet : Sheet) (season : Results) (club line : ℕ) → IsTrue (is_played season)
+    → worst_place_of sheet season club ≤ line → IsClinched sheet season club line
+
+-- and has lost it if its best place is outside it
+abbrev pub LostByTheBestPlace : Type 0
+LostByTheBestPlace =
+    (sheet : Sheet) (season : Results) (club line : ℕ) → IsTrue (is_played season)
+    → line < best_place_of sheet season club → IsLost sheet season club line
+
+-- a best place inside the line is an example of it, with the season as its own finish
+abbrev pub BestPlaceIsAnExample : Type 0
+BestPlaceIsAnExample =
+    (sheet : Sheet) (season : Results) (club line : ℕ)
+    → IsWithinLimits sheet → IsTrue (are_results season) → IsTrue (is_played season)
+    → club < length sheet.clubs → best_place_of sheet season club ≤ line
+    → IsExample sheet season (full_question club line Inside) season
+    (lots_for_claim (length sheet.clubs) club Inside)
+
+-- a worst place outside the line is an example of that
+abbrev pub WorstPlaceIsAnExample : Type 0
+WorstPlaceIsAnExample =
+    (sheet : Sheet) (season : Results) (club line : ℕ)
+    → IsWithinLimits sheet → IsTrue (are_results season) → IsTrue (is_played season)
+    → club < length sheet.clubs → line < worst_place_of sheet season club
+    → IsExample sheet season (full_question club line Outside) season
+    (lots_for_claim (length sheet.clubs) club Outside)
+
+-- no points of a sheet within limits fall out of the full window
+abbrev pub PointsAreInTheFullWindow : Type 0
+PointsAreInTheFullWindow =
+    (sheet : Sheet) (season : Results) (club line : ℕ) (claim : Claim)
+    → IsWithinLimits sheet → IsTrue (are_results season)
+    → IsTrue (is_in_window (full_question club line claim) (points_of sheet season club))
+
+-- the order of the ranking is total, whatever the season and the lots
+abbrev pub RankingIsATotalOrder : Type 0
+RankingIsATotalOrder =
+    (sheet : Sheet) (season : Results) (lots : List ℕ) → IsTotalOrder (order_of sheet season lots)
+
+-- of two different clubs of the sheet one ranks before the other
+abbrev pub OneOfTwoRanksBefore : Type 0
+OneOfTwoRanksBefore =
+    (sheet : Sheet) (season : Results) (lots : List ℕ) (club other : ℕ)
+    → IsTrue (are_lots (length sheet.clubs) lots)
+    → club < length sheet.clubs → other < length sheet.clubs → club ≢ other
+    → RanksBefore sheet season lots club other ⊎ RanksBefore sheet season lots other club
+
+-- and the other then does not rank before it
+abbrev pub NeverBothRankBefore : Type 0
+NeverBothRankBefore =
+    (sheet : Sheet) (season : Results) (lots : List ℕ) (club other : ℕ)
+    → RanksBefore sheet season lots club other → ¬ RanksBefore sheet season lots other club
+
+-- no club ranks before itself
+abbrev pub NoneRanksBeforeItself : Type 0
+NoneRanksBeforeItself =
+    (sheet : Sheet) (season : Results) (lots : List ℕ) (club : ℕ)
+    → ¬ RanksBefore sheet season lots club club
+
+-- a club that ranks before another one has the lower place
+abbrev pub BeforeIsALowerPlace : Type 0
+BeforeIsALowerPlace =
+    (sheet : Sheet) (season : Results) (lots : List ℕ) (club other : ℕ)
+    → club < length sheet.clubs → RanksBefore sheet season lots club other
+    → place_of sheet season lots club < place_of sheet season lots other
+
+-- no place is behind the number of clubs
+abbrev pub PlacesAreAsManyAsClubs : Type 0
+PlacesAreAsManyAsClubs =
+    (sheet : Sheet) (season : Results) (lots : List ℕ) (club : ℕ)
+    → club < length sheet.clubs → place_of sheet season lots club ≤ length sheet.clubs
+
+-- the standing in a group is a total order of the clubs and of their blocks
+abbrev pub StandingIsATotalOrder : Type 0
+StandingIsATotalOrder =
+    (sheet : Sheet) (season : Results) (group : List ℕ)
+    → IsTotalOrder (standing_in sheet season group)
+
+-- of two clubs one at most is ahead
+abbrev pub OneAtMostIsAhead : Type 0
+OneAtMostIsAhead =
+    (sheet : Sheet) (season : Results) (group : List ℕ) (club other : ℕ)
+    → IsAheadIn sheet season group club other → ¬ IsAheadIn sheet season group other club
+
+-- two clubs of which neither is ahead stand alike to each third club
+abbrev pub BlocksStandAlike : Type 0
+BlocksStandAlike =
+    (sheet : Sheet) (season : Results) (group : List ℕ) (club other third : ℕ)
+    → standing_in sheet season group club other ≡ Equal
+    → standing_in sheet season group club third ≡ standing_in sheet season group other third
+
+-- and each third club stands alike to them
+abbrev pub EachStandsAlikeToABlock : Type 0
+EachStandsAlikeToABlock =
+    (sheet : Sheet) (season : Results) (group : List ℕ) (club other third : ℕ)
+    → standing_in sheet season group club other ≡ Equal
+    → standing_in sheet season group third club ≡ standing_in sheet season group third other
+
+-- for a club of the group any two numbers of times that its clubs do not exceed give one standing
+abbrev pub TimesAreEnough : Type 0
+TimesAreEnough =
+    (sheet : Sheet) (season : Results) (group : List ℕ) (club other times more : ℕ)
+    → IsTrue (has_club group club) → length group ≤ times → length group ≤ more
+    → standing_within times sheet season group club other
+    ≡ standing_within more sheet season group club other
+
+-- the rule as it is said: the head-to-head record; where that is one, the sums over all matches if
+-- the clubs with that record are the whole group, else the standing among those clubs
+abbrev pub standing_by_the_rule : Sheet → Results → List ℕ → ℕ → ℕ → Ordering
+standing_by_the_rule sheet season group club other =
+    let level = level_with sheet season group club in
+    let overall = by_overall sheet season club other in
+    let again = standing_in sheet season level club other in
+    ordering_then (by_head_to_head sheet season group club other)
+    (if length level == length group then overall else again)
+
+-- for a club of the group the standing is the one by the rule
+abbrev pub StandingIsByTheRule : Type 0
+StandingIsByTheRule =
+    (sheet : Sheet) (season : Results) (group : List ℕ) (club other : ℕ)
+    → IsTrue (has_club group club)
+    → standing_in sheet season group club other ≡ standing_by_the_rule sheet season group club other
+
+-- a club with more points ranks before one with fewer
+abbrev pub MorePointsRankBefore : Type 0
+MorePointsRankBefore =
+    (sheet : Sheet) (season : Results) (lots : List ℕ) (club other : ℕ)
+    → points_of sheet season other <ℤ points_of sheet season club
+    → RanksBefore sheet season lots club other
+
+-- no club ranks before one with more points
+abbrev pub NoneRanksBeforeMorePoints : Type 0
+NoneRanksBeforeMorePoints =
+    (sheet : Sheet) (season : Results) (lots : List ℕ) (club other : ℕ)
+    → RanksBefore sheet season lots club other
+    → points_of sheet season other ≤ℤ points_of sheet season club
+
+-- the season after one event more is the season before it, with that event applied
+abbrev pub EventsAreTakenInOrder : Type 0
+EventsAreTakenInOrder =
+    (sheet : Sheet) (events : List Event) (event : Event)
+    → season_after sheet (events ++ event ∷ []) ≡ event_applied (season_after sheet events) event
+
+-- each season has a finish
+abbrev pub EachSeasonHasAFinish : Type 0
+EachSeasonHasAFinish =
+    (sheet : Sheet) (season : Results) → (finish : Results) × IsFinishOf sheet season finish
+
+-- what is possible is not clinched
+abbrev pub PossibleExcludesClinched : Type 0
+PossibleExcludesClinched =
+    (sheet : Sheet) (season : Results) (club line : ℕ)
+    → IsPossible sheet season club line → ¬ IsClinched sheet season club line
+
+-- nor lost
+abbrev pub PossibleExcludesLost : Type 0
+PossibleExcludesLost =
+    (sheet : Sheet) (season : Results) (club line : ℕ)
+    → IsPossible sheet season club line → ¬ IsLost sheet season club line
+
+-- no club has clinched a line and lost it
+abbrev pub ClinchedExcludesLost : Type 0
+ClinchedExcludesLost =
+    (sheet : Sheet) (season : Results) (club line : ℕ)
+    → IsWithinLimits sheet → IsTrue (are_results season) → club < length sheet.clubs
+    → IsClinched sheet season club line → ¬ IsLost sheet season club line
+
+-- no club stands in the table behind one that points or criteria put after it
+abbrev pub IsAllowedTable : Sheet → Results → List ℕ → Type 0
+IsAllowedTable sheet season table =
+    (club other : ℕ) → club < length sheet.clubs → other < length sheet.clubs
+    → order_without_lots sheet season club other ≡ Less → lot_of table club < lot_of table other
+
+-- a table that is allowed is the one that it gives as lots
+abbrev pub AllowedTableAsLots : Type 0
+AllowedTableAsLots =
+    (sheet : Sheet) (season : Results) (table : List ℕ) → IsAllowedTable sheet season table
+    → (club other : ℕ) → club < length sheet.clubs → other < length sheet.clubs
+    → order_of sheet season table club other ≡ nat_cmp (lot_of table club) (lot_of table other)
