@@ -8,12 +8,18 @@ use Rattle.league_core.specs.Results.{Results}
 use Rattle.league_core.specs.Finishes.{same_score, may_all_end, IsFinishOf, is_played}
 
 -- the same goals on both sides make the same score
-same_score-true : (score other : Score) → same_score score other ≡ true → other ≡ score
+pub same_score-true : (score other : Score) → same_score score other ≡ true → other ≡ score
 same_score-true score other h =
     let parts = and_parts (score.home == other.home) (score.away == other.away) h in
     let home : other.home ≡ score.home = sym (eqb-true score.home other.home parts.0) in
     let away : other.away ≡ score.away = sym (eqb-true score.away other.away parts.1) in
     λ i. record { home = home i; away = away i }
+
+-- a score is the same as itself
+pub same_score-itself : (score : Score) → same_score score score ≡ true
+same_score-itself score =
+    and_from (score.home == score.home) (score.away == score.away)
+    (eq-eqb score.home score.home refl) (eq-eqb score.away score.away refl)
 
 -- what is played ends as it was played
 may_all_end-played : (limit : ℕ) (season finish : List (Option Score))

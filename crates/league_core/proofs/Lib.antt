@@ -1,8 +1,9 @@
--- Lemmas on one notion each: results, comparisons, lists of clubs, standings, the ranking, places,
--- lots, finishes, points and verdicts.
+-- Lemmas on one notion each: results, comparisons, lists of clubs, sets of clubs, standings, the ranking,
+-- places, lots, finishes, points and verdicts, options, ranges of points.
 pub mod ResultsLemmas
 pub mod OrderingLemmas
 pub mod ClubLemmas
+pub mod ClubSetLemmas
 pub mod StandingLemmas
 pub mod TimesLemmas
 pub mod RankingLemmas
@@ -11,7 +12,11 @@ pub mod TableLemmas
 pub mod OthersLemmas
 pub mod LotsLemmas
 pub mod FinishLemmas
+pub mod FinishListLemmas
 pub mod PointsLemmas
 pub mod VerdictLemmas
 pub mod OneVerdictLemmas
+pub mod EachVerdictLemmas
 pub mod WorkedVerdicts
+pub mod OptionLemmas
+pub mod PointRangeLemmas

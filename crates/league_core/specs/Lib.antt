@@ -4,6 +4,7 @@ pub mod Results
 pub mod Seasons
 pub mod Finishes
 pub mod Sums
+pub mod ClubSets
 pub mod HeadToHead
 pub mod Ahead
 pub mod Ranking
@@ -11,4 +12,15 @@ pub mod Questions
 pub mod Verdicts
 pub mod LotsFor
 pub mod Laws
+pub mod FinishList
+pub mod FinishLaws
+pub mod Zones
+pub mod Options
+pub mod PointRanges
+pub mod SureOrder
+pub mod Reasons
+pub mod Proposals
+pub mod Trees
+pub mod ZoneLaws
 pub mod WorkedRows
+pub mod ZoneRows

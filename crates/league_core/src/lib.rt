@@ -5,7 +5,9 @@
 //! values with the same content are equal.
 #![tactic(auto)]
 
+mod club_set;
 mod finish;
+mod finish_laws;
 mod laws;
 mod listing;
 mod lots;
@@ -13,8 +15,14 @@ mod memory;
 mod question;
 mod season;
 mod sheet;
+mod sure;
+mod tree;
+mod zone;
+mod zone_laws;
 
+pub use club_set::ClubSet;
 pub use finish::Finish;
+pub use finish_laws::{finishes_are_listed, one_verdict_at_least};
 pub use laws::{
     a_played_season_is_its_only_finish, each_season_has_a_finish, events_are_taken_in_order,
     lots_give_each_table, more_points_rank_before, one_verdict_at_most,
@@ -25,6 +33,10 @@ pub use laws::{
 pub use listing::{Listing, Name};
 pub use lots::Lots;
 pub use memory::OutOfMemory;
-pub use question::{Claim, ClubSet, Question};
+pub use question::{Claim, Question};
 pub use season::{Event, Score, Season};
 pub use sheet::{Club, Fixture, Sheet};
+pub use sure::Sure;
+pub use tree::TreeNode;
+pub use zone::{Literal, Reason, Test, Zone};
+pub use zone_laws::finishes_take_options;

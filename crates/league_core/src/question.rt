@@ -1,4 +1,4 @@
-//! What can be asked of a season, and the sets of clubs that answers speak of.
+//! What can be asked of a season.
 
 /// The side of the line that a question asks for.
 #[derive(Clone, Copy, Debug, PartialEq, Eq)]
@@ -21,10 +21,4 @@ pub struct Question {
     pub low: i32,
     /// The greatest points of the window.
     pub high: i32,
-}
-
-/// A set of clubs: bit i stands for club i.
-#[derive(Clone, Copy, Debug, PartialEq, Eq)]
-pub struct ClubSet {
-    pub bits: u32,
 }

@@ -1,0 +1,14 @@
+-- What holds of zones and their options by the definitions alone: each statement is the contract of
+-- a function of src/zone_laws.rt that does nothing.
+use Rattle.std.specs.Prelude.{◌↔◌, []}
+use Rattle.league_core.specs.declared.sheet.Sheet.{Sheet}
+use Rattle.league_core.specs.Results.{Results}
+use Rattle.league_core.specs.Finishes.{IsFinishOf}
+use Rattle.league_core.specs.Options.{IsInBox}
+
+-- a finish of the season takes an option of each fixture where no literal is asked for, and each
+-- choice of such options is a finish
+abbrev pub FinishesTakeOptions : Type 0
+FinishesTakeOptions =
+    (sheet : Sheet) (season finish : Results)
+    → IsFinishOf sheet season finish ↔ IsInBox sheet season [] finish

@@ -1,0 +1,94 @@
+//! Sets of clubs: a number each, whose bit i stands for club i.
+//!
+//! Contracts see the clubs of a set in the order of the sheet. No call takes memory, and each but
+//! `len` and `first` takes a few steps.
+
+ghost use Rattle.std.specs.Prelude.{◌≡◌, ◌<◌, ◌≤◌, ◌==◌, ◌&&◌, ◌||◌, not, ℕ, [], length, IsTrue, ◌↔◌};
+ghost use Rattle.std.specs.List.{range_with_len};
+ghost use Rattle.league_core.specs.Sums.{has_club};
+ghost use Rattle.league_core.specs.ClubSets.{clubs_in};
+
+/// A set of clubs: bit i stands for club i.
+#[derive(Clone, Copy, Debug, PartialEq, Eq)]
+pub struct ClubSet {
+    pub bits: u32,
+}
+
+impl ClubSet {
+    /// The set without a club.
+    pub fn empty() -> ClubSet
+        ensures { clubs_in result ≡ [] }
+    {
+        ClubSet { bits: 0 }
+    }
+
+    /// The clubs 0, 1 and so on, so many of them.
+    pub fn first(clubs: u8) -> ClubSet
+        requires { clubs ≤ 32 }
+        ensures { clubs_in result ≡ range_with_len 0 clubs }
+    {
+        let mut found = ClubSet::empty();
+        for club in 0..clubs {
+            found = found.with_if(true, club);
+        }
+        found
+    }
+
+    pub fn has(self, club: u8) -> bool
+        ensures { result ≡ has_club (clubs_in self) club }
+    {
+        club < 32 && (self.bits >> club) & 1 == 1
+    }
+
+    /// The set, and where `keep` is true the club too.
+    pub fn with_if(self, keep: bool, club: u8) -> ClubSet
+        requires { club < 32 }
+        ensures { (other : ℕ) → has_club (clubs_in result) other
+            ≡ (has_club (clubs_in self) other || (keep && (club == other))) }
+    {
+        if keep {
+            ClubSet {
+                bits: self.bits | 1 << club,
+            }
+        } else {
+            self
+        }
+    }
+
+    /// The clubs of either set.
+    pub fn union(self, other: ClubSet) -> ClubSet
+        ensures { (club : ℕ) → has_club (clubs_in result) club
+            ≡ (has_club (clubs_in self) club || has_club (clubs_in other) club) }
+    {
+        ClubSet {
+            bits: self.bits | other.bits,
+        }
+    }
+
+    /// The clubs of the set that are not in the other.
+    pub fn without(self, other: ClubSet) -> ClubSet
+        ensures { (club : ℕ) → has_club (clubs_in result) club
+            ≡ (has_club (clubs_in self) club && not (has_club (clubs_in other) club)) }
+    {
+        ClubSet {
+            bits: self.bits & !other.bits,
+        }
+    }
+
+    pub fn is_empty(self) -> bool
+        ensures { IsTrue result ↔ (clubs_in self ≡ []) }
+    {
+        self.bits == 0
+    }
+
+    /// How many clubs the set has.
+    pub fn len(self) -> u8
+        ensures { result ≡ length (clubs_in self) }
+    {
+        let mut clubs = 0;
+        for club in 0..32 {
+            clubs += u8::from(self.has(club));
+        }
+        clubs
+    }
+}

@@ -1,0 +1,21 @@
+//! The laws of finishes: functions that do nothing, each with laws as contract.
+//!
+//! The statements are in `specs/FinishLaws.antt`, and the list of all finishes is in
+//! `specs/FinishList.antt`.
+
+ghost use Rattle.league_core.specs.FinishLaws.{FinishesAreListed, FinishesAreCounted};
+ghost use Rattle.league_core.specs.FinishLaws.{FinishesAreNumbered};
+ghost use Rattle.league_core.specs.FinishLaws.{OneVerdictHolds};
+
+/// A season has finitely many finishes: those of a list, which is as long as the product of the
+/// ways in which each fixture may end.
+pub fn finishes_are_listed()
+    ensures listed { FinishesAreListed }
+    ensures counted { FinishesAreCounted }
+    ensures numbered { FinishesAreNumbered }
+{}
+
+/// For each club and line one of clinched, lost and possible holds.
+pub fn one_verdict_at_least()
+    ensures { OneVerdictHolds }
+{}

@@ -1,0 +1,11 @@
+//! The laws of zones: functions that do nothing, each with a law as its contract.
+//!
+//! The statements are in `specs/ZoneLaws.antt`. They hold by the definitions alone, for every sheet
+//! and every season, so that code and proofs elsewhere may rest on them.
+
+ghost use Rattle.league_core.specs.ZoneLaws.{FinishesTakeOptions};
+
+/// A finish is one option for each fixture, and nothing else is.
+pub fn finishes_take_options()
+    ensures { FinishesTakeOptions }
+{}
