@@ -1,0 +1,20 @@
+use Rattle.std.proofs.Common.{◌≡◌, ◌-◌, ◌∙◌, ap, take, length, arith}
+use Rattle.std.proofs.lemmas.List.{take_at}
+use Rattle.port_core.specs.Window.{part}
+use Rattle.port_core.proofs.PieceLemmas.{Fills-behind}
+use Rattle.port_core.proofs.window.Window.fill.Goals as goal
+
+-- what was in hand stands at the front, and the read put its bytes behind it
+pub returns-in-Bytes-clause-bytes : goal.returns-in-Bytes-clause-bytes
+returns-in-Bytes-clause-bytes g c =
+    let count = c.self.inside.to - c.self.inside.from in
+    let moved : length c.move_to_front.new.bytes ≡ c.self.inside.bytes.len =
+    omega (arith, c.move_to_front.auto.bytes, c.deref_mut.ensures.len) in
+    let filled : length c.read_behind-got.new.bytes ≡ c.self.inside.bytes.len =
+    omega (arith, c.read_behind-got.auto.bytes, c.deref_mut-2.ensures.len) in
+    let kept = ap (take count) (c.deref_mut-2.ensures.value ∙ take_at _ _ _ moved)
+    ∙ c.move_to_front.ensures
+    ∙ ap (part c.self.inside.from c.self.inside.to) c.deref_mut.ensures.value
+    ∙ c.self.view_is in
+    Fills-behind _ _ _ c.in-Bytes.count count _ _ _ _ c.in-Bytes.is kept
+    c.read_behind-got.ensures.bytes (take_at _ _ _ filled)

@@ -1,0 +1,21 @@
+use Rattle.std.proofs.Common.{◌≡◌, ◌-◌, ◌≤◌, length, take}
+use Rattle.std.specs.Io.KnownBytes.{prepend_known}
+use Rattle.port_core.specs.Lines.{HasNoLineFeed}
+use Rattle.port_core.specs.Reading.{IsReady}
+use Rattle.port_core.specs.declared.window.TheConstants.{ROOM}
+use Rattle.port_core.proofs.window.await_line.Given as goal
+
+-- nothing is lost; the bytes seen so far have no LF; what was ready at first was not touched
+abbrev pub invariant-reads : goal.invariant-reads
+invariant-reads g l = record {
+  stream : prepend_known l.fn.held (g.S.Source.left l.fn.source) ≡ prepend_known l.held
+      (g.S.Source.left l.source);
+  seen : l.seen ≤ length l.held;
+  unended : HasNoLineFeed (take l.seen l.held);
+  counts : g.S.Source.faults l.fn.source ≤ g.S.Source.faults l.source;
+  ready : IsReady l.fn.held → (l.source ≡ l.fn.source) × (l.held ≡ l.fn.held);
+}
+
+-- the room that is left
+abbrev pub decreases-reads : goal.decreases-reads
+decreases-reads g l = ROOM - length l.held

@@ -1,0 +1,8 @@
+-- Reading order: what a device promises, what a line is, what the reader of lines answers, the
+-- devices over memory and over std, and what inner calls promise each other.
+pub mod Ports
+pub mod Lines
+pub mod Reading
+pub mod Memory
+pub mod Adapters
+pub mod Window

@@ -1,0 +1,55 @@
+-- Sources and sinks: what a read or a write does to the bytes that a device tells, and to its count
+-- of faults.
+use Rattle.std.specs.Prelude.{◌≡◌, ℕ, ◌+◌, ◌-◌, ◌^◌, ◌<◌, ◌≤◌, min, List, ◌++◌, length, take, Option}
+use Rattle.std.specs.Io.KnownBytes.{prepend_known, append_known, IsAtEnd}
+use Rattle.port_core.specs.declared.ports.Got.{Got}
+use Rattle.port_core.specs.declared.ports.Got.TheVariants.{Bytes}
+use Rattle.port_core.specs.declared.ports.Got.TheVariants as got
+use Rattle.port_core.specs.declared.ports.Put.{Put}
+use Rattle.port_core.specs.declared.ports.Put.TheVariants.{Took}
+use Rattle.port_core.specs.declared.ports.Put.TheVariants as put
+
+-- the next number of a count that stays at the last value of a u64
+abbrev pub next_count : ℕ → ℕ
+next_count count = min (count + 1) (2 ^ 64 - 1)
+
+-- a count of faults rose: it is greater than before, or stands at its last value
+abbrev pub Rose : ℕ → ℕ → Type 0
+Rose before now = (before ≤ now) × (next_count before ≤ now)
+
+-- a read hands on the first of the bytes that were left, none only at their end; a failed one loses
+-- none
+abbrev pub Reads : Option (List ℕ) → Option (List ℕ) → Got → List ℕ → Type 0
+Reads old new (Bytes n) into =
+    (n ≤ length into) × (old ≡ prepend_known (take n into) new) × (n ≡ 0 → IsAtEnd new)
+Reads old new got.Failed into = old ≡ new
+
+-- a read fails only where the count of faults rose, and never lets it fall
+abbrev pub CountsRead : ℕ → ℕ → Got → Type 0
+CountsRead before now (Bytes n) = before ≤ now
+CountsRead before now got.Failed = Rose before now
+
+-- a write takes a byte at least, and puts what it takes behind the bytes that the sink holds; a
+-- failed one takes none
+abbrev pub Writes : Option (List ℕ) → Option (List ℕ) → Put → List ℕ → Type 0
+Writes old new (Took n) piece =
+    (0 < n) × (n ≤ length piece) × (new ≡ append_known old (take n piece))
+Writes old new put.Failed piece = new ≡ old
+
+-- a write fails only where the count of faults rose, and never lets it fall
+abbrev pub CountsWrite : ℕ → ℕ → Put → Type 0
+CountsWrite before now (Took n) = before ≤ now
+CountsWrite before now put.Failed = Rose before now
+
+-- a text begins with these bytes
+abbrev pub IsFront : List ℕ → List ℕ → Type 0
+IsFront part text = (rest : List ℕ) × (text ≡ part ++ rest)
+
+-- a sink took some front of a text, perhaps none of it
+abbrev pub AppendsFront : Option (List ℕ) → Option (List ℕ) → List ℕ → Type 0
+AppendsFront old new text = (part : List ℕ) × IsFront part text × (new ≡ append_known old part)
+
+-- two texts put behind known bytes one after the other are their joined text put there at once
+abbrev pub AppendsInTurn : Type 0
+AppendsInTurn = (known : Option (List ℕ)) (first second : List ℕ)
+    → append_known (append_known known first) second ≡ append_known known (first ++ second)

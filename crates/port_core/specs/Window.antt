@@ -1,0 +1,57 @@
+-- What the parts of the reader of lines promise each other: bytes in hand, filled from a source
+-- until a line is whole.
+use Rattle.std.specs.Prelude.{◌≡◌, ℕ, ◌+◌, ◌<◌, ◌≤◌, List, ◌∷◌, ◌++◌, length, take, drop, Option}
+use Rattle.std.specs.Io.KnownBytes.{prepend_known, IsAtEnd}
+use Rattle.port_core.specs.declared.ports.Got.{Got}
+use Rattle.port_core.specs.declared.ports.Got.TheVariants.{Bytes}
+use Rattle.port_core.specs.declared.ports.Got.TheVariants as got
+use Rattle.port_core.specs.declared.window.Due.{Due}
+use Rattle.port_core.specs.declared.window.Due.TheVariants.{Ended, Open, Stuck}
+use Rattle.port_core.specs.declared.window.Due.TheVariants as due
+use Rattle.port_core.specs.Ports.{Rose}
+use Rattle.port_core.specs.Lines.{HasNoLineFeed, line_feed, line_limit}
+
+-- the bytes of a list from one place up to another
+abbrev pub part : ℕ → ℕ → List ℕ → List ℕ
+part from to bytes = drop from (take to bytes)
+
+-- a read behind the first bytes of a list: those stay, and the next bytes of the source stand
+-- behind them
+abbrev pub ReadsBehind : Option (List ℕ) → Option (List ℕ) → Got → ℕ → List ℕ → List ℕ → Type 0
+ReadsBehind left left' (Bytes n) to old new =
+    (to + n ≤ length new) × (take to new ≡ take to old)
+    × (left ≡ prepend_known (take n (drop to new)) left') × (n ≡ 0 → IsAtEnd left')
+ReadsBehind left left' got.Failed to old new = (take to new ≡ take to old) × (left ≡ left')
+
+-- what one read adds to the bytes in hand, and what it takes from the source
+abbrev pub Fills : Option (List ℕ) → Option (List ℕ) → Got → List ℕ → List ℕ → Type 0
+Fills left left' (Bytes n) old new =
+    (bytes : List ℕ) × (new ≡ old ++ bytes) × (length bytes ≡ n)
+    × (left ≡ prepend_known bytes left') × (n ≡ 0 → IsAtEnd left')
+Fills left left' got.Failed old new = (new ≡ old) × (left ≡ left')
+
+-- the first LF among these bytes stands at this place
+abbrev pub EndsAt : List ℕ → ℕ → Type 0
+EndsAt bytes place = HasNoLineFeed (take place bytes)
+    × (bytes ≡ take place bytes ++ line_feed ∷ drop (place + 1) bytes)
+
+-- more bytes without LF stand at the front than a line may have
+abbrev pub IsOverlong : List ℕ → Type 0
+IsOverlong bytes = (line_limit < length bytes) × HasNoLineFeed (take (line_limit + 1) bytes)
+
+-- no whole line is in hand, and not too much for one
+abbrev pub IsPartial : List ℕ → Type 0
+IsPartial held = HasNoLineFeed held × (length held ≤ line_limit)
+
+-- the bytes in hand when the line that is due has ended, or its end is the input's, or the source
+-- failed, or it is too long
+abbrev pub IsDue : List ℕ → Option (List ℕ) → Due → Type 0
+IsDue held left (Ended place) = EndsAt held place × (place < length held) × (place ≤ line_limit)
+IsDue held left Open = IsPartial held × IsAtEnd left
+IsDue held left due.Failed = IsPartial held
+IsDue held left Stuck = IsOverlong held
+
+-- waiting for a line fails only where the source's count rose, and that count never falls
+abbrev pub CountsDue : ℕ → ℕ → Due → Type 0
+CountsDue before now due.Failed = Rose before now
+CountsDue before now _ = before ≤ now

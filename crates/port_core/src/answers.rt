@@ -1,0 +1,26 @@
+//! What reading a line and writing a row answer.
+
+/// The most bytes that a line may have before its LF.
+pub const LINE_LIMIT: usize = 1024;
+
+/// A line, or the end of the input. Lines are numbered from 1; the end has the number after the
+/// last line.
+#[derive(Debug, Clone, Copy, PartialEq, Eq)]
+pub enum Line {
+    Text { number: u64 },
+    End { number: u64 },
+}
+
+/// Why no line could be given.
+#[derive(Debug, Clone, Copy, PartialEq, Eq)]
+pub enum ReadStop {
+    /// The source failed. What was read is kept, and a later call reads on.
+    ReadFault,
+    /// The line that is due has more than 1,024 bytes before its LF. Each later call answers the
+    /// same.
+    LineTooLong { number: u64 },
+}
+
+/// The sink failed. A front of the row went out, perhaps none of it.
+#[derive(Debug, Clone, Copy, PartialEq, Eq)]
+pub struct WriteFault;

@@ -1,0 +1,30 @@
+//! The ends of a run: sources and sinks whose calls may fail, lines read from one, rows put into
+//! the other.
+//!
+//! A device is seen as the bytes that it tells, where it tells them, and a count of faults. What a
+//! call promises is in `specs/Ports.antt`; what a line is, in `specs/Lines.antt`; what a reader of
+//! lines answers, in `specs/Reading.antt`.
+#![tactic(auto)]
+
+mod answers;
+mod last_line;
+mod laws;
+mod line_reader;
+mod mem_sink;
+mod mem_source;
+mod pieces;
+mod ports;
+mod std_ports;
+#[cfg(test)]
+mod tests;
+mod window;
+mod writing;
+
+pub use answers::{LINE_LIMIT, Line, ReadStop, WriteFault};
+pub use laws::{appends_in_turn, lines_are_the_only_split, lines_split_the_input};
+pub use line_reader::LineReader;
+pub use mem_sink::MemSink;
+pub use mem_source::MemSource;
+pub use ports::{Got, Put, Sink, Source};
+pub use std_ports::{StdSink, StdSource};
+pub use writing::put_line;

@@ -1,0 +1,86 @@
+//! A source over memory, for tests and for callers that have their input whole.
+
+ghost use Rattle.std.specs.Prelude.{◌≡◌, ◌<◌, Some, length};
+ghost use Rattle.port_core.specs.Ports.{CountsRead, Reads};
+ghost use Rattle.port_core.specs.Memory.{supply_after, supply_answer};
+
+use crate::pieces::copy_to_front;
+use crate::ports::{Got, Source};
+use std::marker::Model;
+
+/// Tells its bytes, and gives them in pieces. Chosen calls fail.
+#[derive(Drop)]
+pub struct MemSource {
+    bytes: Vec<u8>,
+    at: usize,
+    piece: usize,
+    fail: Vec<u64>,
+    calls: u64,
+    faults: u64,
+}
+
+impl Model for MemSource {
+    ghost use Rattle.std.specs.Prelude.{◌<◌, ◌≤◌, drop, vec_len};
+    ghost use Rattle.port_core.specs.Memory.{Supply};
+
+    ghost Value = { Supply };
+
+    ghost view = { λ s. record {
+      left = drop s.at s.bytes.items;
+      piece = s.piece;
+      fail = s.fail.items;
+      calls = s.calls;
+      faults = s.faults;
+    } };
+
+    ghost invariant = { λ s. (s.at ≤ vec_len s.bytes) × (0 < s.piece) };
+}
+
+impl MemSource {
+    /// Gives at most `piece` of the bytes a call. The calls whose numbers, from 1, are in `fail`
+    /// fail.
+    pub fn new(bytes: Vec<u8>, piece: usize, fail: Vec<u64>) -> MemSource
+        requires { 0 < piece }
+        ensures { result ≡ record {
+          left = bytes.items;
+          piece = piece;
+          fail = fail.items;
+          calls = 0;
+          faults = 0;
+        } }
+    {
+        MemSource {
+            bytes,
+            at: 0,
+            piece,
+            fail,
+            calls: 0,
+            faults: 0,
+        }
+    }
+}
+
+impl Source for MemSource {
+    ghost left = { λ source. Some source.left };
+
+    ghost faults = { λ source. source.faults };
+
+    fn read(&mut self, into: &mut [u8]) -> Got
+        requires { 0 < length into.old }
+        ensures bytes { Reads (Some self.old.left) (Some self.new.left) result into.new }
+        ensures cause { CountsRead self.old.faults self.new.faults result }
+        ensures answer { result ≡ supply_answer self.old (length into.old) }
+        ensures after { self.new ≡ supply_after self.old (length into.old) }
+    {
+        self.calls = self.calls.saturating_add(1);
+        if self.fail.contains(&self.calls) {
+            self.faults = self.faults.saturating_add(1);
+            return Got::Failed;
+        }
+        let rest = &self.bytes[self.at..];
+        let count = self.piece.min(into.len()).min(rest.len());
+        copy_to_front(into, &rest[..count]);
+        self.at += count;
+        Got::Bytes(count)
+    }
+}

@@ -1,0 +1,47 @@
+//! What a run reads from and writes to. Each call may fail, and a count of faults rises when it
+//! does.
+
+ghost use Rattle.std.specs.Prelude.{ℕ, ◌<◌, List, Option, length};
+ghost use Rattle.port_core.specs.Ports.{CountsRead, CountsWrite, Reads, Writes};
+
+/// What a read answers: so many bytes, none only at the end, or that it failed.
+#[derive(Debug, Clone, Copy, PartialEq, Eq)]
+pub enum Got {
+    Bytes(usize),
+    Failed,
+}
+
+/// What a write answers: that it took so many bytes, one at least, or that it failed.
+#[derive(Debug, Clone, Copy, PartialEq, Eq)]
+pub enum Put {
+    Took(usize),
+    Failed,
+}
+
+/// Gives bytes, piece by piece.
+pub trait Source {
+    // The bytes that are left, where the source tells them, and the count of faults.
+    ghost left: { Self → Option (List ℕ) };
+
+    ghost faults: { Self → ℕ };
+
+    /// Puts the next bytes at the front of `into`. A read that fails loses no byte.
+    fn read(&mut self, into: &mut [u8]) -> Got
+        requires { 0 < length into.old }
+        ensures bytes { Reads (left self.old) (left self.new) result into.new }
+        ensures cause { CountsRead (faults self.old) (faults self.new) result };
+}
+
+/// Takes bytes, piece by piece.
+pub trait Sink {
+    // The bytes that the sink holds, where it tells them, and the count of faults.
+    ghost holds: { Self → Option (List ℕ) };
+
+    ghost faults: { Self → ℕ };
+
+    /// Takes bytes from the front of `piece`. A write that fails takes none.
+    fn write(&mut self, piece: &[u8]) -> Put
+        requires { 0 < length piece.now }
+        ensures bytes { Writes (holds self.old) (holds self.new) result piece.now }
+        ensures cause { CountsWrite (faults self.old) (faults self.new) result };
+}

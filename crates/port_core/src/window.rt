@@ -1,0 +1,149 @@
+//! The bytes that were read and not yet given, and the wait for the end of a line.
+//!
+//! They stand in a room of fixed size, so no call takes memory. What is in hand of a line is moved to
+//! the front once, before the first read for it, and each byte is looked at once however many reads
+//! the line takes.
+
+ghost use Rattle.std.specs.Prelude.{◌≡◌, ◌+◌, ◌<◌, ◌≤◌, [], IfOk, MatchOption, drop, length, take};
+ghost use Rattle.std.specs.Io.KnownBytes.{prepend_known};
+ghost use Rattle.port_core.specs.Ports.{CountsRead};
+ghost use Rattle.port_core.specs.Lines.{HasNoLineFeed};
+ghost use Rattle.port_core.specs.Reading.{IsReady};
+ghost use Rattle.port_core.specs.Window.{CountsDue, EndsAt, Fills, IsDue, ReadsBehind};
+
+use crate::answers::LINE_LIMIT;
+use crate::pieces::{find_line_feed, move_to_front};
+use crate::ports::{Got, Source};
+use league_core::OutOfMemory;
+use std::alloc::Global;
+use std::marker::Model;
+
+/// How many bytes may be in hand.
+pub const ROOM: usize = 8192;
+
+/// What came of the wait for a line: its end stands at a place, or the input ended, or the source
+/// failed, or the line is too long.
+#[derive(Clone, Copy)]
+pub enum Due {
+    Ended(usize),
+    Open,
+    Failed,
+    Stuck,
+}
+
+/// The bytes in hand.
+#[derive(Drop)]
+pub struct Window {
+    bytes: Vec<u8>,
+    from: usize,
+    to: usize,
+}
+
+impl Model for Window {
+    ghost use Rattle.std.specs.Prelude.{ℕ, List, ◌≡◌, ◌≤◌, vec_len};
+    ghost use Rattle.port_core.specs.Window.{part};
+    ghost use Rattle.port_core.specs.declared.window.TheConstants.{ROOM};
+
+    ghost Value = { List ℕ };
+
+    ghost view = { λ w. part w.from w.to w.bytes.items };
+
+    ghost invariant = { λ w. (w.from ≤ w.to) × (w.to ≤ ROOM) × (vec_len w.bytes ≡ ROOM) };
+}
+
+impl Window {
+    /// Nothing in hand, with the room for all that may be.
+    pub fn new(alloc: Global) -> Result<Window, OutOfMemory>
+        ensures { IfOk result (λ window. window ≡ []) }
+    {
+        Ok(Window {
+            bytes: vec![in alloc; 0u8; ROOM]?,
+            from: 0,
+            to: 0,
+        })
+    }
+
+    /// All bytes in hand.
+    pub fn bytes(&self) -> &[u8]
+        ensures value { result.now ≡ self.now }
+        ensures room { length self.now ≤ ROOM }
+    {
+        &self.bytes[self.from..self.to]
+    }
+
+    /// Lets go of the first bytes.
+    pub fn drop_front(&mut self, count: usize)
+        requires { count ≤ length self.old }
+        ensures { self.new ≡ drop count self.old }
+    {
+        self.from += count;
+    }
+
+    /// One read behind the bytes in hand.
+    pub fn fill<S: Source>(&mut self, source: &mut S) -> Got
+        requires { length self.old ≤ LINE_LIMIT }
+        ensures bytes { Fills (S.left source.old) (S.left source.new) result self.old self.new }
+        ensures cause { CountsRead (S.faults source.old) (S.faults source.new) result }
+    {
+        let count = self.to - self.from;
+        move_to_front(&mut self.bytes, self.from, self.to);
+        self.from = 0;
+        self.to = count;
+        let got = read_behind(source, &mut self.bytes, count);
+        if let Got::Bytes(count) = &got {
+            self.to += *count;
+        }
+        got
+    }
+}
+
+fn read_behind<S: Source>(source: &mut S, bytes: &mut [u8], to: usize) -> Got
+    requires { to < length bytes.old }
+    ensures bytes { ReadsBehind (S.left source.old) (S.left source.new) result to
+        bytes.old bytes.new }
+    ensures cause { CountsRead (S.faults source.old) (S.faults source.new) result }
+{
+    source.read(&mut bytes[to..])
+}
+
+/// The place of the first LF. The first `seen` bytes are known to have none.
+pub fn line_end(bytes: &[u8], seen: usize) -> Option<usize>
+    requires within { seen ≤ length bytes.now }
+    requires unended { HasNoLineFeed (take seen bytes.now) }
+    ensures { MatchOption result (HasNoLineFeed bytes.now)
+        (λ place. EndsAt bytes.now place × (place < length bytes.now)) }
+{
+    match find_line_feed(&bytes[seen..]) {
+        Some(place) => Some(seen + place),
+        None => None,
+    }
+}
+
+/// Reads until the line that is due is whole, is too long, or cannot go on.
+pub fn await_line<S: Source>(held: &mut Window, source: &mut S) -> Due
+    ensures stream { prepend_known held.old (S.left source.old)
+        ≡ prepend_known held.new (S.left source.new) }
+    ensures due { IsDue held.new (S.left source.new) result }
+    ensures cause { CountsDue (S.faults source.old) (S.faults source.new) result }
+    ensures ready { IsReady held.old → (source.new ≡ source.old) × (held.new ≡ held.old) }
+{
+    let mut seen = 0;
+    'reads: loop {
+        if let Some(place) = line_end(held.bytes(), seen) {
+            return if place <= LINE_LIMIT {
+                Due::Ended(place)
+            } else {
+                Due::Stuck
+            };
+        }
+        seen = held.bytes().len();
+        if LINE_LIMIT < seen {
+            return Due::Stuck;
+        }
+        match held.fill(source) {
+            Got::Failed => return Due::Failed,
+            Got::Bytes(0) => return Due::Open,
+            Got::Bytes(_) => {}
+        }
+    }
+}
