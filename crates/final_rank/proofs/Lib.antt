@@ -1,0 +1,5 @@
+pub mod TableLemmas
+pub mod AroundLemmas
+pub mod TierLemmas
+pub mod PlaceLemmas
+pub mod FirstLemmas

@@ -1,0 +1,12 @@
+use Rattle.std.proofs.Common.{◌==◌, length, unwrap_or, ap, ◌∙◌}
+use Rattle.league_core.specs.Ranking.{lot_of}
+use Rattle.final_rank.proofs.TableLemmas.{unwrap_or-position}
+use Rattle.final_rank.proofs.places.lot_of.Goals as goal
+
+pub returns : goal.returns
+returns c =
+    let order = c.order-order.result.now in
+    c.unwrap_or.ensures
+    ∙ ap (λ o. unwrap_or o (length order)) c.lot_in.ensures
+    ∙ unwrap_or-position (λ drawn. drawn == c.args.club) order
+    ∙ ap (λ lots. lot_of lots c.args.club) c.order-order.ensures.order

@@ -1,0 +1,73 @@
+//! The head-to-head record of a club in a group of clubs.
+
+ghost use Rattle.std.specs.Prelude.{◌≡◌, Bool};
+ghost use Rattle.league_core.specs.Sheets.{IsWithinLimits};
+ghost use Rattle.league_core.specs.Seasons.{IsSeasonOf};
+ghost use Rattle.league_core.specs.HeadToHead.{head_to_head_of, by_first_difference};
+ghost use Rattle.league_core.specs.ClubSets.{clubs_in};
+ghost use Rattle.tie_criteria.specs.Parts.{triple_parts};
+ghost use Rattle.tie_criteria.specs.Records.{record_at, IsBounded, GrowsBy};
+
+use crate::measure::{Matches, Measure, match_points};
+use crate::sums::sum;
+use league_core::{ClubSet, Season, Sheet};
+use std::cmp::Ordering;
+
+/// Points, goal difference and goals scored in the matches with both ends in a group.
+#[derive(Clone, Copy, Debug, PartialEq, Eq)]
+pub struct Triple {
+    pub points: i32,
+    pub difference: i32,
+    pub scored: i32,
+}
+
+impl Triple {
+    /// The record of a club without a match.
+    pub(crate) const NONE: Triple = Triple {
+        points: 0,
+        difference: 0,
+        scored: 0,
+    };
+
+    /// The record with one match more.
+    pub(crate) fn plus(&self, scored: u8, conceded: u8) -> Triple
+        requires { IsBounded 1000000 self.now }
+        ensures { (away : Bool) → GrowsBy (λ worth. worth scored conceded away) self.now result }
+    {
+        Triple {
+            points: self.points + match_points(scored, conceded),
+            difference: self.difference + i32::from(scored) - i32::from(conceded),
+            scored: self.scored + i32::from(scored),
+        }
+    }
+
+    /// `Less` where this triple is the greater, so that it comes first.
+    pub fn order(&self, other: &Triple) -> Ordering
+        ensures { result ≡ by_first_difference (triple_parts self.now) (triple_parts other.now) }
+    {
+        let by_scored = other.scored.cmp(&self.scored);
+        let by_difference = other.difference.cmp(&self.difference).then(by_scored);
+        other.points.cmp(&self.points).then(by_difference)
+    }
+}
+
+/// The club's record in the matches of the group, from the matches that are played.
+pub fn triple_of(sheet: &Sheet, season: &Season, group: ClubSet, club: u8) -> Triple
+    requires limits { IsWithinLimits sheet.now }
+    requires of_sheet { IsSeasonOf sheet.now season.now }
+    ensures { triple_parts result ≡ head_to_head_of sheet.now season.now (clubs_in group) club }
+{
+    let matches = Matches::Among(group);
+    Triple {
+        points: sum(sheet, season, Measure::Points, matches, club),
+        difference: sum(sheet, season, Measure::Difference, matches, club),
+        scored: sum(sheet, season, Measure::Goals, matches, club),
+    }
+}
+
+/// The record at the club's number; past the last one the record of a club without a match.
+pub(crate) fn triple_at(triples: &[Triple], club: u8) -> Triple
+    ensures { result ≡ record_at triples.now club }
+{
+    triples.get(club as usize).copied().unwrap_or(Triple::NONE)
+}
