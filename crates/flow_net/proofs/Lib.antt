@@ -1,0 +1,11 @@
+pub mod ShareLemmas
+pub mod ArcLemmas
+pub mod ListsLemmas
+pub mod CarriedLemmas
+pub mod SearchLemmas
+pub mod GrownLemmas
+pub mod MovesLemmas
+pub mod CapacityLemmas
+pub mod SideLemmas
+pub mod DualityLemmas
+pub mod FillLemmas
