@@ -1,0 +1,68 @@
+-- Cells: the scores that are still open for one fixture, kept as a set of outcomes and a range of goals
+-- for each side, and seen as the set of those scores.
+use Rattle.std.specs.Prelude.{◌≡◌, ℕ, ◌≤◌, Bool, true, false, ◌&&◌, nat_le, if◌then◌else◌, IsTrue, List}
+use Rattle.league_core.specs.declared.season.Score.{Score}
+use Rattle.league_core.specs.Options.{is_home_win, is_draw, has_score}
+use Rattle.score_box.specs.declared.cell.Cell.{Cell}
+use Rattle.score_box.specs.declared.cell.goals.Goals.{Goals}
+
+-- so many goals are in a range
+abbrev pub is_within : ℕ → ℕ → ℕ → Bool
+is_within least most goals = nat_le least goals && nat_le goals most
+
+-- the outcome of the score is one that the cell keeps
+abbrev pub keeps_outcome : Cell → Score → Bool
+keeps_outcome cell score =
+    if is_home_win score then cell.home_win else if is_draw score then cell.draw else cell.away_win
+
+-- the score is one of the cell's
+abbrev pub allows : Cell → Score → Bool
+allows cell score =
+    is_within cell.home_least cell.home_most score.home
+    && is_within cell.away_least cell.away_most score.away
+    && keeps_outcome cell score
+
+-- no score is left
+abbrev pub IsEmptyCell : Cell → Type 0
+IsEmptyCell cell = (score : Score) → allows cell score ≡ false
+
+-- the cell's scores are the options of a fixture
+abbrev pub IsCellOf : Cell → List Score → Type 0
+IsCellOf cell options = (score : Score) → allows cell score ≡ has_score options score
+
+-- a score of the cell that passes a test, as that of an outcome
+pub record IsAllowed (cell : Cell) (test : Score → Bool) (score : Score) : Type 0 where
+  pub allowed : allows cell score ≡ true
+  pub passed : test score ≡ true
+
+-- none of the cell's scores passes
+abbrev pub AllowsNone : Cell → (Score → Bool) → Type 0
+AllowsNone cell test = (score : Score) → ¬ IsAllowed cell test score
+
+-- the score's goals lie between these ends
+pub record IsBetween (goals : Goals) (score : Score) : Type 0 where
+  pub home_least : goals.home_least ≤ score.home
+  pub home_most : score.home ≤ goals.home_most
+  pub away_least : goals.away_least ≤ score.away
+  pub away_most : score.away ≤ goals.away_most
+
+-- the goals of the cell's scores that pass: all lie between these ends, and each end is reached
+pub record IsSpanOf (cell : Cell) (test : Score → Bool) (goals : Goals) : Type 0 where
+  pub within : (score : Score) → IsAllowed cell test score → IsBetween goals score
+  pub home_least : (score : Score) × IsAllowed cell test score × (score.home ≡ goals.home_least)
+  pub home_most : (score : Score) × IsAllowed cell test score × (score.home ≡ goals.home_most)
+  pub away_least : (score : Score) × IsAllowed cell test score × (score.away ≡ goals.away_least)
+  pub away_most : (score : Score) × IsAllowed cell test score × (score.away ≡ goals.away_most)
+
+-- all four ends are at the goals of this score
+pub record IsAt (score : Score) (goals : Goals) : Type 0 where
+  pub home_least : goals.home_least ≡ score.home
+  pub home_most : goals.home_most ≡ score.home
+  pub away_least : goals.away_least ≡ score.away
+  pub away_most : goals.away_most ≡ score.away
+
+-- one score alone is left
+abbrev pub HasOneScore : Cell → Type 0
+HasOneScore cell =
+    (score : Score) × IsTrue (allows cell score)
+    × ((other : Score) → IsTrue (allows cell other) → score ≡ other)

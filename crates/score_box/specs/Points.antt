@@ -1,0 +1,44 @@
+-- The least and the most points of a box, fixture by fixture and together.
+use Rattle.std.specs.Prelude.{◌≡◌, ℕ, ◌+◌, min, max, pos, ◌≤◌, Bool, if◌then◌else◌, List}
+use Rattle.league_core.specs.declared.sheet.Fixture.{Fixture}
+use Rattle.league_core.specs.declared.season.Score.{Score}
+use Rattle.league_core.specs.PointRanges.{range_of, range_from, points_of_sides, points_together}
+use Rattle.score_box.specs.declared.cell.Cell.{Cell}
+use Rattle.score_box.specs.declared.points.PointRange.{PointRange}
+use Rattle.score_box.specs.declared.points.outcomes.MatchPoints.{MatchPoints}
+use Rattle.score_box.specs.Cells.{IsCellOf}
+use Rattle.score_box.specs.Boxes.{AreCellsOf}
+
+-- the points of a home win, a draw and an away win for the sides that count
+abbrev pub won_points : Bool → ℕ
+won_points home = if home then 3 else 0
+
+abbrev pub drawn_points : Bool → Bool → ℕ
+drawn_points home away = (if home then 1 else 0) + (if away then 1 else 0)
+
+abbrev pub lost_points : Bool → ℕ
+lost_points away = if away then 3 else 0
+
+-- the least of the three that may come; one that may not counts as three, which none exceeds
+abbrev pub least_of_three : Bool → Bool → Bool → Bool → Bool → ℕ
+least_of_three wins draws losses home away =
+    min (min (if wins then won_points home else 3) (if draws then drawn_points home away else 3))
+    (if losses then lost_points away else 3)
+
+-- the most of the three that may come; one that may not counts as none
+abbrev pub most_of_three : Bool → Bool → Bool → Bool → Bool → ℕ
+most_of_three wins draws losses home away =
+    max (max (if wins then won_points home else 0) (if draws then drawn_points home away else 0))
+    (if losses then lost_points away else 0)
+
+-- the least and the most points that the options of a cell give to the sides that count
+pub record IsPointsOf (cell : Cell) (home away : Bool) (points : MatchPoints) : Type 0 where
+  pub least : (options : List Score) → IsCellOf cell options → pos points.least ≡ (range_of (points_of_sides home away) options).least
+  pub most : (options : List Score) → IsCellOf cell options → pos points.most ≡ (range_of (points_of_sides home away) options).greatest
+  pub at_most : points.most ≤ 3
+  pub in_order : points.least ≤ points.most
+
+-- the least and the most match points of a set of clubs over all fixtures
+pub record IsRangeOver (fixtures : List Fixture) (cells : List Cell) (clubs : List ℕ) (points : PointRange) : Type 0 where
+  pub least : (options : List (List Score)) → AreCellsOf cells options → points.least ≡ (range_from (points_together clubs) fixtures options).least
+  pub most : (options : List (List Score)) → AreCellsOf cells options → points.most ≡ (range_from (points_together clubs) fixtures options).greatest

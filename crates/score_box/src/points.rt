@@ -1,0 +1,77 @@
+//! The least and the most points of a set of clubs in a box: each fixture takes the outcome that gives
+//! the set least, or most. One walk over the fixtures gives both.
+
+ghost use Rattle.std.specs.Prelude.{◌≡◌, ◌≢◌, ◌≤◌, pos, ◌+ℤ◌, ◌≤ℤ◌, ◌<ℤ◌, length, slice_index, if◌then◌else◌};
+ghost use Rattle.std.specs.List.{All};
+ghost use Rattle.league_core.specs.ClubSets.{clubs_in};
+ghost use Rattle.league_core.specs.PointRanges.{total_of};
+ghost use Rattle.score_box.specs.Cells.{IsEmptyCell};
+ghost use Rattle.score_box.specs.Points.{IsPointsOf, IsRangeOver};
+
+mod outcomes;
+
+use crate::cell::Cell;
+use league_core::{ClubSet, Fixture};
+use outcomes::MatchPoints;
+
+/// The least and the most points that a set of clubs can have together.
+#[derive(Clone, Copy, Debug, PartialEq, Eq)]
+pub struct PointRange {
+    pub least: i32,
+    pub most: i32,
+}
+
+impl PointRange {
+    /// Both ends with those of one fixture more.
+    fn with(self, points: MatchPoints) -> PointRange
+        requires least { (pos 0 ≤ℤ self.least) × (self.least <ℤ pos 1000000) }
+        requires most { (pos 0 ≤ℤ self.most) × (self.most <ℤ pos 1000000) }
+        ensures least { result.least ≡ self.least +ℤ pos points.least }
+        ensures most { result.most ≡ self.most +ℤ pos points.most }
+    {
+        PointRange {
+            least: self.least + i32::from(points.least),
+            most: self.most + i32::from(points.most),
+        }
+    }
+}
+
+/// The match points of a set of clubs over all fixtures, each with its cell.
+pub fn match_points(fixtures: &[Fixture], cells: &[Cell], set: ClubSet) -> PointRange
+    requires many { length fixtures.now ≡ length cells.now }
+    requires few { length fixtures.now ≤ 600 }
+    requires apart { All (λ match. match.home ≢ match.away) fixtures.now }
+    requires some { All (λ cell. ¬ IsEmptyCell cell) cells.now }
+    ensures range { IsRangeOver fixtures.now cells.now (clubs_in set) result }
+    ensures within { (pos 0 ≤ℤ result.least) × (result.least ≤ℤ result.most)
+        × (result.most ≤ℤ pos 1800) }
+{
+    let mut total = PointRange { least: 0, most: 0 };
+    for i in 0..fixtures.len() {
+        let home = set.has(fixtures[i].home);
+        let away = set.has(fixtures[i].away);
+        total = total.with(MatchPoints::of(&cells[i], home, away));
+    }
+    total
+}
+
+/// The points that are taken off the clubs of a set.
+pub fn deducted(deductions: &[u8], set: ClubSet) -> i32
+    requires { length deductions.now ≤ 32 }
+    ensures total { result
+        ≡ total_of (λ club. pos (slice_index deductions.now club)) (clubs_in set) }
+    ensures within { (pos 0 ≤ℤ result) × (result ≤ℤ pos 8160) }
+{
+    let mut total = 0;
+    for club in 0..deductions.len() {
+        total += counted(set.has(club as u8), deductions[club]);
+    }
+    total
+}
+
+fn counted(counts: bool, points: u8) -> i32
+    ensures value { result ≡ (if counts then pos points else pos 0) }
+    ensures within { (pos 0 ≤ℤ result) × (result ≤ℤ pos 255) }
+{
+    if counts { i32::from(points) } else { 0 }
+}

@@ -1,0 +1,65 @@
+//! The points of one fixture: three for a win, one to each side for a draw, by the outcomes that its
+//! cell has left.
+
+ghost use Rattle.std.specs.Prelude.{◌≡◌, ◌≤◌, if◌then◌else◌};
+ghost use Rattle.score_box.specs.Cells.{IsEmptyCell};
+ghost use Rattle.score_box.specs.Points.{won_points, drawn_points, lost_points, least_of_three, most_of_three, IsPointsOf};
+
+use crate::cell::Cell;
+
+/// The least and the most points that a fixture gives to the sides that count.
+#[derive(Clone, Copy)]
+pub struct MatchPoints {
+    pub least: u8,
+    pub most: u8,
+}
+
+impl MatchPoints {
+    /// What a cell that is not empty leaves to its two sides, where each of them counts or not.
+    pub fn of(cell: &Cell, home: bool, away: bool) -> MatchPoints
+        requires { ¬ IsEmptyCell cell.now }
+        ensures { IsPointsOf cell.now home away result }
+    {
+        let wins = cell.home_wins().is_some();
+        let draws = cell.draws().is_some();
+        let losses = cell.away_wins().is_some();
+        MatchPoints {
+            least: least_of(wins, draws, losses, home, away),
+            most: most_of(wins, draws, losses, home, away),
+        }
+    }
+}
+
+fn least_of(wins: bool, draws: bool, losses: bool, home: bool, away: bool) -> u8
+    ensures { result ≡ least_of_three wins draws losses home away }
+{
+    points_if(wins, win_points(home), 3)
+        .min(points_if(draws, draw_points(home, away), 3))
+        .min(points_if(losses, win_points(away), 3))
+}
+
+fn most_of(wins: bool, draws: bool, losses: bool, home: bool, away: bool) -> u8
+    ensures { result ≡ most_of_three wins draws losses home away }
+{
+    points_if(wins, win_points(home), 0)
+        .max(points_if(draws, draw_points(home, away), 0))
+        .max(points_if(losses, win_points(away), 0))
+}
+
+fn points_if(possible: bool, points: u8, otherwise: u8) -> u8
+    ensures { result ≡ (if possible then points else otherwise) }
+{
+    if possible { points } else { otherwise }
+}
+
+fn win_points(counts: bool) -> u8
+    ensures { result ≡ won_points counts }
+{
+    if counts { 3 } else { 0 }
+}
+
+fn draw_points(home: bool, away: bool) -> u8
+    ensures { result ≡ drawn_points home away }
+{
+    u8::from(home) + u8::from(away)
+}

@@ -1,0 +1,192 @@
+//! The box of a zone: what it leaves of each fixture, and the rivals that it marks.
+
+ghost use Rattle.std.specs.Prelude.{◌≡◌, ◌↔◌, ◌<◌, ◌≤ℤ◌, pos, neg_ℤ, IsTrue, IfOk, [], length, slice_index_or};
+ghost use Rattle.std.specs.List.{All};
+ghost use Rattle.league_core.specs.Sheets.{IsWithinLimits};
+ghost use Rattle.league_core.specs.Seasons.{IsSeasonOf};
+ghost use Rattle.league_core.specs.ClubSets.{clubs_in};
+ghost use Rattle.league_core.specs.PointRanges.{least_points_of, most_points_of};
+ghost use Rattle.league_core.specs.Zones.{is_zone_of, marked_before, marked_after};
+ghost use Rattle.league_core.specs.Options.{options_in, has_score, has_finish, is_single};
+ghost use Rattle.score_box.specs.Cells.{IsCellOf, IsEmptyCell, HasOneScore};
+ghost use Rattle.score_box.specs.Boxes.{Contents, IsSetOf};
+
+mod build;
+
+use crate::cell::Cell;
+use crate::marks::Marks;
+use crate::points::{self, PointRange};
+use league_core::{ClubSet, OutOfMemory, Score, Season, Sheet, Zone};
+use std::alloc::Global;
+use std::marker::Model;
+
+/// The options of a zone, one cell for each fixture, with the zone's marks. Contracts see the sheet,
+/// the season and the literals that it was made from.
+#[derive(Drop)]
+pub struct ZoneBox<'a> {
+    sheet: &'a Sheet,
+    season: &'a Season,
+    zone: &'a Zone,
+    cells: Vec<Cell>,
+    marks: Marks,
+}
+
+impl<'a> Model for ZoneBox<'a> {
+    ghost use Rattle.score_box.specs.Boxes.{Contents};
+
+    ghost Value = { Contents };
+
+    ghost use Rattle.score_box.specs.Boxes.{IsBoxOf};
+
+    ghost view = { λ b. record {
+      sheet = b.sheet.now;
+      season = b.season.now;
+      zone = b.zone.now.literals;
+    } };
+
+    ghost invariant = { λ b. IsBoxOf
+        (record { sheet = b.sheet.now; season = b.season.now; zone = b.zone.now.literals })
+        b.cells.items b.marks.before b.marks.after };
+}
+
+impl<'a> ZoneBox<'a> {
+    /// The box of a zone, in one walk over the fixtures and one over the literals.
+    pub fn of(
+        alloc: Global,
+        sheet: &'a Sheet,
+        season: &'a Season,
+        zone: &'a Zone,
+    ) -> Result<ZoneBox<'a>, OutOfMemory>
+        requires limits { IsWithinLimits sheet.now }
+        requires of_sheet { IsSeasonOf sheet.now season.now }
+        requires zone { IsTrue (is_zone_of sheet.now zone.now.literals) }
+        ensures { IfOk result (λ b. b ≡ record {
+          sheet = sheet.now;
+          season = season.now;
+          zone = zone.now.literals;
+        }) }
+    {
+        let mut cells = build::season_cells(alloc, season.scores(), sheet.goal_limit)?;
+        let marks = build::take_literals(&mut cells, zone.literals.as_slice());
+        Ok(ZoneBox {
+            sheet,
+            season,
+            zone,
+            cells,
+            marks,
+        })
+    }
+
+    /// Each fixture has a score left.
+    pub fn has_finish(&self) -> bool
+        ensures { result ≡ has_finish self.now.sheet self.now.season self.now.zone }
+    {
+        have_scores(&self.cells)
+    }
+
+    /// Each fixture has one score left.
+    pub fn is_single(&self) -> bool
+        ensures { result ≡ is_single self.now.sheet self.now.season self.now.zone }
+    {
+        have_one_score(&self.cells)
+    }
+
+    /// One of the scores that a fixture has left.
+    pub fn pick(&self, fixture: u16) -> Score
+        requires in_range { fixture < length self.now.season.scores }
+        requires has_finish { IsTrue (has_finish self.now.sheet self.now.season self.now.zone) }
+        ensures { IsTrue (has_score
+            (slice_index_or (options_in self.now.sheet self.now.season self.now.zone) fixture [])
+            result) }
+    {
+        self.cells[fixture as usize].first().unwrap()
+    }
+
+    /// The least and the most points that the clubs of a set can have together: match points less
+    /// deductions, negative where the deductions exceed them. One walk over the fixtures.
+    pub fn points(&self, set: ClubSet) -> PointRange
+        requires { IsTrue (has_finish self.now.sheet self.now.season self.now.zone) }
+        ensures least { result.least
+            ≡ least_points_of self.now.sheet self.now.season self.now.zone (clubs_in set) }
+        ensures most { result.most
+            ≡ most_points_of self.now.sheet self.now.season self.now.zone (clubs_in set) }
+        ensures in_order { result.least ≤ℤ result.most }
+        ensures within { (neg_ℤ (pos 8160) ≤ℤ result.least) × (result.most ≤ℤ pos 1800) }
+    {
+        let won = points::match_points(self.sheet.fixtures.as_slice(), &self.cells, set);
+        let off = points::deducted(self.season.deductions(), set);
+        PointRange {
+            least: won.least - off,
+            most: won.most - off,
+        }
+    }
+
+    /// The least points that the clubs of a set can have together.
+    pub fn low_points(&self, set: ClubSet) -> i32
+        requires { IsTrue (has_finish self.now.sheet self.now.season self.now.zone) }
+        ensures least { result
+            ≡ least_points_of self.now.sheet self.now.season self.now.zone (clubs_in set) }
+        ensures within { (neg_ℤ (pos 8160) ≤ℤ result) × (result ≤ℤ pos 1800) }
+    {
+        self.points(set).least
+    }
+
+    /// The most points that the clubs of a set can have together.
+    pub fn high_points(&self, set: ClubSet) -> i32
+        requires { IsTrue (has_finish self.now.sheet self.now.season self.now.zone) }
+        ensures most { result
+            ≡ most_points_of self.now.sheet self.now.season self.now.zone (clubs_in set) }
+        ensures within { (neg_ℤ (pos 8160) ≤ℤ result) × (result ≤ℤ pos 1800) }
+    {
+        self.points(set).most
+    }
+
+    /// The rivals that the zone marks before the question's club.
+    pub fn before(&self) -> ClubSet
+        ensures { IsSetOf result (marked_before self.now.zone) }
+    {
+        self.marks.before
+    }
+
+    /// The rivals that the zone marks after the question's club.
+    pub fn after(&self) -> ClubSet
+        ensures { IsSetOf result (marked_after self.now.zone) }
+    {
+        self.marks.after
+    }
+
+    pub fn sheet(&self) -> &Sheet
+        ensures sheet { result.now ≡ self.now.sheet }
+        ensures limits { IsWithinLimits result.now }
+    {
+        self.sheet
+    }
+
+    pub fn season(&self) -> &Season
+        ensures season { result.now ≡ self.now.season }
+        ensures of_sheet { IsSeasonOf self.now.sheet result.now }
+    {
+        self.season
+    }
+
+    /// The scores that a fixture has left.
+    pub fn cell(&self, fixture: u16) -> &Cell
+        requires { fixture < length self.now.season.scores }
+        ensures { IsCellOf result.now
+            (slice_index_or (options_in self.now.sheet self.now.season self.now.zone) fixture []) }
+    {
+        &self.cells[fixture as usize]
+    }
+}
+
+fn have_scores(cells: &[Cell]) -> bool
+    ensures { IsTrue result ↔ All (λ cell. ¬ IsEmptyCell cell) cells.now }
+{
+    cells.iter().all(|cell| !cell.is_empty())
+}
+
+fn have_one_score(cells: &[Cell]) -> bool
+    ensures { IsTrue result ↔ All HasOneScore cells.now }
+{
+    cells.iter().all(|cell| cell.is_single())
+}

@@ -1,0 +1,85 @@
+//! How a box is made: the cells of the season, then what each literal leaves of them.
+
+ghost use Rattle.std.specs.Prelude.{◌≡◌, ℕ, ◌<◌, ◌==◌, Bool, true, false, IfOk, IfSome, IfNone, MatchOption, List, [], length, Option, Some};
+ghost use Rattle.std.specs.List.{All};
+ghost use Rattle.league_core.specs.declared.season.Score.{Score};
+ghost use Rattle.league_core.specs.declared.zone.Literal.{Literal};
+ghost use Rattle.league_core.specs.Finishes.{may_end};
+ghost use Rattle.league_core.specs.Zones.{is_on, is_of_score, marked_before, marked_after};
+ghost use Rattle.league_core.specs.Options.{options_from};
+ghost use Rattle.score_box.specs.Cells.{allows};
+ghost use Rattle.score_box.specs.Boxes.{AreCellsOf, IsSetOf, IsTestBelow, TakesLiteral};
+
+use crate::cell::Cell;
+use crate::marks::Marks;
+use league_core::{Literal, OutOfMemory, Score, Test};
+use std::alloc::Global;
+
+/// The cells of a season in which no literal is asked for.
+pub fn season_cells(
+    alloc: Global,
+    scores: &[Option<Score>],
+    goal_limit: u8,
+) -> Result<Vec<Cell>, OutOfMemory>
+    ensures { IfOk result (λ cells. AreCellsOf cells.items (options_from goal_limit [] 0 scores.now)) }
+{
+    let mut cells = Vec::new(alloc);
+    for score in scores {
+        cells.push(first_cell(*score, goal_limit))?;
+    }
+    Ok(cells)
+}
+
+/// A played fixture has its score, another all scores up to the limit.
+fn first_cell(played: Option<Score>, goal_limit: u8) -> Cell
+    ensures { (score : Score) → allows result score ≡ may_end goal_limit played (Some score) }
+{
+    match played {
+        Some(score) => Cell::only(score),
+        None => Cell::any(goal_limit),
+    }
+}
+
+/// Cuts the cells by each literal of a score, and gives the marks of the others.
+pub fn take_literals(cells: &mut [Cell], literals: &[Literal]) -> Marks
+    requires { All (λ literal. IsTestBelow (length cells.old) 32 literal.test) literals.now }
+    ensures cells { (limit : ℕ) (scores : List (Option Score))
+        → AreCellsOf cells.old (options_from limit [] 0 scores)
+        → AreCellsOf cells.new (options_from limit literals.now 0 scores) }
+    ensures before { IsSetOf result.before (marked_before literals.now) }
+    ensures after { IsSetOf result.after (marked_after literals.now) }
+{
+    let mut marks = Marks::none();
+    for literal in literals {
+        cut_cells(cells, literal);
+        marks = marks.with(literal);
+    }
+    marks
+}
+
+/// Cuts the cell of the fixture that a literal is of, if it is of one.
+fn cut_cells(cells: &mut [Cell], literal: &Literal)
+    requires { IsTestBelow (length cells.old) 32 literal.now.test }
+    ensures { TakesLiteral cells.old cells.new literal.now }
+{
+    match fixture_of(&literal.test) {
+        Some(fixture) => cells[fixture as usize].cut(literal),
+        None => {}
+    }
+}
+
+/// The fixture whose score a test looks at.
+fn fixture_of(test: &Test) -> Option<u16>
+    ensures some { IfSome result (λ fixture. (is_of_score test.now ≡ true)
+        × ((number : ℕ) → is_on number test.now ≡ (fixture == number))
+        × ((fixtures : ℕ) → IsTestBelow fixtures 32 test.now → fixture < fixtures)) }
+    ensures none { IfNone result ((number : ℕ) → is_on number test.now ≡ false) }
+{
+    match test {
+        Test::Home { fixture }
+        | Test::Draw { fixture }
+        | Test::HomeMost { fixture, .. }
+        | Test::AwayMost { fixture, .. } => Some(*fixture),
+        Test::Rival { .. } => None,
+    }
+}
