@@ -1,0 +1,17 @@
+-- Read in this order: it is the order in which the notions rest on each other. What the public call
+-- promises comes first, from Statuses to Top; what the inner functions promise each other stands
+-- behind it.
+pub mod Statuses
+pub mod Words
+pub mod Texts
+pub mod PlainForm
+pub mod Session
+pub mod Rows
+pub mod Answers
+pub mod Path
+pub mod Top
+pub mod Cuts
+pub mod Sound
+pub mod Spans
+pub mod Lists
+pub mod Turns

@@ -1,0 +1,105 @@
+-- The session: what each line of the input means, and what the end of the input means. A later form
+-- of the input changes what is allowed, and nothing here.
+use Rattle.std.specs.Prelude.{ℕ, nat_lt, List, [], ◌∷◌, length, Option, None, if◌then◌else◌, option_map, unwrap_or, bytes_eq, codes}
+use Rattle.futmax_main.specs.declared.status.Status.{Status}
+use Rattle.futmax_main.specs.declared.status.Status.TheVariants.{BadSheet, BadFeed, TooLong}
+use Rattle.futmax_main.specs.declared.session.Mode.{Mode}
+use Rattle.futmax_main.specs.declared.session.Feed.{Feed}
+use Rattle.futmax_main.specs.declared.session.Stage.{Stage}
+use Rattle.futmax_main.specs.declared.session.Stage.TheVariants.{Start, InSheet, InFeed, Asked}
+use Rattle.futmax_main.specs.declared.session.Session.{Session}
+use Rattle.futmax_main.specs.declared.session.Cause.{Cause}
+use Rattle.futmax_main.specs.declared.session.Cause.TheVariants.{SheetForm, FeedForm, LineTooLong}
+use Rattle.futmax_main.specs.declared.session.Fault.{Fault}
+use Rattle.futmax_main.specs.declared.session.Step.{Step}
+use Rattle.futmax_main.specs.declared.session.Step.TheVariants.{Goes, Asks, Stops}
+use Rattle.futmax_main.specs.declared.session.Outcome.{Outcome}
+use Rattle.futmax_main.specs.declared.session.Outcome.TheVariants.{Complete, Refused}
+use Rattle.port_core.specs.Lines.{line_limit, text_of_line}
+use Rattle.futmax_main.specs.Texts.{fields_of}
+use Rattle.futmax_main.specs.PlainForm.{after_league, after_sheet_record, after_result, after_ask}
+
+-- a session before its first line
+abbrev pub first_session : Mode → Session
+first_session mode = record { mode = mode; stage = Start }
+
+-- the session goes on to a stage, where there is one
+abbrev pub goes_to : Mode → Option Stage → Option Step
+goes_to mode stage = option_map (λ next. Goes (record { mode = mode; stage = next })) stage
+
+-- the session answers, and goes on to a stage, where there is one
+abbrev pub asks_at : Mode → Option Stage → Option Step
+asks_at mode stage = option_map (λ next. Asks (record { mode = mode; stage = next })) stage
+
+-- the first record
+abbrev pub first_step : Mode → List ℕ → List (List ℕ) → Option Step
+first_step mode kind fields =
+    if bytes_eq kind (codes "league") then goes_to mode
+    (option_map InSheet (after_league fields)) else None
+
+-- a record behind the sheet
+abbrev pub feed_step : Mode → Feed → List ℕ → List (List ℕ) → Option Step
+feed_step mode feed kind fields =
+    if bytes_eq kind (codes "result") then goes_to mode
+    (option_map InFeed (after_result feed fields))
+    else if bytes_eq kind (codes "ask") then asks_at mode (option_map Asked (after_ask feed fields))
+    else None
+
+-- what a record does at this stage, where it is allowed
+abbrev pub step_at : Mode → Stage → List ℕ → List (List ℕ) → Option Step
+step_at mode Start kind fields = first_step mode kind fields
+step_at mode (InSheet sheet) kind fields = goes_to mode (after_sheet_record sheet kind fields)
+step_at mode (InFeed feed) kind fields = feed_step mode feed kind fields
+step_at mode (Asked feed) kind fields = None
+
+-- a line's record is named by its first field
+abbrev pub step_of_fields : Mode → Stage → List (List ℕ) → Option Step
+step_of_fields mode stage [] = None
+step_of_fields mode stage (kind ∷ fields) = step_at mode stage kind fields
+
+-- a line that the form does not allow is a fault of the sheet before `season`, and one of the feed
+-- after it
+abbrev pub form_cause : Stage → Cause
+form_cause Start = SheetForm
+form_cause (InSheet sheet) = SheetForm
+form_cause (InFeed feed) = FeedForm
+form_cause (Asked feed) = FeedForm
+
+-- the fault of a line, or of the end, that the form does not allow here
+abbrev pub form_fault : ℕ → Stage → Fault
+form_fault number stage = record { number = number; cause = form_cause stage }
+
+-- the fault of a line that is too long
+abbrev pub length_fault : ℕ → Fault
+length_fault number = record { number = number; cause = LineTooLong }
+
+-- the status of a session that a fault ends
+abbrev pub status_of_cause : Cause → Status
+status_of_cause SheetForm = BadSheet
+status_of_cause FeedForm = BadFeed
+status_of_cause LineTooLong = TooLong
+
+-- what a line of this number and text does
+abbrev pub judge_text : ℕ → Session → List ℕ → Step
+judge_text number session text =
+    unwrap_or (step_of_fields session.mode session.stage (fields_of text))
+    (Stops (form_fault number session.stage))
+
+-- the whole meaning of a line: its number, how many bytes came before it, the session, and its
+-- bytes with its LF. That it is too long is said in place of any test of its text. No rule of today
+-- looks at how many bytes came before.
+abbrev pub judge : ℕ → ℕ → Session → List ℕ → Step
+judge number before session line =
+    if nat_lt line_limit (length (text_of_line line)) then Stops (length_fault number)
+    else judge_text number session (text_of_line line)
+
+-- the end of the input, at the number after the last line's
+abbrev pub ending_at : ℕ → Stage → Outcome
+ending_at number Start = Refused (form_fault number Start)
+ending_at number (InSheet sheet) = Refused (form_fault number (InSheet sheet))
+ending_at number (InFeed feed) = Refused (form_fault number (InFeed feed))
+ending_at number (Asked feed) = Complete
+
+-- what the end of the input means
+abbrev pub ending : ℕ → Session → Outcome
+ending number session = ending_at number session.stage

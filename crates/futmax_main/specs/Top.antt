@@ -1,0 +1,75 @@
+-- What the top call promises of the status, of the bytes written, and of what the source has left.
+-- It is said where the source tells its bytes; a sink that does not tell its own is taken to hold
+-- what was written.
+use Rattle.std.specs.Prelude.{◌≡◌, ℕ, ◌⊎◌, List, [], ◌++◌, Option, Some, None}
+use Rattle.std.specs.Io.KnownBytes.{append_known}
+use Rattle.port_core.specs.Lines.{lines_of, HasNoLineFeed}
+use Rattle.port_core.specs.Ports.{IsFront}
+use Rattle.futmax_main.specs.declared.status.Status.{Status}
+use Rattle.futmax_main.specs.declared.status.Status.TheVariants.{Done, BadWords, BadSheet, BadFeed, ReadFault, WriteFault, OutOfMemory, NotProved, TooLong}
+use Rattle.futmax_main.specs.declared.session.Mode.{Mode}
+use Rattle.futmax_main.specs.Rows.{usage_row}
+use Rattle.futmax_main.specs.Path.{first_place, status_from, IsTextFrom, IsFrontFrom, AreAnswersFrom}
+
+-- the status of the session of an input
+abbrev pub session_status : Mode → List ℕ → Status
+session_status mode input = status_from (lines_of input) (first_place mode)
+
+-- the text is one of the session of an input
+abbrev pub IsText : Mode → List ℕ → List ℕ → Type 0
+IsText mode input text = IsTextFrom (lines_of input) (first_place mode) text
+
+-- whole answers of the session's first asks, and a front of its next answer or row
+abbrev pub IsTextFront : Mode → List ℕ → List ℕ → Type 0
+IsTextFront mode input text = IsFrontFrom (lines_of input) (first_place mode) text
+
+-- the whole text of the session, which has this status
+abbrev pub IsWhole : Mode → List ℕ → Status → List ℕ → Type 0
+IsWhole mode input status text = (session_status mode input ≡ status) × IsText mode input text
+
+-- the answers of the asks in the whole lines that were taken: what was taken behind them has no LF,
+-- and is no whole line, since its end was not told
+abbrev pub AnswersTaken : Mode → List ℕ → Option (List ℕ) → List ℕ → Type 0
+AnswersTaken mode input None text = ⊥
+AnswersTaken mode input (Some left) text =
+    (taken : List (List ℕ)) × (held : List ℕ) × HasNoLineFeed held
+    × (lines_of input ≡ taken ++ lines_of (held ++ left))
+    × AreAnswersFrom taken (first_place mode) text
+
+-- what was written where a run over this input ends with this status, and what the source has left
+-- then
+abbrev pub Ends : Mode → List ℕ → Option (List ℕ) → Status → List ℕ → Type 0
+Ends mode input left Done text = IsWhole mode input Done text × (left ≡ Some [])
+Ends mode input left BadWords text = IsWhole mode input BadWords text
+Ends mode input left BadSheet text = IsWhole mode input BadSheet text
+Ends mode input left BadFeed text = IsWhole mode input BadFeed text
+Ends mode input left ReadFault text = AnswersTaken mode input left text
+Ends mode input left WriteFault text = IsTextFront mode input text
+Ends mode input left OutOfMemory text = IsTextFront mode input text
+Ends mode input left NotProved text = IsWhole mode input NotProved text
+Ends mode input left TooLong text = IsWhole mode input TooLong text
+
+-- what was written where the words fit no mode: the usage row, or a front of it where the sink
+-- failed
+abbrev pub EndsUnread : Status → List ℕ → Type 0
+EndsUnread BadWords text = text ≡ usage_row
+EndsUnread WriteFault text = IsFront text usage_row
+EndsUnread _ text = ⊥
+
+-- the sink's bytes before and after a run, by the mode of its words and by what the source had left
+-- before and has left after
+abbrev pub Serves : Option Mode → Option (List ℕ) → Option (List ℕ) → Option (List ℕ)
+    → Option (List ℕ) → Status → Type 0
+Serves None input left old new status =
+    (text : List ℕ) × (new ≡ append_known old text) × EndsUnread status text
+Serves (Some mode) None left old new status = Unit {0}
+Serves (Some mode) (Some input) left old new status =
+    (text : List ℕ) × (new ≡ append_known old text) × Ends mode input left status text
+
+-- the status of a run in which no device failed: that of the session, or want of memory; where the
+-- words fit no mode, that alone
+abbrev pub IsSettled : Option Mode → Option (List ℕ) → Status → Type 0
+IsSettled None input status = status ≡ BadWords
+IsSettled (Some mode) None status = Unit {0}
+IsSettled (Some mode) (Some input) status =
+    (status ≡ session_status mode input) ⊎ (status ≡ OutOfMemory)
