@@ -34,14 +34,15 @@ asks_at mode stage = option_map (λ next. Asks (record { mode = mode; stage = ne
 -- the first record
 abbrev pub first_step : Mode → List ℕ → List (List ℕ) → Option Step
 first_step mode kind fields =
-    if bytes_eq kind (codes "league") then goes_to mode
-    (option_map InSheet (after_league fields)) else None
+    if bytes_eq kind (codes "league")
+    then goes_to mode (option_map InSheet (after_league fields))
+    else None
 
 -- a record behind the sheet
 abbrev pub feed_step : Mode → Feed → List ℕ → List (List ℕ) → Option Step
 feed_step mode feed kind fields =
-    if bytes_eq kind (codes "result") then goes_to mode
-    (option_map InFeed (after_result feed fields))
+    if bytes_eq kind (codes "result")
+    then goes_to mode (option_map InFeed (after_result feed fields))
     else if bytes_eq kind (codes "ask") then asks_at mode (option_map Asked (after_ask feed fields))
     else None
 

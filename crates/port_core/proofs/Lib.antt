@@ -4,3 +4,4 @@ pub mod LineLemmas
 pub mod PieceLemmas
 pub mod RowLemmas
 pub mod ReadingLemmas
+pub mod ContentLemmas

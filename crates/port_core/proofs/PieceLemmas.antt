@@ -71,12 +71,12 @@ IsOverlong-open held bytes is none long =
 -- ---- what a read adds
 
 -- the bytes that a read put behind those in hand are added to them
-pub Fills-behind : (left left' : Option (List ℕ)) (got : Got) (n count : ℕ)
-    (old before new whole : List ℕ) → got ≡ Bytes n → take count before ≡ old
-    → ReadsBehind left left' got count before new → whole ≡ new
+pub Fills-behind : (left left' : Option (List ℕ)) (got : Got) (n count end : ℕ)
+    (old before new whole : List ℕ) → got ≡ Bytes n → take count before ≡ old → end ≤ length new
+    → ReadsBehind left left' got count end before new → whole ≡ new
     → Fills left left' got old (take (count + n) whole)
-Fills-behind left left' got n count old before new whole is kept reads same =
-    let P : Got → Type 0 = λ g. ReadsBehind left left' g count before new
+Fills-behind left left' got n count end old before new whole is kept inside reads same =
+    let P : Got → Type 0 = λ g. ReadsBehind left left' g count end before new
     → Fills left left' g old (take (count + n) new) in
     let Q : List ℕ → Type 0 = λ bytes. Fills left left' got old (take (count + n) bytes) in
     subst Q (sym same) (subst P (sym is) (λ r.

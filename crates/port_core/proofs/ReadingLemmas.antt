@@ -14,7 +14,7 @@ use Rattle.port_core.proofs.LineLemmas.{concat-lines_of, lines_of-ended, lines_o
 -- ---- a line that ended
 
 -- a text and its LF in hand are the first line, whatever is left behind
-first_line-ended : (held left : List ℕ) (place : ℕ) → EndsAt held place
+pub first_line-ended : (held left : List ℕ) (place : ℕ) → EndsAt held place
     → IsFirstLine (take place held ++ 10 ∷ []) (held ++ left) (drop (place + 1) held ++ left)
 first_line-ended held left place ends =
     let text = take place held in
@@ -88,7 +88,7 @@ NextGives-last before (Some left) old new (End number) stream none end last =
 
 -- ---- a line that is too long
 
-length-text_of_line : (line : List ℕ) → length (text_of_line line) ≤ length line
+pub length-text_of_line : (line : List ℕ) → length (text_of_line line) ≤ length line
 length-text_of_line [] = omega arith
 length-text_of_line (byte ∷ bytes) =
     let P : List ℕ → Type 0 = λ l. length l ≤ length (byte ∷ bytes) in

@@ -6,7 +6,7 @@ use Rattle.port_core.specs.declared.ports.Got.{Got}
 use Rattle.port_core.specs.declared.ports.Got.TheVariants.{Bytes}
 use Rattle.port_core.specs.declared.ports.Got.TheVariants as got
 use Rattle.port_core.specs.declared.window.Due.{Due}
-use Rattle.port_core.specs.declared.window.Due.TheVariants.{Ended, Open, Stuck}
+use Rattle.port_core.specs.declared.window.Due.TheVariants.{Ended, Open, Stuck, Full}
 use Rattle.port_core.specs.declared.window.Due.TheVariants as due
 use Rattle.port_core.specs.Ports.{Rose}
 use Rattle.port_core.specs.Lines.{HasNoLineFeed, line_feed, line_limit}
@@ -15,13 +15,14 @@ use Rattle.port_core.specs.Lines.{HasNoLineFeed, line_feed, line_limit}
 abbrev pub part : ℕ → ℕ → List ℕ → List ℕ
 part from to bytes = drop from (take to bytes)
 
--- a read behind the first bytes of a list: those stay, and the next bytes of the source stand
--- behind them
-abbrev pub ReadsBehind : Option (List ℕ) → Option (List ℕ) → Got → ℕ → List ℕ → List ℕ → Type 0
-ReadsBehind left left' (Bytes n) to old new =
-    (to + n ≤ length new) × (take to new ≡ take to old)
+-- a read behind the first bytes of a list and before a place: those stay, and the next bytes of the
+-- source stand behind them
+abbrev pub ReadsBehind :
+    Option (List ℕ) → Option (List ℕ) → Got → ℕ → ℕ → List ℕ → List ℕ → Type 0
+ReadsBehind left left' (Bytes n) to end old new =
+    (to + n ≤ end) × (take to new ≡ take to old)
     × (left ≡ prepend_known (take n (drop to new)) left') × (n ≡ 0 → IsAtEnd left')
-ReadsBehind left left' got.Failed to old new = (take to new ≡ take to old) × (left ≡ left')
+ReadsBehind left left' got.Failed to end old new = (take to new ≡ take to old) × (left ≡ left')
 
 -- what one read adds to the bytes in hand, and what it takes from the source
 abbrev pub Fills : Option (List ℕ) → Option (List ℕ) → Got → List ℕ → List ℕ → Type 0
@@ -44,12 +45,19 @@ abbrev pub IsPartial : List ℕ → Type 0
 IsPartial held = HasNoLineFeed held × (length held ≤ line_limit)
 
 -- the bytes in hand when the line that is due has ended, or its end is the input's, or the source
--- failed, or it is too long
-abbrev pub IsDue : List ℕ → Option (List ℕ) → Due → Type 0
-IsDue held left (Ended place) = EndsAt held place × (place < length held) × (place ≤ line_limit)
-IsDue held left Open = IsPartial held × IsAtEnd left
-IsDue held left due.Failed = IsPartial held
-IsDue held left Stuck = IsOverlong held
+-- failed, or it is too long, or there are the most that may be
+abbrev pub IsDue : ℕ → List ℕ → Option (List ℕ) → Due → Type 0
+IsDue most held left (Ended place) =
+    EndsAt held place × (place < length held) × (place ≤ line_limit)
+IsDue most held left Open = IsPartial held × IsAtEnd left × (length held < most)
+IsDue most held left due.Failed = IsPartial held × (length held < most)
+IsDue most held left Stuck = IsOverlong held
+IsDue most held left Full = IsPartial held × (most ≤ length held)
+
+-- bytes that a source had left were put behind those in hand
+abbrev pub Takes : List ℕ → List ℕ → Option (List ℕ) → Option (List ℕ) → Type 0
+Takes held held' left left' =
+    (bytes : List ℕ) × (held' ≡ held ++ bytes) × (left ≡ prepend_known bytes left')
 
 -- waiting for a line fails only where the source's count rose, and that count never falls
 abbrev pub CountsDue : ℕ → ℕ → Due → Type 0

@@ -3,6 +3,9 @@
 /// The most bytes that a line may have before its LF.
 pub const LINE_LIMIT: usize = 1024;
 
+/// The most bytes that an input may have.
+pub const INPUT_LIMIT: usize = 67_108_864;
+
 /// A line, or the end of the input. Lines are numbered from 1; the end has the number after the
 /// last line.
 #[derive(Debug, Clone, Copy, PartialEq, Eq)]
@@ -19,6 +22,19 @@ pub enum ReadStop {
     /// The line that is due has more than 1,024 bytes before its LF. Each later call answers the
     /// same.
     LineTooLong { number: u64 },
+}
+
+/// Why no content of an input could be given.
+#[derive(Debug, Clone, Copy, PartialEq, Eq)]
+pub enum InputStop {
+    /// The source failed. What was read is kept, and a later call reads on.
+    ReadFault,
+    /// The line that is due has more than 1,024 bytes before its LF. Each later call answers the
+    /// same.
+    LineTooLong { number: u64 },
+    /// The input has more than 67,108,864 bytes, and the first one too many stands in the line that
+    /// is due. Each later call answers the same.
+    InputTooLong { number: u64 },
 }
 
 /// The sink failed. A front of the row went out, perhaps none of it.

@@ -7,6 +7,10 @@
 #![tactic(auto)]
 
 mod answers;
+mod content;
+mod input_reader;
+#[cfg(test)]
+mod input_tests;
 mod last_line;
 mod laws;
 mod line_reader;
@@ -20,7 +24,8 @@ mod tests;
 mod window;
 mod writing;
 
-pub use answers::{LINE_LIMIT, Line, ReadStop, WriteFault};
+pub use answers::{INPUT_LIMIT, InputStop, LINE_LIMIT, Line, ReadStop, WriteFault};
+pub use input_reader::InputReader;
 pub use laws::{appends_in_turn, lines_are_the_only_split, lines_split_the_input};
 pub use line_reader::LineReader;
 pub use mem_sink::MemSink;

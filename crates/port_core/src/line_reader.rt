@@ -13,7 +13,7 @@ ghost use Rattle.port_core.specs.Reading.{CountsNext, GivesLast, HasLongLine, Is
 use crate::answers::{LINE_LIMIT, Line, ReadStop};
 use crate::last_line::LastLine;
 use crate::ports::Source;
-use crate::window::{Due, Window, await_line};
+use crate::window::{Due, ROOM, Window, await_line};
 use league_core::OutOfMemory;
 use std::alloc::Global;
 use std::marker::Model;
@@ -77,13 +77,14 @@ impl LineReader {
         // A line that is too long stays so.
         ensures stuck { HasLongLine self.old.held → StaysTooLong self.old self.new result }
     {
-        match await_line(&mut self.held, source) {
+        match await_line(&mut self.held, ROOM, source) {
             Due::Ended(place) => Ok(self.give(place, place + 1)),
             Due::Open => Ok(self.give_last()),
             Due::Failed => Err(ReadStop::ReadFault),
             Due::Stuck => Err(ReadStop::LineTooLong {
                 number: self.next_number(),
             }),
+            Due::Full => unreachable!(),
         }
     }
 

@@ -9,7 +9,7 @@ ghost use Rattle.std.specs.Io.KnownBytes.{prepend_known};
 ghost use Rattle.port_core.specs.Ports.{CountsRead};
 ghost use Rattle.port_core.specs.Lines.{HasNoLineFeed};
 ghost use Rattle.port_core.specs.Reading.{IsReady};
-ghost use Rattle.port_core.specs.Window.{CountsDue, EndsAt, Fills, IsDue, ReadsBehind};
+ghost use Rattle.port_core.specs.Window.{CountsDue, EndsAt, Fills, IsDue, ReadsBehind, Takes};
 
 use crate::answers::LINE_LIMIT;
 use crate::pieces::{find_line_feed, move_to_front};
@@ -22,13 +22,14 @@ use std::marker::Model;
 pub const ROOM: usize = 8192;
 
 /// What came of the wait for a line: its end stands at a place, or the input ended, or the source
-/// failed, or the line is too long.
+/// failed, or the line is too long, or no more bytes may be in hand.
 #[derive(Clone, Copy)]
 pub enum Due {
     Ended(usize),
     Open,
     Failed,
     Stuck,
+    Full,
 }
 
 /// The bytes in hand.
@@ -79,17 +80,19 @@ impl Window {
         self.from += count;
     }
 
-    /// One read behind the bytes in hand.
-    pub fn fill<S: Source>(&mut self, source: &mut S) -> Got
-        requires { length self.old ≤ LINE_LIMIT }
+    /// One read behind the bytes in hand, of which there are at most `most` then.
+    pub fn fill<S: Source>(&mut self, source: &mut S, most: usize) -> Got
+        requires short { length self.old ≤ LINE_LIMIT }
+        requires some { length self.old < most }
         ensures bytes { Fills (S.left source.old) (S.left source.new) result self.old self.new }
+        ensures within { length self.new ≤ most }
         ensures cause { CountsRead (S.faults source.old) (S.faults source.new) result }
     {
         let count = self.to - self.from;
         move_to_front(&mut self.bytes, self.from, self.to);
         self.from = 0;
         self.to = count;
-        let got = read_behind(source, &mut self.bytes, count);
+        let got = read_behind(source, &mut self.bytes, count, most.min(ROOM));
         if let Got::Bytes(count) = &got {
             self.to += *count;
         }
@@ -97,13 +100,14 @@ impl Window {
     }
 }
 
-fn read_behind<S: Source>(source: &mut S, bytes: &mut [u8], to: usize) -> Got
-    requires { to < length bytes.old }
-    ensures bytes { ReadsBehind (S.left source.old) (S.left source.new) result to
+fn read_behind<S: Source>(source: &mut S, bytes: &mut [u8], to: usize, end: usize) -> Got
+    requires some { to < end }
+    requires within { end ≤ length bytes.old }
+    ensures bytes { ReadsBehind (S.left source.old) (S.left source.new) result to end
         bytes.old bytes.new }
     ensures cause { CountsRead (S.faults source.old) (S.faults source.new) result }
 {
-    source.read(&mut bytes[to..])
+    source.read(&mut bytes[to..end])
 }
 
 /// The place of the first LF. The first `seen` bytes are known to have none.
@@ -119,13 +123,17 @@ pub fn line_end(bytes: &[u8], seen: usize) -> Option<usize>
     }
 }
 
-/// Reads until the line that is due is whole, is too long, or cannot go on.
-pub fn await_line<S: Source>(held: &mut Window, source: &mut S) -> Due
+/// Reads until the line that is due is whole, is too long, or cannot go on. No more than `most` bytes
+/// come in hand.
+pub fn await_line<S: Source>(held: &mut Window, most: usize, source: &mut S) -> Due
     ensures stream { prepend_known held.old (S.left source.old)
         ≡ prepend_known held.new (S.left source.new) }
-    ensures due { IsDue held.new (S.left source.new) result }
+    ensures due { IsDue most held.new (S.left source.new) result }
+    ensures within { length held.old ≤ most → length held.new ≤ most }
+    ensures takes { Takes held.old held.new (S.left source.old) (S.left source.new) }
     ensures cause { CountsDue (S.faults source.old) (S.faults source.new) result }
     ensures ready { IsReady held.old → (source.new ≡ source.old) × (held.new ≡ held.old) }
+    ensures full { most ≤ length held.old → (source.new ≡ source.old) × (held.new ≡ held.old) }
 {
     let mut seen = 0;
     'reads: loop {
@@ -140,7 +148,10 @@ pub fn await_line<S: Source>(held: &mut Window, source: &mut S) -> Due
         if LINE_LIMIT < seen {
             return Due::Stuck;
         }
-        match held.fill(source) {
+        if most <= seen {
+            return Due::Full;
+        }
+        match held.fill(source, most) {
             Got::Failed => return Due::Failed,
             Got::Bytes(0) => return Due::Open,
             Got::Bytes(_) => {}

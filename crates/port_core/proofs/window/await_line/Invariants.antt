@@ -2,6 +2,7 @@ use Rattle.std.proofs.Common.{◌≡◌, ◌-◌, ◌≤◌, length, take}
 use Rattle.std.specs.Io.KnownBytes.{prepend_known}
 use Rattle.port_core.specs.Lines.{HasNoLineFeed}
 use Rattle.port_core.specs.Reading.{IsReady}
+use Rattle.port_core.specs.Window.{Takes}
 use Rattle.port_core.specs.declared.window.TheConstants.{ROOM}
 use Rattle.port_core.proofs.window.await_line.Given as goal
 
@@ -13,6 +14,9 @@ invariant-reads g l = record {
   seen : l.seen ≤ length l.held;
   unended : HasNoLineFeed (take l.seen l.held);
   counts : g.S.Source.faults l.fn.source ≤ g.S.Source.faults l.source;
+  within : length l.fn.held ≤ l.most → length l.held ≤ l.most;
+  takes : Takes l.fn.held l.held (g.S.Source.left l.fn.source) (g.S.Source.left l.source);
+  full : l.most ≤ length l.fn.held → (l.source ≡ l.fn.source) × (l.held ≡ l.fn.held);
   ready : IsReady l.fn.held → (l.source ≡ l.fn.source) × (l.held ≡ l.fn.held);
 }
 

@@ -60,7 +60,7 @@ returns-in-Failed-clause-stuck g c = λ long.
       arith,
       ap length same,
       ready-long c.self.inside.held before,
-      c.in-Failed.ensures.due.1,
+      c.in-Failed.ensures.due.0.1,
     ))
 
 pub returns-in-Stuck-clause-stuck : goal.returns-in-Stuck-clause-stuck

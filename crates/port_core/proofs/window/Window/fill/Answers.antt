@@ -16,5 +16,6 @@ returns-in-Bytes-clause-bytes g c =
     ∙ c.move_to_front.ensures
     ∙ ap (part c.self.inside.from c.self.inside.to) c.deref_mut.ensures.value
     ∙ c.self.view_is in
-    Fills-behind _ _ _ c.in-Bytes.count count _ _ _ _ c.in-Bytes.is kept
+    Fills-behind _ _ _ c.in-Bytes.count count c.min.result _ _ _ _ c.in-Bytes.is kept
+    (omega (arith, filled, c.min.ensures, c.self.invariant.2))
     c.read_behind-got.ensures.bytes (take_at _ _ _ filled)

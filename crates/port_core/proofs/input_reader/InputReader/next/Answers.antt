@@ -1,0 +1,43 @@
+-- A line more was passed over, or the answer came behind those that were.
+use Rattle.std.proofs.Common.{Err, subst, arith, refl, sym, ◌∙◌}
+use Rattle.std.proofs.lemmas.Option.{none-some}
+use Rattle.port_core.specs.Input.{InputReading, HasStop}
+use Rattle.port_core.proofs.ContentLemmas.{MovesOn-from, TakesInput-more, TakesInput-none}
+use Rattle.port_core.proofs.input_reader.InputReader.next.Goals as goal
+
+pub lines-init : goal.lines-init
+lines-init g c = record {
+  same = refl;
+  takes = TakesInput-none c.args.self.now (g.S.Source.left c.args.source.now);
+  answer = λ has. has;
+  ready = λ has. refl;
+  stopped = λ stop has. refl;
+  passed = omega arith;
+  counts = omega arith;
+}
+
+pub returns-in-Some-clause-takes : goal.returns-in-Some-clause-takes
+returns-in-Some-clause-takes g c =
+    TakesInput-more c.args.self.now c.lines.self c.take_line.new.self _ _ _
+    c.lines.invariant.takes c.take_line.ensures.takes
+
+pub lines-preserved : goal.lines-preserved
+lines-preserved g c = record {
+  same = c.lines.invariant.same ∙ c.in_default.ensures.gives;
+  takes = TakesInput-more c.args.self.now c.lines.self c.take_line.new.self _ _ _
+      c.lines.invariant.takes c.take_line.ensures.takes;
+  answer = λ has. c.in_default.ensures.keeps (c.lines.invariant.answer has);
+  ready = λ has. c.take_line.ensures.ready (c.lines.invariant.answer has)
+      ∙ c.lines.invariant.ready has;
+  stopped = λ stop has.
+      let here : HasStop c.lines.self stop =
+      subst (λ (r : InputReading). HasStop r stop) (sym (c.lines.invariant.stopped stop has)) has in
+      absurd (none-some (Err stop) (c.in_default.ensures.stopped stop here).0);
+  passed = omega (arith, c.lines.invariant.passed, c.in_default.ensures.leaves);
+  counts = omega (arith, c.lines.invariant.counts, c.in_default.ensures.cause);
+}
+
+pub returns-in-Some-clause-moves : goal.returns-in-Some-clause-moves
+returns-in-Some-clause-moves g c =
+    MovesOn-from c.args.self.now c.lines.self c.take_line.new.self c.in-Some.result
+    c.lines.invariant.passed c.in-Some.ensures.moves

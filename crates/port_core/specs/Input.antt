@@ -1,0 +1,160 @@
+-- Reading an input's contents one by one: what a call for the next one answers, and what the reader
+-- has in hand then.
+use Rattle.std.specs.Prelude.{◌≡◌, ℕ, ◌+◌, ◌<◌, ◌≤◌, Bool, false, not, ◌==◌, nat_le, IsTrue, MatchBool, List, [], length, take, drop, Option, Some, None, option_map, IfSome, Result, Ok, Err, if◌then◌else◌}
+use Rattle.std.specs.Io.KnownBytes.{prepend_known, IsAtEnd}
+use Rattle.port_core.specs.declared.answers.Line.{Line}
+use Rattle.port_core.specs.declared.answers.Line.TheVariants.{Text, End}
+use Rattle.port_core.specs.declared.answers.InputStop.{InputStop}
+use Rattle.port_core.specs.declared.answers.InputStop.TheVariants.{ReadFault, LineTooLong, InputTooLong}
+use Rattle.port_core.specs.Ports.{Rose}
+use Rattle.port_core.specs.Lines.{lines_of, line_limit, HasNoLineFeed}
+use Rattle.port_core.specs.Contents.{Place, place_behind, number_at, input_limit, content_at, is_skipped, stop_due, has_answer, Contents, ended, with_line, contents_from}
+
+-- what a reader of contents has: bytes read and not yet passed, the content last given, and the place
+-- of the line that is due
+pub record InputReading : Type 0 where
+  pub held : List ℕ
+  pub text : List ℕ
+  pub place : Place
+
+-- what these bytes give from a place on, where they are told
+abbrev pub contents_behind : Place → Option (List ℕ) → Option Contents
+contents_behind place known = option_map (λ bytes. contents_from place (lines_of bytes)) known
+
+-- the contents still to come, where the source tells its bytes
+abbrev pub contents_to_come : InputReading → Option (List ℕ) → Option Contents
+contents_to_come reading left = contents_behind reading.place (prepend_known reading.held left)
+
+-- how many bytes the reader has taken
+abbrev pub bytes_taken : InputReading → ℕ
+bytes_taken reading = reading.place.bytes + length reading.held
+
+-- the input stops at the line that is due, as the bytes in hand show
+abbrev pub HasStop : InputReading → InputStop → Type 0
+HasStop reading stop = stop_due reading.place (lines_of reading.held) ≡ Some stop
+
+-- what was still to come before the call and after it, where the source tells its bytes: the first
+-- content is given; or nothing was left but the ending, which stays; or nothing changes
+abbrev pub InputGives :
+    Option Contents → Option Contents → List ℕ → Result Line InputStop → Type 0
+InputGives before after text (Ok (Text number)) = before ≡ option_map (with_line number text) after
+InputGives before after text (Ok (End number)) =
+    IfSome before (λ contents. contents ≡ ended (Ok number)) × (before ≡ after)
+InputGives before after text (Err ReadFault) = before ≡ after
+InputGives before after text (Err (LineTooLong number)) =
+    IfSome before (λ contents. contents ≡ ended (Err (LineTooLong number))) × (before ≡ after)
+InputGives before after text (Err (InputTooLong number)) =
+    IfSome before (λ contents. contents ≡ ended (Err (InputTooLong number))) × (before ≡ after)
+
+-- the reader after each answer: behind the line given, which is within its limit; at the end, with
+-- nothing in hand; with no whole line in hand; or with the stop in hand
+abbrev pub LeavesReading :
+    InputReading → Option (List ℕ) → Result Line InputStop → Type 0
+LeavesReading new left (Ok (Text number)) =
+    (number ≡ new.place.lines) × (is_skipped new.text ≡ false) × (length new.text ≤ line_limit)
+LeavesReading new left (Ok (End number)) =
+    (number ≡ number_at new.place) × (new.held ≡ []) × IsAtEnd left
+LeavesReading new left (Err ReadFault) =
+    HasNoLineFeed new.held × (length new.held ≤ line_limit) × (bytes_taken new ≤ input_limit)
+LeavesReading new left (Err (LineTooLong number)) = HasStop new (LineTooLong number)
+LeavesReading new left (Err (InputTooLong number)) = HasStop new (InputTooLong number)
+
+-- a content given leaves more bytes passed than before, and none of them past the input's limit
+abbrev pub MovesOn : InputReading → InputReading → Result Line InputStop → Type 0
+MovesOn old new (Ok (Text number)) =
+    (old.place.bytes < new.place.bytes) × (new.place.bytes ≤ input_limit)
+MovesOn old new _ = Unit {0}
+
+-- bytes went from the source to the reader
+abbrev pub TakesInput :
+    InputReading → InputReading → Option (List ℕ) → Option (List ℕ) → Type 0
+TakesInput old new left left' =
+    (bytes : List ℕ) × (left ≡ prepend_known bytes left')
+    × (bytes_taken new ≡ bytes_taken old + length bytes)
+
+-- a fault is answered only where the source's count rose, and that count never falls
+abbrev pub CountsInput : ℕ → ℕ → Result Line InputStop → Type 0
+CountsInput before now (Err ReadFault) = Rose before now
+CountsInput before now _ = before ≤ now
+
+-- no more bytes are needed for the next answer
+abbrev pub HasAnswer : InputReading → Type 0
+HasAnswer reading = IsTrue (has_answer reading.place (lines_of reading.held))
+
+-- a reader that has a stop in hand answers it, and stays as it is
+abbrev pub StaysStopped : InputReading → InputReading → Result Line InputStop → Type 0
+StaysStopped old new result =
+    (stop : InputStop) → HasStop old stop → (result ≡ Err stop) × (new ≡ old)
+
+-- ---- one line
+
+-- the content of a text is kept where it is given
+abbrev pub KeepsContent : InputReading → InputReading → List ℕ → Bool → Type 0
+KeepsContent old new text given =
+    let skipped = is_skipped (content_at old.place text) in
+    (given ≡ not skipped)
+    × (new ≡ record old { text = if skipped then old.text else content_at old.place text })
+
+-- the text of the line that is due ends at one place among the bytes in hand, and its bytes at another;
+-- its content is given, or the line is passed over
+abbrev pub PassesLine : InputReading → InputReading → ℕ → ℕ → Option Line → Type 0
+PassesLine old new end behind line =
+    let content = content_at old.place (take end old.held) in
+    (line ≡ (if is_skipped content then None else Some (Text (number_at old.place))))
+    × (new ≡ record {
+      held = drop behind old.held;
+      text = if is_skipped content then old.text else content;
+      place = place_behind old.place behind;
+    })
+
+-- the same, as an answer
+abbrev pub GivesLine :
+    InputReading → InputReading → ℕ → ℕ → Option (Result Line InputStop) → Type 0
+GivesLine old new end behind result =
+    (line : Option Line) × (result ≡ option_map Ok line) × PassesLine old new end behind line
+
+-- a line ends with the LF at this place in hand, where that is not past the input's limit
+abbrev pub EndsLine : InputReading → InputReading → ℕ → Option (Result Line InputStop) → Type 0
+EndsLine old new place result =
+    MatchBool (nat_le input_limit (old.place.bytes + place))
+    ((result ≡ Some (Err (InputTooLong (number_at old.place)))) × (new ≡ old))
+    (GivesLine old new place (place + 1) result)
+
+-- the input ends behind the bytes in hand: they are its last line, where there are any
+abbrev pub EndsInput : InputReading → InputReading → Option (Result Line InputStop) → Type 0
+EndsInput old new result =
+    MatchBool (length old.held == 0)
+    ((result ≡ Some (Ok (End (number_at old.place)))) × (new ≡ old))
+    (GivesLine old new (length old.held) (length old.held) result)
+
+-- the next answer, or none where one line was passed over
+abbrev pub LineGives :
+    Option Contents → Option Contents → List ℕ → Option (Result Line InputStop) → Type 0
+LineGives before after text None = before ≡ after
+LineGives before after text (Some result) = InputGives before after text result
+
+-- the reader after the answer, or behind a line that was passed over
+abbrev pub LeavesBehind :
+    InputReading → InputReading → Option (List ℕ) → Option (Result Line InputStop) → Type 0
+LeavesBehind old new left None = old.place.bytes < new.place.bytes
+LeavesBehind old new left (Some result) = LeavesReading new left result
+
+-- a content given leaves more bytes passed than before, and none of them past the input's limit
+abbrev pub LineMovesOn : InputReading → InputReading → Option (Result Line InputStop) → Type 0
+LineMovesOn old new None = Unit {0}
+LineMovesOn old new (Some result) = MovesOn old new result
+
+-- a fault is answered only where the source's count rose, and that count never falls
+abbrev pub CountsLine : ℕ → ℕ → Option (Result Line InputStop) → Type 0
+CountsLine before now None = before ≤ now
+CountsLine before now (Some result) = CountsInput before now result
+
+-- an answer in hand stays in hand where a line was passed over
+abbrev pub KeepsAnswer : InputReading → InputReading → Option (Result Line InputStop) → Type 0
+KeepsAnswer old new None = HasAnswer old → HasAnswer new
+KeepsAnswer old new (Some result) = Unit {0}
+
+-- a reader that has a stop in hand answers it, and stays as it is
+abbrev pub AnswersStop : InputReading → InputReading → Option (Result Line InputStop) → Type 0
+AnswersStop old new result =
+    (stop : InputStop) → HasStop old stop → (result ≡ Some (Err stop)) × (new ≡ old)
