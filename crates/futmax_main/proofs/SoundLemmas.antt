@@ -26,7 +26,7 @@ use Rattle.futmax_main.specs.declared.session.Step.{Step}
 use Rattle.futmax_main.specs.declared.session.Step.TheVariants.{Goes, Asks, Stops}
 use Rattle.futmax_main.specs.Texts.{only_if, is_nothing, number_of, if_within, number_within, is_plain_byte, is_plain_name, plain_name, two_of, one_of, three_of, fields_of}
 use Rattle.futmax_main.specs.PlainForm.{is_named, sheet_begun, after_league, may_add_club, with_club, after_club, may_add_match, with_match, after_match, club_named, with_line, after_line, feed_begun, after_season, after_sheet_record, with_result, after_result, after_ask}
-use Rattle.futmax_main.specs.Session.{goes_to, asks_at, step_at, step_of_fields, form_fault, judge_text}
+use Rattle.futmax_main.specs.Session.{goes_to, asks_at, step_at, step_of_fields, form_fault, judge}
 use Rattle.futmax_main.specs.declared.turn.Turn.{Turn}
 use Rattle.futmax_main.specs.declared.turn.Turn.TheVariants.{GoesOn, Ends}
 use Rattle.futmax_main.specs.Turns.{AskGives, TurnAdvances}
@@ -553,7 +553,7 @@ or_stops stage (Some step) fault advances = advances
 
 -- a line
 pub text-advances : (number : ℕ) (session : Session) (text : List ℕ) → IsSound session
-    → StepAdvances session.stage (judge_text number session text)
+    → StepAdvances session.stage (judge number session text)
 text-advances number session text sound =
     or_stops session.stage (step_of_fields session.mode session.stage (fields_of text))
     (form_fault number session.stage)
@@ -561,7 +561,7 @@ text-advances number session text sound =
 
 -- a line on which the session goes on
 pub goes-advances : (number : ℕ) (session next : Session) (text : List ℕ) (step : Step)
-    → IsSound session → step ≡ Goes next → step ≡ judge_text number session text
+    → IsSound session → step ≡ Goes next → step ≡ judge number session text
     → Advances session.stage next
 goes-advances number session next text step sound is judged =
     let P : Step → Type 0 = StepAdvances session.stage in
@@ -569,7 +569,7 @@ goes-advances number session next text step sound is judged =
 
 -- a line that is an ask
 pub asks-advances : (number : ℕ) (session next : Session) (text : List ℕ) (step : Step)
-    → IsSound session → step ≡ Asks next → step ≡ judge_text number session text
+    → IsSound session → step ≡ Asks next → step ≡ judge number session text
     → Advances session.stage next × IsAsked next.stage
 asks-advances number session next text step sound is judged =
     let P : Step → Type 0 = StepAdvances session.stage in

@@ -1,13 +1,19 @@
--- The status and the texts of a session, over the list of its lines, and what a run keeps from line
--- to line. Nothing here speaks of what a line means: that is `judge`, `ending` and `IsAnswer`.
-use Rattle.std.specs.Prelude.{◌≡◌, ℕ, ◌+◌, ◌⊎◌, List, [], ◌∷◌, ◌++◌, length, Option, Some, None}
+-- The status and the texts of a session, over the contents of its input, and what a run keeps from
+-- line to line. Nothing here speaks of what a line means: that is `judge`, `ending` and `IsAnswer`.
+use Rattle.std.specs.Prelude.{◌≡◌, ℕ, ◌⊎◌, List, [], ◌∷◌, ◌++◌, Option, Some, None, Result, Ok, Err}
 use Rattle.std.specs.Io.KnownBytes.{append_known}
+use Rattle.port_core.specs.declared.answers.ReadStop.{ReadStop}
+use Rattle.port_core.specs.declared.answers.ReadStop.TheVariants as stop
 use Rattle.port_core.specs.Lines.{lines_of}
-use Rattle.port_core.specs.Ports.{IsFront, next_count}
+use Rattle.port_core.specs.Ports.{IsFront}
+use Rattle.port_core.specs.Contents.{Place, start, Contents, contents_from, contents_of}
+use Rattle.port_core.specs.Reading.{Passes}
 use Rattle.futmax_main.specs.declared.status.Status.{Status}
-use Rattle.futmax_main.specs.declared.status.Status.TheVariants.{Done}
+use Rattle.futmax_main.specs.declared.status.Status.TheVariants.{Done, ReadFault}
 use Rattle.futmax_main.specs.declared.session.Mode.{Mode}
 use Rattle.futmax_main.specs.declared.session.Session.{Session}
+use Rattle.futmax_main.specs.declared.session.Cause.TheVariants.{LineTooLong, InputTooLong}
+use Rattle.futmax_main.specs.declared.session.Fault.{Fault}
 use Rattle.futmax_main.specs.declared.session.Step.{Step}
 use Rattle.futmax_main.specs.declared.session.Step.TheVariants.{Goes, Asks, Stops}
 use Rattle.futmax_main.specs.declared.session.Outcome.{Outcome}
@@ -16,39 +22,37 @@ use Rattle.futmax_main.specs.Session.{first_session, judge, ending, status_of_ca
 use Rattle.futmax_main.specs.Rows.{fault_row, last_row}
 use Rattle.futmax_main.specs.Answers.{IsAnswer}
 
--- where a session stands between two lines: the number of the next one, the bytes before it, and
--- the session
-pub record Place : Type 0 where
-  pub number : ℕ
-  pub before : ℕ
-  pub session : Session
+-- ---- the end
 
--- before the first line
-abbrev pub first_place : Mode → Place
-first_place mode = record { number = 1; before = 0; session = first_session mode }
+-- the fault of a line that is too long
+abbrev pub line_fault : ℕ → Fault
+line_fault number = record { number = number; cause = LineTooLong }
 
--- behind a line that left this session; the number stays at the last value of a u64
-abbrev pub place_after : Place → List ℕ → Session → Place
-place_after place line session =
-    record {
-      number = next_count place.number;
-      before = place.before + length line;
-      session =
-          session;
-    }
+-- the fault of an input that is too long
+abbrev pub input_fault : ℕ → Fault
+input_fault number = record { number = number; cause = InputTooLong }
 
--- what the next line does
-abbrev pub step_of : Place → List ℕ → Step
-step_of place line = judge place.number place.before place.session line
+-- the status of a session that ends so
+abbrev pub status_of_outcome : Outcome → Status
+status_of_outcome Complete = Done
+status_of_outcome (Refused fault) = status_of_cause fault.cause
 
--- what the end of the input is here
-abbrev pub end_of : Place → Outcome
-end_of place = ending place.number place.session
+-- the status where a session's input ends, or stops because a line of it, or all of it, is too long;
+-- that the source failed, no input says
+abbrev pub status_at_end : Result ℕ ReadStop → Session → Status
+status_at_end (Ok number) session = status_of_outcome (ending number session)
+status_at_end (Err stop.ReadFault) session = ReadFault
+status_at_end (Err (stop.LineTooLong number)) session = status_of_cause LineTooLong
+status_at_end (Err (stop.InputTooLong number)) session = status_of_cause InputTooLong
 
--- the status of an input that ends here
-abbrev pub status_at_end : Outcome → Status
-status_at_end Complete = Done
-status_at_end (Refused fault) = status_of_cause fault.cause
+-- what is written there
+abbrev pub row_at_end : Result ℕ ReadStop → Session → List ℕ
+row_at_end (Ok number) session = last_row (ending number session)
+row_at_end (Err stop.ReadFault) session = []
+row_at_end (Err (stop.LineTooLong number)) session = fault_row (line_fault number)
+row_at_end (Err (stop.InputTooLong number)) session = fault_row (input_fault number)
+
+-- ---- the lines
 
 -- the status after a step, by that of what follows
 abbrev pub status_by : Step → (Session → Status) → Status
@@ -56,11 +60,11 @@ status_by (Goes next) onward = onward next
 status_by (Asks next) onward = onward next
 status_by (Stops fault) onward = status_of_cause fault.cause
 
--- the status of a session, from here on over these lines
-abbrev pub status_from : List (List ℕ) → Place → Status
-status_from [] place = status_at_end (end_of place)
-status_from (line ∷ lines) place =
-    status_by (step_of place line) (λ next. status_from lines (place_after place line next))
+-- the status of a session, from here on over these numbered contents and with this end
+abbrev pub status_from : List (ℕ × List ℕ) → Result ℕ ReadStop → Session → Status
+status_from [] end session = status_at_end end session
+status_from (line ∷ lines) end session =
+    status_by (judge line.0 session line.1) (λ next. status_from lines end next)
 
 -- a text after a step: an ask is answered first, a refused line has the last row
 abbrev pub text_by : Step → (Session → List ℕ → Type 0) → List ℕ → Type 0
@@ -70,11 +74,11 @@ text_by (Asks next) onward text =
     × onward next rest
 text_by (Stops fault) onward text = text ≡ fault_row fault
 
--- the text is one that a session writes, from here on over these lines
-abbrev pub IsTextFrom : List (List ℕ) → Place → List ℕ → Type 0
-IsTextFrom [] place text = text ≡ last_row (end_of place)
-IsTextFrom (line ∷ lines) place text =
-    text_by (step_of place line) (λ next. IsTextFrom lines (place_after place line next)) text
+-- the text is one that a session writes, from here on
+abbrev pub IsTextFrom : List (ℕ × List ℕ) → Result ℕ ReadStop → Session → List ℕ → Type 0
+IsTextFrom [] end session text = text ≡ row_at_end end session
+IsTextFrom (line ∷ lines) end session text =
+    text_by (judge line.0 session line.1) (λ next. IsTextFrom lines end next) text
 
 -- the front of an answer: nothing yet, or a front of some answer
 abbrev pub IsAnswerFront : Session → List ℕ → Type 0
@@ -90,12 +94,11 @@ front_by (Asks next) onward text =
     × onward next rest)
 front_by (Stops fault) onward text = IsFront text (fault_row fault)
 
--- whole answers of the first asks, and a front of the next answer or row, from here on over these
--- lines
-abbrev pub IsFrontFrom : List (List ℕ) → Place → List ℕ → Type 0
-IsFrontFrom [] place text = IsFront text (last_row (end_of place))
-IsFrontFrom (line ∷ lines) place text =
-    front_by (step_of place line) (λ next. IsFrontFrom lines (place_after place line next)) text
+-- whole answers of the first asks, and a front of the next answer or row, from here on
+abbrev pub IsFrontFrom : List (ℕ × List ℕ) → Result ℕ ReadStop → Session → List ℕ → Type 0
+IsFrontFrom [] end session text = IsFront text (row_at_end end session)
+IsFrontFrom (line ∷ lines) end session text =
+    front_by (judge line.0 session line.1) (λ next. IsFrontFrom lines end next) text
 
 -- the answers after a step: none of these lines is refused
 abbrev pub answers_by : Step → (Session → List ℕ → Type 0) → List ℕ → Type 0
@@ -106,32 +109,43 @@ answers_by (Asks next) onward text =
 answers_by (Stops fault) onward text = ⊥
 
 -- the text is the answers of all asks in these lines, from here on
-abbrev pub AreAnswersFrom : List (List ℕ) → Place → List ℕ → Type 0
-AreAnswersFrom [] place text = text ≡ []
-AreAnswersFrom (line ∷ lines) place text =
-    answers_by (step_of place line)
-    (λ next. AreAnswersFrom lines (place_after place line next)) text
+abbrev pub AreAnswersFrom : List (ℕ × List ℕ) → Session → List ℕ → Type 0
+AreAnswersFrom [] session text = text ≡ []
+AreAnswersFrom (line ∷ lines) session text =
+    answers_by (judge line.0 session line.1) (λ next. AreAnswersFrom lines next) text
 
--- lines already taken led from the first place here, and wrote this much: what holds from here on
--- over the lines that are left holds of all lines from the first place on, with what was written in
--- front
-pub record Leads (start : Place) (all taken left : List (List ℕ)) (written : List ℕ)
-    (place : Place) : Type 0 where
-  pub lines : all ≡ taken ++ left
-  pub status : status_from all start ≡ status_from left place
-  pub text : (more : List ℕ) → IsTextFrom left place more → IsTextFrom all start (written ++ more)
-  pub front : (more : List ℕ) → IsFrontFrom left place more
-      → IsFrontFrom all start (written ++ more)
-  pub answers : (next : List (List ℕ)) (more : List ℕ) → AreAnswersFrom next place more
-      → AreAnswersFrom (taken ++ next) start (written ++ more)
+-- ---- the whole, and the way there
 
--- the way from the whole input to what is left of it, with the sink's bytes before and now; nothing
--- is said where the source does not tell its bytes
-abbrev pub Path : Mode → Option (List ℕ) → Option (List ℕ) → ℕ → Session → Option (List ℕ)
+-- the status of a session over these contents
+abbrev pub status_of : Contents → Session → Status
+status_of contents session = status_from contents.lines contents.ending session
+
+-- the text is one that it writes
+abbrev pub IsTextOf : Contents → Session → List ℕ → Type 0
+IsTextOf contents session text = IsTextFrom contents.lines contents.ending session text
+
+-- whole answers of its first asks, and a front of the next answer or row
+abbrev pub IsFrontOf : Contents → Session → List ℕ → Type 0
+IsFrontOf contents session text = IsFrontFrom contents.lines contents.ending session text
+
+-- lines already taken led from a first session here, and wrote this much: what holds from here on
+-- over what is left holds of all from the first session on, with what was written in front
+pub record Leads (first : Session) (all : Contents) (taken : List (ℕ × List ℕ)) (left : Contents)
+    (written : List ℕ) (session : Session) : Type 0 where
+  pub status : status_of all first ≡ status_of left session
+  pub text : (more : List ℕ) → IsTextOf left session more → IsTextOf all first (written ++ more)
+  pub front : (more : List ℕ) → IsFrontOf left session more → IsFrontOf all first (written ++ more)
+  pub answers : (next : List (ℕ × List ℕ)) (more : List ℕ) → AreAnswersFrom next session more
+      → AreAnswersFrom (taken ++ next) first (written ++ more)
+
+-- the way from the whole input to a place in it and what stands from there on, with the sink's bytes
+-- before and now; nothing is said where the source does not tell its bytes
+abbrev pub Path : Mode → Option (List ℕ) → Option (List ℕ) → Place → Session → Option (List ℕ)
     → Option (List ℕ) → Type 0
-Path mode None left number session old now = Unit {0}
-Path mode (Some input) None number session old now = ⊥
-Path mode (Some input) (Some left) number session old now =
-    (taken : List (List ℕ)) × (written : List ℕ) × (before : ℕ) × (now ≡ append_known old written)
-    × Leads (first_place mode) (lines_of input) taken (lines_of left) written
-    (record { number = number; before = before; session = session })
+Path mode None left place session old now = Unit {0}
+Path mode (Some input) None place session old now = ⊥
+Path mode (Some input) (Some left) place session old now =
+    (taken : List (ℕ × List ℕ)) × (written : List ℕ) × (now ≡ append_known old written)
+    × Passes start input place left taken
+    × Leads (first_session mode) (contents_of input) taken (contents_from place (lines_of left))
+    written session

@@ -9,7 +9,7 @@ use Rattle.league_core.specs.declared.season.Score.{Score}
 use Rattle.futmax_main.specs.declared.word.Word.{Word}
 use Rattle.futmax_main.specs.declared.word.Word.TheVariants.{Clinched, Lost, Possible}
 use Rattle.futmax_main.specs.declared.session.Cause.{Cause}
-use Rattle.futmax_main.specs.declared.session.Cause.TheVariants.{SheetForm, FeedForm, LineTooLong}
+use Rattle.futmax_main.specs.declared.session.Cause.TheVariants.{SheetForm, FeedForm, LineTooLong, InputTooLong}
 use Rattle.futmax_main.specs.declared.session.Fault.{Fault}
 use Rattle.futmax_main.specs.declared.session.Outcome.{Outcome}
 use Rattle.futmax_main.specs.declared.session.Outcome.TheVariants.{Complete, Refused}
@@ -39,12 +39,13 @@ abbrev pub cause_text : Cause → List ℕ
 cause_text SheetForm = codes "plain_form"
 cause_text FeedForm = codes "plain_form"
 cause_text LineTooLong = codes "line_too_long"
+cause_text InputTooLong = codes "input_too_long"
 
 -- `fault,LINE,CODE`
 abbrev pub fault_row : Fault → List ℕ
 fault_row fault = row_of (codes "fault" ∷ decimal fault.number ∷ cause_text fault.cause ∷ [])
 
--- what is written last at the end of an input: nothing where the session is complete
+-- what is written last where a session ends so: nothing where it is complete
 abbrev pub last_row : Outcome → List ℕ
 last_row Complete = []
 last_row (Refused fault) = fault_row fault

@@ -1,6 +1,6 @@
--- The session: what each line of the input means, and what the end of the input means. A later form
--- of the input changes what is allowed, and nothing here.
-use Rattle.std.specs.Prelude.{ℕ, nat_lt, List, [], ◌∷◌, length, Option, None, if◌then◌else◌, option_map, unwrap_or, bytes_eq, codes}
+-- The session: what each line of the input that counts means, and what the end of the input means. A
+-- later form of the input changes what is allowed, and nothing here.
+use Rattle.std.specs.Prelude.{ℕ, List, [], ◌∷◌, Option, None, if◌then◌else◌, option_map, unwrap_or, bytes_eq, codes}
 use Rattle.futmax_main.specs.declared.status.Status.{Status}
 use Rattle.futmax_main.specs.declared.status.Status.TheVariants.{BadSheet, BadFeed, TooLong}
 use Rattle.futmax_main.specs.declared.session.Mode.{Mode}
@@ -9,13 +9,12 @@ use Rattle.futmax_main.specs.declared.session.Stage.{Stage}
 use Rattle.futmax_main.specs.declared.session.Stage.TheVariants.{Start, InSheet, InFeed, Asked}
 use Rattle.futmax_main.specs.declared.session.Session.{Session}
 use Rattle.futmax_main.specs.declared.session.Cause.{Cause}
-use Rattle.futmax_main.specs.declared.session.Cause.TheVariants.{SheetForm, FeedForm, LineTooLong}
+use Rattle.futmax_main.specs.declared.session.Cause.TheVariants.{SheetForm, FeedForm, LineTooLong, InputTooLong}
 use Rattle.futmax_main.specs.declared.session.Fault.{Fault}
 use Rattle.futmax_main.specs.declared.session.Step.{Step}
 use Rattle.futmax_main.specs.declared.session.Step.TheVariants.{Goes, Asks, Stops}
 use Rattle.futmax_main.specs.declared.session.Outcome.{Outcome}
 use Rattle.futmax_main.specs.declared.session.Outcome.TheVariants.{Complete, Refused}
-use Rattle.port_core.specs.Lines.{line_limit, text_of_line}
 use Rattle.futmax_main.specs.Texts.{fields_of}
 use Rattle.futmax_main.specs.PlainForm.{after_league, after_sheet_record, after_result, after_ask}
 
@@ -70,29 +69,18 @@ form_cause (Asked feed) = FeedForm
 abbrev pub form_fault : ℕ → Stage → Fault
 form_fault number stage = record { number = number; cause = form_cause stage }
 
--- the fault of a line that is too long
-abbrev pub length_fault : ℕ → Fault
-length_fault number = record { number = number; cause = LineTooLong }
-
 -- the status of a session that a fault ends
 abbrev pub status_of_cause : Cause → Status
 status_of_cause SheetForm = BadSheet
 status_of_cause FeedForm = BadFeed
 status_of_cause LineTooLong = TooLong
+status_of_cause InputTooLong = TooLong
 
--- what a line of this number and text does
-abbrev pub judge_text : ℕ → Session → List ℕ → Step
-judge_text number session text =
+-- what a line does, by its number and by what counts of it
+abbrev pub judge : ℕ → Session → List ℕ → Step
+judge number session text =
     unwrap_or (step_of_fields session.mode session.stage (fields_of text))
     (Stops (form_fault number session.stage))
-
--- the whole meaning of a line: its number, how many bytes came before it, the session, and its
--- bytes with its LF. That it is too long is said in place of any test of its text. No rule of today
--- looks at how many bytes came before.
-abbrev pub judge : ℕ → ℕ → Session → List ℕ → Step
-judge number before session line =
-    if nat_lt line_limit (length (text_of_line line)) then Stops (length_fault number)
-    else judge_text number session (text_of_line line)
 
 -- the end of the input, at the number after the last line's
 abbrev pub ending_at : ℕ → Stage → Outcome

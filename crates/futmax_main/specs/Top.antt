@@ -1,31 +1,41 @@
 -- What the top call promises of the status, of the bytes written, and of what the source has left.
 -- It is said where the source tells its bytes; a sink that does not tell its own is taken to hold
 -- what was written.
-use Rattle.std.specs.Prelude.{◌≡◌, ℕ, ◌⊎◌, List, [], ◌++◌, Option, Some, None}
+use Rattle.std.specs.Prelude.{◌≡◌, ℕ, ◌⊎◌, List, [], ◌++◌, Option, Some, None, Ok}
 use Rattle.std.specs.Io.KnownBytes.{append_known}
 use Rattle.port_core.specs.Lines.{lines_of, HasNoLineFeed}
 use Rattle.port_core.specs.Ports.{IsFront}
+use Rattle.port_core.specs.Contents.{start, contents_from, contents_of}
 use Rattle.futmax_main.specs.declared.status.Status.{Status}
 use Rattle.futmax_main.specs.declared.status.Status.TheVariants.{Done, BadWords, BadSheet, BadFeed, ReadFault, WriteFault, OutOfMemory, NotProved, TooLong}
 use Rattle.futmax_main.specs.declared.session.Mode.{Mode}
 use Rattle.futmax_main.specs.Rows.{usage_row}
-use Rattle.futmax_main.specs.Path.{first_place, status_from, IsTextFrom, IsFrontFrom, AreAnswersFrom}
+use Rattle.futmax_main.specs.Session.{first_session}
+use Rattle.futmax_main.specs.Path.{status_of, IsTextOf, IsFrontOf, AreAnswersFrom}
 
 -- the status of the session of an input
 abbrev pub session_status : Mode → List ℕ → Status
-session_status mode input = status_from (lines_of input) (first_place mode)
+session_status mode input = status_of (contents_of input) (first_session mode)
 
 -- the text is one of the session of an input
 abbrev pub IsText : Mode → List ℕ → List ℕ → Type 0
-IsText mode input text = IsTextFrom (lines_of input) (first_place mode) text
+IsText mode input text = IsTextOf (contents_of input) (first_session mode) text
 
 -- whole answers of the session's first asks, and a front of its next answer or row
 abbrev pub IsTextFront : Mode → List ℕ → List ℕ → Type 0
-IsTextFront mode input text = IsFrontFrom (lines_of input) (first_place mode) text
+IsTextFront mode input text = IsFrontOf (contents_of input) (first_session mode) text
 
 -- the whole text of the session, which has this status
 abbrev pub IsWhole : Mode → List ℕ → Status → List ℕ → Type 0
 IsWhole mode input status text = (session_status mode input ≡ status) × IsText mode input text
+
+-- the text is the answers of all asks in these first lines of an input, of which none is too long and
+-- none has the input's first byte too many
+abbrev pub AreAnswersIn : Mode → List (List ℕ) → List ℕ → Type 0
+AreAnswersIn mode lines text =
+    let contents = contents_from start lines in
+    (number : ℕ) × (contents.ending ≡ Ok number)
+    × AreAnswersFrom contents.lines (first_session mode) text
 
 -- the answers of the asks in the whole lines that were taken: what was taken behind them has no LF,
 -- and is no whole line, since its end was not told
@@ -33,8 +43,7 @@ abbrev pub AnswersTaken : Mode → List ℕ → Option (List ℕ) → List ℕ �
 AnswersTaken mode input None text = ⊥
 AnswersTaken mode input (Some left) text =
     (taken : List (List ℕ)) × (held : List ℕ) × HasNoLineFeed held
-    × (lines_of input ≡ taken ++ lines_of (held ++ left))
-    × AreAnswersFrom taken (first_place mode) text
+    × (lines_of input ≡ taken ++ lines_of (held ++ left)) × AreAnswersIn mode taken text
 
 -- what was written where a run over this input ends with this status, and what the source has left
 -- then

@@ -3,6 +3,7 @@
 use Rattle.std.specs.Prelude.{◌≡◌, ◌<◌, ℕ, List, Option, Some}
 use Rattle.std.specs.Io.KnownBytes.{append_known}
 use Rattle.port_core.specs.Ports.{AppendsFront, Rose}
+use Rattle.port_core.specs.Contents.{Place}
 use Rattle.futmax_main.specs.declared.status.Status.{Status}
 use Rattle.futmax_main.specs.declared.status.Status.TheVariants.{Done, BadWords, ReadFault, WriteFault, OutOfMemory, NotProved}
 use Rattle.futmax_main.specs.declared.session.Mode.{Mode}
@@ -57,11 +58,11 @@ LineGives (Stops fault) old now (GoesOn next) = ⊥
 LineGives (Stops fault) old now (Ends status) = FaultEnds fault old now status
 
 -- a turn: the way goes on, or the run has served
-abbrev pub TurnGives : Mode → Option (List ℕ) → Option (List ℕ) → ℕ → Option (List ℕ)
+abbrev pub TurnGives : Mode → Option (List ℕ) → Option (List ℕ) → Place → Option (List ℕ)
     → Option (List ℕ) → Option (List ℕ) → Turn → Type 0
-TurnGives mode input stream number left old now (GoesOn next) =
-    Path mode input stream number next old now
-TurnGives mode input stream number left old now (Ends status) =
+TurnGives mode input stream place left old now (GoesOn next) =
+    Path mode input stream place next old now
+TurnGives mode input stream place left old now (Ends status) =
     Serves (Some mode) input left old now status
 
 -- a session that goes on is sound, and fewer lines are to come

@@ -1,7 +1,7 @@
 //! What one line does to a session.
 
 ghost use Rattle.std.specs.Prelude.{◌≡◌, IfOk};
-ghost use Rattle.futmax_main.specs.Session.{ending, first_session, first_step, feed_step, form_cause, goes_to, asks_at, judge_text, step_of_fields};
+ghost use Rattle.futmax_main.specs.Session.{ending, first_session, first_step, feed_step, form_cause, goes_to, asks_at, judge, step_of_fields};
 ghost use Rattle.futmax_main.specs.Texts.{fields_of};
 ghost use Rattle.futmax_main.specs.Sound.{IsFeed, IsSound};
 
@@ -23,10 +23,10 @@ impl Session {
         }
     }
 
-    /// Takes the line of this number; its text has no LF and is no longer than a line may be.
+    /// Takes the line of this number; `text` is what counts of it.
     pub fn judge(self, alloc: Global, number: u64, text: &[u8]) -> Result<Step, OutOfMemory>
         requires { IsSound self }
-        ensures { IfOk result (λ step. step ≡ judge_text number self text.now) }
+        ensures { IfOk result (λ step. step ≡ judge number self text.now) }
     {
         let cause = form_cause(&self.stage);
         match step(alloc, self, text)? {

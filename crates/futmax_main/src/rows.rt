@@ -102,5 +102,6 @@ fn cause_text(cause: Cause) -> &'static str
     match cause {
         Cause::SheetForm | Cause::FeedForm => "plain_form",
         Cause::LineTooLong => "line_too_long",
+        Cause::InputTooLong => "input_too_long",
     }
 }

@@ -45,6 +45,9 @@ pub enum Cause {
     FeedForm,
     /// The line has more bytes than a line may have.
     LineTooLong,
+    /// The input has more bytes than an input may have, and the first one too many stands in the
+    /// line.
+    InputTooLong,
 }
 
 /// A refused line, by its number from 1, or the end of the input, by the number after the last

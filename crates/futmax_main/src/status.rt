@@ -22,7 +22,7 @@ pub enum Status {
     OutOfMemory,
     /// A report is no proof. No mode of today answers it.
     NotProved,
-    /// A line has more bytes than a line may have.
+    /// A line, or the input, has more bytes than it may have.
     TooLong,
 }
 

@@ -1,12 +1,11 @@
 //! One turn of a run: what is done at a line, at an ask, at a fault, and at the end of the input.
 
 ghost use Rattle.std.specs.Prelude.{◌≢◌, ◌≡◌, ◌≤◌, ℕ, List, Option};
-ghost use Rattle.port_core.specs.Lines.{HasNoLineFeed};
-ghost use Rattle.port_core.specs.Ports.{next_count, Rose};
+ghost use Rattle.port_core.specs.Ports.{Rose};
 ghost use Rattle.port_core.specs.Reading.{stream_of};
 ghost use Rattle.futmax_main.specs.declared.session.Mode.{Mode};
-ghost use Rattle.futmax_main.specs.Path.{Path};
-ghost use Rattle.futmax_main.specs.Session.{ending, judge_text, status_of_cause};
+ghost use Rattle.futmax_main.specs.Path.{Path, input_fault, line_fault};
+ghost use Rattle.futmax_main.specs.Session.{ending, judge, status_of_cause};
 ghost use Rattle.futmax_main.specs.Sound.{IsSound};
 ghost use Rattle.futmax_main.specs.Spans.{IsAsked};
 ghost use Rattle.futmax_main.specs.Turns.{AskGives, EndEnds, FaultEnds, IsCaused, LineGives, TurnAdvances, TurnCaused, TurnGives};
@@ -37,10 +36,10 @@ pub fn take_turn<S: Source, K: Sink>(
 ) -> Turn
     requires { IsSound session }
     ensures way { (mode : Mode) (input old : Option (List ℕ))
-        → Path mode input (stream_of reader.old (S.left source.old)) (next_count reader.old.lines)
+        → Path mode input (stream_of reader.old (S.left source.old)) reader.old.place
         session old (K.holds sink.old)
         → TurnGives mode input
-        (stream_of reader.new (S.left source.new)) (next_count reader.new.lines)
+        (stream_of reader.new (S.left source.new)) reader.new.place
         (S.left source.new) old (K.holds sink.new) result }
     ensures advances { TurnAdvances session result }
     ensures causes { TurnCaused (S.faults source.old) (S.faults source.new)
@@ -52,10 +51,8 @@ pub fn take_turn<S: Source, K: Sink>(
         Ok(Line::Text { number }) => take_line(alloc, session, number, reader.text(), sink),
         Ok(Line::End { number }) => Turn::Ends(take_end(alloc, &session, number, sink)),
         Err(ReadStop::ReadFault) => Turn::Ends(Status::ReadFault),
-        Err(ReadStop::LineTooLong { number }) => {
-            let cause = Cause::LineTooLong;
-            Turn::Ends(refuse(alloc, &Fault { number, cause }, sink))
-        }
+        Err(ReadStop::LineTooLong { number }) => Turn::Ends(refuse_line(alloc, number, sink)),
+        Err(ReadStop::InputTooLong { number }) => Turn::Ends(refuse_input(alloc, number, sink)),
     }
 }
 
@@ -67,7 +64,7 @@ fn take_line<K: Sink>(
     sink: &mut K,
 ) -> Turn
     requires { IsSound session }
-    ensures line { LineGives (judge_text number session text.now)
+    ensures line { LineGives (judge number session text.now)
         (K.holds sink.old) (K.holds sink.new) result }
     ensures advances { TurnAdvances session result }
     ensures causes { TurnCaused 0 0 (K.faults sink.old) (K.faults sink.new) result }
@@ -111,6 +108,28 @@ fn take_end<K: Sink>(alloc: Global, session: &Session, number: u64, sink: &mut K
     }
 }
 
+// The line of this number is too long.
+fn refuse_line<K: Sink>(alloc: Global, number: u64, sink: &mut K) -> Status
+    ensures fault { FaultEnds (line_fault number) (K.holds sink.old) (K.holds sink.new) result }
+    ensures causes { IsCaused 0 0 (K.faults sink.old) (K.faults sink.new) result }
+    ensures no_read { result ≢ Status.ReadFault }
+    ensures writes { K.faults sink.old ≤ K.faults sink.new }
+{
+    let cause = Cause::LineTooLong;
+    refuse(alloc, &Fault { number, cause }, sink)
+}
+
+// The input is too long, and its first byte too many stands in the line of this number.
+fn refuse_input<K: Sink>(alloc: Global, number: u64, sink: &mut K) -> Status
+    ensures fault { FaultEnds (input_fault number) (K.holds sink.old) (K.holds sink.new) result }
+    ensures causes { IsCaused 0 0 (K.faults sink.old) (K.faults sink.new) result }
+    ensures no_read { result ≢ Status.ReadFault }
+    ensures writes { K.faults sink.old ≤ K.faults sink.new }
+{
+    let cause = Cause::InputTooLong;
+    refuse(alloc, &Fault { number, cause }, sink)
+}
+
 // Writes the row of a fault, which ends the run.
 fn refuse<K: Sink>(alloc: Global, fault: &Fault, sink: &mut K) -> Status
     ensures fault { FaultEnds fault.now (K.holds sink.old) (K.holds sink.new) result }
@@ -134,6 +153,6 @@ fn status_of_cause(cause: Cause) -> Status
     match cause {
         Cause::SheetForm => Status::BadSheet,
         Cause::FeedForm => Status::BadFeed,
-        Cause::LineTooLong => Status::TooLong,
+        Cause::LineTooLong | Cause::InputTooLong => Status::TooLong,
     }
 }

@@ -11,19 +11,18 @@ use Rattle.std.proofs.lemmas.Option.{none-some}
 use Rattle.std.proofs.lemmas.Bool.Decides.{nat_tests}
 use Rattle.port_core.specs.declared.answers.Line.{Line}
 use Rattle.port_core.specs.declared.answers.Line.TheVariants.{Text, End}
-use Rattle.port_core.specs.declared.answers.InputStop.{InputStop}
-use Rattle.port_core.specs.declared.answers.InputStop.TheVariants.{ReadFault, LineTooLong, InputTooLong}
+use Rattle.port_core.specs.declared.answers.ReadStop.{ReadStop}
+use Rattle.port_core.specs.declared.answers.ReadStop.TheVariants.{ReadFault, LineTooLong, InputTooLong}
 use Rattle.port_core.specs.Lines.{lines_of, text_of_line, HasNoLineFeed}
-use Rattle.port_core.specs.Window.{EndsAt, IsOverlong, IsPartial}
-use Rattle.port_core.specs.Reading.{IsReady}
+use Rattle.port_core.specs.Window.{EndsAt, IsOverlong, IsPartial, IsReady}
 use Rattle.port_core.specs.Contents.{Place, place_behind, byte_order_mark, without_mark, without_return, number_at, content_at, is_skipped, line_stop, stop_due, Contents, ended, with_line, with_content, contents_by, contents_from, is_whole, has_answer}
-use Rattle.port_core.specs.Input.{InputReading, contents_behind, contents_to_come, HasStop, HasAnswer, InputGives, LineGives, LeavesBehind, AnswersStop, KeepsAnswer, TakesInput, GivesLine, EndsLine, EndsInput, MovesOn, LineMovesOn}
+use Rattle.port_core.specs.Reading.{Reading, contents_behind, contents_to_come, HasStop, HasAnswer, NextGives, LineGives, LeavesBehind, AnswersStop, KeepsAnswer, TakesInput, GivesLine, EndsLine, EndsInput, MovesOn, LineMovesOn}
 use Rattle.port_core.proofs.LineLemmas.{concat-lines_of, lines_of-open, lines_of-front, text_of_line-ended, text_of_line-open}
-use Rattle.port_core.proofs.ReadingLemmas.{first_line-ended, length-text_of_line, HasLongLine-overlong}
+use Rattle.port_core.proofs.FirstLineLemmas.{first_line-ended, length-text_of_line, HasLongLine-overlong}
 
 -- ---- where an input stops
 
-stop-none : (place : Place) (line : List ℕ) → length (text_of_line line) ≤ 1024
+pub stop-none : (place : Place) (line : List ℕ) → length (text_of_line line) ≤ 1024
     → place.bytes + length line ≤ 67108864 → line_stop place line ≡ None
 stop-none place line short inside = grind (arith, nat_tests)
 
@@ -40,7 +39,7 @@ stop-past place line past first = elim first [
 ]
 
 -- where the input stops at the line that is due, it gives nothing more
-contents-stop : (place : Place) (lines : List (List ℕ)) (stop : InputStop)
+contents-stop : (place : Place) (lines : List (List ℕ)) (stop : ReadStop)
     → stop_due place lines ≡ Some stop → contents_from place lines ≡ ended (Err stop)
 contents-stop place [] stop is = cc
 contents-stop place (line ∷ lines) stop is =
@@ -50,7 +49,7 @@ contents-stop place (line ∷ lines) stop is =
 
 -- the same of bytes in hand and those left, where the source tells them
 pub contents-stopped : (place : Place) (held : List ℕ) (known left : Option (List ℕ))
-    (stop : InputStop) → known ≡ prepend_known held left
+    (stop : ReadStop) → known ≡ prepend_known held left
     → ((rest : List ℕ) → stop_due place (lines_of (held ++ rest)) ≡ Some stop)
     → IfSome (contents_behind place known) (λ contents. contents ≡ ended (Err stop))
 contents-stopped place held known None stop is stops =
@@ -63,7 +62,7 @@ contents-stopped place held known (Some left) stop is stops =
     subst P (sym is) (contents-stop place (lines_of (held ++ left)) stop (stops left))
 
 -- the bytes in hand alone show a stop that is there whatever follows
-pub stop-held : (place : Place) (held : List ℕ) (stop : InputStop)
+pub stop-held : (place : Place) (held : List ℕ) (stop : ReadStop)
     → ((rest : List ℕ) → stop_due place (lines_of (held ++ rest)) ≡ Some stop)
     → stop_due place (lines_of held) ≡ Some stop
 stop-held place held stop stops =
@@ -78,7 +77,7 @@ stop-overlong place held rest over room =
     let long = HasLongLine-overlong held rest over in
     ap (stop_due place) long.2 ∙ stop-long place long.0 long.3 (omega (arith, over.0))
 
-length-ended : (held : List ℕ) (at : ℕ) → at < length held
+pub length-ended : (held : List ℕ) (at : ℕ) → at < length held
     → length (take at held ++ 10 ∷ []) ≡ at + 1
 length-ended held at within =
     omega (arith, length-append (take at held) (10 ∷ []), length-take-le at held (omega arith))
@@ -135,7 +134,7 @@ stop-inside place held at ends within short inside =
     (omega (arith, length-ended held at within))
 
 -- where a stop is in hand, more bytes are than a line may have, or the input's first one too many
-pub stop-ready : (place : Place) (held : List ℕ) (stop : InputStop)
+pub stop-ready : (place : Place) (held : List ℕ) (stop : ReadStop)
     → stop_due place (lines_of held) ≡ Some stop
     → (1024 < length held) ⊎ (67108865 ≤ place.bytes + length held)
 stop-ready place held stop is =
@@ -149,7 +148,7 @@ stop-ready place held stop is =
 
 -- ---- what the line that is due adds
 
-contents-line : (place : Place) (lines rest : List (List ℕ)) (line text : List ℕ) (size : ℕ)
+pub contents-line : (place : Place) (lines rest : List (List ℕ)) (line text : List ℕ) (size : ℕ)
     → lines ≡ line ∷ rest → text_of_line line ≡ text → length line ≡ size
     → line_stop place line ≡ None
     → contents_from place lines ≡ with_content (number_at place) (content_at place text)
@@ -212,7 +211,7 @@ option_map-same None = refl
 option_map-same (Some contents) = refl
 
 gives-by : (skipped : Bool) (before after : Option Contents) (number : ℕ)
-    (content text old : List ℕ) (line : Option Line) (result : Option (Result Line InputStop))
+    (content text old : List ℕ) (line : Option Line) (result : Option (Result Line ReadStop))
     → before ≡ option_map (λ rest. if skipped then rest else with_line number content rest) after
     → line ≡ (if skipped then None else Some (Text number))
     → text ≡ (if skipped then old else content) → result ≡ option_map Ok line
@@ -224,8 +223,8 @@ gives-by false before after number content text old line result is line-is text-
     subst (LineGives before after text) (sym (result-is ∙ ap (option_map Ok) line-is))
     (is ∙ ap (λ t. option_map (with_line number t) after) (sym text-is))
 
-GivesLine-gives : (old new : InputReading) (left : Option (List ℕ)) (end behind : ℕ)
-    (result : Option (Result Line InputStop)) (before : Option Contents)
+GivesLine-gives : (old new : Reading) (left : Option (List ℕ)) (end behind : ℕ)
+    (result : Option (Result Line ReadStop)) (before : Option Contents)
     → GivesLine old new end behind result
     → before ≡ option_map (with_content (number_at old.place)
     (content_at old.place (take end old.held)))
@@ -257,8 +256,8 @@ length-content place text =
     (λ is. omega (arith, length-mark (without_return text), length-return text))
     (λ is. length-return text)
 
-leaves-by : (skipped : Bool) (old new : InputReading) (left : Option (List ℕ)) (number : ℕ)
-    (content : List ℕ) (line : Option Line) (result : Option (Result Line InputStop))
+leaves-by : (skipped : Bool) (old new : Reading) (left : Option (List ℕ)) (number : ℕ)
+    (content : List ℕ) (line : Option Line) (result : Option (Result Line ReadStop))
     → is_skipped content ≡ skipped → line ≡ (if skipped then None else Some (Text number))
     → new.text ≡ (if skipped then old.text else content) → result ≡ option_map Ok line
     → old.place.bytes < new.place.bytes → number ≡ new.place.lines → length content ≤ 1024
@@ -272,8 +271,8 @@ leaves-by false old new left number content line result is line-is text-is resul
       omega (arith, short, ap length text-is),
     )
 
-GivesLine-leaves : (old new : InputReading) (left : Option (List ℕ)) (end behind : ℕ)
-    (result : Option (Result Line InputStop)) → GivesLine old new end behind result
+GivesLine-leaves : (old new : Reading) (left : Option (List ℕ)) (end behind : ℕ)
+    (result : Option (Result Line ReadStop)) → GivesLine old new end behind result
     → end ≤ 1024 → 0 < behind → LeavesBehind old new left result
 GivesLine-leaves old new left end behind result given short some =
     let text = take end old.held in
@@ -285,8 +284,8 @@ GivesLine-leaves old new left end behind result given short some =
 
 -- ---- an answer in hand
 
-stop-from : (found : Option InputStop) (whole more : Bool) → whole ≡ false
-    → (is_some found || whole && more) ≡ true → (stop : InputStop) × (found ≡ Some stop)
+stop-from : (found : Option ReadStop) (whole more : Bool) → whole ≡ false
+    → (is_some found || whole && more) ≡ true → (stop : ReadStop) × (found ≡ Some stop)
 stop-from None whole more cut has = absurd cc
 stop-from (Some stop) whole more cut has = (stop, refl)
 
@@ -321,7 +320,7 @@ ready-same place held most P has room ready full =
     ]
 
 -- nothing is read while a stop is in hand
-pub stop-same : (place : Place) (held : List ℕ) (most : ℕ) (P : Type 0) (stop : InputStop)
+pub stop-same : (place : Place) (held : List ℕ) (most : ℕ) (P : Type 0) (stop : ReadStop)
     → stop_due place (lines_of held) ≡ Some stop → place.bytes + most ≡ 67108865
     → (IsReady held → P) → (most ≤ length held → P) → P
 stop-same place held most P stop is room ready full =
@@ -338,16 +337,16 @@ pub match_bool : (b : Bool) (A B P : Type 0) → MatchBool b A B → (b ≡ true
 match_bool true A B P fact when unless = when refl fact
 match_bool false A B P fact when unless = unless refl fact
 
-gives-stop : (stop : InputStop) (before after : Option Contents) (text : List ℕ)
+gives-stop : (stop : ReadStop) (before after : Option Contents) (text : List ℕ)
     → IfSome before (λ contents. contents ≡ ended (Err stop)) → before ≡ after
-    → InputGives before after text (Err stop)
+    → NextGives before after text (Err stop)
 gives-stop ReadFault before after text ends same = same
 gives-stop (LineTooLong number) before after text ends same = (ends, same)
 gives-stop (InputTooLong number) before after text ends same = (ends, same)
 
 -- the reader with these bytes in hand answers the stop that they show, and stays
 pub stop-gives : (before : Option Contents) (known left : Option (List ℕ))
-    (mid new : InputReading) (stop : InputStop) (result : Option (Result Line InputStop))
+    (mid new : Reading) (stop : ReadStop) (result : Option (Result Line ReadStop))
     → before ≡ contents_behind mid.place known → known ≡ prepend_known mid.held left
     → ((rest : List ℕ) → stop_due mid.place (lines_of (mid.held ++ rest)) ≡ Some stop)
     → (result ≡ Some (Err stop)) × (new ≡ mid)
@@ -362,7 +361,7 @@ stop-gives before known left mid new stop result is stream stops answer =
 
 -- a line ended in hand
 pub Ended-gives : (before : Option Contents) (known left : Option (List ℕ))
-    (mid new : InputReading) (at : ℕ) (result : Option (Result Line InputStop))
+    (mid new : Reading) (at : ℕ) (result : Option (Result Line ReadStop))
     → before ≡ contents_behind mid.place known → known ≡ prepend_known mid.held left
     → EndsAt mid.held at × (at < length mid.held) × (at ≤ 1024) → EndsLine mid new at result
     → LineGives before (contents_to_come new left) new.text result
@@ -378,8 +377,8 @@ Ended-gives before known left mid new at result is stream ends answer =
     (is ∙ contents-ended mid.place mid.held known left at stream ends.0 ends.1 ends.2
     (leb-false 67108864 (mid.place.bytes + at) inside)))
 
-pub Ended-leaves : (mid new : InputReading) (left : Option (List ℕ)) (at : ℕ)
-    (result : Option (Result Line InputStop))
+pub Ended-leaves : (mid new : Reading) (left : Option (List ℕ)) (at : ℕ)
+    (result : Option (Result Line ReadStop))
     → EndsAt mid.held at × (at < length mid.held) × (at ≤ 1024) → EndsLine mid new at result
     → LeavesBehind mid new left result
 Ended-leaves mid new left at result ends answer =
@@ -413,7 +412,7 @@ contents-end place held known (Some left) is end none =
     subst P (sym is) (ap (λ l. contents_from place (lines_of l)) gone)
 
 pub Open-gives : (before : Option Contents) (known left : Option (List ℕ))
-    (mid new : InputReading) (result : Option (Result Line InputStop))
+    (mid new : Reading) (result : Option (Result Line ReadStop))
     → before ≡ contents_behind mid.place known → known ≡ prepend_known mid.held left
     → IsPartial mid.held → IsAtEnd left → mid.place.bytes + length mid.held ≤ 67108864
     → EndsInput mid new result → LineGives before (contents_to_come new left) new.text result
@@ -436,8 +435,8 @@ Open-gives before known left mid new result is stream partial end inside answer 
     given (is ∙ contents-last mid.place mid.held known left stream end partial.0
     (grind (arith, nat_tests)) partial.1 inside))
 
-pub Open-leaves : (mid new : InputReading) (left : Option (List ℕ))
-    (result : Option (Result Line InputStop)) → IsPartial mid.held → IsAtEnd left
+pub Open-leaves : (mid new : Reading) (left : Option (List ℕ))
+    (result : Option (Result Line ReadStop)) → IsPartial mid.held → IsAtEnd left
     → EndsInput mid new result → LeavesBehind mid new left result
 Open-leaves mid new left result partial end answer =
     match_bool (eqb (length mid.held) 0)
@@ -456,30 +455,30 @@ Open-leaves mid new left result partial end answer =
 -- ---- a stop or an answer that was in hand
 
 -- a reader that had a stop in hand took nothing
-pub stop-stays : (held held' text : List ℕ) (place : Place) (entry : InputReading) (most : ℕ)
+pub stop-stays : (held held' text : List ℕ) (place : Place) (entry : Reading) (most : ℕ)
     (P : Type 0) → record { held = held; text = text; place = place } ≡ entry
     → place.bytes + most ≡ 67108865 → (IsReady held → P × (held' ≡ held))
-    → (most ≤ length held → P × (held' ≡ held)) → (stop : InputStop) → HasStop entry stop
+    → (most ≤ length held → P × (held' ≡ held)) → (stop : ReadStop) → HasStop entry stop
     → record { held = held'; text = text; place = place } ≡ entry
 stop-stays held held' text place entry most P is room ready full stop has =
     let here : stop_due place (lines_of held) ≡ Some stop =
-    subst (λ (r : InputReading). HasStop r stop) (sym is) has in
+    subst (λ (r : Reading). HasStop r stop) (sym is) has in
     ap (λ h. record { held = h; text = text; place = place })
     (stop-same place held most (P × (held' ≡ held)) stop here room ready full).1 ∙ is
 
 -- the bytes in hand show a stop or none, and a stop is answered
-pub AnswersStop-by : (entry mid new : InputReading) (result : Option (Result Line InputStop))
-    (found : Option InputStop) → ((stop : InputStop) → HasStop entry stop → mid ≡ entry)
+pub AnswersStop-by : (entry mid new : Reading) (result : Option (Result Line ReadStop))
+    (found : Option ReadStop) → ((stop : ReadStop) → HasStop entry stop → mid ≡ entry)
     → stop_due mid.place (lines_of mid.held) ≡ found
-    → ((stop : InputStop) → found ≡ Some stop → (result ≡ Some (Err stop)) × (new ≡ mid))
+    → ((stop : ReadStop) → found ≡ Some stop → (result ≡ Some (Err stop)) × (new ≡ mid))
     → AnswersStop entry new result
 AnswersStop-by entry mid new result found stays is answers = λ stop has.
     let same = stays stop has in
-    let here : HasStop mid stop = subst (λ (r : InputReading). HasStop r stop) (sym same) has in
+    let here : HasStop mid stop = subst (λ (r : Reading). HasStop r stop) (sym same) has in
     let answer = answers stop (sym is ∙ here) in (answer.0, answer.1 ∙ same)
 
 -- nothing is read while an answer is in hand
-pub answer-same : (held held' text : List ℕ) (place : Place) (entry : InputReading) (most : ℕ)
+pub answer-same : (held held' text : List ℕ) (place : Place) (entry : Reading) (most : ℕ)
     (P : Type 0) → record { held = held; text = text; place = place } ≡ entry
     → place.bytes + most ≡ 67108865 → (IsReady held → P × (held' ≡ held))
     → (most ≤ length held → P × (held' ≡ held)) → HasAnswer entry
@@ -492,7 +491,7 @@ answer-same held held' text place entry most P is room ready full has =
     )
 
 -- no answer is in hand where no whole line is, and neither limit is passed
-pub no_answer-open : (reading : InputReading) → IsPartial reading.held
+pub no_answer-open : (reading : Reading) → IsPartial reading.held
     → reading.place.bytes + length reading.held ≤ 67108864 → HasAnswer reading → ⊥
 no_answer-open reading partial inside has =
     elim (ready-line reading.place reading.held (lines_of reading.held) refl has) [
@@ -503,41 +502,41 @@ no_answer-open reading partial inside has =
       | inr past ↦ omega (arith, past)
     ]
 
-KeepsAnswer-by : (entry new : InputReading) (result : Option (Result Line InputStop))
+KeepsAnswer-by : (entry new : Reading) (result : Option (Result Line ReadStop))
     → (result ≡ None → HasAnswer entry → HasAnswer new) → KeepsAnswer entry new result
 KeepsAnswer-by entry new None keeps = keeps refl
 KeepsAnswer-by entry new (Some result) keeps = tt
 
 -- there is none to keep
-pub KeepsAnswer-none : (entry new : InputReading) (result : Option (Result Line InputStop))
+pub KeepsAnswer-none : (entry new : Reading) (result : Option (Result Line ReadStop))
     → (HasAnswer entry → ⊥) → KeepsAnswer entry new result
 KeepsAnswer-none entry new result none =
     KeepsAnswer-by entry new result (λ is has. absurd (none has))
 
 skipped-from : (skipped : Bool) (number : ℕ) (line : Option Line)
-    (result : Option (Result Line InputStop))
+    (result : Option (Result Line ReadStop))
     → line ≡ (if skipped then None else Some (Text number)) → result ≡ option_map Ok line
     → result ≡ None → skipped ≡ true
 skipped-from true number line result line-is is none = refl
 skipped-from false number line result line-is is none =
     absurd (none-some (Ok (Text number)) (sym none ∙ is ∙ ap (option_map Ok) line-is))
 
-behind-none : (found : Option InputStop) (whole skipped : Bool) → found ≡ None
+behind-none : (found : Option ReadStop) (whole skipped : Bool) → found ≡ None
     → skipped ≡ true → (is_some found || whole && (not skipped || false)) ≡ false
 behind-none None true true none is = refl
 behind-none None false skipped none is = refl
 behind-none None true false none is = absurd (false≢true is)
 behind-none (Some stop) whole skipped none is = absurd (none-some stop (sym none))
 
-behind-skipped : (found : Option InputStop) (whole skipped more : Bool) → found ≡ None
+behind-skipped : (found : Option ReadStop) (whole skipped more : Bool) → found ≡ None
     → skipped ≡ true → (is_some found || whole && (not skipped || more)) ≡ true → more ≡ true
 behind-skipped found whole skipped false none is has =
     absurd (false≢true (sym (behind-none found whole skipped none is) ∙ has))
 behind-skipped found whole skipped true none is has = refl
 
 -- an answer in hand that is not the line passed over stands behind it
-pub Ended-keeps : (entry mid new : InputReading) (at : ℕ)
-    (result : Option (Result Line InputStop))
+pub Ended-keeps : (entry mid new : Reading) (at : ℕ)
+    (result : Option (Result Line ReadStop))
     → EndsAt mid.held at × (at < length mid.held) × (at ≤ 1024) → EndsLine mid new at result
     → (HasAnswer entry → mid ≡ entry) → KeepsAnswer entry new result
 Ended-keeps entry mid new at result ends answer same =
@@ -567,12 +566,12 @@ Ended-keeps entry mid new at result ends answer same =
     let Q : ℕ → Type 0 = λ n. has_answer (place_behind mid.place n) rest ≡ true in
     subst HasAnswer (sym given.2.1) (subst Q (length-ended mid.held at ends.1) behind)))
 
-some-same : (first second : InputStop) → Some first ≡ Some second → first ≡ second
+some-same : (first second : ReadStop) → Some first ≡ Some second → first ≡ second
 some-same first second same = cc
 
 -- bytes that show a stop: it is the one answered
-pub stop-answers : (entry mid new : InputReading) (result : Option (Result Line InputStop))
-    (found : InputStop) → ((stop : InputStop) → HasStop entry stop → mid ≡ entry)
+pub stop-answers : (entry mid new : Reading) (result : Option (Result Line ReadStop))
+    (found : ReadStop) → ((stop : ReadStop) → HasStop entry stop → mid ≡ entry)
     → stop_due mid.place (lines_of mid.held) ≡ Some found
     → (result ≡ Some (Err found)) × (new ≡ mid) → AnswersStop entry new result
 stop-answers entry mid new result found stays is answer =
@@ -582,17 +581,17 @@ stop-answers entry mid new result found stays is answer =
     ))
 
 -- bytes that show none: none was in hand
-pub none-answers : (entry mid new : InputReading) (result : Option (Result Line InputStop))
-    → ((stop : InputStop) → HasStop entry stop → mid ≡ entry)
+pub none-answers : (entry mid new : Reading) (result : Option (Result Line ReadStop))
+    → ((stop : ReadStop) → HasStop entry stop → mid ≡ entry)
     → stop_due mid.place (lines_of mid.held) ≡ None → AnswersStop entry new result
 none-answers entry mid new result stays is =
     AnswersStop-by entry mid new result None stays is
     (λ stop same. absurd (none-some stop same))
 
-pub Ended-stops : (entry mid new : InputReading) (at : ℕ)
-    (result : Option (Result Line InputStop))
+pub Ended-stops : (entry mid new : Reading) (at : ℕ)
+    (result : Option (Result Line ReadStop))
     → EndsAt mid.held at × (at < length mid.held) × (at ≤ 1024) → EndsLine mid new at result
-    → ((stop : InputStop) → HasStop entry stop → mid ≡ entry) → AnswersStop entry new result
+    → ((stop : ReadStop) → HasStop entry stop → mid ≡ entry) → AnswersStop entry new result
 Ended-stops entry mid new at result ends answer stays =
     match_bool (leb 67108864 (mid.place.bytes + at))
     ((result ≡ Some (Err (InputTooLong (number_at mid.place)))) × (new ≡ mid))
@@ -610,8 +609,8 @@ Ended-stops entry mid new at result ends answer stays =
     (leb-false 67108864 (mid.place.bytes + at) inside)))
 
 -- only the bytes passed before the call count
-pub LeavesBehind-at : (old entry new : InputReading) (left : Option (List ℕ))
-    (result : Option (Result Line InputStop)) → entry.place ≡ old.place
+pub LeavesBehind-at : (old entry new : Reading) (left : Option (List ℕ))
+    (result : Option (Result Line ReadStop)) → entry.place ≡ old.place
     → LeavesBehind old new left result → LeavesBehind entry new left result
 LeavesBehind-at old entry new left None same leaves =
     omega (arith, leaves, ap (λ p. p.bytes) same)
@@ -625,7 +624,7 @@ prepend-prepend first second None = refl
 prepend-prepend first second (Some bytes) = ap Some (sym (append_assoc first second bytes))
 
 -- bytes taken in turn are bytes taken
-pub TakesInput-more : (a b c : InputReading) (first second third : Option (List ℕ))
+pub TakesInput-more : (a b c : Reading) (first second third : Option (List ℕ))
     → TakesInput a b first second → TakesInput b c second third → TakesInput a c first third
 TakesInput-more a b c first second third one two = (
   one.0 ++ two.0,
@@ -634,21 +633,21 @@ TakesInput-more a b c first second third one two = (
 )
 
 -- none were taken
-pub TakesInput-none : (a : InputReading) (left : Option (List ℕ)) → TakesInput a a left left
+pub TakesInput-none : (a : Reading) (left : Option (List ℕ)) → TakesInput a a left left
 TakesInput-none a None = ([], refl, omega arith)
 TakesInput-none a (Some left) = ([], refl, omega arith)
 
 -- ---- the bytes passed
 
 -- bytes passed before count too
-pub MovesOn-from : (first old new : InputReading) (result : Result Line InputStop)
+pub MovesOn-from : (first old new : Reading) (result : Result Line ReadStop)
     → first.place.bytes ≤ old.place.bytes → MovesOn old new result → MovesOn first new result
 MovesOn-from first old new (Ok (Text number)) less moves = (omega (arith, less, moves.0), moves.1)
 MovesOn-from first old new (Ok (End number)) less moves = tt
 MovesOn-from first old new (Err stop) less moves = tt
 
-moves-by : (skipped : Bool) (old new : InputReading) (number : ℕ) (line : Option Line)
-    (result : Option (Result Line InputStop))
+moves-by : (skipped : Bool) (old new : Reading) (number : ℕ) (line : Option Line)
+    (result : Option (Result Line ReadStop))
     → line ≡ (if skipped then None else Some (Text number)) → result ≡ option_map Ok line
     → (old.place.bytes < new.place.bytes) × (new.place.bytes ≤ 67108864)
     → LineMovesOn old new result
@@ -657,8 +656,8 @@ moves-by true old new number line result line-is is more =
 moves-by false old new number line result line-is is more =
     subst (LineMovesOn old new) (sym (is ∙ ap (option_map Ok) line-is)) more
 
-GivesLine-moves : (old new : InputReading) (end behind : ℕ)
-    (result : Option (Result Line InputStop)) → GivesLine old new end behind result → 0 < behind
+GivesLine-moves : (old new : Reading) (end behind : ℕ)
+    (result : Option (Result Line ReadStop)) → GivesLine old new end behind result → 0 < behind
     → old.place.bytes + behind ≤ 67108864 → LineMovesOn old new result
 GivesLine-moves old new end behind result given some inside =
     let at = ap (λ r. r.place.bytes) given.2.1 in
@@ -666,7 +665,7 @@ GivesLine-moves old new end behind result given some inside =
     (number_at old.place) given.0 result given.2.0 given.1 (omega arith, omega arith)
 
 -- a line that ended in hand
-pub Ended-moves : (mid new : InputReading) (at : ℕ) (result : Option (Result Line InputStop))
+pub Ended-moves : (mid new : Reading) (at : ℕ) (result : Option (Result Line ReadStop))
     → EndsLine mid new at result → LineMovesOn mid new result
 Ended-moves mid new at result answer =
     match_bool (leb 67108864 (mid.place.bytes + at))
@@ -677,7 +676,7 @@ Ended-moves mid new at result answer =
     (omega (arith, leb-false 67108864 (mid.place.bytes + at) inside)))
 
 -- the end of the input
-pub Open-moves : (mid new : InputReading) (result : Option (Result Line InputStop))
+pub Open-moves : (mid new : Reading) (result : Option (Result Line ReadStop))
     → mid.place.bytes + length mid.held ≤ 67108864 → EndsInput mid new result
     → LineMovesOn mid new result
 Open-moves mid new result inside answer =
@@ -689,7 +688,7 @@ Open-moves mid new result inside answer =
     (λ some given. GivesLine-moves mid new (length mid.held) (length mid.held) result given
     (grind (arith, nat_tests)) inside)
 
-pub LineMovesOn-at : (old entry new : InputReading) (result : Option (Result Line InputStop))
+pub LineMovesOn-at : (old entry new : Reading) (result : Option (Result Line ReadStop))
     → entry.place ≡ old.place → LineMovesOn old new result → LineMovesOn entry new result
 LineMovesOn-at old entry new None same moves = tt
 LineMovesOn-at old entry new (Some result) same moves =

@@ -1,10 +1,10 @@
 -- An input as its readers see it: which bytes of a line count, which lines are passed over, and where
 -- an input stops because a line of it, or all of it, is too long. This is the project's own rule, made
 -- for tables that editors and spreadsheets write.
-use Rattle.std.specs.Prelude.{ℕ, ◌+◌, ◌-◌, Bool, true, false, not, ◌&&◌, ◌||◌, ◌==◌, nat_eq, nat_lt, nat_le, List, [], ◌∷◌, length, take, drop, Option, Some, None, is_some, Result, Ok, Err, if◌then◌else◌}
+use Rattle.std.specs.Prelude.{ℕ, ◌+◌, ◌-◌, Bool, true, false, not, ◌&&◌, ◌||◌, ◌==◌, nat_eq, nat_lt, nat_le, List, [], ◌∷◌, ◌++◌, length, take, drop, Option, Some, None, is_some, Result, Ok, Err, if◌then◌else◌}
 use Rattle.std.specs.List.{starts_with, ends_with, list_any}
-use Rattle.port_core.specs.declared.answers.InputStop.{InputStop}
-use Rattle.port_core.specs.declared.answers.InputStop.TheVariants.{LineTooLong, InputTooLong}
+use Rattle.port_core.specs.declared.answers.ReadStop.{ReadStop}
+use Rattle.port_core.specs.declared.answers.ReadStop.TheVariants.{LineTooLong, InputTooLong}
 use Rattle.port_core.specs.Lines.{lines_of, text_of_line, line_limit, line_feed}
 
 -- the most bytes that an input may have
@@ -68,14 +68,14 @@ abbrev pub is_line_limit_first : Place → Bool
 is_line_limit_first place = nat_le (place.bytes + line_limit) input_limit
 
 -- why the input stops at this line, where it does: of two bytes too many, the first one decides
-abbrev pub line_stop : Place → List ℕ → Option InputStop
+abbrev pub line_stop : Place → List ℕ → Option ReadStop
 line_stop place line =
     if is_long_line line && is_line_limit_first place then Some (LineTooLong (number_at place))
     else if is_past_limit place line then Some (InputTooLong (number_at place))
     else None
 
 -- the same of the first of these lines
-abbrev pub stop_due : Place → List (List ℕ) → Option InputStop
+abbrev pub stop_due : Place → List (List ℕ) → Option ReadStop
 stop_due place [] = None
 stop_due place (line ∷ lines) = line_stop place line
 
@@ -85,10 +85,10 @@ stop_due place (line ∷ lines) = line_stop place line
 -- input's end, one more than its last line's, or the stop in its place
 pub record Contents : Type 0 where
   pub lines : List (ℕ × List ℕ)
-  pub ending : Result ℕ InputStop
+  pub ending : Result ℕ ReadStop
 
 -- no line, and this ending
-abbrev pub ended : Result ℕ InputStop → Contents
+abbrev pub ended : Result ℕ ReadStop → Contents
 ended ending = record { lines = []; ending = ending }
 
 -- one more line in front
@@ -96,13 +96,17 @@ abbrev pub with_line : ℕ → List ℕ → Contents → Contents
 with_line number content rest =
     record { lines = (number, content) ∷ rest.lines; ending = rest.ending }
 
+-- these lines in front
+abbrev pub with_lines : List (ℕ × List ℕ) → Contents → Contents
+with_lines given rest = record { lines = given ++ rest.lines; ending = rest.ending }
+
 -- what a content adds to what the lines behind it give: nothing where its line is passed over
 abbrev pub with_content : ℕ → List ℕ → Contents → Contents
 with_content number content rest =
     if is_skipped content then rest else with_line number content rest
 
 -- what a line and those behind it give: nothing but the stop, where the input stops there
-abbrev pub contents_by : Option InputStop → Contents → Contents
+abbrev pub contents_by : Option ReadStop → Contents → Contents
 contents_by (Some stop) contents = ended (Err stop)
 contents_by None contents = contents
 

@@ -1,9 +1,8 @@
--- Reading order: what a device promises, what a line is, what an input gives, what the readers
--- answer, the devices over memory and over std, and what inner calls promise each other.
+-- Reading order: what a device promises, what a line is, what an input gives, what the reader of
+-- lines answers, the devices over memory and over std, and what inner calls promise each other.
 pub mod Ports
 pub mod Lines
 pub mod Contents
-pub mod Input
 pub mod Reading
 pub mod Memory
 pub mod Adapters

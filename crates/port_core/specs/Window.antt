@@ -1,6 +1,6 @@
 -- What the parts of the reader of lines promise each other: bytes in hand, filled from a source
 -- until a line is whole.
-use Rattle.std.specs.Prelude.{◌≡◌, ℕ, ◌+◌, ◌<◌, ◌≤◌, List, ◌∷◌, ◌++◌, length, take, drop, Option}
+use Rattle.std.specs.Prelude.{◌≡◌, ℕ, ◌+◌, ◌<◌, ◌≤◌, ◌⊎◌, List, ◌∷◌, ◌++◌, length, take, drop, Contains, Option}
 use Rattle.std.specs.Io.KnownBytes.{prepend_known, IsAtEnd}
 use Rattle.port_core.specs.declared.ports.Got.{Got}
 use Rattle.port_core.specs.declared.ports.Got.TheVariants.{Bytes}
@@ -43,6 +43,10 @@ IsOverlong bytes = (line_limit < length bytes) × HasNoLineFeed (take (line_limi
 -- no whole line is in hand, and not too much for one
 abbrev pub IsPartial : List ℕ → Type 0
 IsPartial held = HasNoLineFeed held × (length held ≤ line_limit)
+
+-- no read is needed for the line that is due: it is in hand whole, or more than a line may have is
+abbrev pub IsReady : List ℕ → Type 0
+IsReady held = Contains held line_feed ⊎ (line_limit < length held)
 
 -- the bytes in hand when the line that is due has ended, or its end is the input's, or the source
 -- failed, or it is too long, or there are the most that may be

@@ -6,8 +6,8 @@ pub const LINE_LIMIT: usize = 1024;
 /// The most bytes that an input may have.
 pub const INPUT_LIMIT: usize = 67_108_864;
 
-/// A line, or the end of the input. Lines are numbered from 1; the end has the number after the
-/// last line.
+/// A line, or the end of the input. Lines are numbered from 1, those that are passed over too; the
+/// end has the number after the last line.
 #[derive(Debug, Clone, Copy, PartialEq, Eq)]
 pub enum Line {
     Text { number: u64 },
@@ -17,16 +17,6 @@ pub enum Line {
 /// Why no line could be given.
 #[derive(Debug, Clone, Copy, PartialEq, Eq)]
 pub enum ReadStop {
-    /// The source failed. What was read is kept, and a later call reads on.
-    ReadFault,
-    /// The line that is due has more than 1,024 bytes before its LF. Each later call answers the
-    /// same.
-    LineTooLong { number: u64 },
-}
-
-/// Why no content of an input could be given.
-#[derive(Debug, Clone, Copy, PartialEq, Eq)]
-pub enum InputStop {
     /// The source failed. What was read is kept, and a later call reads on.
     ReadFault,
     /// The line that is due has more than 1,024 bytes before its LF. Each later call answers the

@@ -2,18 +2,17 @@
 //! the other.
 //!
 //! A device is seen as the bytes that it tells, where it tells them, and a count of faults. What a
-//! call promises is in `specs/Ports.antt`; what a line is, in `specs/Lines.antt`; what a reader of
-//! lines answers, in `specs/Reading.antt`.
+//! call promises is in `specs/Ports.antt`; what a line is, in `specs/Lines.antt`; which lines count, in
+//! `specs/Contents.antt`; what a reader of lines answers, in `specs/Reading.antt`.
 #![tactic(auto)]
 
 mod answers;
 mod content;
-mod input_reader;
-#[cfg(test)]
-mod input_tests;
 mod last_line;
 mod laws;
 mod line_reader;
+#[cfg(test)]
+mod line_tests;
 mod mem_sink;
 mod mem_source;
 mod pieces;
@@ -24,8 +23,7 @@ mod tests;
 mod window;
 mod writing;
 
-pub use answers::{INPUT_LIMIT, InputStop, LINE_LIMIT, Line, ReadStop, WriteFault};
-pub use input_reader::InputReader;
+pub use answers::{INPUT_LIMIT, LINE_LIMIT, Line, ReadStop, WriteFault};
 pub use laws::{appends_in_turn, lines_are_the_only_split, lines_split_the_input};
 pub use line_reader::LineReader;
 pub use mem_sink::MemSink;

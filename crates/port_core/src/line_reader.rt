@@ -1,32 +1,38 @@
-//! An input line by line, from a source that may give it in any pieces and fail at any call.
+//! The lines of an input that count, one by one, from a source that may give it in any pieces and fail
+//! at any call. What counts of a line is called its content.
 //!
-//!     source  ── read ──>  bytes in hand  ── up to the first LF ──>  text of the line last given
+//!     source  ── read ──>  bytes in hand  ── line by line ──>  content last given
 //!
-//! The reader reads only while no whole line is in hand, so an answer never waits for more input
-//! than its line. A fault loses nothing: what was read stays in hand. A line costs a look at each of
-//! its bytes, and a copy of its text.
+//! The reader reads only while no answer is in hand, so it never waits for more input than its line. A
+//! fault loses nothing: what was read stays in hand. A line costs a look at each of its bytes, and a
+//! copy of its content where it is given.
 
-ghost use Rattle.std.specs.Prelude.{◌≡◌, ◌+◌, ◌≤◌, ◌<◌, [], IfOk, drop, length, take};
-ghost use Rattle.port_core.specs.Ports.{next_count};
-ghost use Rattle.port_core.specs.Reading.{CountsNext, GivesLast, HasLongLine, IsReady, LeavesInHand, NextGives, Numbers, StaysTooLong, stream_of};
+ghost use Rattle.std.specs.Prelude.{◌≡◌, ◌+◌, ◌-◌, ◌<◌, ◌≤◌, [], IfOk, Ok, length, option_map, take};
+ghost use Rattle.port_core.specs.Contents.{input_limit, number_at, start};
+ghost use Rattle.port_core.specs.Reading.{AnswersStop, CountsNext, CountsLine, EndsInput, EndsLine, HasAnswer, KeepsContent, NextGives, KeepsAnswer, LeavesBehind, LeavesReading, LineGives, LineMovesOn, MovesOn, PassesLine, PassesTo, StaysStopped, TakesInput, bytes_taken, contents_to_come, given_by, given_there};
 
-use crate::answers::{LINE_LIMIT, Line, ReadStop};
+use crate::answers::{INPUT_LIMIT, LINE_LIMIT, Line, ReadStop};
+use crate::content::{content_of, is_skipped};
 use crate::last_line::LastLine;
 use crate::ports::Source;
-use crate::window::{Due, ROOM, Window, await_line};
+use crate::window::{Due, Window, await_line};
 use league_core::OutOfMemory;
 use std::alloc::Global;
 use std::marker::Model;
 
-/// Gives the lines of one source. Its room is taken once, at the start.
+/// Gives the lines of one input that count, without comments and empty lines. Its room is taken once, at the start.
 #[derive(Drop)]
 pub struct LineReader {
     held: Window,
     text: LastLine,
+    // The lines and the bytes that were passed.
     lines: u64,
+    bytes: usize,
 }
 
 impl Model for LineReader {
+    ghost use Rattle.std.specs.Prelude.{◌+◌, ◌≤◌, length};
+    ghost use Rattle.port_core.specs.Contents.{input_limit};
     ghost use Rattle.port_core.specs.Reading.{Reading};
 
     ghost Value = { Reading };
@@ -34,94 +40,173 @@ impl Model for LineReader {
     ghost view = { λ reader. record {
       held = reader.held;
       text = reader.text;
-      lines = reader.lines;
+      place = record { lines = reader.lines; bytes = reader.bytes };
     } };
+
+    ghost invariant = { λ reader. (reader.lines ≤ reader.bytes) × (reader.bytes ≤ input_limit)
+        × (reader.bytes + length reader.held ≤ input_limit + 1) };
 }
 
 impl LineReader {
-    /// A reader that has given no line.
+    /// A reader that has given nothing.
     pub fn new(alloc: Global) -> Result<LineReader, OutOfMemory>
-        ensures { IfOk result (λ reader. reader ≡ record { held = []; text = []; lines = 0 }) }
+        ensures { IfOk result (λ reader.
+            reader ≡ record { held = []; text = []; place = start }) }
     {
         Ok(LineReader {
             held: Window::new(alloc)?,
             text: LastLine::new(alloc)?,
             lines: 0,
+            bytes: 0,
         })
     }
 
-    /// The line last given, without its LF; empty before the first.
+    /// The content last given; empty before the first.
     pub fn text(&self) -> &[u8]
         ensures { result.now ≡ self.now.text }
     {
         self.text.bytes()
     }
 
-    /// Gives the next line. After a fault a later call reads on, and after `LineTooLong` it answers
-    /// the same for good.
+    /// Gives the next content. After a fault a later call reads on; after `LineTooLong` and
+    /// `InputTooLong` it answers the same for good.
     pub fn next<S: Source>(&mut self, source: &mut S) -> Result<Line, ReadStop>
-        // Where the source tells its bytes: a line is taken from the front of what was still to
-        // come, or all of it stays.
-        ensures gives { NextGives (stream_of self.old (S.left source.old))
-            (stream_of self.new (S.left source.new)) self.new.text result }
+        // Where the source tells its bytes: what was still to come, and what is.
+        ensures gives { NextGives (contents_to_come self.old (S.left source.old))
+            (contents_to_come self.new (S.left source.new)) self.new.text result }
+        ensures leaves { LeavesReading self.new (S.left source.new) result }
 
-        // The line's number, and what the reader has in hand afterwards.
-        ensures number { Numbers self.old self.new result }
-        ensures in_hand { LeavesInHand self.new result }
+        // Which lines of the input were passed, whole, and that they gave this and nothing else.
+        ensures passes { PassesTo self.old self.new (S.left source.old) (S.left source.new)
+            (given_by result self.new.text) }
+        ensures moves { MovesOn self.old self.new result }
 
-        // No read while a whole line, or more than a line, is in hand; a fault only where the
-        // source counted one.
-        ensures ready { IsReady self.old.held → source.new ≡ source.old }
+        // Each byte taken is kept or passed, and at most one past the input's limit is taken. None is
+        // while an answer is in hand.
+        ensures takes { TakesInput self.old self.new (S.left source.old) (S.left source.new) }
+        ensures within { bytes_taken self.new ≤ input_limit + 1 }
+        ensures ready { HasAnswer self.old → source.new ≡ source.old }
+
+        // A fault only where the source counted one, and a stop for good.
         ensures cause { CountsNext (S.faults source.old) (S.faults source.new) result }
-
-        // A line that is too long stays so.
-        ensures stuck { HasLongLine self.old.held → StaysTooLong self.old self.new result }
+        ensures stopped { StaysStopped self.old self.new result }
     {
-        match await_line(&mut self.held, ROOM, source) {
-            Due::Ended(place) => Ok(self.give(place, place + 1)),
-            Due::Open => Ok(self.give_last()),
-            Due::Failed => Err(ReadStop::ReadFault),
-            Due::Stuck => Err(ReadStop::LineTooLong {
-                number: self.next_number(),
-            }),
-            Due::Full => unreachable!(),
+        'lines: loop {
+            if let Some(result) = self.take_line(source) {
+                return result;
+            }
         }
     }
 
-    fn next_number(&self) -> u64
-        ensures { result ≡ next_count self.now.lines }
+    // The next answer, or none where the line that was due is passed over.
+    fn take_line<S: Source>(&mut self, source: &mut S) -> Option<Result<Line, ReadStop>>
+        ensures gives { LineGives (contents_to_come self.old (S.left source.old))
+            (contents_to_come self.new (S.left source.new)) self.new.text result }
+        ensures passes { PassesTo self.old self.new (S.left source.old) (S.left source.new)
+            (given_there result self.new.text) }
+        ensures leaves { LeavesBehind self.old self.new (S.left source.new) result }
+        ensures moves { LineMovesOn self.old self.new result }
+        ensures passed { self.new.place.bytes ≤ input_limit }
+        ensures within { bytes_taken self.new ≤ input_limit + 1 }
+        ensures takes { TakesInput self.old self.new (S.left source.old) (S.left source.new) }
+        ensures ready { HasAnswer self.old → source.new ≡ source.old }
+        ensures keeps { KeepsAnswer self.old self.new result }
+        ensures cause { CountsLine (S.faults source.old) (S.faults source.new) result }
+        ensures stopped { AnswersStop self.old self.new result }
     {
-        self.lines.saturating_add(1)
+        let most = self.most();
+        match await_line(&mut self.held, most, source) {
+            Due::Ended(place) => self.end_line(place),
+            Due::Open => self.end_input(),
+            Due::Failed => Some(Err(ReadStop::ReadFault)),
+            Due::Stuck => {
+                let number = self.lines + 1;
+                Some(Err(ReadStop::LineTooLong { number }))
+            }
+            Due::Full => {
+                let number = self.lines + 1;
+                Some(Err(ReadStop::InputTooLong { number }))
+            }
+        }
     }
 
-    // Gives the first bytes in hand, up to `end`, and lets go of those up to `after`.
-    fn give(&mut self, end: usize, after: usize) -> Line
-        requires limit { end ≤ LINE_LIMIT }
-        requires order { end ≤ after }
-        requires within { after ≤ length self.old.held }
-        ensures line { result ≡ Line.Text (next_count self.old.lines) }
-        ensures reading { self.new ≡ record {
-          held = drop after self.old.held;
-          text = take end self.old.held;
-          lines = next_count self.old.lines;
-        } }
+    // The most bytes that may be in hand: one past the input's limit shows that it is passed.
+    fn most(&self) -> usize
+        ensures value { self.now.place.bytes + result ≡ input_limit + 1 }
+        ensures some { 0 < result }
+        ensures within { length self.now.held ≤ result }
     {
-        self.text.keep(&self.held.bytes()[..end]);
-        self.held.drop_front(after);
-        self.lines = self.next_number();
-        Line::Text { number: self.lines }
+        INPUT_LIMIT + 1 - self.bytes
     }
 
-    // Gives what is in hand when the input has ended.
-    fn give_last(&mut self) -> Line
-        requires { length self.old.held ≤ LINE_LIMIT }
-        ensures { GivesLast self.old self.new result }
+    // A line ends with the LF at this place in hand.
+    fn end_line(&mut self, place: usize) -> Option<Result<Line, ReadStop>>
+        requires limit { place ≤ LINE_LIMIT }
+        requires within { place < length self.old.held }
+        ensures { EndsLine self.old self.new place result }
+    {
+        if INPUT_LIMIT <= self.bytes + place {
+            let number = self.lines + 1;
+            return Some(Err(ReadStop::InputTooLong { number }));
+        }
+        given(self.pass(place, place + 1))
+    }
+
+    // The input ends behind the bytes in hand.
+    fn end_input(&mut self) -> Option<Result<Line, ReadStop>>
+        requires limit { length self.old.held ≤ LINE_LIMIT }
+        requires room { bytes_taken self.old ≤ INPUT_LIMIT }
+        ensures { EndsInput self.old self.new result }
     {
         let count = self.held.bytes().len();
         if count == 0 {
-            let number = self.next_number();
-            return Line::End { number };
+            let number = self.lines + 1;
+            return Some(Ok(Line::End { number }));
         }
-        self.give(count, count)
+        given(self.pass(count, count))
+    }
+
+    // Passes the first line in hand. Its text ends at `end`, and its bytes at `behind`.
+    fn pass(&mut self, end: usize, behind: usize) -> Option<Line>
+        requires limit { end ≤ LINE_LIMIT }
+        requires order { end ≤ behind }
+        requires some { 0 < behind }
+        requires within { behind ≤ length self.old.held }
+        requires room { self.old.place.bytes + behind ≤ INPUT_LIMIT }
+        ensures { PassesLine self.old self.new end behind result }
+    {
+        let given = self.keep(end);
+        self.held.drop_front(behind);
+        self.lines += 1;
+        self.bytes += behind;
+        if given {
+            let number = self.lines;
+            Some(Line::Text { number })
+        } else {
+            None
+        }
+    }
+
+    // Keeps the content of the first line in hand, whose text ends at `end`, where it is given.
+    fn keep(&mut self, end: usize) -> bool
+        requires limit { end ≤ LINE_LIMIT }
+        requires within { end ≤ length self.old.held }
+        ensures { KeepsContent self.old self.new (take end self.old.held) result }
+    {
+        let content = content_of(&self.held.bytes()[..end], self.lines == 0);
+        if is_skipped(content) {
+            return false;
+        }
+        self.text.keep(content);
+        true
+    }
+}
+
+fn given(line: Option<Line>) -> Option<Result<Line, ReadStop>>
+    ensures { result ≡ option_map Ok line }
+{
+    match line {
+        Some(line) => Some(Ok(line)),
+        None => None,
     }
 }

@@ -8,8 +8,7 @@ ghost use Rattle.std.specs.Prelude.{◌≡◌, ◌+◌, ◌<◌, ◌≤◌, [], 
 ghost use Rattle.std.specs.Io.KnownBytes.{prepend_known};
 ghost use Rattle.port_core.specs.Ports.{CountsRead};
 ghost use Rattle.port_core.specs.Lines.{HasNoLineFeed};
-ghost use Rattle.port_core.specs.Reading.{IsReady};
-ghost use Rattle.port_core.specs.Window.{CountsDue, EndsAt, Fills, IsDue, ReadsBehind, Takes};
+ghost use Rattle.port_core.specs.Window.{CountsDue, EndsAt, Fills, IsDue, IsReady, ReadsBehind, Takes};
 
 use crate::answers::LINE_LIMIT;
 use crate::pieces::{find_line_feed, move_to_front};

@@ -1,5 +1,4 @@
 use Rattle.std.proofs.Common.{◌≤◌}
-use Rattle.port_core.specs.Ports.{next_count}
 use Rattle.port_core.specs.Reading.{stream_of}
 use Rattle.futmax_main.specs.Path.{Path}
 use Rattle.futmax_main.specs.Sound.{IsSound, lines_to_come}
@@ -10,7 +9,7 @@ abbrev pub invariant-lines : goal.invariant-lines
 invariant-lines g l =
     IsSound l.session
     × Path l.fn.mode (g.S.Source.left l.fn.source) (stream_of l.reader (g.S.Source.left l.source))
-    (next_count l.reader.lines) l.session
+    l.reader.place l.session
     (g.K.Sink.holds l.fn.sink) (g.K.Sink.holds l.sink)
     × (g.S.Source.faults l.fn.source ≤ g.S.Source.faults l.source)
     × (g.K.Sink.faults l.fn.sink ≤ g.K.Sink.faults l.sink)

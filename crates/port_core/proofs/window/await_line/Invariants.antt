@@ -1,8 +1,7 @@
 use Rattle.std.proofs.Common.{◌≡◌, ◌-◌, ◌≤◌, length, take}
 use Rattle.std.specs.Io.KnownBytes.{prepend_known}
 use Rattle.port_core.specs.Lines.{HasNoLineFeed}
-use Rattle.port_core.specs.Reading.{IsReady}
-use Rattle.port_core.specs.Window.{Takes}
+use Rattle.port_core.specs.Window.{IsReady, Takes}
 use Rattle.port_core.specs.declared.window.TheConstants.{ROOM}
 use Rattle.port_core.proofs.window.await_line.Given as goal
 

@@ -1,10 +1,11 @@
 -- The answer at the bytes in hand after the wait, for each end that the wait may have.
-use Rattle.std.proofs.Common.{◌≡◌, ◌+◌, ◌≤◌, length, ap, sym, arith, refl, subst}
-use Rattle.port_core.specs.declared.answers.InputStop.TheVariants.{LineTooLong, InputTooLong}
+use Rattle.std.proofs.Common.{◌≡◌, ◌+◌, ◌≤◌, ◌∙◌, [], length, ap, sym, arith, refl, subst}
+use Rattle.port_core.specs.declared.answers.ReadStop.TheVariants.{LineTooLong, InputTooLong}
 use Rattle.port_core.specs.Contents.{Place, number_at}
-use Rattle.port_core.specs.Input.{InputReading, HasAnswer, contents_to_come}
+use Rattle.port_core.specs.Reading.{Reading, HasAnswer, contents_to_come, given_there, stream_of}
 use Rattle.port_core.proofs.ContentLemmas.{LeavesBehind-at, LineMovesOn-at, Ended-moves, Open-moves, Ended-gives, Ended-leaves, Ended-keeps, Ended-stops, Open-gives, Open-leaves, stop-gives, stop-held, stop-overlong, stop-full, stop-open, stop-stays, answer-same, stop-answers, none-answers, KeepsAnswer-none, no_answer-open}
-use Rattle.port_core.proofs.input_reader.InputReader.take_line.Goals as goal
+use Rattle.port_core.proofs.PassingLemmas.{Ended-passes, Open-passes, passes-before, passes-none}
+use Rattle.port_core.proofs.line_reader.LineReader.take_line.Goals as goal
 
 pub returns-in-Ended-clause-ready : goal.returns-in-Ended-clause-ready
 returns-in-Ended-clause-ready g c =
@@ -54,7 +55,7 @@ returns-in-Full-clause-ready g c =
 pub returns-in-Ended-clause-gives : goal.returns-in-Ended-clause-gives
 returns-in-Ended-clause-gives g c =
     let place : Place = record { lines = c.self.inside.lines; bytes = c.self.inside.bytes } in
-    let mid : InputReading = record { held = c.await_line.new.held; text = c.self.inside.text; place = place } in
+    let mid : Reading = record { held = c.await_line.new.held; text = c.self.inside.text; place = place } in
     let left = g.S.Source.left c.args.source.now in
     let before = ap (λ r. contents_to_come r left) (sym c.self.view_is) in
     Ended-gives _ _ _ mid _ c.in-Ended.place _ before c.in-Ended.ensures.stream
@@ -63,7 +64,7 @@ returns-in-Ended-clause-gives g c =
 pub returns-in-Ended-clause-leaves : goal.returns-in-Ended-clause-leaves
 returns-in-Ended-clause-leaves g c =
     let place : Place = record { lines = c.self.inside.lines; bytes = c.self.inside.bytes } in
-    let mid : InputReading = record { held = c.await_line.new.held; text = c.self.inside.text; place = place } in
+    let mid : Reading = record { held = c.await_line.new.held; text = c.self.inside.text; place = place } in
     let leaves = Ended-leaves mid c.end_line.new.self (g.S.Source.left c.await_line.new.source)
     c.in-Ended.place c.end_line.result c.in-Ended.ensures.due c.end_line.ensures in
     LeavesBehind-at mid c.args.self.now c.end_line.new.self (g.S.Source.left c.await_line.new.source)
@@ -72,7 +73,7 @@ returns-in-Ended-clause-leaves g c =
 pub returns-in-Ended-clause-keeps : goal.returns-in-Ended-clause-keeps
 returns-in-Ended-clause-keeps g c =
     let place : Place = record { lines = c.self.inside.lines; bytes = c.self.inside.bytes } in
-    let mid : InputReading = record { held = c.await_line.new.held; text = c.self.inside.text; place = place } in
+    let mid : Reading = record { held = c.await_line.new.held; text = c.self.inside.text; place = place } in
     let most : place.bytes + c.most-most.result ≡ 67108865 =
     omega (arith, c.most-most.ensures.value, ap (λ r. r.place.bytes) c.self.view_is) in
     Ended-keeps c.args.self.now mid c.end_line.new.self c.in-Ended.place c.end_line.result
@@ -84,7 +85,7 @@ returns-in-Ended-clause-keeps g c =
 pub returns-in-Ended-clause-stopped : goal.returns-in-Ended-clause-stopped
 returns-in-Ended-clause-stopped g c =
     let place : Place = record { lines = c.self.inside.lines; bytes = c.self.inside.bytes } in
-    let mid : InputReading = record { held = c.await_line.new.held; text = c.self.inside.text; place = place } in
+    let mid : Reading = record { held = c.await_line.new.held; text = c.self.inside.text; place = place } in
     let most : place.bytes + c.most-most.result ≡ 67108865 =
     omega (arith, c.most-most.ensures.value, ap (λ r. r.place.bytes) c.self.view_is) in
     let stays = stop-stays c.self.inside.held c.await_line.new.held c.self.inside.text place
@@ -96,7 +97,7 @@ returns-in-Ended-clause-stopped g c =
 pub returns-in-Open-clause-gives : goal.returns-in-Open-clause-gives
 returns-in-Open-clause-gives g c =
     let place : Place = record { lines = c.self.inside.lines; bytes = c.self.inside.bytes } in
-    let mid : InputReading = record { held = c.await_line.new.held; text = c.self.inside.text; place = place } in
+    let mid : Reading = record { held = c.await_line.new.held; text = c.self.inside.text; place = place } in
     let most : place.bytes + c.most-most.result ≡ 67108865 =
     omega (arith, c.most-most.ensures.value, ap (λ r. r.place.bytes) c.self.view_is) in
     let inside : place.bytes + length c.await_line.new.held ≤ 67108864 =
@@ -109,7 +110,7 @@ returns-in-Open-clause-gives g c =
 pub returns-in-Open-clause-leaves : goal.returns-in-Open-clause-leaves
 returns-in-Open-clause-leaves g c =
     let place : Place = record { lines = c.self.inside.lines; bytes = c.self.inside.bytes } in
-    let mid : InputReading = record { held = c.await_line.new.held; text = c.self.inside.text; place = place } in
+    let mid : Reading = record { held = c.await_line.new.held; text = c.self.inside.text; place = place } in
     let leaves = Open-leaves mid c.end_input.new.self (g.S.Source.left c.await_line.new.source)
     c.end_input.result c.in-Open.ensures.due.0 c.in-Open.ensures.due.1 c.end_input.ensures in
     LeavesBehind-at mid c.args.self.now c.end_input.new.self (g.S.Source.left c.await_line.new.source)
@@ -118,7 +119,7 @@ returns-in-Open-clause-leaves g c =
 pub returns-in-Open-clause-keeps : goal.returns-in-Open-clause-keeps
 returns-in-Open-clause-keeps g c =
     let place : Place = record { lines = c.self.inside.lines; bytes = c.self.inside.bytes } in
-    let mid : InputReading = record { held = c.await_line.new.held; text = c.self.inside.text; place = place } in
+    let mid : Reading = record { held = c.await_line.new.held; text = c.self.inside.text; place = place } in
     let most : place.bytes + c.most-most.result ≡ 67108865 =
     omega (arith, c.most-most.ensures.value, ap (λ r. r.place.bytes) c.self.view_is) in
     let inside : place.bytes + length c.await_line.new.held ≤ 67108864 =
@@ -133,7 +134,7 @@ returns-in-Open-clause-keeps g c =
 pub returns-in-Open-clause-stopped : goal.returns-in-Open-clause-stopped
 returns-in-Open-clause-stopped g c =
     let place : Place = record { lines = c.self.inside.lines; bytes = c.self.inside.bytes } in
-    let mid : InputReading = record { held = c.await_line.new.held; text = c.self.inside.text; place = place } in
+    let mid : Reading = record { held = c.await_line.new.held; text = c.self.inside.text; place = place } in
     let most : place.bytes + c.most-most.result ≡ 67108865 =
     omega (arith, c.most-most.ensures.value, ap (λ r. r.place.bytes) c.self.view_is) in
     let inside : place.bytes + length c.await_line.new.held ≤ 67108864 =
@@ -147,7 +148,7 @@ returns-in-Open-clause-stopped g c =
 pub returns-in-Failed-clause-stopped : goal.returns-in-Failed-clause-stopped
 returns-in-Failed-clause-stopped g c =
     let place : Place = record { lines = c.self.inside.lines; bytes = c.self.inside.bytes } in
-    let mid : InputReading = record { held = c.await_line.new.held; text = c.self.inside.text; place = place } in
+    let mid : Reading = record { held = c.await_line.new.held; text = c.self.inside.text; place = place } in
     let most : place.bytes + c.most-most.result ≡ 67108865 =
     omega (arith, c.most-most.ensures.value, ap (λ r. r.place.bytes) c.self.view_is) in
     let inside : place.bytes + length c.await_line.new.held ≤ 67108864 =
@@ -161,7 +162,7 @@ returns-in-Failed-clause-stopped g c =
 pub returns-in-Stuck-clause-gives : goal.returns-in-Stuck-clause-gives
 returns-in-Stuck-clause-gives g c =
     let place : Place = record { lines = c.self.inside.lines; bytes = c.self.inside.bytes } in
-    let mid : InputReading = record { held = c.await_line.new.held; text = c.self.inside.text; place = place } in
+    let mid : Reading = record { held = c.await_line.new.held; text = c.self.inside.text; place = place } in
     let most : place.bytes + c.most-most.result ≡ 67108865 =
     omega (arith, c.most-most.ensures.value, ap (λ r. r.place.bytes) c.self.view_is) in
     let room : place.bytes + length c.await_line.new.held ≤ 67108865 =
@@ -196,7 +197,7 @@ returns-in-Stuck-clause-leaves g c =
 pub returns-in-Stuck-clause-stopped : goal.returns-in-Stuck-clause-stopped
 returns-in-Stuck-clause-stopped g c =
     let place : Place = record { lines = c.self.inside.lines; bytes = c.self.inside.bytes } in
-    let mid : InputReading = record { held = c.await_line.new.held; text = c.self.inside.text; place = place } in
+    let mid : Reading = record { held = c.await_line.new.held; text = c.self.inside.text; place = place } in
     let most : place.bytes + c.most-most.result ≡ 67108865 =
     omega (arith, c.most-most.ensures.value, ap (λ r. r.place.bytes) c.self.view_is) in
     let room : place.bytes + length c.await_line.new.held ≤ 67108865 =
@@ -217,7 +218,7 @@ returns-in-Stuck-clause-stopped g c =
 pub returns-in-Full-clause-gives : goal.returns-in-Full-clause-gives
 returns-in-Full-clause-gives g c =
     let place : Place = record { lines = c.self.inside.lines; bytes = c.self.inside.bytes } in
-    let mid : InputReading = record { held = c.await_line.new.held; text = c.self.inside.text; place = place } in
+    let mid : Reading = record { held = c.await_line.new.held; text = c.self.inside.text; place = place } in
     let most : place.bytes + c.most-most.result ≡ 67108865 =
     omega (arith, c.most-most.ensures.value, ap (λ r. r.place.bytes) c.self.view_is) in
     let left = g.S.Source.left c.args.source.now in
@@ -238,7 +239,7 @@ returns-in-Full-clause-leaves g c =
 pub returns-in-Full-clause-stopped : goal.returns-in-Full-clause-stopped
 returns-in-Full-clause-stopped g c =
     let place : Place = record { lines = c.self.inside.lines; bytes = c.self.inside.bytes } in
-    let mid : InputReading = record { held = c.await_line.new.held; text = c.self.inside.text; place = place } in
+    let mid : Reading = record { held = c.await_line.new.held; text = c.self.inside.text; place = place } in
     let most : place.bytes + c.most-most.result ≡ 67108865 =
     omega (arith, c.most-most.ensures.value, ap (λ r. r.place.bytes) c.self.view_is) in
     let stays = stop-stays c.self.inside.held c.await_line.new.held c.self.inside.text place
@@ -252,7 +253,7 @@ returns-in-Full-clause-stopped g c =
 pub returns-in-Ended-clause-moves : goal.returns-in-Ended-clause-moves
 returns-in-Ended-clause-moves g c =
     let place : Place = record { lines = c.self.inside.lines; bytes = c.self.inside.bytes } in
-    let mid : InputReading = record {
+    let mid : Reading = record {
       held = c.await_line.new.held;
       text = c.self.inside.text;
       place = place;
@@ -264,7 +265,7 @@ returns-in-Ended-clause-moves g c =
 pub returns-in-Open-clause-moves : goal.returns-in-Open-clause-moves
 returns-in-Open-clause-moves g c =
     let place : Place = record { lines = c.self.inside.lines; bytes = c.self.inside.bytes } in
-    let mid : InputReading = record {
+    let mid : Reading = record {
       held = c.await_line.new.held;
       text = c.self.inside.text;
       place = place;
@@ -275,3 +276,81 @@ returns-in-Open-clause-moves g c =
     (ap (λ r. r.place) (sym c.self.view_is))
     (Open-moves mid c.end_input.new.self c.end_input.result
     (omega (arith, most, c.in-Open.ensures.due)) c.end_input.ensures)
+
+pub returns-in-Ended-clause-passes : goal.returns-in-Ended-clause-passes
+returns-in-Ended-clause-passes g c =
+    let place : Place = record { lines = c.self.inside.lines; bytes = c.self.inside.bytes } in
+    let mid : Reading = record {
+      held = c.await_line.new.held;
+      text = c.self.inside.text;
+      place = place;
+    } in
+    let left = g.S.Source.left c.args.source.now in
+    let before = ap (λ r. stream_of r left) (sym c.self.view_is) in
+    passes-before c.args.self.now mid c.end_line.new.self left _
+    (given_there c.end_line.result c.end_line.new.self.text)
+    (ap (λ r. r.place) (sym c.self.view_is)) (before ∙ c.in-Ended.ensures.stream)
+    (Ended-passes mid c.end_line.new.self _ c.in-Ended.place c.end_line.result
+    c.in-Ended.ensures.due c.end_line.ensures)
+
+pub returns-in-Open-clause-passes : goal.returns-in-Open-clause-passes
+returns-in-Open-clause-passes g c =
+    let place : Place = record { lines = c.self.inside.lines; bytes = c.self.inside.bytes } in
+    let mid : Reading = record {
+      held = c.await_line.new.held;
+      text = c.self.inside.text;
+      place = place;
+    } in
+    let left = g.S.Source.left c.args.source.now in
+    let before = ap (λ r. stream_of r left) (sym c.self.view_is) in
+    let most : place.bytes + c.most-most.result ≡ 67108865 =
+    omega (arith, c.most-most.ensures.value, ap (λ r. r.place.bytes) c.self.view_is) in
+    let inside : place.bytes + length c.await_line.new.held ≤ 67108864 =
+    omega (arith, most, c.in-Open.ensures.due) in
+    passes-before c.args.self.now mid c.end_input.new.self left _
+    (given_there c.end_input.result c.end_input.new.self.text)
+    (ap (λ r. r.place) (sym c.self.view_is)) (before ∙ c.in-Open.ensures.stream)
+    (Open-passes mid c.end_input.new.self _ c.end_input.result c.in-Open.ensures.due.0
+    c.in-Open.ensures.due.1 inside c.end_input.ensures)
+
+pub returns-in-Failed-clause-passes : goal.returns-in-Failed-clause-passes
+returns-in-Failed-clause-passes g c =
+    let place : Place = record { lines = c.self.inside.lines; bytes = c.self.inside.bytes } in
+    let mid : Reading = record {
+      held = c.await_line.new.held;
+      text = c.self.inside.text;
+      place = place;
+    } in
+    let left = g.S.Source.left c.args.source.now in
+    let before = ap (λ r. stream_of r left) (sym c.self.view_is) in
+    passes-before c.args.self.now mid mid left _ []
+    (ap (λ r. r.place) (sym c.self.view_is)) (before ∙ c.in-Failed.ensures.stream)
+    (passes-none place _ _ refl)
+
+pub returns-in-Stuck-clause-passes : goal.returns-in-Stuck-clause-passes
+returns-in-Stuck-clause-passes g c =
+    let place : Place = record { lines = c.self.inside.lines; bytes = c.self.inside.bytes } in
+    let mid : Reading = record {
+      held = c.await_line.new.held;
+      text = c.self.inside.text;
+      place = place;
+    } in
+    let left = g.S.Source.left c.args.source.now in
+    let before = ap (λ r. stream_of r left) (sym c.self.view_is) in
+    passes-before c.args.self.now mid mid left _ []
+    (ap (λ r. r.place) (sym c.self.view_is)) (before ∙ c.in-Stuck.ensures.stream)
+    (passes-none place _ _ refl)
+
+pub returns-in-Full-clause-passes : goal.returns-in-Full-clause-passes
+returns-in-Full-clause-passes g c =
+    let place : Place = record { lines = c.self.inside.lines; bytes = c.self.inside.bytes } in
+    let mid : Reading = record {
+      held = c.await_line.new.held;
+      text = c.self.inside.text;
+      place = place;
+    } in
+    let left = g.S.Source.left c.args.source.now in
+    let before = ap (λ r. stream_of r left) (sym c.self.view_is) in
+    passes-before c.args.self.now mid mid left _ []
+    (ap (λ r. r.place) (sym c.self.view_is)) (before ∙ c.in-Full.ensures.stream)
+    (passes-none place _ _ refl)

@@ -1,8 +1,8 @@
-use Rattle.std.proofs.Common.{◌≡◌, ◌-◌, ◌≤◌}
+use Rattle.std.proofs.Common.{◌≡◌, ◌-◌, ◌≤◌, []}
 use Rattle.port_core.specs.Contents.{input_limit}
-use Rattle.port_core.specs.Input.{HasAnswer, HasStop, TakesInput, contents_to_come}
-use Rattle.port_core.specs.declared.answers.InputStop.{InputStop}
-use Rattle.port_core.proofs.input_reader.InputReader.next.Given as goal
+use Rattle.port_core.specs.Reading.{HasAnswer, HasStop, PassesTo, TakesInput, contents_to_come}
+use Rattle.port_core.specs.declared.answers.ReadStop.{ReadStop}
+use Rattle.port_core.proofs.line_reader.LineReader.next.Given as goal
 
 -- the lines so far were passed over: what is to come is the same; an answer in hand is in hand still;
 -- and where a stop was in hand, none was passed
@@ -10,10 +10,11 @@ abbrev pub invariant-lines : goal.invariant-lines
 invariant-lines g l = record {
   same : contents_to_come l.fn.self (g.S.Source.left l.fn.source)
       ≡ contents_to_come l.self (g.S.Source.left l.source);
+  passes : PassesTo l.fn.self l.self (g.S.Source.left l.fn.source) (g.S.Source.left l.source) [];
   takes : TakesInput l.fn.self l.self (g.S.Source.left l.fn.source) (g.S.Source.left l.source);
   answer : HasAnswer l.fn.self → HasAnswer l.self;
   ready : HasAnswer l.fn.self → l.source ≡ l.fn.source;
-  stopped : (stop : InputStop) → HasStop l.fn.self stop → l.self ≡ l.fn.self;
+  stopped : (stop : ReadStop) → HasStop l.fn.self stop → l.self ≡ l.fn.self;
   passed : l.fn.self.place.bytes ≤ l.self.place.bytes;
   counts : g.S.Source.faults l.fn.source ≤ g.S.Source.faults l.source;
 }

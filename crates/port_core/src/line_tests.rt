@@ -1,4 +1,4 @@
-//! Contents of inputs in pieces, with faults, and at the limits. What is wanted is written out by
+//! Lines of inputs in pieces, with faults, and at the limits. What is wanted is written out by
 //! hand: a content as its bytes, its number and `|`, the end as `.` and its number, a fault as `!`, a
 //! line that is too long as `>` and its number, an input that is too long as `>>` and the number.
 
@@ -20,7 +20,7 @@ fn memory(alloc: Global, input: &[u8], piece: usize, fail: &[u64]) -> Result<Mem
 
 // All that a reader answers, up to and with the second answer that nothing more comes.
 fn answers<S: Source>(alloc: Global, source: &mut S) -> Result<Vec<u8>, Fail> {
-    let mut reader = InputReader::new(alloc)?;
+    let mut reader = LineReader::new(alloc)?;
     let mut out = Vec::new(alloc);
     let mut ends = 0;
     for _ in 0..60 {
@@ -33,12 +33,12 @@ fn answers<S: Source>(alloc: Global, source: &mut S) -> Result<Vec<u8>, Fail> {
                 write!(out, ".{number}")?;
                 ends = if ends == 0 { 1 } else { 2 };
             }
-            Err(InputStop::ReadFault) => write!(out, "!")?,
-            Err(InputStop::LineTooLong { number }) => {
+            Err(ReadStop::ReadFault) => write!(out, "!")?,
+            Err(ReadStop::LineTooLong { number }) => {
                 write!(out, ">{number}")?;
                 ends = if ends == 0 { 1 } else { 2 };
             }
-            Err(InputStop::InputTooLong { number }) => {
+            Err(ReadStop::InputTooLong { number }) => {
                 write!(out, ">>{number}")?;
                 ends = if ends == 0 { 1 } else { 2 };
             }
@@ -51,11 +51,13 @@ fn answers<S: Source>(alloc: Global, source: &mut S) -> Result<Vec<u8>, Fail> {
 }
 
 #[test]
-fn contents_come_in_pieces_of_any_size(rt: HostRuntime) -> Result<(), Fail> {
+fn lines_come_in_pieces_of_any_size(rt: HostRuntime) -> Result<(), Fail> {
     let alloc = rt.alloc();
     for (input, wanted) in [
         (b"".as_slice(), b".1.1".as_slice()),
         (b"\n", b".2.2"),
+        (b"one", b"one1|.2.2"),
+        (b"one\n", b"one1|.2.2"),
         (b"\r\n# a\r\none\r\n\n#", b"one3|.6.6"),
         (b"one\r", b"one1|.2.2"),
         (b"a\r\r\nb\rc\n\r", b"a\r1|b\rc2|.4.4"),
@@ -79,7 +81,7 @@ fn contents_come_in_pieces_of_any_size(rt: HostRuntime) -> Result<(), Fail> {
 // Without a fault the calls give `ab`, then CR and LF, then `#c`, then two LF, then `d`, and from then
 // on the end.
 #[test]
-fn a_fault_at_any_call_loses_no_content(rt: HostRuntime) -> Result<(), Fail> {
+fn a_fault_at_any_call_loses_nothing(rt: HostRuntime) -> Result<(), Fail> {
     let alloc = rt.alloc();
     for (call, wanted) in [
         (1, b"!ab1|d4|.5.5".as_slice()),
@@ -98,6 +100,18 @@ fn a_fault_at_any_call_loses_no_content(rt: HostRuntime) -> Result<(), Fail> {
     Ok(())
 }
 
+// The second call would fail, and no call is needed after the first.
+#[test]
+fn an_answer_waits_for_no_more_than_its_line(rt: HostRuntime) -> Result<(), Fail> {
+    let mut source = memory(rt.alloc(), b"a\nb\nc", 4, &[2])?;
+    let mut reader = LineReader::new(rt.alloc())?;
+    assert_eq!(rt; reader.next(&mut source), Ok(Line::Text { number: 1 }));
+    assert_eq!(rt; reader.next(&mut source), Ok(Line::Text { number: 2 }));
+    assert_eq!(rt; reader.next(&mut source), Err(ReadStop::ReadFault));
+    assert_eq!(rt; reader.text(), b"b".as_slice());
+    Ok(())
+}
+
 // The bytes of a comment, of the byte order mark and of a CR count.
 #[test]
 fn a_line_of_1025_bytes_stops_an_input(rt: HostRuntime) -> Result<(), Fail> {
@@ -109,6 +123,8 @@ fn a_line_of_1025_bytes_stops_an_input(rt: HostRuntime) -> Result<(), Fail> {
             b"\nb".as_slice(),
             b"b2|.3.3".as_slice(),
         ),
+        (b"", 1024, b"\nb", b"b2|.3.3"),
+        (b"", 1025, b"\nb", b">1>1"),
         (b"#", 1024, b"\nb", b">1>1"),
         (b"#", 1024, b"", b">1>1"),
         (b"#", 1022, b"\r\nb", b"b2|.3.3"),
@@ -124,8 +140,17 @@ fn a_line_of_1025_bytes_stops_an_input(rt: HostRuntime) -> Result<(), Fail> {
         input.extend_from_slice(end)?;
         let mut source = memory(alloc, &input, 1000, &[])?;
         let out = answers(alloc, &mut source)?;
-        assert_eq!(rt; out.as_slice(), wanted, "{bytes} letters");
+        let shown = &out[out.len() - wanted.len().min(out.len())..];
+        assert_eq!(rt; shown, wanted, "{bytes} letters");
     }
+    Ok(())
+}
+
+#[test]
+fn lines_come_from_std(rt: HostRuntime) -> Result<(), Fail> {
+    let mut source = StdSource::new(b"one\ntwo".as_slice());
+    let out = answers(rt.alloc(), &mut source)?;
+    assert_eq!(rt; out.as_slice(), b"one1|two2|.3.3".as_slice());
     Ok(())
 }
 
@@ -207,7 +232,9 @@ fn an_input_has_at_most_67108864_bytes(rt: HostRuntime) -> Result<(), Fail> {
 fn may_move_to_a_thread<T: Send>(_value: &T) {}
 
 #[test]
-fn a_reader_of_contents_may_move_to_a_thread(rt: HostRuntime) -> Result<(), Fail> {
-    may_move_to_a_thread(&InputReader::new(rt.alloc())?);
+fn a_reader_and_its_source_may_move_to_a_thread(rt: HostRuntime) -> Result<(), Fail> {
+    may_move_to_a_thread(&LineReader::new(rt.alloc())?);
+    may_move_to_a_thread(&memory(rt.alloc(), b"", 1, &[])?);
+    may_move_to_a_thread(&StdSource::new(b"".as_slice()));
     Ok(())
 }
