@@ -154,14 +154,14 @@ total_at_least value least test (club ∷ clubs) each all =
     omega (arith, ints, one_more (length clubs) least)
 
 -- the first comparison says which of two numbers is the greater
-ahead_is : (x y : ℤ) → y <ℤ x → int_cmp y x ≡ Less
+pub ahead_is : (x y : ℤ) → y <ℤ x → int_cmp y x ≡ Less
 ahead_is x y below =
     ap (λ b. cond b Less (cond (int_lt x y) Greater Equal)) (under y x below)
   where
     under : (a b : ℤ) → a <ℤ b → int_lt a b ≡ true
     under a b h = grind (arith, ints)
 
-behind_is : (x y : ℤ) → x <ℤ y → int_cmp y x ≡ Greater
+pub behind_is : (x y : ℤ) → x <ℤ y → int_cmp y x ≡ Greater
 behind_is x y below =
     ap (λ b. cond b Less (cond (int_lt x y) Greater Equal)) (not_under x y below)
     ∙ ap (λ b. cond b Greater Equal) (under x y below)

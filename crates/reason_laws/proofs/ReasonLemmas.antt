@@ -1,6 +1,6 @@
--- The reasons are sound: where one holds, the question holds at no member of the zone. Here are the
--- counts of marked rivals, the window and both cuts.
-use Rattle.std.proofs.Common.{◌≡◌, ◌≢◌, ℕ, suc, ◌+◌, ◌-◌, ◌<◌, ◌≤◌, ℤ, ◌≤ℤ◌, ◌<ℤ◌, Bool, true, false, not, ◌&&◌, ◌==◌, cond, nat_le, List, [], ◌∷◌, length, filter, count_by, refl, sym, ap, ◌∙◌, inl, inr, arith}
+-- Reasons are sound: where one holds, the question holds at no member of the zone. Here are the counts
+-- of marked rivals, the window and both cuts.
+use Rattle.std.proofs.Common.{◌≡◌, ℕ, suc, ◌+◌, ◌-◌, ◌<◌, ◌≤◌, ℤ, ◌≤ℤ◌, ◌<ℤ◌, Bool, true, false, not, ◌&&◌, ◌==◌, cond, nat_le, List, [], ◌∷◌, length, filter, count_by, refl, sym, ap, ◌∙◌, inl, inr, arith}
 use Rattle.std.specs.Prelude.{int_lt, int_le}
 use Rattle.std.specs.List.{list_all}
 use Rattle.std.proofs.lemmas.Int.{ints, clamps}
@@ -20,29 +20,25 @@ use Rattle.league_core.specs.Ranking.{ranks_before, place_of, is_inside}
 use Rattle.league_core.specs.Questions.{is_on_side, is_in_window, holds_at}
 use Rattle.league_core.specs.Zones.{rivals_of, marked_before, marked_after, IsMember}
 use Rattle.league_core.specs.PointRanges.{least_points_of, most_points_of, own_most, own_least}
-use Rattle.league_core.specs.declared.zone.Reason.{Reason}
-use Rattle.league_core.specs.declared.zone.Reason.TheVariants.{Count, Window, Low, High, Tie}
-use Rattle.league_core.specs.ClubSets.{clubs_in}
-use Rattle.league_core.specs.Options.{has_finish}
-use Rattle.league_core.specs.Reasons.{has_reason, too_many, refutes_by_count, refutes_by_window, has_member, times, refutes_by_floor, refutes_by_ceiling}
+use Rattle.league_core.specs.Reasons.{too_many, refutes_by_count, refutes_by_window, has_member, times, refutes_by_floor, refutes_by_ceiling}
 use Rattle.league_core.proofs.ClubLemmas.{range_has}
 use Rattle.league_core.proofs.RankingLemmas.{ranks_before-itself}
 use Rattle.reason_laws.proofs.MemberLemmas.{member_in_box, points_in_box, total_at_most, total_at_least, points_before, points_not_before, before_is, after_is}
 
 -- the first of a list counts where it passes
-count_by-cons : (test : ℕ → Bool) (club : ℕ) (clubs : List ℕ) → count_by test (club ∷ clubs) ≡ cond {A = ℕ} (test club) 1 0 + count_by test clubs
+pub count_by-cons : (test : ℕ → Bool) (club : ℕ) (clubs : List ℕ) → count_by test (club ∷ clubs) ≡ cond {A = ℕ} (test club) 1 0 + count_by test clubs
 count_by-cons test club clubs = sum_by-cons (λ (x : ℕ). cond (test x) 1 0) club clubs
 
 -- all clubs of a list but one
-abbrev others_in : ℕ → List ℕ → List ℕ
+abbrev pub others_in : ℕ → List ℕ → List ℕ
 others_in club clubs = filter (λ other. not (other == club)) clubs
 
 -- a club that is not the one counts among the others where it passes
-count_by-other : (test : ℕ → Bool) (club other : ℕ) (clubs : List ℕ) → count_by test (cond (not false) (other ∷ others_in club clubs) (others_in club clubs)) ≡ cond {A = ℕ} (test other) 1 0 + count_by test (others_in club clubs)
+pub count_by-other : (test : ℕ → Bool) (club other : ℕ) (clubs : List ℕ) → count_by test (cond (not false) (other ∷ others_in club clubs) (others_in club clubs)) ≡ cond {A = ℕ} (test other) 1 0 + count_by test (others_in club clubs)
 count_by-other test club other clubs = count_by-cons test other (others_in club clubs)
 
 -- of some clubs but one, those that pass are no more than those of all that pass another test with them
-count_by-front : (front before : ℕ → Bool) (club : ℕ) (clubs : List ℕ) → ((other : ℕ) → front other ≡ true → before other ≡ true) → count_by front (filter (λ other. not (other == club)) clubs) ≤ count_by before clubs
+pub count_by-front : (front before : ℕ → Bool) (club : ℕ) (clubs : List ℕ) → ((other : ℕ) → front other ≡ true → before other ≡ true) → count_by front (filter (λ other. not (other == club)) clubs) ≤ count_by before clubs
 count_by-front front before club [] gives = omega arith
 count_by-front front before club (other ∷ clubs) gives =
     let rest = count_by-front front before club clubs gives in
@@ -124,7 +120,7 @@ too_many_says sheet question finish lots front back Outside club_in ahead behind
     inside m n h = grind (arith, nat_tests)
 
 -- a question holds only in its window and on its side
-holds_parts : (sheet : Sheet) (question : Question) (finish : Results) (lots : List ℕ) → holds_at sheet question finish lots ≡ true → (question.low ≤ℤ points_of sheet finish question.club) × (points_of sheet finish question.club ≤ℤ question.high) × (is_on_side (is_inside sheet finish lots question.club question.line) question.claim ≡ true)
+pub holds_parts : (sheet : Sheet) (question : Question) (finish : Results) (lots : List ℕ) → holds_at sheet question finish lots ≡ true → (question.low ≤ℤ points_of sheet finish question.club) × (points_of sheet finish question.club ≤ℤ question.high) × (is_on_side (is_inside sheet finish lots question.club question.line) question.claim ≡ true)
 holds_parts sheet question finish lots holds =
     let parts = and_parts (is_in_window question (points_of sheet finish question.club)) (is_on_side (is_inside sheet finish lots question.club question.line) question.claim) holds in
     let window = and_parts (int_le question.low (points_of sheet finish question.club)) (int_le (points_of sheet finish question.club) question.high) parts.0 in
@@ -189,16 +185,3 @@ ceiling_says sheet season question zone clubs finish lots member reason holds =
     let together = total_at_least (points_of sheet finish) (own_least sheet season question zone) (marked_before zone) clubs each marks.1 in
     let bounds = points_in_box sheet season zone finish clubs box in
     omega (arith, ints)
-
--- each reason but that of the criteria
-pub marks_and_cuts : (sheet : Sheet) (season : Results) (question : Question) (zone : List Literal) (reason : Reason) (finish : Results) (lots : List ℕ) → question.club < length sheet.clubs → reason ≢ Tie → has_reason sheet season question zone reason ≡ true → IsMember sheet season question.club zone finish lots → holds_at sheet question finish lots ≡ true → ⊥
-unfolding has_reason
-marks_and_cuts sheet season question zone Count finish lots club_in other reason member holds =
-    count_says sheet season question zone finish lots club_in member (and_parts (has_finish sheet season zone) (refutes_by_count sheet question zone) reason).1 holds
-marks_and_cuts sheet season question zone Window finish lots club_in other reason member holds =
-    window_says sheet season question zone finish lots member (and_parts (has_finish sheet season zone) (refutes_by_window sheet season question zone) reason).1 holds
-marks_and_cuts sheet season question zone (Low set) finish lots club_in other reason member holds =
-    floor_says sheet season question zone (clubs_in set) finish lots member (and_parts (has_finish sheet season zone) (refutes_by_floor sheet season question zone (clubs_in set)) reason).1 holds
-marks_and_cuts sheet season question zone (High set) finish lots club_in other reason member holds =
-    ceiling_says sheet season question zone (clubs_in set) finish lots member (and_parts (has_finish sheet season zone) (refutes_by_ceiling sheet season question zone (clubs_in set)) reason).1 holds
-marks_and_cuts sheet season question zone Tie finish lots club_in other reason member holds = other refl

@@ -1,7 +1,11 @@
-//! The laws: functions that do nothing, each with a law as its contract.
+//! The laws of members and reasons: functions that do nothing, each with a law as its contract.
+//!
+//! The statements are in `specs/Laws.antt`.
 
-ghost use Rattle.reason_laws.specs.Laws.{MarksAndCutsAreSound, MembersAreInTheBox};
-ghost use Rattle.reason_laws.specs.Laws.{PointsAreInTheirRange};
+ghost use Rattle.reason_laws.specs.Laws.{MembersAreInTheBox, PointsAreInTheirRange};
+ghost use Rattle.reason_laws.specs.Laws.{ReasonsAreSound};
+ghost use Rattle.reason_laws.specs.Laws.{SingleZonesHaveOneFinish, SingleZonesAreDecided};
+ghost use Rattle.reason_laws.specs.Laws.{SingleZonesAreDecidedByTwoLots};
 
 /// What is read off a box holds of each member of its zone.
 pub fn boxes_bound_their_members()
@@ -9,7 +13,15 @@ pub fn boxes_bound_their_members()
     ensures points { PointsAreInTheirRange }
 {}
 
-/// A zone that marks too many rivals, misses the window or has a cut holds no example.
-pub fn marks_and_cuts_are_sound()
-    ensures { MarksAndCutsAreSound }
+/// A zone in which a reason holds has no example.
+pub fn reasons_are_sound()
+    ensures { ReasonsAreSound }
+{}
+
+/// Where each fixture has one option the search ends: the window or the criteria are a reason, or
+/// what is left is an example.
+pub fn single_zones_are_decided()
+    ensures one { SingleZonesHaveOneFinish }
+    ensures favoured { SingleZonesAreDecided }
+    ensures drawn { SingleZonesAreDecidedByTwoLots }
 {}

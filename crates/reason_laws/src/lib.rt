@@ -1,9 +1,20 @@
-//! What the reasons and sums of a zone say of its members: laws over the definitions of league_core.
+//! What the reasons, the sums and the sure order of a zone say of its members, and what a tree of
+//! zones says of its root: laws over the definitions of league_core.
 //!
-//! The statements are in `specs/Laws.antt`; a caller cites them, and the lemma modules, as they are.
-//! The tie-break reason is not among them yet.
+//! The statements are in specs/, `Laws.antt` first; a caller cites them, and the lemma modules, as
+//! they are.
 #![tactic(auto)]
 
 mod laws;
+mod refutations;
+mod splits;
+mod sure_laws;
 
-pub use laws::{boxes_bound_their_members, marks_and_cuts_are_sound};
+pub use laws::{boxes_bound_their_members, reasons_are_sound, single_zones_are_decided};
+pub use refutations::refuted_trees_decide;
+pub use splits::{
+    halves_cover_the_zone, leaves_cover_the_season, leaves_decide_the_question,
+    proper_splits_divide_weights, proper_trees_name_rivals, rival_tests_mark_one,
+    score_tests_divide_finishes, weights_bound_trees,
+};
+pub use sure_laws::{single_zones_are_clear, sure_order_is_true};

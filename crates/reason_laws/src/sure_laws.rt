@@ -1,0 +1,23 @@
+//! The laws of the sure order: functions that do nothing, each with a law as its contract.
+//!
+//! The statements are in `specs/SureLaws.antt`. They speak of every finish in the box of a zone,
+//! whatever the zone's marks say, so that they hold of its members too.
+
+ghost use Rattle.reason_laws.specs.SureLaws.{SurelyAboveRanksBefore, SurelyBelowRanksBehind};
+ghost use Rattle.reason_laws.specs.SureLaws.{SurelyLevelIsLeftToLots};
+ghost use Rattle.reason_laws.specs.SureLaws.{SingleZonesAreClear, SingleZonesAreRanked};
+
+/// Where the options of each fixture have one outcome, what is sure of two clubs is so at each
+/// finish, whatever the lots.
+pub fn sure_order_is_true()
+    ensures above { SurelyAboveRanksBefore }
+    ensures below { SurelyBelowRanksBehind }
+    ensures level { SurelyLevelIsLeftToLots }
+{}
+
+/// Where each fixture has one option, it is known of any two clubs how they stand, and they stand
+/// as the ranking has it before the lots.
+pub fn single_zones_are_clear()
+    ensures known { SingleZonesAreClear }
+    ensures ranked { SingleZonesAreRanked }
+{}
