@@ -1,0 +1,62 @@
+-- Which proof lines have a form: the ranges of their numbers, whatever the sheet and the question.
+-- They are the greatest that a league may have.
+use Rattle.std.specs.Prelude.{ℕ, ℤ, pos, negsuc, Bool, true, ◌&&◌, nat_lt, nat_le, int_le}
+use Rattle.std.specs.List.{list_all}
+use Rattle.league_core.specs.declared.club_set.ClubSet.{ClubSet}
+use Rattle.league_core.specs.declared.zone.Test.{Test}
+use Rattle.league_core.specs.declared.zone.Test.TheVariants.{Home, Draw, HomeMost, AwayMost, Rival}
+use Rattle.league_core.specs.declared.zone.Reason.{Reason}
+use Rattle.league_core.specs.declared.zone.Reason.TheVariants.{Count, Window, Low, High, Tie}
+use Rattle.league_core.specs.Results.{is_score}
+use Rattle.league_core.specs.ClubSets.{clubs_in}
+use Rattle.league_core.specs.Reasons.{has_member}
+use Rattle.cert_text.specs.declared.proof_line.ProofLine.{ProofLine}
+use Rattle.cert_text.specs.declared.proof_line.ProofLine.TheVariants as line
+
+-- one of at most 600 fixtures
+abbrev pub is_fixture_number : ℕ → Bool
+is_fixture_number fixture = nat_lt fixture 600
+
+-- one of at most 24 clubs
+abbrev pub is_club_number : ℕ → Bool
+is_club_number club = nat_lt club 24
+
+-- a bound on the goals of a side that a score of at most 99 can miss
+abbrev pub is_goal_bound : ℕ → Bool
+is_goal_bound most = nat_le most 98
+
+-- points that a club can have
+abbrev pub are_points : ℤ → Bool
+are_points points = int_le (negsuc 98) points && int_le points (pos 1800)
+
+abbrev pub is_test_in_range : Test → Bool
+is_test_in_range (Home fixture) = is_fixture_number fixture
+is_test_in_range (Draw fixture) = is_fixture_number fixture
+is_test_in_range (HomeMost fixture most) = is_fixture_number fixture && is_goal_bound most
+is_test_in_range (AwayMost fixture most) = is_fixture_number fixture && is_goal_bound most
+is_test_in_range (Rival club) = is_club_number club
+
+-- a set with a member, of numbers of clubs alone
+abbrev pub is_set_in_range : ClubSet → Bool
+is_set_in_range set = has_member (clubs_in set) && list_all is_club_number (clubs_in set)
+
+abbrev pub is_reason_in_range : Reason → Bool
+is_reason_in_range Count = true
+is_reason_in_range Window = true
+is_reason_in_range (Low set) = is_set_in_range set
+is_reason_in_range (High set) = is_set_in_range set
+is_reason_in_range Tie = true
+
+-- the line's numbers are such as its form has; lots need not name each club
+abbrev pub is_in_range : ProofLine → Bool
+is_in_range (line.Tree claim) = true
+is_in_range (line.Spent claim) = true
+is_in_range (line.SpentWindow claim low high) = are_points low && are_points high
+is_in_range (line.Split test) = is_test_in_range test
+is_in_range (line.NewSplit test) = is_test_in_range test
+is_in_range (line.Leaf reason) = is_reason_in_range reason
+is_in_range (line.NewLeaf reason) = is_reason_in_range reason
+is_in_range line.OpenLeaf = true
+is_in_range (line.Finish claim) = true
+is_in_range (line.Score fixture score) = is_fixture_number fixture && is_score score
+is_in_range (line.Lots lots) = list_all is_club_number lots.list

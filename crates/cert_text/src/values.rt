@@ -1,0 +1,117 @@
+//! The JSON values of proof lines, part by part.
+
+ghost use Rattle.std.specs.Prelude.{◌≡◌, ◌∷◌, [], codes, IfOk};
+ghost use Rattle.serde_json.specs.View.{view};
+ghost use Rattle.league_core.specs.ClubSets.{clubs_in};
+ghost use Rattle.cert_text.specs.Lines as lines;
+ghost use Rattle.cert_text.specs.Lines.{word, parts_of, test_parts, reason_parts};
+ghost use Rattle.cert_text.specs.Values as values;
+ghost use Rattle.cert_text.specs.Values.{parts_value};
+
+use crate::proof_line::ProofLine;
+use league_core::{Claim, ClubSet, Reason, Test};
+use serde_json::{Value, json};
+use std::alloc::{AllocError, Global};
+
+/// The array that stands for the line.
+pub fn line_value(alloc: Global, line: &ProofLine) -> Result<Value, AllocError>
+    ensures { IfOk result (λ value. view value ≡ parts_value (parts_of line.now)) }
+{
+    match line {
+        ProofLine::Tree(claim) => json!(in alloc; ["tree", claim_word(*claim)]),
+        ProofLine::Spent(claim) => json!(in alloc; ["spent", claim_word(*claim)]),
+        ProofLine::SpentWindow { claim, low, high } => {
+            json!(in alloc; ["spent", claim_word(*claim), *low, *high])
+        }
+        ProofLine::Split(test) => test_value(alloc, "split", *test),
+        ProofLine::NewSplit(test) => test_value(alloc, "new_split", *test),
+        ProofLine::Leaf(reason) => reason_value(alloc, "leaf", *reason),
+        ProofLine::NewLeaf(reason) => reason_value(alloc, "new_leaf", *reason),
+        ProofLine::OpenLeaf => json!(in alloc; ["open"]),
+        ProofLine::Finish(claim) => json!(in alloc; ["finish", claim_word(*claim)]),
+        ProofLine::Score { fixture, score } => {
+            json!(in alloc; ["score", u64::from(*fixture) + 1, score.home, score.away])
+        }
+        ProofLine::Lots(lots) => lots_value(alloc, lots.list.as_slice()),
+    }
+}
+
+fn claim_word(claim: Claim) -> &'static str
+    ensures { result.now ≡ lines.claim_word claim }
+{
+    match claim {
+        Claim::Inside => "inside",
+        Claim::Outside => "outside",
+    }
+}
+
+fn test_value(alloc: Global, name: &str, test: Test) -> Result<Value, AllocError>
+    ensures { IfOk result
+        (λ value. view value ≡ parts_value (word name.now ∷ test_parts test)) }
+{
+    match test {
+        Test::Home { fixture } => json!(in alloc; [name, "home", u64::from(fixture) + 1]),
+        Test::Draw { fixture } => json!(in alloc; [name, "draw", u64::from(fixture) + 1]),
+        Test::HomeMost { fixture, most } => {
+            json!(in alloc; [name, "hg", u64::from(fixture) + 1, most])
+        }
+        Test::AwayMost { fixture, most } => {
+            json!(in alloc; [name, "ag", u64::from(fixture) + 1, most])
+        }
+        Test::Rival { club } => json!(in alloc; [name, "rival", u64::from(club) + 1]),
+    }
+}
+
+fn reason_value(alloc: Global, name: &str, reason: Reason) -> Result<Value, AllocError>
+    ensures { IfOk result
+        (λ value. view value ≡ parts_value (word name.now ∷ reason_parts reason)) }
+{
+    match reason {
+        Reason::Count => json!(in alloc; [name, "count"]),
+        Reason::Window => json!(in alloc; [name, "window"]),
+        Reason::Low(set) => cut_value(alloc, name, "low", set),
+        Reason::High(set) => cut_value(alloc, name, "high", set),
+        Reason::Tie => json!(in alloc; [name, "tie"]),
+    }
+}
+
+fn cut_value(alloc: Global, name: &str, cut: &str, set: ClubSet) -> Result<Value, AllocError>
+    ensures { IfOk result (λ value. view value
+        ≡ parts_value (word name.now ∷ word cut.now ∷ lines.clubs (clubs_in set) ∷ [])) }
+{
+    let listed = listed(alloc, set)?;
+    let clubs = clubs_value(alloc, listed.as_slice())?;
+    json!(in alloc; [name, cut, clubs])
+}
+
+fn lots_value(alloc: Global, lots: &[u8]) -> Result<Value, AllocError>
+    ensures { IfOk result (λ value. view value
+        ≡ parts_value (word (codes "lots") ∷ lines.clubs lots.now ∷ [])) }
+{
+    let clubs = clubs_value(alloc, lots)?;
+    json!(in alloc; ["lots", clubs])
+}
+
+/// The clubs of a set in the order of their numbers.
+fn listed(alloc: Global, set: ClubSet) -> Result<Vec<u8>, AllocError>
+    ensures { IfOk result (λ clubs. clubs.items ≡ clubs_in set) }
+{
+    let mut clubs = Vec::new(alloc);
+    for club in 0..32 {
+        if set.has(club) {
+            clubs.push(club)?;
+        }
+    }
+    Ok(clubs)
+}
+
+/// The clubs as a list of numbers from 1.
+fn clubs_value(alloc: Global, clubs: &[u8]) -> Result<Value, AllocError>
+    ensures { IfOk result (λ value. view value ≡ values.clubs_value clubs.now) }
+{
+    let mut numbers = Vec::new(alloc);
+    for club in clubs {
+        numbers.push(Value::from(u64::from(*club) + 1))?;
+    }
+    Ok(Value::Array(numbers))
+}
