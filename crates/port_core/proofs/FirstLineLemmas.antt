@@ -1,5 +1,5 @@
--- The line at the front of bytes in hand, whatever is left behind them: one that ended there, and one
--- that is longer than a line may be.
+-- The line at the front of bytes in hand, whatever is left behind them: one that ended there, and
+-- one that is longer than a line may be.
 use Rattle.std.proofs.Common.{◌≡◌, ℕ, ◌+◌, ◌<◌, ◌≤◌, eqb, List, [], ◌∷◌, ◌++◌, length, take, drop, ap, sym, ◌∙◌, arith, append_assoc, length-append}
 use Rattle.std.proofs.lemmas.List.{take-append-drop, length-take-le}
 use Rattle.std.proofs.lemmas.Bool.{cond_both}

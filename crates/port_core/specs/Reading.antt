@@ -1,5 +1,5 @@
--- Reading an input line by line: what a call for the next content answers, and what the reader has in
--- hand then.
+-- Reading an input line by line: what a call for the next content answers, and what the reader has
+-- in hand then.
 use Rattle.std.specs.Prelude.{◌≡◌, ℕ, ◌+◌, ◌<◌, ◌≤◌, Bool, false, not, ◌==◌, nat_le, IsTrue, MatchBool, List, [], ◌∷◌, ◌++◌, length, take, drop, Option, Some, None, option_map, IfSome, Result, Ok, Err, if◌then◌else◌}
 use Rattle.std.specs.Io.KnownBytes.{prepend_known, IsAtEnd}
 use Rattle.port_core.specs.declared.answers.Line.{Line}
@@ -98,6 +98,12 @@ MovesOn old new (Ok (Text number)) =
     (old.place.bytes < new.place.bytes) × (new.place.bytes ≤ input_limit)
 MovesOn old new _ = Unit {0}
 
+-- the content last given stays where none is given
+abbrev pub KeepsText : Reading → Reading → Result Line ReadStop → Type 0
+KeepsText old new (Ok (Text number)) = Unit {0}
+KeepsText old new (Ok (End number)) = new.text ≡ old.text
+KeepsText old new (Err stop) = new.text ≡ old.text
+
 -- bytes went from the source to the reader
 abbrev pub TakesInput :
     Reading → Reading → Option (List ℕ) → Option (List ℕ) → Type 0
@@ -128,8 +134,8 @@ KeepsContent old new text given =
     (given ≡ not skipped)
     × (new ≡ record old { text = if skipped then old.text else content_at old.place text })
 
--- the text of the line that is due ends at one place among the bytes in hand, and its bytes at another;
--- its content is given, or the line is passed over
+-- the text of the line that is due ends at one place among the bytes in hand, and its bytes at
+-- another; its content is given, or the line is passed over
 abbrev pub PassesLine : Reading → Reading → ℕ → ℕ → Option Line → Type 0
 PassesLine old new end behind line =
     let content = content_at old.place (take end old.held) in
@@ -181,6 +187,11 @@ LeavesBehind old new left (Some result) = LeavesReading new left result
 abbrev pub LineMovesOn : Reading → Reading → Option (Result Line ReadStop) → Type 0
 LineMovesOn old new None = Unit {0}
 LineMovesOn old new (Some result) = MovesOn old new result
+
+-- the content last given stays where none is given
+abbrev pub LineKeepsText : Reading → Reading → Option (Result Line ReadStop) → Type 0
+LineKeepsText old new None = new.text ≡ old.text
+LineKeepsText old new (Some result) = KeepsText old new result
 
 -- a fault is answered only where the source's count rose, and that count never falls
 abbrev pub CountsLine : ℕ → ℕ → Option (Result Line ReadStop) → Type 0

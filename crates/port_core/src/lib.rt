@@ -2,8 +2,8 @@
 //! the other.
 //!
 //! A device is seen as the bytes that it tells, where it tells them, and a count of faults. What a
-//! call promises is in `specs/Ports.antt`; what a line is, in `specs/Lines.antt`; which lines count, in
-//! `specs/Contents.antt`; what a reader of lines answers, in `specs/Reading.antt`.
+//! call promises is in `specs/Ports.antt`; what a line is, in `specs/Lines.antt`; which lines count,
+//! in `specs/Contents.antt`; what a reader of lines answers, in `specs/Reading.antt`.
 #![tactic(auto)]
 
 mod answers;
@@ -11,8 +11,6 @@ mod content;
 mod last_line;
 mod laws;
 mod line_reader;
-#[cfg(test)]
-mod line_tests;
 mod mem_sink;
 mod mem_source;
 mod pieces;

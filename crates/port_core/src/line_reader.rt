@@ -1,15 +1,15 @@
-//! The lines of an input that count, one by one, from a source that may give it in any pieces and fail
-//! at any call. What counts of a line is called its content.
+//! The lines of an input that count, one by one, from a source that may give it in any pieces and
+//! fail at any call. What counts of a line is called its content.
 //!
 //!     source  ── read ──>  bytes in hand  ── line by line ──>  content last given
 //!
-//! The reader reads only while no answer is in hand, so it never waits for more input than its line. A
-//! fault loses nothing: what was read stays in hand. A line costs a look at each of its bytes, and a
-//! copy of its content where it is given.
+//! The reader reads only while no answer is in hand, so it never waits for more input than its line.
+//! A fault loses nothing: what was read stays in hand. A line costs a look at each of its bytes, and
+//! a copy of its content where it is given.
 
 ghost use Rattle.std.specs.Prelude.{◌≡◌, ◌+◌, ◌-◌, ◌<◌, ◌≤◌, [], IfOk, Ok, length, option_map, take};
 ghost use Rattle.port_core.specs.Contents.{input_limit, number_at, start};
-ghost use Rattle.port_core.specs.Reading.{AnswersStop, CountsNext, CountsLine, EndsInput, EndsLine, HasAnswer, KeepsContent, NextGives, KeepsAnswer, LeavesBehind, LeavesReading, LineGives, LineMovesOn, MovesOn, PassesLine, PassesTo, StaysStopped, TakesInput, bytes_taken, contents_to_come, given_by, given_there};
+ghost use Rattle.port_core.specs.Reading.{AnswersStop, CountsNext, CountsLine, EndsInput, EndsLine, HasAnswer, KeepsContent, KeepsText, NextGives, KeepsAnswer, LeavesBehind, LeavesReading, LineGives, LineKeepsText, LineMovesOn, MovesOn, PassesLine, PassesTo, StaysStopped, TakesInput, bytes_taken, contents_to_come, given_by, given_there};
 
 use crate::answers::{INPUT_LIMIT, LINE_LIMIT, Line, ReadStop};
 use crate::content::{content_of, is_skipped};
@@ -20,7 +20,8 @@ use league_core::OutOfMemory;
 use std::alloc::Global;
 use std::marker::Model;
 
-/// Gives the lines of one input that count, without comments and empty lines. Its room is taken once, at the start.
+/// Gives the lines of one input that count, without comments and empty lines. Its room is taken once,
+/// at the start.
 #[derive(Drop)]
 pub struct LineReader {
     held: Window,
@@ -80,9 +81,10 @@ impl LineReader {
         ensures passes { PassesTo self.old self.new (S.left source.old) (S.left source.new)
             (given_by result self.new.text) }
         ensures moves { MovesOn self.old self.new result }
+        ensures kept { KeepsText self.old self.new result }
 
-        // Each byte taken is kept or passed, and at most one past the input's limit is taken. None is
-        // while an answer is in hand.
+        // Each byte taken is kept or passed, and at most one past the input's limit is taken. None
+        // is while an answer is in hand.
         ensures takes { TakesInput self.old self.new (S.left source.old) (S.left source.new) }
         ensures within { bytes_taken self.new ≤ input_limit + 1 }
         ensures ready { HasAnswer self.old → source.new ≡ source.old }
@@ -106,6 +108,7 @@ impl LineReader {
             (given_there result self.new.text) }
         ensures leaves { LeavesBehind self.old self.new (S.left source.new) result }
         ensures moves { LineMovesOn self.old self.new result }
+        ensures kept { LineKeepsText self.old self.new result }
         ensures passed { self.new.place.bytes ≤ input_limit }
         ensures within { bytes_taken self.new ≤ input_limit + 1 }
         ensures takes { TakesInput self.old self.new (S.left source.old) (S.left source.new) }

@@ -11,6 +11,7 @@ lines-init g c = record {
   same = refl;
   passes = passes-none _ _ _ refl;
   takes = TakesInput-none c.args.self.now (g.S.Source.left c.args.source.now);
+  text = refl;
   answer = λ has. has;
   ready = λ has. refl;
   stopped = λ stop has. refl;
@@ -29,6 +30,7 @@ lines-preserved g c = record {
   passes = passes-more _ _ _ _ _ _ [] [] c.lines.invariant.passes c.in_default.ensures.passes;
   takes = TakesInput-more c.args.self.now c.lines.self c.take_line.new.self _ _ _
       c.lines.invariant.takes c.take_line.ensures.takes;
+  text = c.in_default.ensures.kept ∙ c.lines.invariant.text;
   answer = λ has. c.in_default.ensures.keeps (c.lines.invariant.answer has);
   ready = λ has. c.take_line.ensures.ready (c.lines.invariant.answer has)
       ∙ c.lines.invariant.ready has;

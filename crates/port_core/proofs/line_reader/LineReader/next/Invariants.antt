@@ -12,6 +12,7 @@ invariant-lines g l = record {
       ≡ contents_to_come l.self (g.S.Source.left l.source);
   passes : PassesTo l.fn.self l.self (g.S.Source.left l.fn.source) (g.S.Source.left l.source) [];
   takes : TakesInput l.fn.self l.self (g.S.Source.left l.fn.source) (g.S.Source.left l.source);
+  text : l.self.text ≡ l.fn.self.text;
   answer : HasAnswer l.fn.self → HasAnswer l.self;
   ready : HasAnswer l.fn.self → l.source ≡ l.fn.source;
   stopped : (stop : ReadStop) → HasStop l.fn.self stop → l.self ≡ l.fn.self;
