@@ -1,0 +1,111 @@
+-- Finishes and their numbers in the list of all: what a new score of one fixture makes of them.
+use Rattle.std.proofs.Common.{◌≡◌, ℕ, zero, suc, ◌+◌, ◌*◌, ◌<◌, true, List, [], ◌∷◌, length, get_or, set, take, Option, Some, None, is_some, refl, sym, ap, ◌∙◌, arith}
+use Rattle.std.specs.List.{list_all}
+use Rattle.std.proofs.lemmas.Bool.{false≢true, and_parts, and_from}
+use Rattle.league_core.specs.declared.sheet.Sheet.{Sheet}
+use Rattle.league_core.specs.declared.season.Score.{Score}
+use Rattle.league_core.specs.Results.{Results}
+use Rattle.league_core.specs.Seasons.{IsSeasonOf}
+use Rattle.league_core.specs.Finishes.{may_end, may_all_end, IsFinishOf, is_played}
+use Rattle.league_core.specs.FinishList.{ways_to_end, ways_to_finish, end_number, number_of}
+use Rattle.league_core.proofs.FinishListLemmas.{finish_stands, length-finishes_of, number_of-same}
+use Rattle.finish_walk.specs.Walks.{count_of_finishes, number_in}
+
+-- a finish ends as many fixtures as the season has
+pub length-may_all_end : (limit : ℕ) (season finish : List (Option Score))
+    → may_all_end limit season finish ≡ true → length finish ≡ length season
+length-may_all_end limit [] [] may = refl
+length-may_all_end limit [] (ended ∷ finish) may = absurd (false≢true may)
+length-may_all_end limit (played ∷ season) [] may = absurd (false≢true may)
+length-may_all_end limit (played ∷ season) (ended ∷ finish) may =
+    ap suc (length-may_all_end limit season finish
+    (and_parts (may_end limit played ended) (may_all_end limit season finish) may).1)
+
+-- each fixture ends as it may
+pub may_end_at : (limit : ℕ) (season finish : List (Option Score)) (i : ℕ)
+    → may_all_end limit season finish ≡ true → i < length season
+    → may_end limit (get_or season i None) (get_or finish i None) ≡ true
+may_end_at limit [] finish i may within = absurd (omega arith)
+may_end_at limit (played ∷ season) [] i may within = absurd (false≢true may)
+may_end_at limit (played ∷ season) (ended ∷ finish) zero may within =
+    (and_parts (may_end limit played ended) (may_all_end limit season finish) may).0
+may_end_at limit (played ∷ season) (ended ∷ finish) (suc i) may within =
+    may_end_at limit season finish i
+    (and_parts (may_end limit played ended) (may_all_end limit season finish) may).1 (omega arith)
+
+-- with another end of one fixture that may be, a finish is a finish again
+pub may_all_end-set : (limit : ℕ) (season finish : List (Option Score)) (i : ℕ)
+    (ended : Option Score) → may_all_end limit season finish ≡ true
+    → may_end limit (get_or season i None) ended ≡ true
+    → may_all_end limit season (set finish i ended) ≡ true
+may_all_end-set limit [] [] i ended may here = may
+may_all_end-set limit [] (old ∷ finish) i ended may here = absurd (false≢true may)
+may_all_end-set limit (played ∷ season) [] i ended may here = absurd (false≢true may)
+may_all_end-set limit (played ∷ season) (old ∷ finish) zero ended may here =
+    and_from (may_end limit played ended) (may_all_end limit season finish) here
+    (and_parts (may_end limit played old) (may_all_end limit season finish) may).1
+may_all_end-set limit (played ∷ season) (old ∷ finish) (suc i) ended may here =
+    let parts = and_parts (may_end limit played old) (may_all_end limit season finish) may in
+    and_from (may_end limit played old) (may_all_end limit season (set finish i ended)) parts.0
+    (may_all_end-set limit season finish i ended parts.1 here)
+
+-- another end of one fixture moves the number by as many finishes as the fixtures before it have,
+-- for each end that it moves on
+pub number_of-set : (limit : ℕ) (season finish : List (Option Score)) (i : ℕ)
+    (ended : Option Score) → may_all_end limit season finish ≡ true → i < length season
+    → number_of limit season (set finish i ended)
+    + end_number limit (get_or season i None) (get_or finish i None)
+    * ways_to_finish limit (take i season)
+    ≡ number_of limit season finish
+    + end_number limit (get_or season i None) ended * ways_to_finish limit (take i season)
+number_of-set limit [] finish i ended may within = absurd (omega arith)
+number_of-set limit (played ∷ season) [] i ended may within = absurd (false≢true may)
+number_of-set limit (played ∷ season) (old ∷ finish) zero ended may within = omega arith
+number_of-set limit (played ∷ season) (old ∷ finish) (suc i) ended may within =
+    let later = number_of-set limit season finish i ended
+    (and_parts (may_end limit played old) (may_all_end limit season finish) may).1 (omega arith) in
+    let scaled = ap (λ n. n * ways_to_end limit played) later in
+    omega arith
+
+-- the number of a finish is below the number of finishes
+pub number_in-lt : (sheet : Sheet) (season finish : Results) → IsFinishOf sheet season finish
+    → number_in sheet season finish < count_of_finishes sheet season
+number_in-lt sheet season finish is_finish =
+    let at = finish_stands sheet.goal_limit season.scores finish.scores is_finish.scores in
+    omega (arith, at.within, length-finishes_of sheet.goal_limit season.scores)
+
+-- two finishes with one number are one finish
+pub number_in-same : (sheet : Sheet) (season finish other : Results)
+    → IsFinishOf sheet season finish → IsFinishOf sheet season other
+    → number_in sheet season finish ≡ number_in sheet season other → finish ≡ other
+number_in-same sheet season finish other is_finish other_is same =
+    let scores = number_of-same sheet.goal_limit season.scores finish.scores other.scores
+    is_finish.scores other_is.scores same in
+    let deductions = is_finish.deductions ∙ sym other_is.deductions in
+    λ i. record { scores = scores i; deductions = deductions i }
+
+-- a finish has a score for every fixture
+pub finish_is_played : (sheet : Sheet) (season finish : Results) → IsFinishOf sheet season finish
+    → is_played finish ≡ true
+finish_is_played sheet season finish is_finish =
+    all_some season.scores finish.scores is_finish.scores
+  where
+    all_some : (season finish : List (Option Score))
+        → may_all_end sheet.goal_limit season finish ≡ true → list_all is_some finish ≡ true
+    all_some [] [] may = refl
+    all_some [] (ended ∷ finish) may = absurd (false≢true may)
+    all_some (played ∷ season) [] may = absurd (false≢true may)
+    all_some (None ∷ season) (None ∷ finish) may = absurd (false≢true may)
+    all_some (Some played ∷ season) (None ∷ finish) may = absurd (false≢true may)
+    all_some (played ∷ season) (Some ended ∷ finish) may =
+        all_some season finish
+        (and_parts (may_end sheet.goal_limit played (Some ended))
+        (may_all_end sheet.goal_limit season finish) may).1
+
+-- a finish of a season of the sheet is a season of the sheet
+pub finish_of_sheet : (sheet : Sheet) (season finish : Results) → IsSeasonOf sheet season
+    → IsFinishOf sheet season finish → IsSeasonOf sheet finish
+finish_of_sheet sheet season finish of_sheet is_finish = record {
+  scores = length-may_all_end sheet.goal_limit season.scores finish.scores is_finish.scores ∙ of_sheet.scores;
+  deductions = ap length is_finish.deductions ∙ of_sheet.deductions;
+}
