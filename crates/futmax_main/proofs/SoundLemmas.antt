@@ -1,7 +1,7 @@
 -- A line that is not refused keeps a session sound, and leaves fewer lines to come.
 use Rattle.std.proofs.Common.{◌≡◌, ℕ, zero, suc, ◌+◌, ◌-◌, ◌<◌, ◌≤◌, Bool, true, false, not, ◌&&◌, ◌||◌, ◌==◌, nat_lt, nat_le, nat_eq, cond, List, [], ◌∷◌, ◌++◌, length, get_or, set, replicate, Option, Some, None, option_map, option_and_then, unwrap_or, position, count_by, is_none, IfSome, bytes_eq, codes, refl, ap, sym, ◌∙◌, subst, arith, lit≤}
 use Rattle.std.specs.List.{list_all, list_any, position_or_len}
-use Rattle.std.proofs.lemmas.Bool.{and_parts, and_from, or_from, or_parts, not-true, not_from_false, ltb-true, leb-true, le-leb, lt-ltb}
+use Rattle.std.proofs.lemmas.Bool.{and_parts, and_from, cond_both, or_from, or_parts, not-true, not_from_false, ltb-true, ltb-false, leb-true, le-leb, lt-ltb}
 use Rattle.std.proofs.lemmas.Bool.Decides.{nat_tests}
 use Rattle.std.proofs.lemmas.Option.{IfSome_then}
 use Rattle.std.proofs.lemmas.List.{length_push, length-set, length-replicate}
@@ -11,7 +11,7 @@ use Rattle.league_core.specs.declared.sheet.Sheet.{Sheet}
 use Rattle.league_core.specs.declared.sheet.Club.{Club}
 use Rattle.league_core.specs.declared.sheet.Fixture.{Fixture}
 use Rattle.league_core.specs.Results.{is_score, is_score_or_none}
-use Rattle.league_core.specs.Finishes.{is_played}
+use Rattle.league_core.specs.FinishList.{ways_to_finish}
 use Rattle.league_core.specs.declared.season.Score.{Score}
 use Rattle.league_core.specs.Sheets.{is_name, is_name_byte, is_club, is_fixture, is_line, are_different, same_name}
 use Rattle.league_core.specs.declared.season.Event.TheVariants.{Set}
@@ -26,11 +26,11 @@ use Rattle.futmax_main.specs.declared.session.Step.{Step}
 use Rattle.futmax_main.specs.declared.session.Step.TheVariants.{Goes, Asks, Stops}
 use Rattle.futmax_main.specs.Texts.{only_if, is_nothing, number_of, if_within, number_within, is_plain_byte, is_plain_name, plain_name, two_of, one_of, three_of, fields_of}
 use Rattle.futmax_main.specs.PlainForm.{is_named, sheet_begun, after_league, may_add_club, with_club, after_club, may_add_match, with_match, after_match, club_named, with_line, after_line, feed_begun, after_season, after_sheet_record, with_result, after_result, after_ask}
-use Rattle.futmax_main.specs.Session.{goes_to, asks_at, step_at, step_of_fields, form_fault, judge}
+use Rattle.futmax_main.specs.Session.{goes_to, finish_limit, is_too_wide, width_fault, ask_step, step_at, step_of_fields, form_fault, judge}
 use Rattle.futmax_main.specs.declared.turn.Turn.{Turn}
 use Rattle.futmax_main.specs.declared.turn.Turn.TheVariants.{GoesOn, Ends}
 use Rattle.futmax_main.specs.Turns.{AskGives, TurnAdvances}
-use Rattle.futmax_main.specs.Spans.{IsAsked}
+use Rattle.futmax_main.specs.Items.{IsAsked}
 use Rattle.futmax_main.specs.Sound.{IsDraft, IsFeed, IsSoundAt, IsSound, lines_to_come_at, lines_to_come}
 
 -- what holds of the value behind a second step, where it holds whatever the first one gave
@@ -467,10 +467,8 @@ result-goes feed fields sound =
 
 -- what an `ask` leaves
 ask-goes : (feed : Feed) (fields : List (List ℕ)) → IsFeed feed
-    → IfSome (after_ask feed fields) (λ next. IsSoundAt (Asked next))
-ask-goes feed fields sound = if_only_if (is_nothing fields && is_played feed.season) feed
-    (λ next. IsSoundAt (Asked next))
-    (λ may. (sound, (and_parts (is_nothing fields) (is_played feed.season) may).1))
+    → IfSome (after_ask feed fields) IsFeed
+ask-goes feed fields sound = if_only_if (is_nothing fields) feed IsFeed (λ may. sound)
 
 -- what a step leaves: a sound session with fewer lines to come
 abbrev pub Advances : Stage → Session → Type 0
@@ -481,6 +479,24 @@ abbrev pub StepAdvances : Stage → Step → Type 0
 StepAdvances stage (Goes next) = Advances stage next
 StepAdvances stage (Asks next) = Advances stage next × IsAsked next.stage
 StepAdvances stage (Stops fault) = Unit {0}
+
+-- an ask that is answered, or refused
+ask-advances : (mode : Mode) (number : ℕ) (stage : Stage) (feed : Feed) → IsFeed feed
+    → 0 < lines_to_come_at stage → StepAdvances stage (ask_step mode number feed)
+ask-advances mode number stage feed sound some =
+    let next : Session = record { mode = mode; stage = Asked feed } in
+    cond_both (is_too_wide feed) (Stops (width_fault number)) (Asks next) (StepAdvances stage)
+    (λ wide. tt)
+    (λ narrow. (
+      (
+        (
+          sound,
+          ltb-false finish_limit (ways_to_finish feed.sheet.goal_limit feed.season.scores) narrow,
+        ),
+        some,
+      ),
+      tt,
+    ))
 
 -- a sheet that grows
 in_sheet : (sheet : Sheet) (o : Option Sheet) → IfSome o (GrowsTo sheet)
@@ -506,9 +522,10 @@ sheet-advances sheet kind fields draft =
     (if_map InFeed (after_season sheet fields) P (season-grows sheet fields draft)) tt)))
 
 -- any record
-step-advances : (mode : Mode) (stage : Stage) (kind : List ℕ) (fields : List (List ℕ))
-    → IsSoundAt stage → IfSome (step_at mode stage kind fields) (StepAdvances stage)
-step-advances mode Start kind fields sound =
+step-advances : (mode : Mode) (number : ℕ) (stage : Stage) (kind : List ℕ)
+    (fields : List (List ℕ)) → IsSoundAt stage
+    → IfSome (step_at mode number stage kind fields) (StepAdvances stage)
+step-advances mode number Start kind fields sound =
     if_cond (bytes_eq kind (codes "league"))
     (goes_to mode (option_map InSheet (after_league fields))) None (StepAdvances Start)
     (if_map (λ next. Goes (record { mode = mode; stage = next }))
@@ -517,11 +534,11 @@ step-advances mode Start kind fields sound =
     (λ next. Advances Start (record { mode = mode; stage = next }))
     (IfSome_then (after_league fields) (league-draft fields)
     (λ sheet draft. (draft, omega arith))))) tt
-step-advances mode (InSheet sheet) kind fields sound =
+step-advances mode number (InSheet sheet) kind fields sound =
     if_map (λ next. Goes (record { mode = mode; stage = next }))
     (after_sheet_record sheet kind fields) (StepAdvances (InSheet sheet))
     (sheet-advances sheet kind fields sound)
-step-advances mode (InFeed feed) kind fields sound =
+step-advances mode number (InFeed feed) kind fields sound =
     if_cond (bytes_eq kind (codes "result"))
     (goes_to mode (option_map InFeed (after_result feed fields))) _ (StepAdvances (InFeed feed))
     (if_map (λ next. Goes (record { mode = mode; stage = next }))
@@ -530,20 +547,18 @@ step-advances mode (InFeed feed) kind fields sound =
     (λ next. Advances (InFeed feed) (record { mode = mode; stage = next }))
     (result-goes feed fields sound)))
     (if_cond (bytes_eq kind (codes "ask"))
-    (asks_at mode (option_map Asked (after_ask feed fields))) None (StepAdvances (InFeed feed))
-    (if_map (λ next. Asks (record { mode = mode; stage = next }))
-    (option_map Asked (after_ask feed fields)) (StepAdvances (InFeed feed))
-    (if_map Asked (after_ask feed fields)
-    (λ next. Advances (InFeed feed) (record { mode = mode; stage = next }) × IsAsked next)
+    (option_map (ask_step mode number) (after_ask feed fields)) None (StepAdvances (InFeed feed))
+    (if_map (ask_step mode number) (after_ask feed fields) (StepAdvances (InFeed feed))
     (IfSome_then (after_ask feed fields) (ask-goes feed fields sound)
-    (λ next holds. ((holds, omega arith), tt))))) tt)
-step-advances mode (Asked feed) kind fields sound = tt
+    (λ next holds. ask-advances mode number (InFeed feed) next holds (omega arith)))) tt)
+step-advances mode number (Asked feed) kind fields sound = tt
 
 -- a line's fields
-fields-advance : (mode : Mode) (stage : Stage) (fields : List (List ℕ)) → IsSoundAt stage
-    → IfSome (step_of_fields mode stage fields) (StepAdvances stage)
-fields-advance mode stage [] sound = tt
-fields-advance mode stage (kind ∷ fields) sound = step-advances mode stage kind fields sound
+fields-advance : (mode : Mode) (number : ℕ) (stage : Stage) (fields : List (List ℕ))
+    → IsSoundAt stage → IfSome (step_of_fields mode number stage fields) (StepAdvances stage)
+fields-advance mode number stage [] sound = tt
+fields-advance mode number stage (kind ∷ fields) sound =
+    step-advances mode number stage kind fields sound
 
 -- a step, or the refusal in its place
 or_stops : (stage : Stage) (o : Option Step) (fault : Fault) → IfSome o (StepAdvances stage)
@@ -555,9 +570,9 @@ or_stops stage (Some step) fault advances = advances
 pub text-advances : (number : ℕ) (session : Session) (text : List ℕ) → IsSound session
     → StepAdvances session.stage (judge number session text)
 text-advances number session text sound =
-    or_stops session.stage (step_of_fields session.mode session.stage (fields_of text))
+    or_stops session.stage (step_of_fields session.mode number session.stage (fields_of text))
     (form_fault number session.stage)
-    (fields-advance session.mode session.stage (fields_of text) sound)
+    (fields-advance session.mode number session.stage (fields_of text) sound)
 
 -- a line on which the session goes on
 pub goes-advances : (number : ℕ) (session next : Session) (text : List ℕ) (step : Step)

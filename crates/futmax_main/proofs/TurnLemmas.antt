@@ -16,7 +16,7 @@ use Rattle.futmax_main.specs.declared.status.Status.TheVariants.{Done, BadWords,
 use Rattle.futmax_main.specs.declared.session.Mode.{Mode}
 use Rattle.futmax_main.specs.declared.session.Session.{Session}
 use Rattle.futmax_main.specs.declared.session.Cause.{Cause}
-use Rattle.futmax_main.specs.declared.session.Cause.TheVariants.{SheetForm, FeedForm, LineTooLong, InputTooLong}
+use Rattle.futmax_main.specs.declared.session.Cause.TheVariants.{SheetForm, FeedForm, TooWide, LineTooLong, InputTooLong}
 use Rattle.futmax_main.specs.declared.session.Fault.{Fault}
 use Rattle.futmax_main.specs.declared.session.Step.{Step}
 use Rattle.futmax_main.specs.declared.session.Step.TheVariants.{Goes, Asks, Stops}
@@ -36,6 +36,7 @@ use Rattle.futmax_main.proofs.PathLemmas.{leads_start, leads_goes, leads_asks, s
 not_done : (cause : Cause) → status_of_cause cause ≡ Done → ⊥
 not_done SheetForm is = cc
 not_done FeedForm is = cc
+not_done TooWide is = cc
 not_done LineTooLong is = cc
 not_done InputTooLong is = cc
 
@@ -43,6 +44,7 @@ not_done InputTooLong is = cc
 not_read : (cause : Cause) → status_of_cause cause ≡ ReadFault → ⊥
 not_read SheetForm is = cc
 not_read FeedForm is = cc
+not_read TooWide is = cc
 not_read LineTooLong is = cc
 not_read InputTooLong is = cc
 

@@ -12,6 +12,6 @@ pub mod Path
 pub mod Top
 pub mod Cuts
 pub mod Sound
-pub mod Spans
+pub mod Items
 pub mod Lists
 pub mod Turns

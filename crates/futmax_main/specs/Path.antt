@@ -37,8 +37,8 @@ abbrev pub status_of_outcome : Outcome → Status
 status_of_outcome Complete = Done
 status_of_outcome (Refused fault) = status_of_cause fault.cause
 
--- the status where a session's input ends, or stops because a line of it, or all of it, is too long;
--- that the source failed, no input says
+-- the status where a session's input ends, or stops because a line of it, or all of it, is too
+-- long; that the source failed, no input says
 abbrev pub status_at_end : Result ℕ ReadStop → Session → Status
 status_at_end (Ok number) session = status_of_outcome (ending number session)
 status_at_end (Err stop.ReadFault) session = ReadFault
@@ -138,8 +138,8 @@ pub record Leads (first : Session) (all : Contents) (taken : List (ℕ × List �
   pub answers : (next : List (ℕ × List ℕ)) (more : List ℕ) → AreAnswersFrom next session more
       → AreAnswersFrom (taken ++ next) first (written ++ more)
 
--- the way from the whole input to a place in it and what stands from there on, with the sink's bytes
--- before and now; nothing is said where the source does not tell its bytes
+-- the way from the whole input to a place in it and what stands from there on, with the sink's
+-- bytes before and now; nothing is said where the source does not tell its bytes
 abbrev pub Path : Mode → Option (List ℕ) → Option (List ℕ) → Place → Session → Option (List ℕ)
     → Option (List ℕ) → Type 0
 Path mode None left place session old now = Unit {0}

@@ -7,7 +7,6 @@ use Rattle.league_core.specs.declared.sheet.Sheet.{Sheet}
 use Rattle.league_core.specs.declared.sheet.Club.{Club}
 use Rattle.league_core.specs.declared.season.Event.TheVariants.{Set}
 use Rattle.league_core.specs.Seasons.{unplayed_season, event_applied}
-use Rattle.league_core.specs.Finishes.{is_played}
 use Rattle.futmax_main.specs.declared.session.Feed.{Feed}
 use Rattle.futmax_main.specs.declared.session.Stage.{Stage}
 use Rattle.futmax_main.specs.declared.session.Stage.TheVariants.{InSheet, InFeed}
@@ -130,6 +129,6 @@ after_result feed fields =
     (number_within 1 (length feed.sheet.fixtures) field.0))
     (three_of fields)
 
--- `ask`: every fixture has its score
+-- `ask`: nothing more on the line
 abbrev pub after_ask : Feed → List (List ℕ) → Option Feed
-after_ask feed fields = only_if (is_nothing fields && is_played feed.season) feed
+after_ask feed fields = only_if (is_nothing fields) feed

@@ -9,7 +9,7 @@ use Rattle.league_core.specs.declared.season.Score.{Score}
 use Rattle.futmax_main.specs.declared.word.Word.{Word}
 use Rattle.futmax_main.specs.declared.word.Word.TheVariants.{Clinched, Lost, Possible}
 use Rattle.futmax_main.specs.declared.session.Cause.{Cause}
-use Rattle.futmax_main.specs.declared.session.Cause.TheVariants.{SheetForm, FeedForm, LineTooLong, InputTooLong}
+use Rattle.futmax_main.specs.declared.session.Cause.TheVariants.{SheetForm, FeedForm, TooWide, LineTooLong, InputTooLong}
 use Rattle.futmax_main.specs.declared.session.Fault.{Fault}
 use Rattle.futmax_main.specs.declared.session.Outcome.{Outcome}
 use Rattle.futmax_main.specs.declared.session.Outcome.TheVariants.{Complete, Refused}
@@ -38,6 +38,7 @@ usage_row = codes "usage,futmax MODE [--workers N] [--proofs] [--seed N]" ++ 10 
 abbrev pub cause_text : Cause → List ℕ
 cause_text SheetForm = codes "plain_form"
 cause_text FeedForm = codes "plain_form"
+cause_text TooWide = codes "too_wide"
 cause_text LineTooLong = codes "line_too_long"
 cause_text InputTooLong = codes "input_too_long"
 

@@ -1,6 +1,6 @@
--- The session: what each line of the input that counts means, and what the end of the input means. A
--- later form of the input changes what is allowed, and nothing here.
-use Rattle.std.specs.Prelude.{ℕ, List, [], ◌∷◌, Option, None, if◌then◌else◌, option_map, unwrap_or, bytes_eq, codes}
+-- The session: what each line of the input that counts means, and what the end of the input means.
+-- A later form of the input changes what is allowed, and nothing here.
+use Rattle.std.specs.Prelude.{ℕ, Bool, nat_lt, List, [], ◌∷◌, Option, None, if◌then◌else◌, option_map, unwrap_or, bytes_eq, codes}
 use Rattle.futmax_main.specs.declared.status.Status.{Status}
 use Rattle.futmax_main.specs.declared.status.Status.TheVariants.{BadSheet, BadFeed, TooLong}
 use Rattle.futmax_main.specs.declared.session.Mode.{Mode}
@@ -9,12 +9,13 @@ use Rattle.futmax_main.specs.declared.session.Stage.{Stage}
 use Rattle.futmax_main.specs.declared.session.Stage.TheVariants.{Start, InSheet, InFeed, Asked}
 use Rattle.futmax_main.specs.declared.session.Session.{Session}
 use Rattle.futmax_main.specs.declared.session.Cause.{Cause}
-use Rattle.futmax_main.specs.declared.session.Cause.TheVariants.{SheetForm, FeedForm, LineTooLong, InputTooLong}
+use Rattle.futmax_main.specs.declared.session.Cause.TheVariants.{SheetForm, FeedForm, TooWide, LineTooLong, InputTooLong}
 use Rattle.futmax_main.specs.declared.session.Fault.{Fault}
 use Rattle.futmax_main.specs.declared.session.Step.{Step}
 use Rattle.futmax_main.specs.declared.session.Step.TheVariants.{Goes, Asks, Stops}
 use Rattle.futmax_main.specs.declared.session.Outcome.{Outcome}
 use Rattle.futmax_main.specs.declared.session.Outcome.TheVariants.{Complete, Refused}
+use Rattle.league_core.specs.FinishList.{ways_to_finish}
 use Rattle.futmax_main.specs.Texts.{fields_of}
 use Rattle.futmax_main.specs.PlainForm.{after_league, after_sheet_record, after_result, after_ask}
 
@@ -26,9 +27,23 @@ first_session mode = record { mode = mode; stage = Start }
 abbrev pub goes_to : Mode → Option Stage → Option Step
 goes_to mode stage = option_map (λ next. Goes (record { mode = mode; stage = next })) stage
 
--- the session answers, and goes on to a stage, where there is one
-abbrev pub asks_at : Mode → Option Stage → Option Step
-asks_at mode stage = option_map (λ next. Asks (record { mode = mode; stage = next })) stage
+-- the most finishes that a season may have at an ask
+abbrev pub finish_limit : ℕ
+finish_limit = 10000
+
+-- the season has more
+abbrev pub is_too_wide : Feed → Bool
+is_too_wide feed = nat_lt finish_limit (ways_to_finish feed.sheet.goal_limit feed.season.scores)
+
+-- the fault of an ask whose season has too many finishes
+abbrev pub width_fault : ℕ → Fault
+width_fault number = record { number = number; cause = TooWide }
+
+-- the session answers, and goes on, unless the season has too many finishes
+abbrev pub ask_step : Mode → ℕ → Feed → Step
+ask_step mode number feed =
+    if is_too_wide feed then Stops (width_fault number)
+    else Asks (record { mode = mode; stage = Asked feed })
 
 -- the first record
 abbrev pub first_step : Mode → List ℕ → List (List ℕ) → Option Step
@@ -38,24 +53,26 @@ first_step mode kind fields =
     else None
 
 -- a record behind the sheet
-abbrev pub feed_step : Mode → Feed → List ℕ → List (List ℕ) → Option Step
-feed_step mode feed kind fields =
+abbrev pub feed_step : Mode → ℕ → Feed → List ℕ → List (List ℕ) → Option Step
+feed_step mode number feed kind fields =
     if bytes_eq kind (codes "result")
     then goes_to mode (option_map InFeed (after_result feed fields))
-    else if bytes_eq kind (codes "ask") then asks_at mode (option_map Asked (after_ask feed fields))
+    else if bytes_eq kind (codes "ask")
+    then option_map (ask_step mode number) (after_ask feed fields)
     else None
 
--- what a record does at this stage, where it is allowed
-abbrev pub step_at : Mode → Stage → List ℕ → List (List ℕ) → Option Step
-step_at mode Start kind fields = first_step mode kind fields
-step_at mode (InSheet sheet) kind fields = goes_to mode (after_sheet_record sheet kind fields)
-step_at mode (InFeed feed) kind fields = feed_step mode feed kind fields
-step_at mode (Asked feed) kind fields = None
+-- what a record on the line of a number does at this stage, where it is allowed
+abbrev pub step_at : Mode → ℕ → Stage → List ℕ → List (List ℕ) → Option Step
+step_at mode number Start kind fields = first_step mode kind fields
+step_at mode number (InSheet sheet) kind fields =
+    goes_to mode (after_sheet_record sheet kind fields)
+step_at mode number (InFeed feed) kind fields = feed_step mode number feed kind fields
+step_at mode number (Asked feed) kind fields = None
 
 -- a line's record is named by its first field
-abbrev pub step_of_fields : Mode → Stage → List (List ℕ) → Option Step
-step_of_fields mode stage [] = None
-step_of_fields mode stage (kind ∷ fields) = step_at mode stage kind fields
+abbrev pub step_of_fields : Mode → ℕ → Stage → List (List ℕ) → Option Step
+step_of_fields mode number stage [] = None
+step_of_fields mode number stage (kind ∷ fields) = step_at mode number stage kind fields
 
 -- a line that the form does not allow is a fault of the sheet before `season`, and one of the feed
 -- after it
@@ -73,13 +90,14 @@ form_fault number stage = record { number = number; cause = form_cause stage }
 abbrev pub status_of_cause : Cause → Status
 status_of_cause SheetForm = BadSheet
 status_of_cause FeedForm = BadFeed
+status_of_cause TooWide = BadFeed
 status_of_cause LineTooLong = TooLong
 status_of_cause InputTooLong = TooLong
 
 -- what a line does, by its number and by what counts of it
 abbrev pub judge : ℕ → Session → List ℕ → Step
 judge number session text =
-    unwrap_or (step_of_fields session.mode session.stage (fields_of text))
+    unwrap_or (step_of_fields session.mode number session.stage (fields_of text))
     (Stops (form_fault number session.stage))
 
 -- the end of the input, at the number after the last line's

@@ -5,8 +5,8 @@ use Rattle.std.specs.List.{list_all}
 use Rattle.league_core.specs.declared.sheet.Sheet.{Sheet}
 use Rattle.league_core.specs.Sheets.{IsWithinLimits, is_name, is_club, is_fixture, is_line, are_different, same_name}
 use Rattle.league_core.specs.Seasons.{IsSeasonOf}
-use Rattle.league_core.specs.Finishes.{is_played}
 use Rattle.league_core.specs.Results.{Results, are_results}
+use Rattle.finish_walk.specs.Walks.{HasFewFinishes}
 use Rattle.futmax_main.specs.declared.session.Feed.{Feed}
 use Rattle.futmax_main.specs.declared.session.Stage.{Stage}
 use Rattle.futmax_main.specs.declared.session.Stage.TheVariants.{Start, InSheet, InFeed, Asked}
@@ -39,12 +39,16 @@ pub record IsFeed (feed : Feed) : Type 0 where
   pub results : IsTrue (are_results feed.season)
   pub epoch : feed.epoch + open_count feed.season ≡ length feed.sheet.fixtures
 
+-- the season has no more finishes than are walked
+abbrev pub IsNarrow : Feed → Type 0
+IsNarrow feed = HasFewFinishes feed.sheet feed.season
+
 -- what holds at a stage
 abbrev pub IsSoundAt : Stage → Type 0
 IsSoundAt Start = Unit {0}
 IsSoundAt (InSheet sheet) = IsDraft sheet
 IsSoundAt (InFeed feed) = IsFeed feed
-IsSoundAt (Asked feed) = IsFeed feed × IsTrue (is_played feed.season)
+IsSoundAt (Asked feed) = IsFeed feed × IsNarrow feed
 
 -- what holds of a session
 abbrev pub IsSound : Session → Type 0

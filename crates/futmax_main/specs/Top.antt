@@ -29,8 +29,8 @@ IsTextFront mode input text = IsFrontOf (contents_of input) (first_session mode)
 abbrev pub IsWhole : Mode → List ℕ → Status → List ℕ → Type 0
 IsWhole mode input status text = (session_status mode input ≡ status) × IsText mode input text
 
--- the text is the answers of all asks in these first lines of an input, of which none is too long and
--- none has the input's first byte too many
+-- the text is the answers of all asks in these first lines of an input, of which none is too long
+-- and none has the input's first byte too many
 abbrev pub AreAnswersIn : Mode → List (List ℕ) → List ℕ → Type 0
 AreAnswersIn mode lines text =
     let contents = contents_from start lines in

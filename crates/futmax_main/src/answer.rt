@@ -1,20 +1,19 @@
 //! The answer of an ask, whole in memory: the verdict of every club for every line, with two
 //! examples where both sides are possible.
 //!
-//! The season is played to its end, so each club's two places decide. They are taken once for all
-//! lines.
+//! One walk over the finishes of the season serves all clubs and all lines.
 
-ghost use Rattle.std.specs.Prelude.{◌≡◌, ◌<◌, ◌++◌, IfOk, OnOk, length, string_bytes, slice_index_or};
-ghost use Rattle.league_core.specs.Sheets.{IsWithinLimits};
+ghost use Rattle.std.specs.Prelude.{◌≡◌, ◌<◌, ◌++◌, IfOk, OnOk, length, string_bytes};
+ghost use Rattle.finish_walk.specs.Reaches.{AreReaches, IsReachOf};
 ghost use Rattle.futmax_main.specs.Answers.{AreItemsOf, AreVerdicts, IsAnswer, IsItem, name_of};
-ghost use Rattle.futmax_main.specs.Sound.{IsSound};
-ghost use Rattle.futmax_main.specs.Spans.{Adds, IsAsked, IsPlayedFeed, own_example, shown_with, span_of, spans_of};
+ghost use Rattle.futmax_main.specs.Sound.{IsFeed, IsSound};
+ghost use Rattle.futmax_main.specs.Items.{Adds, IsAsked, IsAskedFeed, shown_with};
 
-use crate::rows::{push_ask, push_finish, push_lots, push_verdict};
+use crate::example::push_example;
+use crate::rows::{push_ask, push_verdict};
 use crate::session::{Feed, Mode, Session, Stage};
-use crate::span::{Span, spans_of};
-use crate::word::Word;
-use final_rank::lots_for;
+use crate::word::{Word, word_of};
+use finish_walk::{Reach, reaches};
 use league_core::{Claim, OutOfMemory, Sheet};
 use std::alloc::Global;
 
@@ -31,14 +30,14 @@ pub fn answer(alloc: Global, session: &Session) -> Result<String, OutOfMemory>
 }
 
 fn verdicts(alloc: Global, feed: &Feed) -> Result<String, OutOfMemory>
-    requires { IsPlayedFeed feed.now }
+    requires { IsAskedFeed feed.now }
     ensures { IfOk result (λ text. AreVerdicts feed.now (string_bytes text)) }
 {
-    let spans = spans_of(alloc, &feed.sheet, &feed.season)?;
+    let reaches = reaches(alloc, &feed.sheet, &feed.season)?;
     let mut text = String::new(alloc);
     push_ask(&mut text, feed.epoch)?;
     for line in feed.sheet.lines.as_slice() {
-        push_items(alloc, &mut text, feed, *line, spans.as_slice())?;
+        push_items(alloc, &mut text, feed, *line, reaches.as_slice())?;
     }
     Ok(text)
 }
@@ -49,16 +48,16 @@ fn push_items(
     text: &mut String,
     feed: &Feed,
     line: u8,
-    spans: &[Span],
+    reaches: &[Reach],
 ) -> Result<(), OutOfMemory>
-    requires played { IsPlayedFeed feed.now }
-    requires spans { spans.now ≡ spans_of feed.now.sheet feed.now.season }
+    requires sound { IsFeed feed.now }
+    requires reaches { AreReaches feed.now.sheet feed.now.season reaches.now }
     ensures { OnOk result (Adds (string_bytes text.old) (string_bytes text.new)
         (AreItemsOf feed.now.sheet feed.now.season line)) }
 {
     let clubs = feed.sheet.clubs.len() as u8;
     for club in 0..clubs {
-        push_item(alloc, text, feed, line, club, spans[club as usize])?;
+        push_item(alloc, text, feed, line, club, &reaches[club as usize])?;
     }
     Ok(())
 }
@@ -69,36 +68,39 @@ fn push_item(
     feed: &Feed,
     line: u8,
     club: u8,
-    span: Span,
+    reach: &Reach,
 ) -> Result<(), OutOfMemory>
-    requires played { IsPlayedFeed feed.now }
+    requires sound { IsFeed feed.now }
     requires in_range { club < length feed.now.sheet.clubs }
-    requires span { span ≡ span_of feed.now.sheet feed.now.season club }
+    requires reach { IsReachOf feed.now.sheet feed.now.season club reach.now }
     ensures { OnOk result (Adds (string_bytes text.old) (string_bytes text.new)
         (IsItem feed.now.sheet feed.now.season line club)) }
 {
-    let word = span.word(line);
+    let word = word_of(reach, line);
     push_verdict(text, line, name_of(&feed.sheet, club), word)?;
-    push_shown(alloc, text, feed.sheet.clubs.len() as u8, club, word)
+    push_shown(alloc, text, feed, club, reach, word)
 }
 
 // What stands behind the row of a verdict: an example of each claim where both are possible.
 fn push_shown(
     alloc: Global,
     text: &mut String,
-    clubs: u8,
+    feed: &Feed,
     club: u8,
+    reach: &Reach,
     word: Word,
 ) -> Result<(), OutOfMemory>
-    requires { club < clubs }
-    ensures { OnOk result
-        (string_bytes text.new ≡ string_bytes text.old ++ shown_with clubs club word) }
+    requires sound { IsFeed feed.now }
+    requires in_range { club < length feed.now.sheet.clubs }
+    requires reach { IsReachOf feed.now.sheet feed.now.season club reach.now }
+    ensures { OnOk result (string_bytes text.new
+        ≡ string_bytes text.old ++ shown_with feed.now club reach.now word) }
 {
     match word {
         Word::Clinched | Word::Lost => Ok(()),
         Word::Possible => {
-            push_example(alloc, text, clubs, club, Claim::Inside)?;
-            push_example(alloc, text, clubs, club, Claim::Outside)
+            push_example(alloc, text, feed, club, Claim::Inside, &reach.best_finish)?;
+            push_example(alloc, text, feed, club, Claim::Outside, &reach.worst_finish)
         }
     }
 }
@@ -108,21 +110,4 @@ fn name_of(sheet: &Sheet, club: u8) -> &str
     ensures { result.now ≡ name_of sheet.now club }
 {
     sheet.clubs.as_slice()[club as usize].name.as_str()
-}
-
-// An example of the claim, whose finish is the season itself: it has no score of its own.
-fn push_example(
-    alloc: Global,
-    text: &mut String,
-    clubs: u8,
-    club: u8,
-    claim: Claim,
-) -> Result<(), OutOfMemory>
-    requires { club < clubs }
-    ensures { OnOk result
-        (string_bytes text.new ≡ string_bytes text.old ++ own_example clubs club claim) }
-{
-    let lots = lots_for(alloc, clubs, club, claim)?;
-    push_finish(text, claim)?;
-    push_lots(text, lots.order())
 }

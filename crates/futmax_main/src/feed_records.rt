@@ -2,14 +2,13 @@
 //! of the input does not allow it. None takes memory.
 
 ghost use Rattle.std.specs.Prelude.{◌≡◌, ◌<◌, ◌≤◌, length};
-ghost use Rattle.league_core.specs.Finishes.{is_played};
 ghost use Rattle.futmax_main.specs.PlainForm.{after_ask, after_result, with_result};
 ghost use Rattle.futmax_main.specs.Sound.{IsFeed};
 
 use crate::fields::Fields;
 use crate::numbers::number_within;
 use crate::session::Feed;
-use league_core::{Event, Score, Season};
+use league_core::{Event, Score};
 
 /// `result,F,H,A`.
 pub fn result_record(feed: Feed, fields: Fields<'_>) -> Option<Feed>
@@ -44,15 +43,9 @@ fn with_result(mut feed: Feed, fixture: u16, home: u8, away: u8) -> Option<Feed>
 pub fn ask_record(feed: Feed, fields: Fields<'_>) -> Option<Feed>
     ensures { result ≡ after_ask feed fields.entry }
 {
-    if fields.is_nothing() && is_played(&feed.season) {
+    if fields.is_nothing() {
         Some(feed)
     } else {
         None
     }
-}
-
-fn is_played(season: &Season) -> bool
-    ensures { result ≡ is_played season.now }
-{
-    season.scores().iter().all(|score| score.is_some())
 }

@@ -1,7 +1,7 @@
 //! What one line does to a session.
 
 ghost use Rattle.std.specs.Prelude.{◌≡◌, IfOk};
-ghost use Rattle.futmax_main.specs.Session.{ending, first_session, first_step, feed_step, form_cause, goes_to, asks_at, judge, step_of_fields};
+ghost use Rattle.futmax_main.specs.Session.{ending, first_session, first_step, feed_step, form_cause, goes_to, ask_step, is_too_wide, judge, step_of_fields};
 ghost use Rattle.futmax_main.specs.Texts.{fields_of};
 ghost use Rattle.futmax_main.specs.Sound.{IsFeed, IsSound};
 
@@ -9,6 +9,7 @@ use crate::feed_records::{ask_record, result_record};
 use crate::fields::Fields;
 use crate::session::{Cause, Fault, Feed, Mode, Outcome, Session, Stage, Step};
 use crate::sheet_records::{league_record, sheet_record};
+use finish_walk::finish_count;
 use league_core::OutOfMemory;
 use std::alloc::Global;
 
@@ -29,7 +30,7 @@ impl Session {
         ensures { IfOk result (λ step. step ≡ judge number self text.now) }
     {
         let cause = form_cause(&self.stage);
-        match step(alloc, self, text)? {
+        match step(alloc, self, number, text)? {
             Some(step) => Ok(step),
             None => Ok(Step::Stops(Fault { number, cause })),
         }
@@ -58,10 +59,15 @@ fn form_cause(stage: &Stage) -> Cause
     }
 }
 
-fn step(alloc: Global, session: Session, text: &[u8]) -> Result<Option<Step>, OutOfMemory>
+fn step(
+    alloc: Global,
+    session: Session,
+    number: u64,
+    text: &[u8],
+) -> Result<Option<Step>, OutOfMemory>
     requires { IsSound session }
     ensures { IfOk result
-        (λ step. step ≡ step_of_fields session.mode session.stage (fields_of text.now)) }
+        (λ step. step ≡ step_of_fields session.mode number session.stage (fields_of text.now)) }
 {
     let Some((kind, fields)) = Fields::of(text).first() else {
         return Ok(None);
@@ -73,7 +79,7 @@ fn step(alloc: Global, session: Session, text: &[u8]) -> Result<Option<Step>, Ou
             let stage = sheet_record(alloc, sheet, kind, fields)?;
             Ok(goes_to(mode, stage))
         }
-        Stage::InFeed(feed) => Ok(feed_step(mode, feed, kind, fields)),
+        Stage::InFeed(feed) => Ok(feed_step(mode, number, feed, kind, fields)),
         Stage::Asked(_) => Ok(None),
     }
 }
@@ -93,14 +99,17 @@ fn first_step(
     Ok(goes_to(mode, sheet.map(Stage::InSheet)))
 }
 
-fn feed_step(mode: Mode, feed: Feed, kind: &[u8], fields: Fields<'_>) -> Option<Step>
+fn feed_step(mode: Mode, number: u64, feed: Feed, kind: &[u8], fields: Fields<'_>) -> Option<Step>
     requires { IsFeed feed }
-    ensures { result ≡ feed_step mode feed kind.now fields.entry }
+    ensures { result ≡ feed_step mode number feed kind.now fields.entry }
 {
     if kind == b"result".as_slice() {
         goes_to(mode, result_record(feed, fields).map(Stage::InFeed))
     } else if kind == b"ask".as_slice() {
-        asks_at(mode, ask_record(feed, fields).map(Stage::Asked))
+        match ask_record(feed, fields) {
+            Some(feed) => Some(ask_step(mode, number, feed)),
+            None => None,
+        }
     } else {
         None
     }
@@ -115,11 +124,20 @@ fn goes_to(mode: Mode, stage: Option<Stage>) -> Option<Step>
     }
 }
 
-fn asks_at(mode: Mode, stage: Option<Stage>) -> Option<Step>
-    ensures { result ≡ asks_at mode stage }
+fn ask_step(mode: Mode, number: u64, feed: Feed) -> Step
+    ensures { result ≡ ask_step mode number feed }
 {
-    match stage {
-        Some(stage) => Some(Step::Asks(Session { mode, stage })),
-        None => None,
+    if is_too_wide(&feed) {
+        let cause = Cause::TooWide;
+        return Step::Stops(Fault { number, cause });
     }
+    let stage = Stage::Asked(feed);
+    Step::Asks(Session { mode, stage })
+}
+
+// The season has more finishes than are walked.
+fn is_too_wide(feed: &Feed) -> bool
+    ensures { result ≡ is_too_wide feed.now }
+{
+    finish_count(&feed.sheet, &feed.season).is_none()
 }

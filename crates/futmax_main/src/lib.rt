@@ -6,6 +6,7 @@
 #![tactic(auto)]
 
 mod answer;
+mod example;
 mod feed_records;
 mod fields;
 mod judge;
@@ -16,7 +17,6 @@ mod rows;
 mod run;
 mod session;
 mod sheet_records;
-mod span;
 mod status;
 mod top;
 mod turn;

@@ -2,11 +2,11 @@
 
 ghost use Rattle.std.specs.Prelude.{◌≡◌, ◌++◌, OnOk, string_bytes};
 ghost use Rattle.futmax_main.specs.Lists.{separator};
-ghost use Rattle.futmax_main.specs.Rows.{ask_row, verdict_row, finish_row, lots_row, fault_row, clubs_text, word_text, claim_text, cause_text};
+ghost use Rattle.futmax_main.specs.Rows.{ask_row, verdict_row, finish_row, score_row, lots_row, fault_row, clubs_text, word_text, claim_text, cause_text};
 
 use crate::session::{Cause, Fault};
 use crate::word::Word;
-use league_core::{Claim, OutOfMemory};
+use league_core::{Claim, OutOfMemory, Score};
 
 /// `ask,E`.
 pub fn push_ask(text: &mut String, epoch: u64) -> Result<(), OutOfMemory>
@@ -42,6 +42,16 @@ pub fn push_finish(text: &mut String, claim: Claim) -> Result<(), OutOfMemory>
 {
     let claim = claim_text(claim);
     writeln!(text, "[\"finish\",\"{claim}\"]")?;
+    Ok(())
+}
+
+/// `["score",F,H,A]`. The fixture counts from 1.
+pub fn push_score(text: &mut String, fixture: usize, score: Score) -> Result<(), OutOfMemory>
+    ensures { OnOk result
+        (string_bytes text.new ≡ string_bytes text.old ++ score_row fixture score) }
+{
+    let Score { home, away } = score;
+    writeln!(text, "[\"score\",{fixture},{home},{away}]")?;
     Ok(())
 }
 
@@ -101,6 +111,7 @@ fn cause_text(cause: Cause) -> &'static str
 {
     match cause {
         Cause::SheetForm | Cause::FeedForm => "plain_form",
+        Cause::TooWide => "too_wide",
         Cause::LineTooLong => "line_too_long",
         Cause::InputTooLong => "input_too_long",
     }

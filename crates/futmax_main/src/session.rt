@@ -43,6 +43,8 @@ pub enum Cause {
     SheetForm,
     /// After `season`: the form of the input does not allow the line here.
     FeedForm,
+    /// The line is an ask, and the season has more finishes than are walked.
+    TooWide,
     /// The line has more bytes than a line may have.
     LineTooLong,
     /// The input has more bytes than an input may have, and the first one too many stands in the

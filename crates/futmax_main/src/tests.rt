@@ -4,7 +4,9 @@
 mod failing;
 mod form;
 mod leagues;
+mod limits;
 mod lines;
+mod open;
 
 use crate::{Status, futmax};
 use port_core::{MemSink, MemSource};

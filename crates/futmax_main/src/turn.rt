@@ -7,7 +7,7 @@ ghost use Rattle.futmax_main.specs.declared.session.Mode.{Mode};
 ghost use Rattle.futmax_main.specs.Path.{Path, input_fault, line_fault};
 ghost use Rattle.futmax_main.specs.Session.{ending, judge, status_of_cause};
 ghost use Rattle.futmax_main.specs.Sound.{IsSound};
-ghost use Rattle.futmax_main.specs.Spans.{IsAsked};
+ghost use Rattle.futmax_main.specs.Items.{IsAsked};
 ghost use Rattle.futmax_main.specs.Turns.{AskGives, EndEnds, FaultEnds, IsCaused, LineGives, TurnAdvances, TurnCaused, TurnGives};
 
 use crate::answer::answer;
@@ -152,7 +152,7 @@ fn status_of_cause(cause: Cause) -> Status
 {
     match cause {
         Cause::SheetForm => Status::BadSheet,
-        Cause::FeedForm => Status::BadFeed,
+        Cause::FeedForm | Cause::TooWide => Status::BadFeed,
         Cause::LineTooLong | Cause::InputTooLong => Status::TooLong,
     }
 }

@@ -84,7 +84,6 @@ fn lines_that_the_sheet_does_not_allow(rt: HostRuntime) -> Result<(), Fail> {
 fn lines_that_the_feed_does_not_allow(rt: HostRuntime) -> Result<(), Fail> {
     for (feed, answer, line) in [
         (b"".as_slice(), b"".as_slice(), 7),
-        (b"ask\n", b"", 7),
         (b"result,0,0,0\n", b"", 7),
         (b"result,2,0,0\n", b"", 7),
         (b"result,1,100,0\n", b"", 7),

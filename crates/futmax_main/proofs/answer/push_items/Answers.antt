@@ -1,23 +1,20 @@
-use Rattle.std.proofs.Common.{arith, ap, length}
-use Rattle.std.proofs.lemmas.List.FromFn.{get_or-map-range_with_len, length-map-range_with_len}
+use Rattle.std.proofs.Common.{arith, sym, subst}
+use Rattle.finish_walk.specs.declared.reach.Reach.{Reach}
+use Rattle.finish_walk.specs.Reaches.{IsReachOf}
 use Rattle.futmax_main.specs.Answers.{IsItem}
-use Rattle.futmax_main.specs.Spans.{span_of}
 use Rattle.futmax_main.proofs.AnswerLemmas.{adds-range}
 use Rattle.futmax_main.proofs.answer.push_items.Goals as goal
 
-pub bounds-spans-club : goal.bounds-spans-club
-bounds-spans-club c =
-    let sheet = c.args.feed.now.sheet in
-    let as_many = length-map-range_with_len (span_of sheet c.args.feed.now.season) 0
-    (length sheet.clubs) in
-    omega (arith, ap length c.requires.spans, as_many)
+pub bounds-reaches-club : goal.bounds-reaches-club
+bounds-reaches-club c = omega (arith, c.requires.reaches.clubs)
 
-pub push_item-requires-clause-span : goal.push_item-requires-clause-span
-push_item-requires-clause-span c =
-    let sheet = c.args.feed.now.sheet in
-    rw c.requires.spans
-    (get_or-map-range_with_len (span_of sheet c.args.feed.now.season) 0
-    (length sheet.clubs) c.loop-club.club c.loop-club.club _ (omega arith) (omega arith))
+pub push_item-requires-clause-reach : goal.push_item-requires-clause-reach
+push_item-requires-clause-reach c =
+    let feed = c.args.feed.now in
+    let P : Reach → Type 0 = λ reach. IsReachOf feed.sheet feed.season c.loop-club.club reach in
+    subst P (sym c.index-reaches-club.is)
+    (c.requires.reaches.each c.loop-club.club c.index-reaches-club.result
+    (omega (arith, c.requires.reaches.clubs)))
 
 pub loop-club-preserved : goal.loop-club-preserved
 loop-club-preserved c =

@@ -1,7 +1,7 @@
 use Rattle.std.proofs.Common.{string_bytes}
 use Rattle.std.specs.List.{range_with_len}
 use Rattle.futmax_main.specs.Answers.{IsMadeOf, IsItem}
-use Rattle.futmax_main.specs.Spans.{Adds}
+use Rattle.futmax_main.specs.Items.{Adds}
 use Rattle.futmax_main.proofs.answer.push_items.Given as goal
 
 -- the items of the clubs so far stand behind the text

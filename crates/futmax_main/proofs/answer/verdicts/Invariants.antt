@@ -1,7 +1,7 @@
 use Rattle.std.proofs.Common.{take, string_bytes}
 use Rattle.futmax_main.specs.Rows.{ask_row}
 use Rattle.futmax_main.specs.Answers.{IsMadeOf, AreItemsOf}
-use Rattle.futmax_main.specs.Spans.{Adds}
+use Rattle.futmax_main.specs.Items.{Adds}
 use Rattle.futmax_main.proofs.answer.verdicts.Given as goal
 
 -- the items of the lines so far stand behind the row of the ask
