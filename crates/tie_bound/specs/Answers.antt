@@ -1,0 +1,62 @@
+-- Tables of answers: what is sure of each club against one club.
+use Rattle.std.specs.Prelude.{◌≡◌, ℕ, ◌<◌, Bool, true, false, ◌||◌, List, [], ◌∷◌, pos, neg_ℤ, length, slice_index_or}
+use Rattle.league_core.specs.declared.sheet.Sheet.{Sheet}
+use Rattle.league_core.specs.declared.sure.Sure.{Sure}
+use Rattle.league_core.specs.declared.sure.Sure.TheVariants.{Above, Below, Level, Unknown}
+use Rattle.league_core.specs.Ahead.{rank_of}
+use Rattle.league_core.specs.PointRanges.{Range, one_value}
+use Rattle.league_core.specs.SureOrder.{sure_by_ranges, sure_then, is_above, is_below, is_level, is_apart}
+use Rattle.tie_bound.specs.declared.sums.Sums.{Sums}
+use Rattle.tie_bound.specs.Spans.{as_range}
+use Rattle.tie_bound.specs.Sums.{sums_at}
+
+-- the ranges of a club's head-to-head record, from its sums over the matches of a group
+abbrev pub record_of : Sums → List Range
+record_of sums = as_range sums.points ∷ as_range sums.difference ∷ as_range sums.goals ∷ []
+
+-- the ranges of what decides after it, from the sums over all matches and the fixed rank
+abbrev pub overall_of : Sums → ℕ → List Range
+overall_of sums rank =
+    as_range sums.difference
+    ∷ as_range sums.goals
+    ∷ as_range sums.away_goals
+    ∷ as_range sums.wins
+    ∷ as_range sums.away_wins
+    ∷ one_value (neg_ℤ (pos rank))
+    ∷ []
+
+-- a rival's record against the club's, by a table of sums over the matches of a group
+abbrev pub by_table : List Sums → ℕ → ℕ → Sure
+by_table table club rival =
+    sure_by_ranges (record_of (sums_at table rival)) (record_of (sums_at table club))
+
+-- its sums over all matches, and its rank, against the club's
+abbrev pub by_overall_table : Sheet → List Sums → ℕ → ℕ → Sure
+by_overall_table sheet table club rival =
+    sure_by_ranges (overall_of (sums_at table rival) (rank_of sheet rival))
+    (overall_of (sums_at table club) (rank_of sheet club))
+
+-- it is sure whether a club of the group has the club's record there
+abbrev pub is_sure_by : List Sums → ℕ → ℕ → Bool
+is_sure_by table club other =
+    is_level (by_table table club other)
+    || is_apart (record_of (sums_at table other)) (record_of (sums_at table club))
+
+-- the answer at a club's number
+abbrev pub answer_at : List Sure → ℕ → Sure
+answer_at answers club = slice_index_or answers club Unknown
+
+-- where a club was level so far, the next step decides
+abbrev pub GoesOn : (ℕ → Sure) → List Sure → List Sure → Type 0
+GoesOn next old new =
+    (club : ℕ) → club < length old → answer_at new club ≡ sure_then (answer_at old club) (next club)
+
+-- the answer is the wanted one
+abbrev pub is_answer : Sure → Sure → Bool
+is_answer Above answer = is_above answer
+is_answer Below answer = is_below answer
+is_answer Level answer = is_level answer
+is_answer Unknown Above = false
+is_answer Unknown Below = false
+is_answer Unknown Level = false
+is_answer Unknown Unknown = true

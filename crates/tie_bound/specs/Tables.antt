@@ -1,0 +1,28 @@
+-- Tables of the clubs' sums over the fixtures of a box.
+use Rattle.std.specs.Prelude.{◌≡◌, ℕ, ℤ, List}
+use Rattle.league_core.specs.declared.sheet.Fixture.{Fixture}
+use Rattle.league_core.specs.declared.season.Score.{Score}
+use Rattle.league_core.specs.Sums.{Worth}
+use Rattle.league_core.specs.PointRanges.{range_of, range_from}
+use Rattle.tie_criteria.specs.declared.measure.Measure.{Measure}
+use Rattle.tie_criteria.specs.Measures.{worth_of}
+use Rattle.score_box.specs.declared.cell.Cell.{Cell}
+use Rattle.score_box.specs.Cells.{IsCellOf}
+use Rattle.tie_bound.specs.declared.sums.Sums.{Sums}
+use Rattle.tie_bound.specs.Sums.{range_by, sums_at, AreNear, GrowsBy}
+
+-- what a match is worth to a club, where a worth and a club are given
+abbrev pub Value : Type 0
+Value = Worth → ℕ → Fixture → Score → ℤ
+
+-- the table has each club's ranges over these fixtures, no number of them far from zero
+pub record AreSums (value : Value) (fixtures : List Fixture) (options : List (List Score)) (table : List Sums) : Type 0 where
+  pub each : (club : ℕ) (measure : Measure) → range_by (sums_at table club) measure ≡ range_from (value (worth_of measure) club) fixtures options
+  pub near : (club : ℕ) → AreNear 153000 (sums_at table club)
+
+-- each club's sums grow by what the options of the match are worth to it
+abbrev pub AddsMatch : Value → Fixture → Cell → List Sums → List Sums → Type 0
+AddsMatch value match cell old new =
+    (options : List Score) → IsCellOf cell options → (club : ℕ)
+    → GrowsBy (λ measure. range_of (value (worth_of measure) club match) options)
+    (sums_at old club) (sums_at new club)

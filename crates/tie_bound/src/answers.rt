@@ -1,0 +1,138 @@
+//! Tables of answers, one for each club against one club, and the steps that carry them on. Where
+//! an earlier step decides, a later one leaves the answer as it is.
+
+ghost use Rattle.std.specs.Prelude.{◌≡◌, ◌<◌, ◌≤◌, ◌-ℤ◌, ◌≤ℤ◌, ◌&&◌, ◌||◌, ℕ, pos, nat_lt, length, slice_index};
+ghost use Rattle.std.specs.List.{list_all};
+ghost use Rattle.league_core.specs.declared.sure.Sure.TheVariants.{Unknown};
+ghost use Rattle.league_core.specs.Sums.{has_club, worth_to};
+ghost use Rattle.league_core.specs.Ahead.{rank_of};
+ghost use Rattle.league_core.specs.ClubSets.{clubs_in};
+ghost use Rattle.league_core.specs.PointRanges.{one_value, added};
+ghost use Rattle.league_core.specs.SureOrder.{sure_by_points, sure_by_ranges, is_level, is_apart};
+ghost use Rattle.tie_bound.specs.Spans.{as_range, IsNear};
+ghost use Rattle.tie_bound.specs.Sums.{sums_at};
+ghost use Rattle.tie_bound.specs.Boxes.{options_in_box};
+ghost use Rattle.tie_bound.specs.Tables.{AreSums};
+ghost use Rattle.tie_bound.specs.Answers.{record_of, by_table, by_overall_table, is_sure_by, answer_at, is_answer, GoesOn};
+
+use crate::order::{are_apart, by_overall, by_record, by_span, is_answer, then};
+use crate::span::Span;
+use crate::sums::{Sums, sums_at};
+use league_core::{ClubSet, Season, Sheet, Sure};
+use score_box::ZoneBox;
+
+/// The answers by points: match points less deductions, which have one value each.
+pub fn by_points(zone_box: &ZoneBox, overall: &[Sums], club: u8) -> [Sure; 24]
+    requires { AreSums worth_to zone_box.now.sheet.fixtures (options_in_box zone_box.now)
+        overall.now }
+    ensures answers { (rival : ℕ) → rival < 24 → answer_at result rival
+        ≡ sure_by_points zone_box.now.sheet zone_box.now.season (options_in_box zone_box.now)
+        rival club }
+    ensures long { length result ≡ 24 }
+{
+    let season = zone_box.season();
+    let own = points_of(season, sums_at(overall, club).points, club);
+    let mut answers = [Sure::Unknown; 24];
+    for rival in 0..24u8 {
+        let points = points_of(season, sums_at(overall, rival).points, rival);
+        answers[rival as usize] = by_span(points, own);
+    }
+    answers
+}
+
+/// The club's points: these match points, less what is taken off.
+fn points_of(season: &Season, won: Span, club: u8) -> Span
+    requires { IsNear 153000 (as_range won) }
+    ensures { as_range result ≡ added (as_range won)
+        (one_value (pos 0 -ℤ pos (slice_index season.now.deductions club))) }
+{
+    won.plus(Span::only(-deducted(season.deductions(), club)))
+}
+
+/// The points that are taken off the club, in match points.
+fn deducted(deductions: &[u8], club: u8) -> i32
+    ensures value { result ≡ pos (slice_index deductions.now club) }
+    ensures small { result ≤ℤ pos 255 }
+{
+    i32::from(deductions.get(club as usize).copied().unwrap_or(0))
+}
+
+/// Takes the head-to-head records of a group, by the sums over its matches.
+pub fn take_records(answers: &mut [Sure], table: &[Sums], club: u8)
+    requires { length answers.old ≤ 32 }
+    ensures { GoesOn (by_table table.now club) answers.old answers.new }
+{
+    let own = sums_at(table, club);
+    for rival in 0..answers.len() {
+        let next = by_record(&sums_at(table, rival as u8), &own);
+        answers[rival] = then(answers[rival], next);
+    }
+}
+
+/// Takes the sums over all matches, and the ranks.
+pub fn take_overall(answers: &mut [Sure], sheet: &Sheet, overall: &[Sums], club: u8)
+    requires { length answers.old ≤ 32 }
+    ensures { GoesOn (by_overall_table sheet.now overall.now club) answers.old answers.new }
+{
+    let own = sums_at(overall, club);
+    let own_rank = rank_of(sheet, club);
+    for rival in 0..answers.len() {
+        let rank = rank_of(sheet, rival as u8);
+        let next = by_overall(&sums_at(overall, rival as u8), &own, rank, own_rank);
+        answers[rival] = then(answers[rival], next);
+    }
+}
+
+/// The club's fixed rank; 0 for a number that is no club's.
+fn rank_of(sheet: &Sheet, club: u8) -> u16
+    ensures { result ≡ rank_of sheet.now club }
+{
+    match sheet.clubs.as_slice().get(club as usize) {
+        Some(found) => found.rank,
+        None => 0,
+    }
+}
+
+/// Where nothing has decided yet, nothing is sure.
+pub fn leave_open(answers: &mut [Sure])
+    ensures { GoesOn (λ rival. Unknown) answers.old answers.new }
+{
+    for rival in 0..answers.len() {
+        answers[rival] = then(answers[rival], Sure::Unknown);
+    }
+}
+
+/// The clubs below a number that have the wanted answer.
+pub fn those_that_are(answers: &[Sure], wanted: Sure, clubs: u8) -> ClubSet
+    requires in_range { clubs ≤ length answers.now }
+    requires few { clubs ≤ 32 }
+    ensures { (club : ℕ) → has_club (clubs_in result) club
+        ≡ (nat_lt club clubs && is_answer wanted (answer_at answers.now club)) }
+{
+    let mut found = ClubSet::empty();
+    for club in 0..clubs {
+        found = found.with_if(is_answer(wanted, answers[club as usize]), club);
+    }
+    found
+}
+
+/// Of each club of the group it is sure whether it has the club's record there, by the sums over
+/// the group's matches.
+pub fn are_all_sure(table: &[Sums], group: ClubSet, club: u8) -> bool
+    ensures { result ≡ list_all (is_sure_by table.now club) (clubs_in group) }
+{
+    let own = sums_at(table, club);
+    for other in 0..32 {
+        if group.has(other) && !is_sure(&sums_at(table, other), &own) {
+            return false;
+        }
+    }
+    true
+}
+
+fn is_sure(other: &Sums, club: &Sums) -> bool
+    ensures { result ≡ (is_level (sure_by_ranges (record_of other.now) (record_of club.now))
+        || is_apart (record_of other.now) (record_of club.now)) }
+{
+    is_answer(Sure::Level, by_record(other, club)) || are_apart(other, club)
+}

@@ -1,0 +1,26 @@
+//! Who is certainly before whom in a zone in which every match has one outcome but its scores may
+//! be open, and the reason that rests on it.
+//!
+//! The meaning is league_core's `specs/SureOrder.antt` and `Reasons.antt`; read these first, then
+//! `specs/Sums.antt` here, which ties the tables of this crate to them. No call takes memory:
+//! tables of the clubs stand on the stack.
+#![tactic(auto)]
+
+mod against;
+mod answers;
+mod fixtures;
+mod order;
+mod outcomes;
+mod rivals;
+mod sides;
+mod span;
+mod sums;
+mod sure;
+mod table;
+#[cfg(test)]
+mod tests;
+mod tie;
+
+pub use outcomes::has_one_outcome;
+pub use sure::judge;
+pub use tie::tie_reason;

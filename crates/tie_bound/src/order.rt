@@ -1,0 +1,90 @@
+//! Comparisons of two clubs' sums, each a range: what is sure of a rival against the club.
+
+ghost use Rattle.std.specs.Prelude.{◌≡◌, ◌||◌, int_lt, neg_ℤ, pos};
+ghost use Rattle.league_core.specs.PointRanges.{one_value};
+ghost use Rattle.league_core.specs.SureOrder.{sure_by_range, sure_by_ranges, sure_then, is_apart};
+ghost use Rattle.tie_bound.specs.Spans.{as_range};
+ghost use Rattle.tie_bound.specs.Answers.{record_of, overall_of, is_answer};
+
+use crate::span::Span;
+use crate::sums::Sums;
+use league_core::Sure;
+
+/// Ranges that lie apart decide, two equal single values leave the two level.
+pub fn by_span(rival: Span, club: Span) -> Sure
+    ensures { result ≡ sure_by_range (as_range rival) (as_range club) }
+{
+    if club.greatest < rival.least {
+        Sure::Above
+    } else if rival.greatest < club.least {
+        Sure::Below
+    } else if rival.least == rival.greatest && club.least == club.greatest {
+        Sure::Level
+    } else {
+        Sure::Unknown
+    }
+}
+
+/// Where one step leaves the two level, the next decides.
+pub fn then(first: Sure, next: Sure) -> Sure
+    ensures { result ≡ sure_then first next }
+{
+    match first {
+        Sure::Above => Sure::Above,
+        Sure::Below => Sure::Below,
+        Sure::Level => next,
+        Sure::Unknown => Sure::Unknown,
+    }
+}
+
+/// The head-to-head records, by the sums over the matches of a group: points, then goal difference,
+/// then goals.
+pub fn by_record(rival: &Sums, club: &Sums) -> Sure
+    ensures { result ≡ sure_by_ranges (record_of rival.now) (record_of club.now) }
+{
+    let by_goals = by_span(rival.goals, club.goals);
+    let by_difference = then(by_span(rival.difference, club.difference), by_goals);
+    then(by_span(rival.points, club.points), by_difference)
+}
+
+/// What decides after the head-to-head, by the sums over all matches, then the fixed ranks.
+pub fn by_overall(rival: &Sums, club: &Sums, rival_rank: u16, club_rank: u16) -> Sure
+    ensures { result
+        ≡ sure_by_ranges (overall_of rival.now rival_rank) (overall_of club.now club_rank) }
+{
+    let by_rank = by_span(rank_span(rival_rank), rank_span(club_rank));
+    let by_away_wins = then(by_span(rival.away_wins, club.away_wins), by_rank);
+    let by_wins = then(by_span(rival.wins, club.wins), by_away_wins);
+    let by_away_goals = then(by_span(rival.away_goals, club.away_goals), by_wins);
+    let by_goals = then(by_span(rival.goals, club.goals), by_away_goals);
+    then(by_span(rival.difference, club.difference), by_goals)
+}
+
+/// A rank as a sum that is better the greater it is.
+fn rank_span(rank: u16) -> Span
+    ensures { as_range result ≡ one_value (neg_ℤ (pos rank)) }
+{
+    Span::only(-i32::from(rank))
+}
+
+/// One part of the records is surely different.
+pub fn are_apart(rival: &Sums, club: &Sums) -> bool
+    ensures { result ≡ is_apart (record_of rival.now) (record_of club.now) }
+{
+    lie_apart(rival.points, club.points)
+        || lie_apart(rival.difference, club.difference)
+        || lie_apart(rival.goals, club.goals)
+}
+
+fn lie_apart(rival: Span, club: Span) -> bool
+    ensures { result
+        ≡ (int_lt club.greatest rival.least || int_lt rival.greatest club.least) }
+{
+    club.greatest < rival.least || rival.greatest < club.least
+}
+
+pub fn is_answer(wanted: Sure, answer: Sure) -> bool
+    ensures { result ≡ is_answer wanted answer }
+{
+    wanted == answer
+}

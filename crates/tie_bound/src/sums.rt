@@ -1,0 +1,61 @@
+//! The ranges of a club's six sums.
+
+ghost use Rattle.std.specs.Prelude.{◌≡◌, pos};
+ghost use Rattle.league_core.specs.PointRanges.{one_value, added};
+ghost use Rattle.tie_criteria.specs.declared.measure.Measure.{Measure};
+ghost use Rattle.tie_bound.specs.Spans.{IsNear};
+ghost use Rattle.tie_bound.specs.Sums.{range_by, sums_at};
+
+use crate::span::Span;
+
+/// What matches can add up to for a club, by each of the six measures.
+#[derive(Clone, Copy)]
+pub struct Sums {
+    pub points: Span,
+    pub difference: Span,
+    pub goals: Span,
+    pub away_goals: Span,
+    pub wins: Span,
+    pub away_wins: Span,
+}
+
+impl Sums {
+    const NOTHING: Span = Span {
+        least: 0,
+        greatest: 0,
+    };
+
+    /// The sums of a club without a match.
+    pub const NONE: Sums = Sums {
+        points: Sums::NOTHING,
+        difference: Sums::NOTHING,
+        goals: Sums::NOTHING,
+        away_goals: Sums::NOTHING,
+        wins: Sums::NOTHING,
+        away_wins: Sums::NOTHING,
+    };
+
+    /// The sums with those of a match more.
+    pub fn plus(&self, other: &Sums) -> Sums
+        requires near { (measure : Measure) → IsNear 1000000 (range_by self.now measure) }
+        requires other_near { (measure : Measure) → IsNear 1000000 (range_by other.now measure) }
+        ensures { (measure : Measure) → range_by result measure
+            ≡ added (range_by self.now measure) (range_by other.now measure) }
+    {
+        Sums {
+            points: self.points.plus(other.points),
+            difference: self.difference.plus(other.difference),
+            goals: self.goals.plus(other.goals),
+            away_goals: self.away_goals.plus(other.away_goals),
+            wins: self.wins.plus(other.wins),
+            away_wins: self.away_wins.plus(other.away_wins),
+        }
+    }
+}
+
+/// The sums at the club's number; past the last one those of a club without a match.
+pub fn sums_at(table: &[Sums], club: u8) -> Sums
+    ensures { result ≡ sums_at table.now club }
+{
+    table.get(club as usize).copied().unwrap_or(Sums::NONE)
+}

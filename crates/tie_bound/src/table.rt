@@ -1,0 +1,85 @@
+//! The sums of all clubs of a box, in one walk over the fixtures.
+
+ghost use Rattle.std.specs.Prelude.{◌≡◌, ◌≢◌, ◌<◌, ◌≤◌, ◌&&◌, ℕ, IsTrue, length};
+ghost use Rattle.league_core.specs.Sums.{has_club, worth_to, worth_among};
+ghost use Rattle.league_core.specs.ClubSets.{clubs_in};
+ghost use Rattle.tie_bound.specs.Sums.{no_sums, sums_at, AreNear};
+ghost use Rattle.tie_bound.specs.Sides.{HasOneOutcome};
+ghost use Rattle.tie_bound.specs.Boxes.{options_in_box, have_one_outcome};
+ghost use Rattle.tie_bound.specs.Tables.{AreSums, AddsMatch};
+
+use crate::fixtures::fixtures_of;
+use crate::sides::Sides;
+use crate::sums::Sums;
+use league_core::{ClubSet, Fixture};
+use score_box::{Cell, ZoneBox};
+
+/// Each club's sums over all matches, by the clubs' numbers.
+pub fn sums_over(zone_box: &ZoneBox) -> [Sums; 24]
+    requires { IsTrue (have_one_outcome zone_box.now) }
+    ensures { AreSums worth_to zone_box.now.sheet.fixtures (options_in_box zone_box.now) result }
+{
+    sums_among(zone_box, ClubSet::first(zone_box.sheet().clubs.len() as u8))
+}
+
+/// Each club's sums over the matches with both ends in the group.
+pub fn sums_among(zone_box: &ZoneBox, group: ClubSet) -> [Sums; 24]
+    requires { IsTrue (have_one_outcome zone_box.now) }
+    ensures { AreSums (worth_among (clubs_in group)) zone_box.now.sheet.fixtures
+        (options_in_box zone_box.now) result }
+{
+    let mut table = [Sums::NONE; 24];
+    add_all(&mut table, zone_box, group);
+    table
+}
+
+/// Adds all matches of the group to a table that has none yet.
+fn add_all(table: &mut [Sums], zone_box: &ZoneBox, group: ClubSet)
+    requires outcomes { IsTrue (have_one_outcome zone_box.now) }
+    requires clubs { 24 ≤ length table.old }
+    requires none { (club : ℕ) → sums_at table.old club ≡ no_sums }
+    ensures { AreSums (worth_among (clubs_in group)) zone_box.now.sheet.fixtures
+        (options_in_box zone_box.now) table.new }
+{
+    let fixtures = fixtures_of(zone_box);
+    for i in 0..fixtures.len() {
+        add_if_counted(table, group, fixtures[i], zone_box.cell(i as u16));
+    }
+}
+
+/// Adds the match to the sums of its two clubs, where both are of the group.
+fn add_if_counted(table: &mut [Sums], group: ClubSet, fixture: Fixture, cell: &Cell)
+    requires one { HasOneOutcome cell.now }
+    requires different { fixture.home ≢ fixture.away }
+    requires home { fixture.home < length table.old }
+    requires away { fixture.away < length table.old }
+    requires room { (club : ℕ) → AreNear 1000000 (sums_at table.old club) }
+    ensures { AddsMatch (worth_among (clubs_in group)) fixture cell.now table.old table.new }
+{
+    if counts(group, fixture) {
+        add(table, fixture, cell);
+    }
+}
+
+/// Both clubs of the match are of the group.
+fn counts(group: ClubSet, fixture: Fixture) -> bool
+    ensures { result
+        ≡ (has_club (clubs_in group) fixture.home && has_club (clubs_in group) fixture.away) }
+{
+    group.has(fixture.home) && group.has(fixture.away)
+}
+
+fn add(table: &mut [Sums], fixture: Fixture, cell: &Cell)
+    requires one { HasOneOutcome cell.now }
+    requires different { fixture.home ≢ fixture.away }
+    requires home { fixture.home < length table.old }
+    requires away { fixture.away < length table.old }
+    requires room { (club : ℕ) → AreNear 1000000 (sums_at table.old club) }
+    ensures { AddsMatch worth_to fixture cell.now table.old table.new }
+{
+    let sides = Sides::of(cell);
+    let home = table[fixture.home as usize].plus(&sides.home);
+    let away = table[fixture.away as usize].plus(&sides.away);
+    table[fixture.home as usize] = home;
+    table[fixture.away as usize] = away;
+}

@@ -1,0 +1,78 @@
+//! The reason in one zone worked by hand. A drew 0:0 with B and C and beats D 1:0, B and C beat D
+//! 3:0. When B and C draw, both are ahead of A: after 0:0 by the difference over all matches, after
+//! 1:1 by the goals of the group.
+
+use super::leagues::{Game, are_fixtures, fixtures_of, four_clubs};
+use super::zones::{is_of_sheet, zone_of};
+use crate::tie_reason;
+use league_core::{Claim, Question, Season};
+use score_box::ZoneBox;
+use std::alloc::Global;
+use std::process::Abort;
+use std::test::Fail;
+
+/// The outcome of B and C and the goals of each, the marks of rivals, the club, line and side that
+/// is asked for, and whether the reason holds.
+type Asked = (char, (u8, u8), &'static [(u8, bool)], u8, u8, Claim, bool);
+
+// Worked by hand. A has five points like B and C, D has none.
+const ROWS: [Asked; 13] = [
+    ('D', (0, 0), &[], 0, 1, Claim::Inside, true),
+    ('D', (1, 1), &[], 0, 1, Claim::Inside, true),
+    // After either draw the ranges of goals meet.
+    ('D', (0, 1), &[], 0, 1, Claim::Inside, false),
+    // Two rivals are ahead, the line has three places.
+    ('D', (0, 0), &[], 0, 2, Claim::Inside, true),
+    ('D', (0, 0), &[], 0, 3, Claim::Inside, false),
+    // B is surely ahead, and marked behind; D is surely behind, and marked ahead.
+    ('D', (0, 0), &[(1, false)], 0, 3, Claim::Inside, true),
+    ('D', (0, 0), &[(3, true)], 0, 3, Claim::Inside, true),
+    ('D', (0, 0), &[(3, false)], 0, 3, Claim::Inside, false),
+    // A marked rival counts where the order is open, and not where an outcome is.
+    ('D', (0, 1), &[(1, true)], 0, 1, Claim::Inside, true),
+    ('-', (0, 1), &[(1, true)], 0, 1, Claim::Inside, false),
+    // D alone is surely behind A, so that A is among the first three, and not surely among two.
+    ('D', (0, 0), &[], 0, 3, Claim::Outside, true),
+    ('D', (0, 0), &[], 0, 2, Claim::Outside, false),
+    ('D', (0, 0), &[(1, false)], 0, 2, Claim::Outside, true),
+];
+
+fn check(rt: &impl Abort, alloc: Global, asked: &Asked) -> Result<(), Fail> {
+    let (outcome, goals, marks, club, line, claim, wanted) = *asked;
+    let games: [Game; 6] = [
+        (0, 1, 'D', (0, 0), (0, 0)),
+        (0, 2, 'D', (0, 0), (0, 0)),
+        (1, 3, 'H', (3, 3), (0, 0)),
+        (2, 3, 'H', (3, 3), (0, 0)),
+        (0, 3, 'H', (1, 1), (0, 0)),
+        (1, 2, outcome, goals, goals),
+    ];
+    let fixtures = fixtures_of(alloc, &games)?;
+    assert!(rt; are_fixtures(&fixtures) && fixtures.len() <= 600);
+    let sheet = four_clubs(alloc, &[1, 2, 3, 4], fixtures)?;
+    let season = Season::unplayed(alloc, 4, games.len())?;
+    let zone = zone_of(alloc, &games, marks)?;
+    assert!(rt; is_of_sheet(&sheet, &zone));
+    let zone_box = ZoneBox::of(alloc, &sheet, &season, &zone)?;
+    let question = Question {
+        club,
+        line,
+        claim,
+        low: -99,
+        high: 1800,
+    };
+    assert!(rt; zone_box.has_finish());
+    assert!(rt;
+        tie_reason(&zone_box, &question) == wanted,
+        "{outcome} {line}"
+    );
+    Ok(())
+}
+
+#[test]
+fn the_reason_holds_where_points_and_criteria_say_so(rt: HostRuntime) -> Result<(), Fail> {
+    for asked in ROWS.iter() {
+        check(&rt, rt.alloc(), asked)?;
+    }
+    Ok(())
+}

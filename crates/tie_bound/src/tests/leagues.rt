@@ -1,0 +1,68 @@
+//! Leagues of four clubs, A to D.
+
+ghost use Rattle.std.specs.Prelude.{◌≡◌, ◌≤◌, IsTrue, IfOk, length};
+ghost use Rattle.std.specs.List.{list_all};
+ghost use Rattle.league_core.specs.Sheets.{IsWithinLimits, is_fixture};
+
+use league_core::{Club, Fixture, Listing, Name, OutOfMemory, Sheet};
+use std::alloc::Global;
+
+/// Home and away club; H, D or A for the outcome, another letter for none; the least and the most
+/// goals of the home side, and those of the away side.
+pub type Game = (u8, u8, char, (u8, u8), (u8, u8));
+
+fn club(alloc: Global, text: &str, rank: u16) -> Result<Club, OutOfMemory>
+    ensures { IfOk result (λ club. club ≡ record { name = text.now; rank = rank }) }
+{
+    Ok(Club {
+        name: Name::new(String::from_str(alloc, text)?),
+        rank,
+    })
+}
+
+pub fn four_clubs(
+    alloc: Global,
+    ranks: &[u16; 4],
+    fixtures: Vec<Fixture>,
+) -> Result<Sheet, OutOfMemory>
+    requires fixtures { IsTrue (list_all (is_fixture 4) fixtures.items) }
+    requires few { length fixtures.items ≤ 600 }
+    ensures limits { IfOk result (λ sheet. IsWithinLimits sheet) }
+    ensures clubs { IfOk result (λ sheet. length sheet.clubs ≡ 4) }
+    ensures matches { IfOk result (λ sheet. sheet.fixtures ≡ fixtures.items) }
+{
+    let mut clubs = Listing::new(alloc);
+    clubs.push(club(alloc, "A", ranks[0].clamp(1, 999))?)?;
+    clubs.push(club(alloc, "B", ranks[1].clamp(1, 999))?)?;
+    clubs.push(club(alloc, "C", ranks[2].clamp(1, 999))?)?;
+    clubs.push(club(alloc, "D", ranks[3].clamp(1, 999))?)?;
+    Ok(Sheet {
+        name: Name::new(String::from_str(alloc, "Group")?),
+        clubs,
+        fixtures: Listing::from_vec(fixtures),
+        lines: Listing::new(alloc),
+        goal_limit: 9,
+        budget: 1,
+    })
+}
+
+pub fn fixtures_of(alloc: Global, games: &[Game]) -> Result<Vec<Fixture>, OutOfMemory>
+    ensures { IfOk result (λ found. length found.items ≡ length games.now) }
+{
+    let mut found = Vec::new(alloc);
+    for (home, away, _, _, _) in games {
+        found.push(Fixture {
+            home: *home,
+            away: *away,
+        })?;
+    }
+    Ok(found)
+}
+
+pub fn are_fixtures(fixtures: &[Fixture]) -> bool
+    ensures { result ≡ list_all (is_fixture 4) fixtures.now }
+{
+    fixtures
+        .iter()
+        .all(|f| f.home < 4 && f.away < 4 && !(f.home == f.away))
+}
