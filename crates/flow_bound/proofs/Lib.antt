@@ -1,0 +1,10 @@
+-- Lemmas on one notion each: sums over clubs and pairs, the peel, the network, sets of clubs, answers.
+pub mod PartLemmas
+pub mod PeelLemmas
+pub mod PlaceLemmas
+pub mod NetworkLemmas
+pub mod SetLemmas
+pub mod ChoiceLemmas
+pub mod FixtureLemmas
+pub mod CutLemmas
+pub mod WorkedCuts

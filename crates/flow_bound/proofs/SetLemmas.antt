@@ -1,0 +1,136 @@
+-- Sets and tests of clubs: clubs are below 32, and a set of one club is its list.
+use Rattle.std.proofs.Common.{◌≡◌, ◌≢◌, ◌⊎◌, ℕ, zero, suc, ◌+◌, ◌<◌, ◌≤◌, Bool, true, false, ◌&&◌, ◌||◌, eqb, ltb, cond, List, [], ◌∷◌, filter, refl, sym, ap, ◌∙◌, inl, inr, arith}
+use Rattle.std.specs.List.{range_with_len, list_all}
+use Rattle.std.specs.Int.{bit_at}
+use Rattle.std.proofs.lemmas.Bool.{false≢true, and_parts, and_from, cases_eq, cases_lt, eq-eqb, eqb-true, ne_eqb, lt-ltb, le-ltb, ltb-true, or_cases}
+use Rattle.league_core.specs.declared.club_set.ClubSet.{ClubSet}
+use Rattle.league_core.specs.Sums.{has_club}
+use Rattle.league_core.specs.ClubSets.{clubs_in}
+use Rattle.league_core.proofs.ClubSetLemmas.{has_club-clubs_below, passes_below_more, clubs_below-filter_range}
+use Rattle.flow_bound.specs.Parts.{side_of, IsPartOf}
+
+-- a club of a set is below 32
+pub side_of-lt : (set : ClubSet) (club : ℕ) → side_of set club ≡ true → club < 32
+side_of-lt set club has =
+    ltb-true club 32
+    (and_parts (ltb club 32) (eqb (bit_at set.bits club) 1)
+    (sym (has_club-clubs_below 32 set.bits club) ∙ has)).0
+
+-- a number from 32 on is no club of a set
+pub side_of-past : (set : ClubSet) (club : ℕ) → 32 ≤ club → side_of set club ≡ false
+side_of-past set club past =
+    has_club-clubs_below 32 set.bits club
+    ∙ ap (λ b. b && eqb (bit_at set.bits club) 1) (le-ltb club 32 past)
+
+-- no club of a set was found among those below 0
+pub found_none : (set : ClubSet) (passes : ℕ → Bool) → clubs_in set ≡ [] → (club : ℕ)
+    → side_of set club ≡ (ltb club 0 && passes club)
+found_none set passes empty club =
+    ap (λ clubs. has_club clubs club) empty
+    ∙ ap (λ b. b && passes club) (sym (le-ltb club 0 (omega arith)))
+
+-- of the clubs of a set that pass, those that were found below a number and the next one
+pub found_more : (found next : ClubSet) (passes : ℕ → Bool) (at : ℕ)
+    → ((club : ℕ) → side_of found club ≡ (ltb club at && passes club))
+    → ((club : ℕ) → side_of next club ≡ (side_of found club || (passes at && eqb at club)))
+    → (club : ℕ) → side_of next club ≡ (ltb club (at + 1) && passes club)
+found_more found next passes at so_far is club =
+    is club
+    ∙ ap (λ b. b || (passes at && eqb at club)) (so_far club)
+    ∙ passes_below_more passes at club
+
+-- once all numbers below 32 were looked at, all clubs of a set that pass are found
+pub found_all : (found set : ClubSet) (test : ℕ → Bool) (at : ℕ) → 32 ≤ at
+    → ((club : ℕ) → side_of found club ≡ (ltb club at && (side_of set club && test club)))
+    → (club : ℕ) → side_of found club ≡ (side_of set club && test club)
+found_all found set test at past is club = is club ∙ by_place (cases_lt club at)
+  where
+    by_place : (club < at) ⊎ (at ≤ club)
+        → (ltb club at && (side_of set club && test club)) ≡ (side_of set club && test club)
+    by_place (inl below) = ap (λ b. b && (side_of set club && test club)) (lt-ltb club at below)
+    by_place (inr above) =
+        ap (λ b. b && (side_of set club && test club)) (le-ltb club at above)
+        ∙ ap (λ b. b && test club) (sym (side_of-past set club (omega arith)))
+
+filter-past : (club from count : ℕ) → club < from
+    → filter (λ x. eqb club x) (range_with_len from count) ≡ []
+filter-past club from zero below = refl
+filter-past club from (suc count) below =
+    ap (λ b. cond b (from ∷ filter (λ x. eqb club x) (range_with_len (from + 1) count))
+    (filter (λ x. eqb club x) (range_with_len (from + 1) count))) (ne_eqb club from (λ e. omega
+    arith))
+    ∙ filter-past club (from + 1) count (omega arith)
+
+filter-one : (club from count : ℕ) → from ≤ club → club < from + count
+    → filter (λ x. eqb club x) (range_with_len from count) ≡ club ∷ []
+filter-one club from zero low high = absurd (omega arith)
+filter-one club from (suc count) low high =
+    by_place (cases_eq club from) (λ above. filter-one club (from + 1) count above (omega arith))
+  where
+    by_place : (club ≡ from) ⊎ (club ≢ from)
+        → (from + 1 ≤ club → filter (λ x. eqb club x) (range_with_len (from + 1) count) ≡ club ∷ [])
+        → cond (eqb club from) (from ∷ filter (λ x. eqb club x) (range_with_len (from + 1) count))
+        (filter (λ x. eqb club x) (range_with_len (from + 1) count)) ≡ club ∷ []
+    by_place (inl same) later =
+        ap (λ b. cond b (from ∷ filter (λ x. eqb club x) (range_with_len (from + 1) count))
+        (filter (λ x. eqb club x) (range_with_len (from + 1) count))) (eq-eqb club from same)
+        ∙ ap (λ xs. from ∷ xs) (filter-past club (from + 1) count (omega arith))
+        ∙ ap (λ (n : ℕ). n ∷ []) (sym same)
+    by_place (inr other) later =
+        ap (λ b. cond b (from ∷ filter (λ x. eqb club x) (range_with_len (from + 1) count))
+        (filter (λ x. eqb club x) (range_with_len (from + 1) count))) (ne_eqb club from other)
+        ∙ later (omega arith)
+
+-- a set that has one club alone is its list
+pub one_club : (set : ClubSet) (club : ℕ) → club < 32
+    → ((other : ℕ) → side_of set other ≡ eqb club other) → clubs_in set ≡ club ∷ []
+one_club set club within is =
+    clubs_below-filter_range 32 set.bits 32 (λ x. eqb club x) (omega arith)
+    (λ x. is x ∙ below x (cases_eq club x))
+    ∙ filter-one club 0 32 (omega arith) (omega arith)
+  where
+    below : (x : ℕ) → (club ≡ x) ⊎ (club ≢ x) → eqb club x ≡ (ltb x 32 && eqb club x)
+    below x (inl same) = ap (λ b. b && eqb club x) (sym (lt-ltb x 32 (omega arith)))
+    below x (inr other) =
+        ne_eqb club x other
+        ∙ sym (ap (λ b. ltb x 32 && b) (ne_eqb club x other) ∙ and_false (ltb x 32))
+      where
+        and_false : (b : Bool) → (b && false) ≡ false
+        and_false true = refl
+        and_false false = refl
+
+-- the set that is made of one club
+pub one_club_added : (none set : ClubSet) (club : ℕ) → club < 32 → clubs_in none ≡ []
+    → ((other : ℕ) → side_of set other ≡ (side_of none other || (true && eqb club other)))
+    → clubs_in set ≡ club ∷ []
+one_club_added none set club within empty is =
+    one_club set club within
+    (λ other. is other ∙ ap (λ clubs. has_club clubs other || eqb club other) empty)
+
+-- a set without a club has none
+pub no_club_left : (set : ClubSet) → clubs_in set ≡ [] → (club : ℕ) → side_of set club ≡ false
+no_club_left set empty club = ap (λ clubs. has_club clubs club) empty
+
+-- where all of a list pass, each of them does, and the other way round
+pub each_marked : (marked : ℕ → Bool) (clubs : List ℕ) → list_all marked clubs ≡ true
+    → IsPartOf (has_club clubs) marked
+each_marked marked [] all club has = absurd (false≢true has)
+each_marked marked (first ∷ clubs) all club has =
+    let parts = and_parts (marked first) (list_all marked clubs) all in
+    elim (or_cases (eqb first club) (has_club clubs club) has) as (λ _. marked club ≡ true) [
+      | inl same ↦ ap marked (sym (eqb-true first club same)) ∙ parts.0
+      | inr later ↦ each_marked marked clubs parts.1 club later
+    ]
+
+pub all_marked : (marked : ℕ → Bool) (clubs : List ℕ) → IsPartOf (has_club clubs) marked
+    → list_all marked clubs ≡ true
+all_marked marked [] part = refl
+all_marked marked (first ∷ clubs) part =
+    and_from (marked first) (list_all marked clubs)
+    (part first (ap (λ b. b || has_club clubs first) (eq-eqb first first refl)))
+    (all_marked marked clubs (λ club has. part club (or_right (eqb first club) (has_club clubs
+    club) has)))
+  where
+    or_right : (a b : Bool) → b ≡ true → (a || b) ≡ true
+    or_right true b h = refl
+    or_right false b h = h

@@ -1,0 +1,80 @@
+-- The parts of the tally give the excess, and so the cut that is chosen.
+use mir.Syntax.{w64}
+use mir.Val.{to_z, of_z}
+use Rattle.std.proofs.Common.{◌≡◌, pos, ◌-ℤ◌, sym, ◌∙◌, arith}
+use Rattle.std.proofs.lemmas.Int.{ints}
+use Rattle.league_core.specs.ClubSets.{clubs_in}
+use Rattle.league_core.specs.PointRanges.{own_most}
+use Rattle.league_core.specs.Zones.{marked_after}
+use Rattle.flow_bound.specs.Excess.{floor_excess}
+use Rattle.flow_bound.proofs.CutLemmas.{GivesExcess, chosen_found, floor_excess-is, floor_fails, floor_found, nothing_exceeds, floor_unmarked}
+use Rattle.flow_bound.proofs.SetLemmas.{no_club_left}
+use Rattle.flow_bound.proofs.cut.low_cut.Goals as goal
+
+pub returns-clause-found : goal.returns-clause-found
+returns-clause-found c =
+    let box = c.args.zone_box.now in
+    let own = own_most box.sheet box.season c.args.question.now box.zone in
+    let value : c.own_most-most.result ≡ own = c.own_most-most.ensures.value in
+    let level : to_z w64 (of_z w64 (pos 0 -ℤ to_z w64 (of_z w64 c.from.result))) ≡ pos 0 -ℤ own =
+    omega (arith, ints, c.from.ensures, c.own_most-most.ensures.within) in
+    let gives : GivesExcess c.of-tally.result.alone c.of-tally.result.pairs.items
+    c.after-rivals.result (marked_after box.zone) (floor_excess box.sheet box.season
+    c.args.question.now box.zone) = record {
+      marks = c.after-rivals.ensures;
+      apart = c.of-tally.ensures.pairs.apart;
+      sums = λ set part. c.of-tally.ensures.excess set part
+          ∙ floor_excess-is box.sheet box.season c.args.question.now box.zone _ (clubs_in set)
+          level;
+    } in
+    floor_found box.sheet box.season c.args.question.now box.zone c.of-tally.result.alone
+    c.of-tally.result.pairs.items c.after-rivals.result c.in_ok-chosen.chosen gives
+    c.requires.has_finish c.in_ok-chosen.ensures
+
+pub returns-clause-absent : goal.returns-clause-absent
+returns-clause-absent c none set =
+    let box = c.args.zone_box.now in
+    let own = own_most box.sheet box.season c.args.question.now box.zone in
+    let value : c.own_most-most.result ≡ own = c.own_most-most.ensures.value in
+    let level : to_z w64 (of_z w64 (pos 0 -ℤ to_z w64 (of_z w64 c.from.result))) ≡ pos 0 -ℤ own =
+    omega (arith, ints, c.from.ensures, c.own_most-most.ensures.within) in
+    let gives : GivesExcess c.of-tally.result.alone c.of-tally.result.pairs.items
+    c.after-rivals.result (marked_after box.zone) (floor_excess box.sheet box.season
+    c.args.question.now box.zone) = record {
+      marks = c.after-rivals.ensures;
+      apart = c.of-tally.ensures.pairs.apart;
+      sums = λ set part. c.of-tally.ensures.excess set part
+          ∙ floor_excess-is box.sheet box.season c.args.question.now box.zone _ (clubs_in set)
+          level;
+    } in
+    floor_fails box.sheet box.season c.args.question.now box.zone set
+    (nothing_exceeds c.of-tally.result.alone c.of-tally.result.pairs.items c.after-rivals.result
+    (marked_after box.zone) (floor_excess box.sheet box.season c.args.question.now box.zone)
+    c.in_ok-chosen.chosen gives c.in_ok-chosen.ensures none set)
+
+pub returns-clause-chosen : goal.returns-clause-chosen
+returns-clause-chosen c =
+    let box = c.args.zone_box.now in
+    let own = own_most box.sheet box.season c.args.question.now box.zone in
+    let value : c.own_most-most.result ≡ own = c.own_most-most.ensures.value in
+    let level : to_z w64 (of_z w64 (pos 0 -ℤ to_z w64 (of_z w64 c.from.result))) ≡ pos 0 -ℤ own =
+    omega (arith, ints, c.from.ensures, c.own_most-most.ensures.within) in
+    let gives : GivesExcess c.of-tally.result.alone c.of-tally.result.pairs.items
+    c.after-rivals.result (marked_after box.zone) (floor_excess box.sheet box.season
+    c.args.question.now box.zone) = record {
+      marks = c.after-rivals.ensures;
+      apart = c.of-tally.ensures.pairs.apart;
+      sums = λ set part. c.of-tally.ensures.excess set part
+          ∙ floor_excess-is box.sheet box.season c.args.question.now box.zone _ (clubs_in set)
+          level;
+    } in
+    chosen_found c.of-tally.result.alone c.of-tally.result.pairs.items c.after-rivals.result
+    (marked_after box.zone) (floor_excess box.sheet box.season c.args.question.now box.zone)
+    c.in_ok-chosen.chosen gives c.in_ok-chosen.ensures
+
+pub returns-then-is_empty-clause-absent : goal.returns-then-is_empty-clause-absent
+returns-then-is_empty-clause-absent c none set =
+    let box = c.args.zone_box.now in
+    floor_unmarked box.sheet box.season c.args.question.now box.zone set
+    (λ club. sym (c.after-rivals.ensures club)
+    ∙ no_club_left c.after-rivals.result (c.is_empty.ensures.0 c.if-is_empty.true) club)

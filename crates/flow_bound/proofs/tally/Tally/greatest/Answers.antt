@@ -1,0 +1,71 @@
+-- What a cut takes is the excess of its source side.
+use Rattle.std.proofs.Common.{◌≡◌, ℕ, ◌+◌, pos, ◌+ℤ◌, Bool, List, length, subst, ◌∙◌, arith}
+use Rattle.league_core.specs.ClubSets.{clubs_in}
+use Rattle.flow_net.specs.Cut.{IsCut, IsLeastCut, capacity_of, marked}
+use Rattle.flow_bound.specs.declared.tally.Pair.{Pair}
+use Rattle.flow_bound.specs.Parts.{in_both, side_of, sum_of_pairs, sum_of_side}
+use Rattle.flow_bound.specs.Network.{parts_pair_in, through}
+use Rattle.flow_bound.proofs.NetworkLemmas.{best_at_cut, network_is, no_excess_at_cut}
+use Rattle.flow_bound.proofs.PlaceLemmas.{clubs_few}
+use Rattle.flow_bound.proofs.tally.Tally.greatest.Goals as goal
+
+pub returns-then-flow-goal : goal.returns-then-flow-goal
+returns-then-flow-goal c =
+    let table = c.args.self.now.alone in
+    let pairs = c.args.self.now.pairs.items in
+    let rest = c.args.rest in
+    let places = c.places_of-places.result in
+    let first = c.add_clubs-goal.new.net.arcs in
+    let arcs = c.add_pairs.new.net.arcs in
+    let total = c.add_clubs-goal.result in
+    let source : c.from-source.result ≡ length (clubs_in rest) = c.from-source.ensures ∙
+    c.len.ensures in
+    let Added : List Pair → Type 0 = λ ps. (side : ℕ → Bool) → capacity_of side arcs ≡ capacity_of
+    side first + sum_of_pairs (parts_pair_in (side_of rest) (through places side)) ps in
+    let Taken : ℕ → Type 0 = λ n. (side : ℕ → Bool) → IsCut n (n + 1) side → pos (capacity_of side
+    first) +ℤ sum_of_side c.weights.result (in_both (side_of rest) (through places side)) ≡ pos
+    total in
+    let Least : ℕ → Type 0 = λ n. IsLeastCut arcs n (n + 1) c.in_ok-flow.flow.value (marked
+    c.in_ok-flow.flow.source_side.items) in
+    let least = subst Least source c.in_ok-flow.ensures.cut in
+    let network = network_is table c.weights.result pairs rest places first arcs total
+    c.weights.ensures.sums (subst Taken source c.add_clubs-goal.ensures.cut)
+    (subst Added c.as_slice.ensures.value c.add_pairs.ensures.cut) in
+    let Found : List Bool → Type 0 = λ marks. (club : ℕ) → side_of c.clubs_of.result club ≡ in_both
+    (side_of rest) (through places (marked marks)) club in
+    best_at_cut table pairs rest places (marked c.in_ok-flow.flow.source_side.items)
+    (side_of c.clubs_of.result) arcs total c.in_ok-flow.flow.value c.places_of-places.ensures
+    network
+    least c.if-flow-goal.true (subst Found c.deref.ensures.value c.clubs_of.ensures)
+
+pub returns : goal.returns
+returns c =
+    let table = c.args.self.now.alone in
+    let pairs = c.args.self.now.pairs.items in
+    let rest = c.args.rest in
+    let places = c.places_of-places.result in
+    let first = c.add_clubs-goal.new.net.arcs in
+    let arcs = c.add_pairs.new.net.arcs in
+    let total = c.add_clubs-goal.result in
+    let source : c.from-source.result ≡ length (clubs_in rest) = c.from-source.ensures ∙
+    c.len.ensures in
+    let Added : List Pair → Type 0 = λ ps. (side : ℕ → Bool) → capacity_of side arcs ≡ capacity_of
+    side first + sum_of_pairs (parts_pair_in (side_of rest) (through places side)) ps in
+    let Taken : ℕ → Type 0 = λ n. (side : ℕ → Bool) → IsCut n (n + 1) side → pos (capacity_of side
+    first) +ℤ sum_of_side c.weights.result (in_both (side_of rest) (through places side)) ≡ pos
+    total in
+    let Least : ℕ → Type 0 = λ n. IsLeastCut arcs n (n + 1) c.in_ok-flow.flow.value (marked
+    c.in_ok-flow.flow.source_side.items) in
+    let least = subst Least source c.in_ok-flow.ensures.cut in
+    let network = network_is table c.weights.result pairs rest places first arcs total
+    c.weights.ensures.sums (subst Taken source c.add_clubs-goal.ensures.cut)
+    (subst Added c.as_slice.ensures.value c.add_pairs.ensures.cut) in
+    no_excess_at_cut table pairs rest places (marked c.in_ok-flow.flow.source_side.items) arcs total
+    c.in_ok-flow.flow.value c.places_of-places.ensures network least c.if-flow-goal.false
+
+pub add_clubs-goal-requires-clause-few : goal.add_clubs-goal-requires-clause-few
+add_clubs-goal-requires-clause-few c =
+    omega (arith, c.from-source.ensures, c.len.ensures, clubs_few 32 c.args.rest.bits (omega arith))
+
+pub add_clubs-goal-requires-clause-clubs : goal.add_clubs-goal-requires-clause-clubs
+add_clubs-goal-requires-clause-clubs c = c.from-source.ensures ∙ c.len.ensures

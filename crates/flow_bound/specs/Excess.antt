@@ -1,0 +1,54 @@
+-- Cuts: how far a set of rivals goes beyond what the club's own points allow, and which of the sets
+-- that do so is answered. Where many sets would do, the choice is this project's own.
+use Rattle.std.specs.Prelude.{◌≡◌, ℕ, ◌<◌, ℤ, pos, ◌-ℤ◌, ◌≤ℤ◌, ◌<ℤ◌, Bool, true, IsTrue, List, [], ◌∷◌}
+use Rattle.std.specs.List.{list_all}
+use Rattle.league_core.specs.declared.sheet.Sheet.{Sheet}
+use Rattle.league_core.specs.declared.question.Question.{Question}
+use Rattle.league_core.specs.declared.zone.Literal.{Literal}
+use Rattle.league_core.specs.declared.club_set.ClubSet.{ClubSet}
+use Rattle.league_core.specs.Results.{Results}
+use Rattle.league_core.specs.Sums.{has_club}
+use Rattle.league_core.specs.ClubSets.{clubs_in}
+use Rattle.league_core.specs.PointRanges.{least_points_of, most_points_of, own_most, own_least}
+use Rattle.league_core.specs.Reasons.{times}
+
+-- how many more points the clubs must have together than if each had the most of the question's club
+abbrev pub floor_excess : Sheet → Results → Question → List Literal → List ℕ → ℤ
+floor_excess sheet season question zone clubs =
+    least_points_of sheet season zone clubs -ℤ times clubs (own_most sheet season question zone)
+
+-- how many fewer points they can have together than if each had the least of the question's club
+abbrev pub ceiling_excess : Sheet → Results → Question → List Literal → List ℕ → ℤ
+ceiling_excess sheet season question zone clubs =
+    times clubs (own_least sheet season question zone) -ℤ most_points_of sheet season zone clubs
+
+-- all clubs of the set are marked
+abbrev pub AreMarked : (ℕ → Bool) → ClubSet → Type 0
+AreMarked marked set = IsTrue (list_all marked (clubs_in set))
+
+-- this marked club has an excess alone, and none before it in the sheet has
+pub record IsFirstAlone (marked : ℕ → Bool) (excess : List ℕ → ℤ) (club : ℕ) : Type 0 where
+  pub has_mark : marked club ≡ true
+  pub exceeds : pos 0 <ℤ excess (club ∷ [])
+  pub none_before : (earlier : ℕ) → earlier < club → marked earlier ≡ true
+      → excess (earlier ∷ []) ≤ℤ pos 0
+
+-- no marked club has an excess alone
+abbrev pub NoneAlone : (ℕ → Bool) → (List ℕ → ℤ) → Type 0
+NoneAlone marked excess = (club : ℕ) → marked club ≡ true → excess (club ∷ []) ≤ℤ pos 0
+
+-- no marked clubs have a greater excess, and all that have the same have these clubs among them
+pub record IsLeastOfGreatest (marked : ℕ → Bool) (excess : List ℕ → ℤ) (set : ClubSet) : Type 0
+  where
+    pub all_marked : AreMarked marked set
+    pub greatest : (other : ClubSet) → AreMarked marked other
+        → excess (clubs_in other) ≤ℤ excess (clubs_in set)
+    pub contained : (other : ClubSet) → AreMarked marked other
+        → excess (clubs_in other) ≡ excess (clubs_in set)
+        → (club : ℕ) → has_club (clubs_in set) club ≡ true → has_club (clubs_in other) club ≡ true
+
+-- the set that is answered: the first marked club that has an excess alone; where none has, the
+-- least set of greatest excess
+pub record IsChosen (marked : ℕ → Bool) (excess : List ℕ → ℤ) (set : ClubSet) : Type 0 where
+  pub alone : (club : ℕ) → IsFirstAlone marked excess club → clubs_in set ≡ club ∷ []
+  pub together : NoneAlone marked excess → IsLeastOfGreatest marked excess set

@@ -1,0 +1,6 @@
+-- what the public contracts rest on
+pub mod Excess
+-- what the inner functions promise each other
+pub mod Parts
+pub mod Fixtures
+pub mod Network

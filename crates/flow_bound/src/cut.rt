@@ -1,0 +1,138 @@
+//! The two calls. A floor cut counts least points, a ceiling cut counts most points with the sign
+//! turned; all else is the same.
+
+ghost use Rattle.std.specs.Prelude.{◌≡◌, ◌<◌, ◌≤ℤ◌, pos, neg_ℤ, false, [], ◌∷◌, None};
+ghost use Rattle.std.specs.Prelude.{IfOk, IfSome, IsTrue, length};
+ghost use Rattle.league_core.specs.declared.club_set.ClubSet.{ClubSet};
+ghost use Rattle.league_core.specs.declared.zone.Reason.TheVariants.{Low, High};
+ghost use Rattle.league_core.specs.ClubSets.{clubs_in};
+ghost use Rattle.league_core.specs.Options.{has_finish};
+ghost use Rattle.league_core.specs.PointRanges.{own_least, own_most};
+ghost use Rattle.league_core.specs.Reasons.{has_reason};
+ghost use Rattle.league_core.specs.Zones.{marked_after, marked_before};
+ghost use Rattle.flow_bound.specs.Fixtures.{counted};
+ghost use Rattle.flow_bound.specs.Excess.{IsChosen, ceiling_excess, floor_excess};
+
+use crate::tally::Tally;
+use league_core::{ClubSet, OutOfMemory, Question};
+use score_box::ZoneBox;
+use std::alloc::Global;
+
+/// The two kinds of cut.
+#[derive(Clone, Copy, Debug, PartialEq, Eq)]
+pub enum Cut {
+    /// Rivals that cannot all stay within the most points of the club.
+    Floor,
+    /// Rivals that cannot all come up to the least points of the club.
+    Ceiling,
+}
+
+/// A set of rivals that makes a floor cut of the box, or none where no set does.
+///
+/// Where rivals make one alone, the first of them in the sheet is answered. Otherwise the set is
+/// the least of those with the greatest excess.
+pub fn low_cut(
+    alloc: Global,
+    zone_box: &ZoneBox,
+    question: &Question,
+) -> Result<Option<ClubSet>, OutOfMemory>
+    requires has_finish { IsTrue
+        (has_finish zone_box.now.sheet zone_box.now.season zone_box.now.zone) }
+    requires of_sheet { question.now.club < length zone_box.now.sheet.clubs }
+    ensures found { IfOk result (λ answer. IfSome answer (λ set. IsTrue
+        (has_reason zone_box.now.sheet zone_box.now.season question.now zone_box.now.zone
+        (Low set)))) }
+    ensures absent { IfOk result (λ answer. answer ≡ None → (set : ClubSet) →
+        has_reason zone_box.now.sheet zone_box.now.season question.now zone_box.now.zone (Low set)
+        ≡ false) }
+    ensures chosen { IfOk result (λ answer. IfSome answer
+        (IsChosen (marked_after zone_box.now.zone)
+        (floor_excess zone_box.now.sheet zone_box.now.season question.now zone_box.now.zone))) }
+{
+    let rivals = zone_box.after();
+    if rivals.is_empty() {
+        return Ok(None);
+    }
+    let most = own_most(zone_box, question);
+    let tally = Tally::of(zone_box, rivals, Cut::Floor, -i64::from(most));
+    let chosen = tally.choose(alloc, rivals)?;
+    Ok(chosen)
+}
+
+/// A set of rivals that makes a ceiling cut of the box, or none where no set does; chosen as in
+/// [`low_cut`].
+pub fn high_cut(
+    alloc: Global,
+    zone_box: &ZoneBox,
+    question: &Question,
+) -> Result<Option<ClubSet>, OutOfMemory>
+    requires has_finish { IsTrue
+        (has_finish zone_box.now.sheet zone_box.now.season zone_box.now.zone) }
+    requires of_sheet { question.now.club < length zone_box.now.sheet.clubs }
+    ensures found { IfOk result (λ answer. IfSome answer (λ set. IsTrue
+        (has_reason zone_box.now.sheet zone_box.now.season question.now zone_box.now.zone
+        (High set)))) }
+    ensures absent { IfOk result (λ answer. answer ≡ None → (set : ClubSet) →
+        has_reason zone_box.now.sheet zone_box.now.season question.now zone_box.now.zone (High set)
+        ≡ false) }
+    ensures chosen { IfOk result (λ answer. IfSome answer
+        (IsChosen (marked_before zone_box.now.zone)
+        (ceiling_excess zone_box.now.sheet zone_box.now.season question.now zone_box.now.zone))) }
+{
+    let rivals = zone_box.before();
+    if rivals.is_empty() {
+        return Ok(None);
+    }
+    let least = own_least(zone_box, question);
+    let tally = Tally::of(zone_box, rivals, Cut::Ceiling, i64::from(least));
+    let chosen = tally.choose(alloc, rivals)?;
+    Ok(chosen)
+}
+
+/// The most points of the question's club in its window.
+fn own_most(zone_box: &ZoneBox, question: &Question) -> i32
+    requires has_finish { IsTrue
+        (has_finish zone_box.now.sheet zone_box.now.season zone_box.now.zone) }
+    requires of_sheet { question.now.club < length zone_box.now.sheet.clubs }
+    ensures value { result
+        ≡ own_most zone_box.now.sheet zone_box.now.season question.now zone_box.now.zone }
+    ensures within { result ≤ℤ pos 1800 }
+{
+    let most = zone_box.high_points(own_club(zone_box, question));
+    question.high.min(most)
+}
+
+/// The least points of the question's club in its window.
+fn own_least(zone_box: &ZoneBox, question: &Question) -> i32
+    requires has_finish { IsTrue
+        (has_finish zone_box.now.sheet zone_box.now.season zone_box.now.zone) }
+    requires of_sheet { question.now.club < length zone_box.now.sheet.clubs }
+    ensures value { result
+        ≡ own_least zone_box.now.sheet zone_box.now.season question.now zone_box.now.zone }
+    ensures within { neg_ℤ (pos 8160) ≤ℤ result }
+{
+    let least = zone_box.low_points(own_club(zone_box, question));
+    question.low.max(least)
+}
+
+/// The question's club alone.
+fn own_club(zone_box: &ZoneBox, question: &Question) -> ClubSet
+    requires { question.now.club < length zone_box.now.sheet.clubs }
+    ensures { clubs_in result ≡ question.now.club ∷ [] }
+{
+    // A sheet within its limits has no more clubs than a set can have.
+    let _sheet = zone_box.sheet();
+    ClubSet::empty().with_if(true, question.club)
+}
+
+impl Cut {
+    /// Points as the cut counts them.
+    pub fn count(self, points: u8) -> i64
+        ensures { result ≡ counted self (pos points) }
+    {
+        match self {
+            Cut::Floor => i64::from(points),
+            Cut::Ceiling => -i64::from(points),
+        }
+    }
+}

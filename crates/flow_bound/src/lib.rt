@@ -1,0 +1,22 @@
+//! Bounds by cuts: which rivals must together take too many points, or cannot take enough.
+//!
+//! A floor cut is a set of rivals, all marked after the question's club, whose points together
+//! exceed what they have if each stays within the most of that club. A ceiling cut is a set of
+//! rivals, all marked before the club, that cannot all come up to its least. Both are sought in the
+//! same way: the excess of a set is what its clubs add alone, and what each two of them that still
+//! meet add beyond that (`tally`). Clubs that no set needs are dropped (`peel`), and the rest is one
+//! minimum cut (`network`). Read `specs/Excess.antt` first.
+#![tactic(auto)]
+
+mod choice;
+mod cut;
+mod network;
+mod peel;
+mod places;
+mod table;
+mod tally;
+#[cfg(test)]
+mod tests;
+mod worth;
+
+pub use cut::{high_cut, low_cut};

@@ -1,0 +1,20 @@
+//! The clubs of a set numbered one after another: the nodes of a network.
+
+ghost use Rattle.flow_bound.specs.Network.{IsNumbering};
+
+use league_core::ClubSet;
+
+/// For each club how many clubs of a set come before it.
+pub type Places = [u16; 32];
+
+pub fn places_of(set: ClubSet) -> Places
+    ensures { IsNumbering set result }
+{
+    let mut places = [0; 32];
+    let mut count = 0;
+    for club in 0..32 {
+        places[club as usize] = count;
+        count += u16::from(set.has(club));
+    }
+    places
+}
