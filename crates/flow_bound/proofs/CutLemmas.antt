@@ -5,7 +5,7 @@ use Rattle.std.specs.Prelude.{IfSome, MatchOption, int_lt}
 use Rattle.std.specs.Int.RustNames.{bit_or}
 use Rattle.std.specs.List.{All, list_all}
 use Rattle.std.proofs.lemmas.Int.{ints}
-use Rattle.std.proofs.lemmas.Bool.{false≢true, and_from, cases_eq, cases_order, ne_eqb}
+use Rattle.std.proofs.lemmas.Bool.{false≢true, and_from, cases_eq, cases_order, eqb-true, ne_eqb, or_cases}
 use Rattle.league_core.specs.declared.sheet.Sheet.{Sheet}
 use Rattle.league_core.specs.declared.question.Question.{Question}
 use Rattle.league_core.specs.declared.zone.Literal.{Literal}
@@ -22,9 +22,10 @@ use Rattle.league_core.proofs.ClubSetLemmas.{clubs_below-zero, has_club-with_bit
 use Rattle.score_box.specs.Boxes.{IsSetOf}
 use Rattle.flow_bound.specs.declared.cut.Cut.TheVariants.{Floor, Ceiling}
 use Rattle.flow_bound.specs.declared.tally.Pair.{Pair}
-use Rattle.flow_bound.specs.Excess.{AreMarked, IsChosen, IsFirstAlone, ceiling_excess, floor_excess}
+use Rattle.flow_bound.specs.Excess.{AreMarked, IsChosen, IsFirstAlone, IsInEachGreatest, ceiling_excess, floor_excess}
 use Rattle.flow_bound.specs.Fixtures.{excess_over}
 use Rattle.flow_bound.specs.Parts.{HasNoExcess, IsAnswer, IsFirstOver, IsPartOf, entry, excess_in, has_both, side_of, sum_of_pairs}
+use Rattle.flow_bound.proofs.OneMoreLemmas.{excess_in-more, with_club}
 use Rattle.flow_bound.proofs.PartLemmas.{excess_in-empty, sum_below-one, sum_below-same, sum_of_pairs-cons}
 use Rattle.flow_bound.proofs.SetLemmas.{all_marked, each_marked, one_club_added, side_of-lt}
 
@@ -155,6 +156,68 @@ first_is_one table pairs rivals marked excess club other gives first alone =
       ]
     ]
 
+-- a club with an excess alone is in each set of greatest excess: with it, a set without it has more
+alone_inside : (table : List ℤ) (pairs : List Pair) (rivals : ClubSet) (marked : ℕ → Bool)
+    (excess : List ℕ → ℤ) (club : ℕ) (other : ClubSet)
+    → GivesExcess table pairs rivals marked excess → IsFirstOver table (side_of rivals) club
+    → AreMarked marked other → ((rival : ClubSet) → AreMarked marked rival
+    → excess (clubs_in rival) ≤ℤ excess (clubs_in other))
+    → side_of other club ≡ true
+alone_inside table pairs rivals marked excess club other gives first all greatest =
+    at (side_of other club) refl
+  where
+    low : club < 32
+    low = side_of-lt rivals club first.among
+
+    more : ClubSet
+    more = record { bits = bit_or other.bits (1 * 2 ^ club % 2 ^ 32) }
+
+    is_more : (x : ℕ) → side_of more x ≡ with_club (side_of other) club x
+    is_more x = has_club-with_bit other.bits club x low
+
+    inside : IsPartOf (side_of other) (side_of rivals)
+    inside = marked_part rivals marked other gives.marks all
+
+    part : IsPartOf (side_of more) (side_of rivals)
+    part x has =
+        elim (or_cases (side_of other x) (eqb club x) (sym (is_more x) ∙ has)) as
+        (λ _. side_of rivals x ≡ true) [
+          | inl among ↦ inside x among
+          | inr same ↦ ap (side_of rivals) (sym (eqb-true club x same)) ∙ first.among
+        ]
+
+    at : (b : Bool) → side_of other club ≡ b → side_of other club ≡ true
+    at true has = has
+    at false out =
+        let grows = excess_in-more table pairs (side_of other) (side_of more) club low out is_more in
+        let most = greatest more (part_marked rivals marked more gives.marks part) in
+        absurd (omega (arith, ints, first.over, gives.sums other inside, gives.sums more part))
+
+-- a club alone is the only one
+only_club : (club other : ℕ) → has_club (club ∷ []) other ≡ true → club ≡ other
+only_club club other among =
+    elim (or_cases (eqb club other) false among) as (λ _. club ≡ other) [
+      | inl same ↦ eqb-true club other same
+      | inr none ↦ absurd (false≢true none)
+    ]
+
+-- the clubs that are answered are in each set of greatest excess
+in_each_greatest : (table : List ℤ) (pairs : List Pair) (rivals : ClubSet) (marked : ℕ → Bool)
+    (excess : List ℕ → ℤ) (set : ClubSet) → GivesExcess table pairs rivals marked excess
+    → IsAnswer table pairs (side_of rivals) set → IsInEachGreatest marked excess set
+in_each_greatest table pairs rivals marked excess set gives (inl (club, first, is)) other all
+    greatest one has =
+    let among = sym (ap (λ clubs. has_club clubs one) is) ∙ has in
+    ap (side_of other) (sym (only_club club one among))
+    ∙ alone_inside table pairs rivals marked excess club other gives first all greatest
+in_each_greatest table pairs rivals marked excess set gives (inr (none, best)) other all
+    greatest one has =
+    let part = marked_part rivals marked other gives.marks all in
+    let most = best.greatest (side_of other) part in
+    let least = greatest set (part_marked rivals marked set gives.marks best.part) in
+    best.contained (side_of other) part
+    (omega (arith, ints, gives.sums set best.part, gives.sums other part)) one has
+
 -- what is chosen by the parts is chosen by the excess
 pub chosen_is : (table : List ℤ) (pairs : List Pair) (rivals : ClubSet) (marked : ℕ → Bool)
     (excess : List ℕ → ℤ) (set : ClubSet) → GivesExcess table pairs rivals marked excess
@@ -167,6 +230,7 @@ chosen_is table pairs rivals marked excess set gives (inl (club, first, is)) = r
       let own = alone_is table pairs rivals marked excess club gives first.among in
       let low = none club (sym (gives.marks club) ∙ first.among) in
       absurd (omega (arith, ints, first.over));
+  contained = in_each_greatest table pairs rivals marked excess set gives (inl (club, first, is));
 }
 chosen_is table pairs rivals marked excess set gives (inr (none, best)) = record {
   alone = λ other alone.
@@ -185,6 +249,7 @@ chosen_is table pairs rivals marked excess set gives (inr (none, best)) = record
         best.contained (side_of other) part
         (gives.sums other part ∙ same ∙ sym (gives.sums set best.part));
   };
+  contained = in_each_greatest table pairs rivals marked excess set gives (inr (none, best));
 }
 
 -- an answer is a set of marked clubs with an excess

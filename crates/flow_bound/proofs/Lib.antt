@@ -1,5 +1,6 @@
 -- Lemmas on one notion each: sums over clubs and pairs, the peel, the network, sets of clubs, answers.
 pub mod PartLemmas
+pub mod OneMoreLemmas
 pub mod PeelLemmas
 pub mod PlaceLemmas
 pub mod NetworkLemmas

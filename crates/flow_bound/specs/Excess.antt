@@ -47,8 +47,17 @@ pub record IsLeastOfGreatest (marked : ℕ → Bool) (excess : List ℕ → ℤ)
         → excess (clubs_in other) ≡ excess (clubs_in set)
         → (club : ℕ) → has_club (clubs_in set) club ≡ true → has_club (clubs_in other) club ≡ true
 
+-- the clubs of this set are in each set of marked clubs than which none has a greater excess
+abbrev pub IsInEachGreatest : (ℕ → Bool) → (List ℕ → ℤ) → ClubSet → Type 0
+IsInEachGreatest marked excess set =
+    (other : ClubSet) → AreMarked marked other
+    → ((rivals : ClubSet) → AreMarked marked rivals
+    → excess (clubs_in rivals) ≤ℤ excess (clubs_in other))
+    → (club : ℕ) → has_club (clubs_in set) club ≡ true → has_club (clubs_in other) club ≡ true
+
 -- the set that is answered: the first marked club that has an excess alone; where none has, the
 -- least set of greatest excess
 pub record IsChosen (marked : ℕ → Bool) (excess : List ℕ → ℤ) (set : ClubSet) : Type 0 where
   pub alone : (club : ℕ) → IsFirstAlone marked excess club → clubs_in set ≡ club ∷ []
   pub together : NoneAlone marked excess → IsLeastOfGreatest marked excess set
+  pub contained : IsInEachGreatest marked excess set

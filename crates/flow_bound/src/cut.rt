@@ -30,7 +30,8 @@ pub enum Cut {
 /// A set of rivals that makes a floor cut of the box, or none where no set does.
 ///
 /// Where rivals make one alone, the first of them in the sheet is answered. Otherwise the set is
-/// the least of those with the greatest excess.
+/// the least of those with the greatest excess. Either way each set of greatest excess has its
+/// clubs.
 pub fn low_cut(
     alloc: Global,
     zone_box: &ZoneBox,
