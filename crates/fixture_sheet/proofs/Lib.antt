@@ -1,0 +1,9 @@
+pub mod FieldLemmas
+pub mod TextLemmas
+pub mod NameLemmas
+pub mod DraftLemmas
+pub mod ReadingLemmas
+pub mod LineLemmas
+pub mod WorkedSheets
+pub mod PassedLemmas
+pub mod GivenLemmas

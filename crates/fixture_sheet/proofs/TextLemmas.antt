@@ -1,0 +1,67 @@
+-- Lemmas on numbers.
+use Rattle.std.proofs.Common.{◌≡◌, ℕ, zero, suc, ◌-◌, ◌^◌, ◌<◌, ◌≤◌, Bool, true, ◌&&◌, nat_le, List, [], ◌∷◌, length, take, get_or, refl, arith, lit<}
+use Rattle.std.specs.List.{list_all}
+use Rattle.std.specs.Char.{is_ascii_digit, digit_value}
+use Rattle.std.specs.Str.Parse.{digits_value, AllDigits}
+use Rattle.std.proofs.lemmas.Bool.{and_parts, leb-true}
+use Rattle.std.proofs.lemmas.Bool.Decides.{nat_tests}
+use Rattle.std.proofs.lemmas.List.{length-take-le}
+use Rattle.std.proofs.lemmas.Int.Digits.{digits_value-lt}
+use Rattle.std.proofs.Math.Nat.{pow-le-pow_right}
+use Rattle.fixture_sheet.specs.Texts.{is_number}
+
+-- each element of a list that passes passes
+list_all-at : {X : Type 0} (p : X → Bool) (xs : List X) (i : ℕ) (d : X) → list_all p xs ≡ true
+    → i < length xs → p (get_or xs i d) ≡ true
+list_all-at p [] i d all inside = absurd (omega arith)
+list_all-at p (x ∷ xs) zero d all inside = (and_parts (p x) (list_all p xs) all).0
+list_all-at p (x ∷ xs) (suc i) d all inside =
+    list_all-at p xs i d (and_parts (p x) (list_all p xs) all).1 (omega arith)
+
+-- the front of a list that passes passes
+list_all-take : {X : Type 0} (p : X → Bool) (i : ℕ) (xs : List X) → list_all p xs ≡ true
+    → list_all p (take i xs) ≡ true
+list_all-take p zero xs all = refl
+list_all-take p (suc i) [] all = refl
+list_all-take p (suc i) (x ∷ xs) all =
+    let parts = and_parts (p x) (list_all p xs) all in
+    rw (parts.0, list_all-take p i xs parts.1) refl
+
+-- a digit's value is below ten
+digit_value-lt : (byte : ℕ) → is_ascii_digit byte ≡ true → digit_value byte < 10
+digit_value-lt byte digit = grind (arith, nat_tests)
+
+-- a digit writes how far it stands behind `0`
+digit_value-from : (byte : ℕ) → is_ascii_digit byte ≡ true → digit_value byte ≡ byte - 48
+digit_value-from byte digit = grind (arith, nat_tests)
+
+-- each byte of a number does
+pub digit_value-at : (text : List ℕ) (i : ℕ) → is_number text ≡ true → i < length text
+    → digit_value (get_or text i 0) ≡ get_or text i 0 - 48
+digit_value-at text i number inside =
+    let parts = and_parts (nat_le 1 (length text) && nat_le (length text) 6)
+    (list_all is_ascii_digit text) number in
+    digit_value-from (get_or text i 0) (list_all-at is_ascii_digit text i 0 parts.1 inside)
+
+-- digits are digits
+AllDigits-from : (text : List ℕ) → list_all is_ascii_digit text ≡ true → AllDigits 10 text
+AllDigits-from [] all = tt
+AllDigits-from (byte ∷ text) all =
+    let parts = and_parts (is_ascii_digit byte) (list_all is_ascii_digit text) all in
+    (digit_value-lt byte parts.0, AllDigits-from text parts.1)
+
+-- the first digits of a number, but for the last, are less than 100,000
+pub digits_value-take-lt : (text : List ℕ) (i : ℕ) → is_number text ≡ true → i < length text
+    → digits_value 10 (take i text) < 100000
+digits_value-take-lt text i number inside =
+    let parts = and_parts (nat_le 1 (length text) && nat_le (length text) 6)
+    (list_all is_ascii_digit text) number in
+    let room = leb-true (length text) 6
+    (and_parts (nat_le 1 (length text)) (nat_le (length text) 6) parts.0).1 in
+    let digits = AllDigits-from (take i text) (list_all-take is_ascii_digit i text parts.1) in
+    let less = digits_value-lt 10 (take i text) digits in
+    let few : length (take i text) ≡ i = length-take-le i text (omega arith) in
+    let most : 10 ^ length (take i text) ≤ 10 ^ 5 =
+    pow-le-pow_right {n = 10} (lit< tt) {i = length (take i text)} {j = 5}
+    (omega (arith, few, room)) in
+    omega (arith, less, most)

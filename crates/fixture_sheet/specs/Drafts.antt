@@ -1,0 +1,26 @@
+-- What holds of a sheet while its records come.
+use Rattle.std.specs.Prelude.{ℕ, ◌≤◌, IsTrue, nat_eq, List, length, map}
+use Rattle.std.specs.List.{list_all}
+use Rattle.league_core.specs.declared.sheet.Sheet.{Sheet}
+use Rattle.league_core.specs.declared.sheet.Club.{Club}
+use Rattle.league_core.specs.Sheets.{is_name, is_club, is_fixture, is_line, are_different, same_name}
+
+-- the clubs' names, in the order of the sheet
+abbrev pub names_of : Sheet → List (List ℕ)
+names_of sheet = map (λ (club : Club). club.name) sheet.clubs
+
+-- a sheet that is read so far: within the limits, but for the two clubs that may still be missing
+pub record IsDraft (sheet : Sheet) : Type 0 where
+  pub name : IsTrue (is_name sheet.name)
+  pub most_clubs : length sheet.clubs ≤ 24
+  pub most_fixtures : length sheet.fixtures ≤ 600
+  pub most_lines : length sheet.lines ≤ 4
+  pub clubs : IsTrue (list_all is_club sheet.clubs)
+  pub different_names : IsTrue (are_different same_name sheet.clubs)
+  pub fixtures : IsTrue (list_all (is_fixture (length sheet.clubs)) sheet.fixtures)
+  pub lines : IsTrue (list_all (is_line (length sheet.clubs)) sheet.lines)
+  pub different_lines : IsTrue (are_different nat_eq sheet.lines)
+  pub least_goal_limit : 1 ≤ sheet.goal_limit
+  pub most_goal_limit : sheet.goal_limit ≤ 20
+  pub least_budget : 1 ≤ sheet.budget
+  pub most_budget : sheet.budget ≤ 50000

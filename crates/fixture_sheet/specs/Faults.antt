@@ -1,0 +1,19 @@
+-- Why a sheet is refused, and the words for it.
+use Rattle.std.specs.Prelude.{ℕ, List, codes}
+use Rattle.fixture_sheet.specs.declared.fault.SheetFault.{SheetFault}
+use Rattle.fixture_sheet.specs.declared.fault.SheetFault.TheVariants.{NoLeague, BadField, ClubTwice, UnknownClub, SelfMatch, LineRange, TooMany, TooFewClubs, UnknownRecord, WrongWidth, LineTwice, NoSeason}
+
+-- the code that a refusal is printed by
+abbrev pub code_of : SheetFault → List ℕ
+code_of NoLeague = codes "no_league"
+code_of BadField = codes "bad_field"
+code_of ClubTwice = codes "club_twice"
+code_of UnknownClub = codes "unknown_club"
+code_of SelfMatch = codes "self_match"
+code_of LineRange = codes "line_range"
+code_of TooMany = codes "too_many"
+code_of TooFewClubs = codes "too_few_clubs"
+code_of UnknownRecord = codes "unknown_record"
+code_of WrongWidth = codes "wrong_width"
+code_of LineTwice = codes "line_twice"
+code_of NoSeason = codes "no_season"

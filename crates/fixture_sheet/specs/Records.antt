@@ -1,0 +1,186 @@
+-- What a record makes of the sheet so far: a sheet with what it adds, or the first refusal. Before the
+-- first record there is no sheet. Each definition makes its tests in the order in which they refuse.
+use Rattle.std.specs.Prelude.{ℕ, Bool, not, ◌||◌, ◌==◌, nat_le, nat_lt, List, [], ◌∷◌, ◌++◌, length, Option, None, Some, Result, Ok, Err, if◌then◌else◌, option_and_then, option_map, position, bytes_eq, codes}
+use Rattle.std.specs.List.{list_any}
+use Rattle.std.specs.Option.{ok_or}
+use Rattle.league_core.specs.declared.sheet.Sheet.{Sheet}
+use Rattle.league_core.specs.declared.sheet.Club.{Club}
+use Rattle.league_core.specs.declared.sheet.Fixture.{Fixture}
+use Rattle.league_core.specs.Sheets.{is_line}
+use Rattle.fixture_sheet.specs.declared.fault.SheetFault.{SheetFault}
+use Rattle.fixture_sheet.specs.declared.fault.SheetFault.TheVariants.{NoLeague, BadField, ClubTwice, UnknownClub, SelfMatch, LineRange, TooMany, TooFewClubs, UnknownRecord, WrongWidth, LineTwice}
+use Rattle.fixture_sheet.specs.declared.record.Progress.{Progress}
+use Rattle.fixture_sheet.specs.declared.record.Progress.TheVariants.{SoFar, Whole}
+use Rattle.fixture_sheet.specs.Fields.{has_return, record_of, field}
+use Rattle.fixture_sheet.specs.Texts.{number_of, number_within, text_of, name_of}
+use Rattle.fixture_sheet.specs.Drafts.{names_of}
+
+-- a value, and what is made of it; a refusal stays
+abbrev pub and_then : {A B : Type 0} → (A → Result B SheetFault) → Result A SheetFault
+    → Result B SheetFault
+and_then next (Ok value) = next value
+and_then next (Err fault) = Err fault
+
+-- ---- league,NAME,L or league,NAME,L,B
+
+-- a sheet with nothing but its league
+abbrev pub sheet_begun : List ℕ → ℕ → ℕ → Sheet
+sheet_begun name goal_limit budget =
+    record {
+      name = name;
+      clubs = [];
+      fixtures = [];
+      lines = [];
+      goal_limit = goal_limit;
+      budget = budget;
+    }
+
+-- the node budget: 1 to 50,000, or 2,000 where the record does not name one
+abbrev pub budget_of : List (List ℕ) → Option ℕ
+budget_of fields =
+    if length fields == 3 then Some 2000 else number_within 1 50000 (field 3 fields)
+
+-- the sheet that a league's record begins: a name, a goal limit from 1 to 20, and a budget
+abbrev pub league_of : List (List ℕ) → Option Sheet
+league_of fields =
+    option_and_then (λ name.
+    option_and_then (λ goal_limit. option_map (λ budget. sheet_begun name goal_limit budget)
+    (budget_of fields))
+    (number_within 1 20 (field 2 fields)))
+    (name_of (field 1 fields))
+
+-- the first record
+abbrev pub league_taken : List (List ℕ) → Result Sheet SheetFault
+league_taken fields =
+    if not (bytes_eq (field 0 fields) (codes "league")) then Err NoLeague
+    else if not (length fields == 3 || length fields == 4) then Err WrongWidth
+    else ok_or (league_of fields) BadField
+
+-- ---- club,NAME,RANK
+
+-- the number of the club that a field names, where it names one; what is not UTF-8 names none
+abbrev pub club_named : Sheet → List ℕ → Option ℕ
+club_named sheet field =
+    option_and_then (λ name. position (bytes_eq name) (names_of sheet)) (text_of field)
+
+-- a club of this name stands already
+abbrev pub has_club : Sheet → List ℕ → Bool
+has_club sheet name = list_any (bytes_eq name) (names_of sheet)
+
+-- a match or a line came already
+abbrev pub is_past_clubs : Sheet → Bool
+is_past_clubs sheet = nat_lt 0 (length sheet.fixtures) || nat_lt 0 (length sheet.lines)
+
+-- a club: a name, and a fixed rank from 1 to 999
+abbrev pub club_of : List (List ℕ) → Option Club
+club_of fields =
+    option_and_then (λ name. option_map (λ rank. record { name = name; rank = rank })
+    (number_within 1 999 (field 2 fields)))
+    (name_of (field 1 fields))
+
+-- a new club, where there is room
+abbrev pub club_added : Sheet → Club → Result Sheet SheetFault
+club_added sheet club =
+    if has_club sheet club.name then Err ClubTwice
+    else if nat_le 24 (length sheet.clubs) then Err TooMany
+    else Ok (record sheet { clubs = sheet.clubs ++ club ∷ [] })
+
+-- all clubs come before the first match or line
+abbrev pub club_taken : Sheet → List (List ℕ) → Result Sheet SheetFault
+club_taken sheet fields =
+    if is_past_clubs sheet then Err UnknownRecord
+    else if not (length fields == 3) then Err WrongWidth
+    else and_then (club_added sheet) (ok_or (club_of fields) BadField)
+
+-- ---- match,HOME,AWAY
+
+-- there are not two clubs yet
+abbrev pub has_few_clubs : Sheet → Bool
+has_few_clubs sheet = nat_lt (length sheet.clubs) 2
+
+-- a fixture of two clubs by their names
+abbrev pub fixture_of : Sheet → List (List ℕ) → Option Fixture
+fixture_of sheet fields =
+    option_and_then (λ home. option_map (λ away. record { home = home; away = away })
+    (club_named sheet (field 2 fields)))
+    (club_named sheet (field 1 fields))
+
+-- a fixture of two different clubs, where there is room
+abbrev pub fixture_added : Sheet → Fixture → Result Sheet SheetFault
+fixture_added sheet fixture =
+    if fixture.home == fixture.away then Err SelfMatch
+    else if nat_le 600 (length sheet.fixtures) then Err TooMany
+    else Ok (record sheet { fixtures = sheet.fixtures ++ fixture ∷ [] })
+
+-- two clubs at least come before the first match
+abbrev pub match_taken : Sheet → List (List ℕ) → Result Sheet SheetFault
+match_taken sheet fields =
+    if has_few_clubs sheet then Err TooFewClubs
+    else if not (length fields == 3) then Err WrongWidth
+    else and_then (fixture_added sheet) (ok_or (fixture_of sheet fields) UnknownClub)
+
+-- ---- line,K
+
+-- a new line that leaves a club on each side, where there is room
+abbrev pub line_added : Sheet → ℕ → Result Sheet SheetFault
+line_added sheet line =
+    if not (is_line (length sheet.clubs) line) then Err LineRange
+    else if list_any (λ other. other == line) sheet.lines then Err LineTwice
+    else if nat_le 4 (length sheet.lines) then Err TooMany
+    else Ok (record sheet { lines = sheet.lines ++ line ∷ [] })
+
+-- two clubs at least come before the first line
+abbrev pub line_taken : Sheet → List (List ℕ) → Result Sheet SheetFault
+line_taken sheet fields =
+    if has_few_clubs sheet then Err TooFewClubs
+    else if not (length fields == 2) then Err WrongWidth
+    else and_then (line_added sheet) (ok_or (number_of (field 1 fields)) BadField)
+
+-- ---- season
+
+-- the sheet is whole, with two clubs at least
+abbrev pub season_taken : Sheet → List (List ℕ) → Result Sheet SheetFault
+season_taken sheet fields =
+    if has_few_clubs sheet then Err TooFewClubs
+    else if not (length fields == 1) then Err WrongWidth
+    else Ok sheet
+
+-- ---- any record
+
+-- the reading goes on with this sheet
+abbrev pub so_far : Sheet → Result Progress SheetFault
+so_far sheet = Ok (SoFar (Some sheet))
+
+-- the reading ends with this sheet
+abbrev pub whole : Sheet → Result Progress SheetFault
+whole sheet = Ok (Whole sheet)
+
+-- a record behind the first one, by its first field
+abbrev pub later_taken : Sheet → List (List ℕ) → Result Progress SheetFault
+later_taken sheet fields =
+    if bytes_eq (field 0 fields) (codes "club") then and_then so_far (club_taken sheet fields)
+    else if bytes_eq (field 0 fields) (codes "match") then and_then so_far (match_taken sheet fields)
+    else if bytes_eq (field 0 fields) (codes "line") then and_then so_far (line_taken sheet fields)
+    else if bytes_eq (field 0 fields) (codes "season") then and_then whole (season_taken sheet fields)
+    else Err UnknownRecord
+
+-- a record; the first one begins the sheet
+abbrev pub record_taken : Option Sheet → List (List ℕ) → Result Progress SheetFault
+record_taken None fields = and_then so_far (league_taken fields)
+record_taken (Some sheet) fields = later_taken sheet fields
+
+-- a record, where a line has one: a line of empty fields changes nothing
+abbrev pub record_taken_if : Option Sheet → Option (List (List ℕ)) → Result Progress SheetFault
+record_taken_if draft None = Ok (SoFar draft)
+record_taken_if draft (Some fields) = record_taken draft fields
+
+-- why a line that is no record is refused
+abbrev pub no_record : Option Sheet → SheetFault
+no_record None = NoLeague
+no_record (Some sheet) = UnknownRecord
+
+-- the content of a line: a CR in it makes it no record
+abbrev pub content_taken : Option Sheet → List ℕ → Result Progress SheetFault
+content_taken draft content =
+    if has_return content then Err (no_record draft)
+    else record_taken_if draft (record_of content)

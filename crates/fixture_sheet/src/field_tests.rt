@@ -1,0 +1,108 @@
+//! Fields of lines. What is wanted is what the csv crate for Rust reads, with the empty fields at the
+//! end left out: each field with `|` behind it, `-` for no field, `^` for a CR.
+
+use crate::fault::{FieldsStop, SheetFault};
+use crate::fields::{Fields, fields_of};
+use crate::name::name_of;
+use crate::number::{number_of, number_within};
+use crate::record::{Progress, take_content};
+use std::alloc::Global;
+use std::test::Fail;
+
+fn told(alloc: Global, text: &[u8]) -> Result<Vec<u8>, Fail> {
+    match fields_of(alloc, text) {
+        Ok(Some(fields)) => joined(alloc, &fields),
+        Ok(None) => Ok(b"-".to_vec(alloc)?),
+        Err(FieldsStop::InnerReturn) => Ok(b"^".to_vec(alloc)?),
+        Err(FieldsStop::OutOfMemory) => Ok(b"no memory".to_vec(alloc)?),
+    }
+}
+
+fn joined(alloc: Global, fields: &Fields) -> Result<Vec<u8>, Fail> {
+    let mut out = Vec::new(alloc);
+    for place in 0..fields.len() {
+        out.extend_from_slice(fields.at(place))?;
+        out.push(b'|')?;
+    }
+    Ok(out)
+}
+
+#[test]
+fn fields_are_those_of_csv_without_padding(rt: HostRuntime) -> Result<(), Fail> {
+    for (text, wanted) in [
+        (b"".as_slice(), b"-".as_slice()),
+        (b",", b"-"),
+        (b",\"\",,", b"-"),
+        (b"\xef\xbb\xbf", b"-"),
+        (b"a", b"a|"),
+        (b"a,,b,,", b"a||b|"),
+        (b",a", b"|a|"),
+        (b"\"a,b\",c", b"a,b|c|"),
+        (b"\"a\"\"b\"", b"a\"b|"),
+        (b"\"a\"b,c", b"ab|c|"),
+        (b"a\"b", b"a\"b|"),
+        (b" \"a\" ", b" \"a\" |"),
+        (b"\"ab,c", b"ab,c|"),
+        (b"#a,b", b"#a|b|"),
+        (b"\xef\xbb\xbfa,b", b"a|b|"),
+        (b"\xef\xbb\xbf\xef\xbb\xbfa", b"\xef\xbb\xbfa|"),
+        (b"a,\xef\xbb\xbf", b"a|\xef\xbb\xbf|"),
+        (b"\xff,\x00", b"\xff|\x00|"),
+        (b"\r", b"^"),
+        (b"a,b\r", b"^"),
+        (b"\"a\rb\"", b"^"),
+    ] {
+        let out = told(rt.alloc(), text)?;
+        assert_eq!(rt; out.as_slice(), wanted, "{text:?}");
+    }
+    Ok(())
+}
+
+#[test]
+fn numbers_and_names_are_read(rt: HostRuntime) {
+    assert_eq!(rt; number_of(b"000999"), Some(999));
+    assert_eq!(rt; number_of(b"0000999"), None);
+    assert_eq!(rt; number_within(1, 20, b"020"), Some(20));
+    assert_eq!(rt; number_within(1, 20, b"21"), None);
+    assert!(rt; name_of(b"Astra \xc3\x89") == Some("Astra \u{c9}"));
+    assert!(rt; name_of(b"Astra \xc3").is_none());
+}
+
+#[test]
+fn contents_are_taken_one_by_one(rt: HostRuntime) -> Result<(), Fail> {
+    let alloc = rt.alloc();
+    let mut draft = None;
+    for content in [b"league,T,1".as_slice(), b"club,A,1", b",,", b"club,B,2"] {
+        let Ok(Progress::SoFar(next)) = take_content(alloc, draft, content) else {
+            return Err(Fail::from("refused"));
+        };
+        draft = next;
+    }
+    let Ok(Progress::Whole(sheet)) = take_content(alloc, draft, b"season") else {
+        return Err(Fail::from("refused"));
+    };
+    assert_eq!(rt; sheet.clubs.len(), 2);
+    Ok(())
+}
+
+#[test]
+fn refusals_print_as_their_codes(rt: HostRuntime) -> Result<(), Fail> {
+    for fault in [
+        SheetFault::NoLeague,
+        SheetFault::BadField,
+        SheetFault::ClubTwice,
+        SheetFault::UnknownClub,
+        SheetFault::SelfMatch,
+        SheetFault::LineRange,
+        SheetFault::TooMany,
+        SheetFault::TooFewClubs,
+        SheetFault::UnknownRecord,
+        SheetFault::WrongWidth,
+        SheetFault::LineTwice,
+        SheetFault::NoSeason,
+    ] {
+        let printed = format!(in rt.alloc(); "{fault}")?;
+        assert_eq!(rt; printed.as_str(), fault.code());
+    }
+    Ok(())
+}

@@ -1,0 +1,34 @@
+//! Reads a league's sheet from lines of csv, up to and with its record `season`.
+//!
+//!     line  ── fields ──>  record  ── sheet so far ──>  sheet so far, or the sheet, or a refusal
+//!
+//! What a record is stands in `specs/Fields.antt`; what it makes of the sheet so far, in
+//! `specs/Records.antt`; what a whole input gives, in `specs/Sheets.antt`. Read them in this order.
+#![tactic(auto)]
+
+mod draft;
+mod fault;
+#[cfg(test)]
+mod field_tests;
+mod fields;
+mod laws;
+mod name;
+mod name_index;
+mod number;
+mod reader;
+mod record;
+#[cfg(test)]
+mod refusal_tests;
+#[cfg(test)]
+mod sheet_tests;
+#[cfg(test)]
+mod telling;
+
+pub use draft::Draft;
+pub use fault::{FieldsStop, RecordStop, SheetFault, SheetStop};
+pub use fields::{Fields, fields_of};
+pub use laws::a_line_is_one_record;
+pub use name::name_of;
+pub use number::{number_of, number_within};
+pub use reader::{fault_at_end, read_sheet};
+pub use record::{Progress, take_content, take_record};

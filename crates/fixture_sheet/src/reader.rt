@@ -1,0 +1,90 @@
+//! The sheet of an input.
+
+ghost use Rattle.std.specs.Prelude.{◌≡◌, IfOk, Option};
+ghost use Rattle.league_core.specs.Sheets.{IsWithinLimits};
+ghost use Rattle.port_core.specs.Contents.{Contents};
+ghost use Rattle.port_core.specs.Reading.{LeavesReading, PassesTo, TakesInput, contents_to_come, given_by};
+ghost use Rattle.fixture_sheet.specs.Calls.{CountsSheet, GivesSheet, Leads, PassesUpTo, ReadsSheet, StepMoves, StepReads, answer_behind};
+ghost use Rattle.fixture_sheet.specs.Sheets.{fault_at_end};
+
+use crate::draft::Draft;
+use crate::fault::{RecordStop, SheetFault, SheetStop};
+use crate::record::{Progress, take_content};
+use league_core::Sheet;
+use port_core::{Line, LineReader, Source};
+use std::alloc::Global;
+
+/// Reads up to and with the record `season`. Behind an answer the reader stands at the next line:
+/// the feed's first one, or the one behind the refused line. Each stop lets the sheet so far go, a
+/// read fault too: a later call begins a new sheet with the lines that are left.
+pub fn read_sheet<S: Source>(
+    alloc: Global,
+    reader: &mut LineReader,
+    source: &mut S,
+) -> Result<Sheet, SheetStop>
+    // Where the source tells its bytes: what was still to come, and what is.
+    ensures reads { ReadsSheet (contents_to_come reader.old (S.left source.old))
+        (contents_to_come reader.new (S.left source.new)) result }
+    ensures limits { IfOk result IsWithinLimits }
+
+    // Which lines of the input were passed, whole, and where the reader is left. At a refusal of
+    // the input's end nothing is left of the source; at a read fault no whole line is in hand.
+    ensures passes { PassesUpTo reader.old reader.new (S.left source.old) (S.left source.new)
+        (answer_behind reader.new result) }
+    ensures leaves { LeavesReading reader.new (S.left source.new)
+        (answer_behind reader.new result) }
+    ensures takes { TakesInput reader.old reader.new (S.left source.old) (S.left source.new) }
+    ensures cause { CountsSheet (S.faults source.old) (S.faults source.new) result }
+{
+    let mut draft = None;
+    'records: loop {
+        match next_record(alloc, reader, source, draft) {
+            Ok(Progress::SoFar(next)) => draft = next,
+            Ok(Progress::Whole(sheet)) => return Ok(sheet),
+            Err(stop) => return Err(stop),
+        }
+    }
+}
+
+// Takes the next content, or the end.
+fn next_record<S: Source>(
+    alloc: Global,
+    reader: &mut LineReader,
+    source: &mut S,
+    draft: Option<Draft>,
+) -> Result<Progress, SheetStop>
+    ensures reads { (start : Option Contents)
+        → Leads start (contents_to_come reader.old (S.left source.old)) draft
+        → StepReads start (contents_to_come reader.new (S.left source.new)) result }
+    ensures moves { StepMoves reader.old reader.new result }
+    ensures limits { GivesSheet result }
+    ensures passes { PassesTo reader.old reader.new (S.left source.old) (S.left source.new)
+        (given_by (answer_behind reader.new result) reader.new.text) }
+    ensures leaves { LeavesReading reader.new (S.left source.new)
+        (answer_behind reader.new result) }
+    ensures takes { TakesInput reader.old reader.new (S.left source.old) (S.left source.new) }
+    ensures cause { CountsSheet (S.faults source.old) (S.faults source.new) result }
+{
+    match reader.next(source) {
+        Ok(Line::Text { number }) => match take_content(alloc, draft, reader.text()) {
+            Ok(progress) => Ok(progress),
+            Err(RecordStop::Fault(fault)) => Err(SheetStop::Fault { number, fault }),
+            Err(RecordStop::OutOfMemory) => Err(SheetStop::OutOfMemory),
+        },
+        Ok(Line::End { number }) => Err(SheetStop::Fault {
+            number,
+            fault: fault_at_end(&draft),
+        }),
+        Err(stop) => Err(SheetStop::Read(stop)),
+    }
+}
+
+/// Why a sheet is refused whose input ends here.
+pub fn fault_at_end(draft: &Option<Draft>) -> SheetFault
+    ensures { result ≡ fault_at_end draft.now }
+{
+    match draft {
+        None => SheetFault::NoLeague,
+        Some(_) => SheetFault::NoSeason,
+    }
+}

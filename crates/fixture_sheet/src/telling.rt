@@ -1,0 +1,76 @@
+//! What the tests read, written out: a sheet as its parts, a refusal as its line and code, a fault of
+//! the source as `!`, a line that is too long as `>` and its number. Behind it stands the next content
+//! with its number, or the end as `.` and its number.
+
+ghost use Rattle.std.specs.Prelude.{◌<◌};
+
+use crate::fault::SheetStop;
+use crate::reader::read_sheet;
+use league_core::Sheet;
+use port_core::{Line, LineReader, MemSource, ReadStop, Source};
+use std::alloc::Global;
+use std::io::Write;
+use std::test::Fail;
+
+/// What `read_sheet` answers to this input, and what comes behind it.
+pub fn told(alloc: Global, input: &[u8], piece: usize, fail: &[u64]) -> Result<Vec<u8>, Fail>
+    requires { 0 < piece }
+{
+    let bytes = Vec::from_slice(alloc, input)?;
+    let fail = Vec::from_slice(alloc, fail)?;
+    let mut source = MemSource::new(bytes, piece, fail);
+    let mut reader = LineReader::new(alloc)?;
+    let mut out = Vec::new(alloc);
+    match read_sheet(alloc, &mut reader, &mut source) {
+        Ok(sheet) => tell_sheet(&sheet, &mut out)?,
+        Err(stop) => tell_stop(stop, &mut out)?,
+    }
+    tell_next(&mut reader, &mut source, &mut out)?;
+    Ok(out)
+}
+
+fn tell_sheet(sheet: &Sheet, out: &mut Vec<u8>) -> Result<(), Fail> {
+    let (name, goals, budget) = (sheet.name.as_str(), sheet.goal_limit, sheet.budget);
+    write!(out, "{name} {goals} {budget}|")?;
+    for club in sheet.clubs.as_slice() {
+        let (name, rank) = (club.name.as_str(), club.rank);
+        write!(out, "{name} {rank};")?;
+    }
+    out.push(b'|')?;
+    for fixture in sheet.fixtures.as_slice() {
+        let (home, away) = (fixture.home, fixture.away);
+        write!(out, "{home}-{away};")?;
+    }
+    out.push(b'|')?;
+    for line in sheet.lines.as_slice() {
+        write!(out, "{line};")?;
+    }
+    Ok(())
+}
+
+fn tell_stop(stop: SheetStop, out: &mut Vec<u8>) -> Result<(), Fail> {
+    match stop {
+        SheetStop::Fault { number, fault } => write!(out, "{number},{fault}")?,
+        SheetStop::Read(ReadStop::ReadFault) => write!(out, "!")?,
+        SheetStop::Read(ReadStop::LineTooLong { number }) => write!(out, ">{number}")?,
+        SheetStop::Read(ReadStop::InputTooLong { number }) => write!(out, ">>{number}")?,
+        SheetStop::OutOfMemory => write!(out, "no memory")?,
+    }
+    Ok(())
+}
+
+fn tell_next<S: Source>(
+    reader: &mut LineReader,
+    source: &mut S,
+    out: &mut Vec<u8>,
+) -> Result<(), Fail> {
+    match reader.next(source) {
+        Ok(Line::Text { number }) => {
+            write!(out, " {number}:")?;
+            out.extend_from_slice(reader.text())?;
+        }
+        Ok(Line::End { number }) => write!(out, " .{number}")?,
+        Err(_) => write!(out, " !")?,
+    }
+    Ok(())
+}
