@@ -1,0 +1,176 @@
+-- Lemmas on what a call for the next entry reads.
+use Rattle.std.proofs.Common.{◌≡◌, ◌≤◌, ℕ, List, [], ◌∷◌, ◌++◌, Option, None, Some, option_map, IfSome, Result, Ok, Err, refl, sym, ap, ◌∙◌, arith, append_assoc}
+use Rattle.port_core.specs.declared.answers.ReadStop.{ReadStop}
+use Rattle.port_core.specs.declared.answers.ReadStop.TheVariants.{ReadFault, LineTooLong, InputTooLong}
+use Rattle.port_core.specs.Contents.{Contents, ended, with_line, with_lines}
+use Rattle.port_core.specs.Reading.{Reading as LineReading}
+use Rattle.result_log.specs.declared.entry.Entry.{Entry}
+use Rattle.result_log.specs.declared.entry.Entry.TheVariants.{Change, Ask, Proofs, End}
+use Rattle.result_log.specs.declared.fault.FeedStop.{FeedStop}
+use Rattle.result_log.specs.declared.fault.FeedStop.TheVariants.{Fault, Read, OutOfMemory}
+use Rattle.result_log.specs.Feeds.{reading_from, reading_of}
+use Rattle.result_log.specs.Calls.{AnswersLine, LineEntry, MovesToEntry, Passes, PassesLine, ReadsAs, ReadsEntry, ReadsRecord}
+
+-- ---- lines in front
+
+-- no line in front
+pub with_lines-none : (known : Option Contents) → known ≡ option_map (with_lines []) known
+with_lines-none None = refl
+with_lines-none (Some contents) = refl
+
+-- some lines and then others are all of them
+with_lines-append : (first second : List (ℕ × List ℕ)) (before mid after : Option Contents)
+    → before ≡ option_map (with_lines first) mid → mid ≡ option_map (with_lines second) after
+    → before ≡ option_map (with_lines (first ++ second)) after
+with_lines-append first second before mid None front behind =
+    front ∙ ap (option_map (with_lines first)) behind
+with_lines-append first second before mid (Some contents) front behind =
+    front ∙ ap (option_map (with_lines first)) behind
+    ∙ ap (λ (lines : List (ℕ × List ℕ)). Some (record { lines = lines; ending = contents.ending }))
+    (sym (append_assoc first second contents.lines))
+
+-- one line in front is a list of one
+with_line-one : (number : ℕ) (content : List ℕ) (known : Option Contents)
+    → option_map (with_line number content) known
+    ≡ option_map (with_lines ((number, content) ∷ [])) known
+with_line-one number content None = refl
+with_line-one number content (Some contents) = refl
+
+-- ---- lines that hold no record
+
+pub Passes-none : (entry : LineEntry) (known : Option Contents) → Passes entry known known
+Passes-none entry known = ([], with_lines-none known, λ rest. refl)
+
+-- a line that holds no record leaves the reading as it is
+reading-blank : (entry : LineEntry) (number : ℕ) (content : List ℕ) (rest : Contents)
+    → entry content ≡ Ok None
+    → reading_of entry (with_lines ((number, content) ∷ []) rest) ≡ reading_of entry rest
+reading-blank entry number content rest blank = rw blank refl
+
+-- lines that hold none, and more of them
+reading-append : (entry : LineEntry) (first second : List (ℕ × List ℕ))
+    → ((rest : Contents) → reading_of entry (with_lines first rest) ≡ reading_of entry rest)
+    → ((rest : Contents) → reading_of entry (with_lines second rest) ≡ reading_of entry rest)
+    → (rest : Contents)
+    → reading_of entry (with_lines (first ++ second) rest) ≡ reading_of entry rest
+reading-append entry first second front behind rest =
+    ap (λ (lines : List (ℕ × List ℕ)). reading_from entry lines rest.ending)
+    (append_assoc first second rest.lines)
+    ∙ front (with_lines second rest) ∙ behind rest
+
+pub Passes-append : (entry : LineEntry) (first mid last : Option Contents)
+    → Passes entry first mid → Passes entry mid last → Passes entry first last
+Passes-append entry first mid last front behind = (
+  front.0 ++ behind.0,
+  with_lines-append front.0 behind.0 first mid last front.1 behind.1,
+  reading-append entry front.0 behind.0 front.2 behind.2,
+)
+
+pub Passes-more : (entry : LineEntry) (first mid last : Option Contents)
+    → Passes entry first mid → PassesLine entry mid last → Passes entry first last
+Passes-more entry first mid last front line =
+    Passes-append entry first mid last front (
+      (line.0, line.1) ∷ [],
+      line.2 ∙ with_line-one line.0 line.1 last,
+      λ rest. reading-blank entry line.0 line.1 rest line.3,
+    )
+
+-- ---- an answer behind lines that hold no record
+
+reading-behind : (entry : LineEntry) (lines : List (ℕ × List ℕ)) (before mid : Option Contents)
+    → before ≡ option_map (with_lines lines) mid
+    → ((rest : Contents) → reading_of entry (with_lines lines rest) ≡ reading_of entry rest)
+    → option_map (reading_of entry) before ≡ option_map (reading_of entry) mid
+reading-behind entry lines before None front same = ap (option_map (reading_of entry)) front
+reading-behind entry lines before (Some contents) front same =
+    ap (option_map (reading_of entry)) front ∙ ap Some (same contents)
+
+ReadsAs-behind : (entry : LineEntry) (first mid last : Option Contents)
+    (result : Result Entry FeedStop) → Passes entry first mid → ReadsAs entry mid last result
+    → ReadsAs entry first last result
+ReadsAs-behind entry first mid last result passes reads =
+    reading-behind entry passes.0 first mid passes.1 passes.2 ∙ reads
+
+pub ReadsEntry-behind : (entry : LineEntry) (first mid last : Option Contents)
+    (result : Result Entry FeedStop) → Passes entry first mid → ReadsEntry entry mid last result
+    → ReadsEntry entry first last result
+ReadsEntry-behind entry first mid last (Ok given) passes reads =
+    ReadsAs-behind entry first mid last (Ok given) passes reads
+ReadsEntry-behind entry first mid last (Err (Fault number fault)) passes reads =
+    ReadsAs-behind entry first mid last (Err (Fault number fault)) passes reads
+ReadsEntry-behind entry first mid last (Err (Read ReadFault)) passes reads =
+    Passes-append entry first mid last passes reads
+ReadsEntry-behind entry first mid last (Err (Read (LineTooLong number))) passes reads =
+    ReadsAs-behind entry first mid last (Err (Read (LineTooLong number))) passes reads
+ReadsEntry-behind entry first mid last (Err (Read (InputTooLong number))) passes reads =
+    ReadsAs-behind entry first mid last (Err (Read (InputTooLong number))) passes reads
+ReadsEntry-behind entry first mid last (Err OutOfMemory) passes reads =
+    (passes.0 ++ reads.0, with_lines-append passes.0 reads.0 first mid last passes.1 reads.1)
+
+-- ---- one line
+
+-- a line whose entry gives this reading
+line-reads : (entry : LineEntry) (number : ℕ) (content : List ℕ) (before after : Option Contents)
+    (result : Result Entry FeedStop) → before ≡ option_map (with_line number content) after
+    → ((contents : Contents) → reading_of entry (with_line number content contents)
+    ≡ record { gives = result; rest = contents })
+    → ReadsAs entry before after result
+line-reads entry number content before None result front reads =
+    ap (option_map (reading_of entry)) front
+line-reads entry number content before (Some contents) result front reads =
+    ap (option_map (reading_of entry)) front ∙ ap Some (reads contents)
+
+-- what the content of a line is answers a call
+pub Text-reads : (entry : LineEntry) (number : ℕ) (content : List ℕ)
+    (before after : Option Contents)
+    (result : Option (Result Entry FeedStop)) → before ≡ option_map (with_line number content) after
+    → AnswersLine number (entry content) result → ReadsRecord entry before after result
+Text-reads entry number content before after None front answer = (number, content, front, answer)
+Text-reads entry number content before after (Some (Ok given)) front answer =
+    line-reads entry number content before after (Ok given) front (λ contents. rw answer refl)
+Text-reads entry number content before after (Some (Err (Fault refused fault))) front answer =
+    line-reads entry number content before after (Err (Fault refused fault)) front
+    (λ contents. rw (answer.1, answer.0) refl)
+Text-reads entry number content before after (Some (Err (Read stop))) front answer = absurd answer
+Text-reads entry number content before after (Some (Err OutOfMemory)) front answer =
+    ((number, content) ∷ [], front ∙ with_line-one number content after)
+
+-- an ending, where nothing else was left, answers a call
+ending-reads : (entry : LineEntry) (ending : Result ℕ ReadStop) (before after : Option Contents)
+    (result : Result Entry FeedStop) → IfSome before (λ contents. contents ≡ ended ending)
+    → before ≡ after
+    → reading_of entry (ended ending) ≡ record { gives = result; rest = ended ending }
+    → ReadsAs entry before after result
+ending-reads entry ending None after result is same reads =
+    ap (option_map (λ (rest : Contents). record { gives = result; rest = rest })) same
+ending-reads entry ending (Some contents) after result is same reads =
+    ap (λ (c : Contents). Some (reading_of entry c)) is ∙ ap Some reads
+    ∙ ap (λ (c : Contents). Some (record { gives = result; rest = c })) (sym is)
+    ∙ ap (option_map (λ (rest : Contents). record { gives = result; rest = rest })) same
+
+pub End-reads : (entry : LineEntry) (number : ℕ) (before after : Option Contents)
+    → IfSome before (λ contents. contents ≡ ended (Ok number)) → before ≡ after
+    → ReadsAs entry before after (Ok End)
+End-reads entry number before after is same =
+    ending-reads entry (Ok number) before after (Ok End) is same refl
+
+pub Stop-reads : (entry : LineEntry) (stop : ReadStop) (before after : Option Contents)
+    → IfSome before (λ contents. contents ≡ ended (Err stop)) → before ≡ after
+    → ReadsAs entry before after (Err (Read stop))
+Stop-reads entry stop before after is same =
+    ending-reads entry (Err stop) before after (Err (Read stop)) is same refl
+
+-- ---- progress, and faults
+
+-- a reader that had passed bytes before passes more
+pub MovesToEntry-from : (first old new : LineReading) (result : Result Entry FeedStop)
+    → first.place.bytes ≤ old.place.bytes → MovesToEntry old new result
+    → MovesToEntry first new result
+MovesToEntry-from first old new (Ok (Change event)) before moves =
+    let (more, room) = moves in (omega arith, room)
+MovesToEntry-from first old new (Ok Ask) before moves =
+    let (more, room) = moves in (omega arith, room)
+MovesToEntry-from first old new (Ok Proofs) before moves =
+    let (more, room) = moves in (omega arith, room)
+MovesToEntry-from first old new (Ok End) before moves = tt
+MovesToEntry-from first old new (Err stop) before moves = tt

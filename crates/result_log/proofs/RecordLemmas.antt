@@ -1,0 +1,194 @@
+-- Lemmas on records: what is known of one that no test refuses.
+use Rattle.std.proofs.Common.{◌≡◌, ◌<◌, ◌≤◌, ℕ, Bool, true, false, not, ◌&&◌, ◌==◌, nat_le, List, [], ◌∷◌, length, Option, None, Some, is_some, option_and_then, if◌then◌else◌, bytes_eq, codes, Result, Ok, Err, IfOk, refl, sym, ap, subst, ◌∙◌, arith}
+use Rattle.std.specs.Str.Parse.{digits_value}
+use Rattle.std.proofs.lemmas.Bool.{and_parts, leb-true, leb-false, le-leb, not-false, and_from}
+use Rattle.league_core.specs.declared.sheet.Sheet.{Sheet}
+use Rattle.league_core.specs.Results.{Results, is_score}
+use Rattle.league_core.specs.Seasons.{IsSeasonOf}
+use Rattle.fixture_sheet.specs.Fields.{field}
+use Rattle.fixture_sheet.specs.Texts.{only_if, if_within, is_number}
+use Rattle.result_log.specs.declared.entry.Entry.{Entry}
+use Rattle.result_log.specs.declared.entry.Entry.TheVariants.{End}
+use Rattle.result_log.specs.declared.kind.Kind.{Kind}
+use Rattle.result_log.specs.declared.kind.Kind.TheVariants as kinds
+use Rattle.result_log.specs.declared.fault.FeedFault.{FeedFault}
+use Rattle.result_log.specs.declared.fault.FeedFault.TheVariants.{WrongWidth, UnknownFixture, BadGoals, AlreadyPlayed, NotPlayed, LogFull}
+use Rattle.result_log.specs.Records.{IsEntryAt, entry_by, entry_of, entry_told, event_limit, fixture_told, has_fixture, has_goals, has_result, has_score, is_event, is_for_played, is_for_unplayed, is_within, kind_of, score_told, tests_of, told_unless, width_of}
+
+-- ---- ranges
+
+in_range : (least most number : ℕ) (test : Bool)
+    → test ≡ (nat_le least number && nat_le number most)
+    → is_some (only_if test number) ≡ true → (least ≤ number) × (number ≤ most)
+in_range least most number false is some = cc
+in_range least most number true is some =
+    let parts = and_parts (nat_le least number) (nat_le number most) (sym is) in
+    (leb-true _ _ parts.0, leb-true _ _ parts.1)
+
+number_in_range : (least most number : ℕ) (digits : Bool)
+    → is_some (option_and_then (if_within least most) (only_if digits number)) ≡ true
+    → (least ≤ number) × (number ≤ most)
+number_in_range least most number false some = cc
+number_in_range least most number true some =
+    in_range least most number (nat_le least number && nat_le number most) refl some
+
+-- a field that is in a range writes a number there
+pub range-within : (least most : ℕ) (text : List ℕ) → is_within least most text ≡ true
+    → (least ≤ digits_value 10 text) × (digits_value 10 text ≤ most)
+range-within least most text within =
+    number_in_range least most (digits_value 10 text) (is_number text) within
+
+-- a fixture of the sheet
+fixture-within : (sheet : Sheet) (fields : List (List ℕ)) → has_fixture sheet fields ≡ true
+    → fixture_told fields < length sheet.fixtures
+fixture-within sheet fields has =
+    let range = range-within 1 (length sheet.fixtures) (field 1 fields) has in
+    omega (arith, range.0, range.1)
+
+-- a score that may be
+score-within : (fields : List (List ℕ)) → has_goals fields ≡ true
+    → is_score (score_told fields) ≡ true
+score-within fields has =
+    let parts = and_parts (is_within 0 99 (field 2 fields)) (is_within 0 99 (field 3 fields)) has in
+    and_from _ _ (le-leb _ _ (range-within 0 99 (field 2 fields) parts.0).1)
+    (le-leb _ _ (range-within 0 99 (field 3 fields) parts.1).1)
+
+-- ---- the tests
+
+-- a value that is given passed each test
+passed : {A : Type 0} (a b c d e f : Bool) (fa fb fc fd fe ff : FeedFault) (value given : A)
+    → told_unless ((a, fa) ∷ (b, fb) ∷ (c, fc) ∷ (d, fd) ∷ (e, fe) ∷ (f, ff) ∷ []) value ≡ Ok given
+    → (b ≡ false) × (c ≡ false) × (f ≡ false) × (value ≡ given)
+passed true b c d e f fa fb fc fd fe ff value given told = cc
+passed false true c d e f fa fb fc fd fe ff value given told = cc
+passed false false true d e f fa fb fc fd fe ff value given told = cc
+passed false false false true e f fa fb fc fd fe ff value given told = cc
+passed false false false false true f fa fb fc fd fe ff value given told = cc
+passed false false false false false true fa fb fc fd fe ff value given told = cc
+passed false false false false false false fa fb fc fd fe ff value given told =
+    (refl, refl, refl, cc)
+
+-- what is known of a record of a kind that is an entry
+told_as : (sheet : Sheet) (season : Results) (events : ℕ) (fields : List (List ℕ)) (kind : Kind)
+    (entry : Entry)
+    → told_unless (tests_of sheet season events fields kind) (entry_told fields kind) ≡ Ok entry
+    → ((is_event kind && not (has_fixture sheet fields)) ≡ false)
+    × ((has_score kind && not (has_goals fields)) ≡ false)
+    × ((is_event kind && nat_le event_limit events) ≡ false)
+    × (entry_told fields kind ≡ entry)
+told_as sheet season events fields kind entry told =
+    passed (not (length fields == width_of kind)) (is_event kind && not (has_fixture sheet fields))
+    (has_score kind && not (has_goals fields))
+    (is_for_unplayed kind && has_result season (fixture_told fields))
+    (is_for_played kind && not (has_result season (fixture_told fields)))
+    (is_event kind && nat_le event_limit events)
+    WrongWidth UnknownFixture BadGoals AlreadyPlayed NotPlayed LogFull
+    (entry_told fields kind) entry told
+
+-- the fixture of a record is one of the season's
+fixture_of_season : (sheet : Sheet) (season : Results) (fields : List (List ℕ))
+    → IsSeasonOf sheet season → not (has_fixture sheet fields) ≡ false
+    → fixture_told fields < length season.scores
+fixture_of_season sheet season fields of_sheet has =
+    let inside = fixture-within sheet fields (not-false _ has) in
+    let same = of_sheet.scores in
+    omega arith
+
+-- a record of a kind that is an entry may come
+may_come : (sheet : Sheet) (season : Results) (events : ℕ) (proofs : Bool)
+    (fields : List (List ℕ)) (kind : Kind) (entry : Entry) → IsSeasonOf sheet season
+    → (kind ≡ kinds.Proofs → proofs ≡ true)
+    → told_unless (tests_of sheet season events fields kind) (entry_told fields kind) ≡ Ok entry
+    → IsEntryAt season events proofs entry
+may_come sheet season events proofs fields kinds.Result entry of_sheet allowed told =
+    let known = told_as sheet season events fields kinds.Result entry told in
+    subst (IsEntryAt season events proofs) known.3 (
+      (
+        fixture_of_season sheet season fields of_sheet known.0,
+        score-within fields (not-false _ known.1),
+      ),
+      leb-false _ _ known.2,
+    )
+may_come sheet season events proofs fields kinds.Fix entry of_sheet allowed told =
+    let known = told_as sheet season events fields kinds.Fix entry told in
+    subst (IsEntryAt season events proofs) known.3 (
+      (
+        fixture_of_season sheet season fields of_sheet known.0,
+        score-within fields (not-false _ known.1),
+      ),
+      leb-false _ _ known.2,
+    )
+may_come sheet season events proofs fields kinds.Void entry of_sheet allowed told =
+    let known = told_as sheet season events fields kinds.Void entry told in
+    subst (IsEntryAt season events proofs) known.3
+    (fixture_of_season sheet season fields of_sheet known.0, leb-false _ _ known.2)
+may_come sheet season events proofs fields kinds.Ask entry of_sheet allowed told =
+    let known = told_as sheet season events fields kinds.Ask entry told in
+    subst (IsEntryAt season events proofs) known.3 tt
+may_come sheet season events proofs fields kinds.Proofs entry of_sheet allowed told =
+    let known = told_as sheet season events fields kinds.Proofs entry told in
+    subst (IsEntryAt season events proofs) known.3 (allowed refl)
+
+-- `proofs` is a record only where proofs may follow
+proofs_allowed : (a b c d e proofs : Bool)
+    → (if a then Some kinds.Result else if b then Some kinds.Fix else if c then Some kinds.Void
+    else if d then Some kinds.Ask else if e && proofs then Some kinds.Proofs else None)
+    ≡ Some kinds.Proofs → proofs ≡ true
+proofs_allowed true b c d e proofs is = cc
+proofs_allowed false true c d e proofs is = cc
+proofs_allowed false false true d e proofs is = cc
+proofs_allowed false false false true e proofs is = cc
+proofs_allowed false false false false false proofs is = cc
+proofs_allowed false false false false true true is = refl
+proofs_allowed false false false false true false is = cc
+
+-- an entry that a record is may come
+pub entry_may_come : (sheet : Sheet) (season : Results) (events : ℕ) (proofs : Bool)
+    (fields : List (List ℕ)) (entry : Entry) → IsSeasonOf sheet season
+    → entry_of sheet season events proofs fields ≡ Ok entry → IsEntryAt season events proofs entry
+entry_may_come sheet season events proofs fields entry of_sheet told =
+    by_kind (kind_of proofs (field 0 fields)) refl told
+  where
+    by_kind : (found : Option Kind) → kind_of proofs (field 0 fields) ≡ found
+        → entry_by sheet season events fields found ≡ Ok entry
+        → IsEntryAt season events proofs entry
+    by_kind None is told = cc
+    by_kind (Some kind) is told =
+        may_come sheet season events proofs fields kind entry of_sheet
+        (λ proved. proofs_allowed (bytes_eq (field 0 fields) (codes "result"))
+        (bytes_eq (field 0 fields) (codes "fix")) (bytes_eq (field 0 fields) (codes "void"))
+        (bytes_eq (field 0 fields) (codes "ask"))
+        (bytes_eq (field 0 fields) (codes "proofs")) proofs
+        (is ∙ ap Some proved)) told
+
+-- no record is the end of the input
+pub entry_is_no_end : (sheet : Sheet) (season : Results) (events : ℕ) (proofs : Bool)
+    (fields : List (List ℕ)) → entry_of sheet season events proofs fields ≡ Ok End → ⊥
+entry_is_no_end sheet season events proofs fields told =
+    by_kind (kind_of proofs (field 0 fields)) told
+  where
+    no_end : (kind : Kind) → entry_told fields kind ≡ End → ⊥
+    no_end kinds.Result is = cc
+    no_end kinds.Fix is = cc
+    no_end kinds.Void is = cc
+    no_end kinds.Ask is = cc
+    no_end kinds.Proofs is = cc
+
+    by_kind : (found : Option Kind) → entry_by sheet season events fields found ≡ Ok End → ⊥
+    by_kind None told = cc
+    by_kind (Some kind) told = no_end kind (told_as sheet season events fields kind End told).3
+
+-- the same of what a call answers
+pub answer_may_come : (sheet : Sheet) (season : Results) (events : ℕ) (proofs : Bool)
+    (fields : List (List ℕ)) (result : Result Entry FeedFault) → IsSeasonOf sheet season
+    → result ≡ entry_of sheet season events proofs fields
+    → IfOk result (λ entry. IsEntryAt season events proofs entry)
+answer_may_come sheet season events proofs fields (Ok entry) of_sheet is =
+    entry_may_come sheet season events proofs fields entry of_sheet (sym is)
+answer_may_come sheet season events proofs fields (Err fault) of_sheet is = tt
+
+pub answer_is_no_end : (sheet : Sheet) (season : Results) (events : ℕ) (proofs : Bool)
+    (fields : List (List ℕ)) (result : Result Entry FeedFault)
+    → result ≡ entry_of sheet season events proofs fields → result ≡ Ok End → ⊥
+answer_is_no_end sheet season events proofs fields result is end =
+    entry_is_no_end sheet season events proofs fields (sym is ∙ end)

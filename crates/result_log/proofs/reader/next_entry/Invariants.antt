@@ -1,0 +1,24 @@
+use Rattle.std.proofs.Common.{◌-◌, ◌≤◌}
+use Rattle.port_core.specs.Contents.{input_limit}
+use Rattle.port_core.specs.Reading.{TakesInput, contents_to_come}
+use Rattle.fixture_sheet.specs.Calls.{PassesLines}
+use Rattle.result_log.specs.Calls.{Passes}
+use Rattle.result_log.specs.Feeds.{entry_in}
+use Rattle.result_log.proofs.reader.next_entry.Given as goal
+
+-- the lines so far held no record, and they were passed whole
+abbrev pub invariant-records : goal.invariant-records
+invariant-records g l = record {
+  reads : Passes (entry_in l.sheet l.season l.events l.proofs)
+      (contents_to_come l.fn.reader (g.S.Source.left l.fn.source))
+      (contents_to_come l.reader (g.S.Source.left l.source));
+  passes : PassesLines l.fn.reader l.reader (g.S.Source.left l.fn.source)
+      (g.S.Source.left l.source);
+  takes : TakesInput l.fn.reader l.reader (g.S.Source.left l.fn.source) (g.S.Source.left l.source);
+  passed : l.fn.reader.place.bytes ≤ l.reader.place.bytes;
+  counts : g.S.Source.faults l.fn.source ≤ g.S.Source.faults l.source;
+}
+
+-- the bytes that may still be passed
+abbrev pub decreases-records : goal.decreases-records
+decreases-records g l = input_limit - l.reader.place.bytes

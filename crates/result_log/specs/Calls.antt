@@ -1,0 +1,131 @@
+-- What the calls answer.
+use Rattle.std.specs.Prelude.{◌≡◌, ◌<◌, ◌≤◌, ℕ, List, Option, None, Some, option_map, Result, Ok, Err}
+use Rattle.port_core.specs.declared.answers.Line.{Line}
+use Rattle.port_core.specs.declared.answers.Line.TheVariants as line
+use Rattle.port_core.specs.declared.answers.ReadStop.{ReadStop}
+use Rattle.port_core.specs.declared.answers.ReadStop.TheVariants.{ReadFault, LineTooLong, InputTooLong}
+use Rattle.port_core.specs.Contents.{Contents, with_line, with_lines, input_limit, number_at}
+use Rattle.port_core.specs.Reading.{Reading as LineReading}
+use Rattle.port_core.specs.Ports.{Rose}
+use Rattle.fixture_sheet.specs.Calls.{TakesLines}
+use Rattle.result_log.specs.declared.entry.Entry.{Entry}
+use Rattle.result_log.specs.declared.entry.Entry.TheVariants.{Change, Ask, Proofs, End}
+use Rattle.result_log.specs.declared.fault.FeedFault.{FeedFault}
+use Rattle.result_log.specs.declared.fault.ContentStop.{ContentStop}
+use Rattle.result_log.specs.declared.fault.ContentStop.TheVariants as content_stop
+use Rattle.result_log.specs.declared.fault.FeedStop.{FeedStop}
+use Rattle.result_log.specs.declared.fault.FeedStop.TheVariants.{Fault, Read, OutOfMemory}
+use Rattle.result_log.specs.Feeds.{reading_of}
+
+-- what a line's content is as an entry
+abbrev pub LineEntry : Type 0
+LineEntry = List ℕ → Result (Option Entry) FeedFault
+
+-- ---- one line
+
+-- the answer is what the content is, or memory ran out
+abbrev pub AnswersContent :
+    Result (Option Entry) FeedFault → Result (Option Entry) ContentStop → Type 0
+AnswersContent wanted (Ok found) = wanted ≡ Ok found
+AnswersContent wanted (Err (content_stop.Fault fault)) = wanted ≡ Err fault
+AnswersContent wanted (Err content_stop.OutOfMemory) = Unit {0}
+
+-- the same of the line of this number: without an answer no field is left of it
+abbrev pub AnswersLine :
+    ℕ → Result (Option Entry) FeedFault → Option (Result Entry FeedStop) → Type 0
+AnswersLine number line None = line ≡ Ok None
+AnswersLine number line (Some (Ok entry)) = line ≡ Ok (Some entry)
+AnswersLine number line (Some (Err (Fault refused fault))) =
+    (refused ≡ number) × (line ≡ Err fault)
+AnswersLine number line (Some (Err (Read stop))) = ⊥
+AnswersLine number line (Some (Err OutOfMemory)) = Unit {0}
+
+-- a line was read that holds no record
+abbrev pub PassesLine : LineEntry → Option Contents → Option Contents → Type 0
+PassesLine entry before after =
+    (number : ℕ) × (content : List ℕ)
+    × (before ≡ option_map (with_line number content) after) × (entry content ≡ Ok None)
+
+-- the contents, where they are told, are read as the definition says
+abbrev pub ReadsAs :
+    LineEntry → Option Contents → Option Contents → Result Entry FeedStop → Type 0
+ReadsAs entry before after result =
+    option_map (reading_of entry) before
+    ≡ option_map (λ rest. record { gives = result; rest = rest }) after
+
+-- ---- the lines up to a record
+
+-- lines were read that hold no record
+abbrev pub Passes : LineEntry → Option Contents → Option Contents → Type 0
+Passes entry before after =
+    (lines : List (ℕ × List ℕ)) × (before ≡ option_map (with_lines lines) after)
+    × ((rest : Contents) → reading_of entry (with_lines lines rest) ≡ reading_of entry rest)
+
+-- the contents that were to come before the call and are to come after it, by its answer: an
+-- entry, a refusal and a stop for good come as the definition says; before a fault of the source
+-- no record came; want of memory may come behind any line
+abbrev pub ReadsEntry :
+    LineEntry → Option Contents → Option Contents → Result Entry FeedStop → Type 0
+ReadsEntry entry before after (Ok given) = ReadsAs entry before after (Ok given)
+ReadsEntry entry before after (Err (Fault number fault)) =
+    ReadsAs entry before after (Err (Fault number fault))
+ReadsEntry entry before after (Err (Read ReadFault)) = Passes entry before after
+ReadsEntry entry before after (Err (Read (LineTooLong number))) =
+    ReadsAs entry before after (Err (Read (LineTooLong number)))
+ReadsEntry entry before after (Err (Read (InputTooLong number))) =
+    ReadsAs entry before after (Err (Read (InputTooLong number)))
+ReadsEntry entry before after (Err OutOfMemory) = TakesLines before after
+
+-- the same of one line: without an answer it holds no record
+abbrev pub ReadsRecord :
+    LineEntry → Option Contents → Option Contents → Option (Result Entry FeedStop) → Type 0
+ReadsRecord entry before after None = PassesLine entry before after
+ReadsRecord entry before after (Some result) = ReadsEntry entry before after result
+
+-- ---- the lines passed, and where the reader is left
+
+-- the reader's answer that an entry or its want came of: the line passed last, which a refusal has
+-- the number of, the input's end, or a stop
+abbrev pub answer_behind : LineReading → Result Entry FeedStop → Result Line ReadStop
+answer_behind new (Ok (Change event)) = Ok (line.Text new.place.lines)
+answer_behind new (Ok Ask) = Ok (line.Text new.place.lines)
+answer_behind new (Ok Proofs) = Ok (line.Text new.place.lines)
+answer_behind new (Ok End) = Ok (line.End (number_at new.place))
+answer_behind new (Err (Fault number fault)) = Ok (line.Text number)
+answer_behind new (Err (Read stop)) = Err stop
+answer_behind new (Err OutOfMemory) = Ok (line.Text new.place.lines)
+
+-- the same of one line: without an answer it is passed
+abbrev pub answer_there : LineReading → Option (Result Entry FeedStop) → Result Line ReadStop
+answer_there new None = Ok (line.Text new.place.lines)
+answer_there new (Some result) = answer_behind new result
+
+-- ---- progress, and faults
+
+-- a reader passed bytes, and none past the input's limit
+abbrev pub PassesBytes : LineReading → LineReading → Type 0
+PassesBytes old new = (old.place.bytes < new.place.bytes) × (new.place.bytes ≤ input_limit)
+
+-- behind a record the reader has passed more bytes than before, so that a feed ends
+abbrev pub MovesToEntry : LineReading → LineReading → Result Entry FeedStop → Type 0
+MovesToEntry old new (Ok (Change event)) = PassesBytes old new
+MovesToEntry old new (Ok Ask) = PassesBytes old new
+MovesToEntry old new (Ok Proofs) = PassesBytes old new
+MovesToEntry old new (Ok End) = Unit {0}
+MovesToEntry old new (Err stop) = Unit {0}
+
+-- the same of one line
+abbrev pub MovesToRecord :
+    LineReading → LineReading → Option (Result Entry FeedStop) → Type 0
+MovesToRecord old new None = PassesBytes old new
+MovesToRecord old new (Some result) = MovesToEntry old new result
+
+-- a fault of the source is answered only where its count rose, and that count never falls
+abbrev pub CountsEntry : ℕ → ℕ → Result Entry FeedStop → Type 0
+CountsEntry before now (Err (Read ReadFault)) = Rose before now
+CountsEntry before now _ = before ≤ now
+
+-- the same of one line
+abbrev pub CountsRecord : ℕ → ℕ → Option (Result Entry FeedStop) → Type 0
+CountsRecord before now None = before ≤ now
+CountsRecord before now (Some result) = CountsEntry before now result

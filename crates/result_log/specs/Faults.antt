@@ -1,0 +1,14 @@
+-- Why a record of the feed is refused, and the words for it.
+use Rattle.std.specs.Prelude.{ℕ, List, codes}
+use Rattle.result_log.specs.declared.fault.FeedFault.{FeedFault}
+use Rattle.result_log.specs.declared.fault.FeedFault.TheVariants.{UnknownRecord, WrongWidth, UnknownFixture, BadGoals, AlreadyPlayed, NotPlayed, LogFull}
+
+-- the code that a refusal is printed by
+abbrev pub code_of : FeedFault → List ℕ
+code_of UnknownRecord = codes "unknown_record"
+code_of WrongWidth = codes "wrong_width"
+code_of UnknownFixture = codes "unknown_fixture"
+code_of BadGoals = codes "bad_goals"
+code_of AlreadyPlayed = codes "already_played"
+code_of NotPlayed = codes "not_played"
+code_of LogFull = codes "log_full"

@@ -1,0 +1,109 @@
+-- What holds of every feed, by the definitions alone: each statement is the contract of a
+-- function of src/laws.rt that does nothing.
+use Rattle.std.specs.Prelude.{◌≡◌, ◌≢◌, ◌≤◌, ℕ, Bool, IsTrue, List, ◌∷◌, [], ◌++◌, Result, Ok, Err}
+use Rattle.league_core.specs.declared.sheet.Sheet.{Sheet}
+use Rattle.league_core.specs.declared.season.Event.{Event}
+use Rattle.league_core.specs.Results.{Results, are_results}
+use Rattle.league_core.specs.Seasons.{AreEventsOf, IsEventOf, IsSeasonOf, epoch_of, event_applied, season_after}
+use Rattle.port_core.specs.Contents.{Contents}
+use Rattle.result_log.specs.declared.entry.Entry.{Entry}
+use Rattle.result_log.specs.declared.entry.Entry.TheVariants.{Change, Ask, Proofs, End}
+use Rattle.result_log.specs.declared.fault.FeedStop.{FeedStop}
+use Rattle.result_log.specs.Records.{IsEntryAt, entry_of, event_limit}
+use Rattle.result_log.specs.Feeds.{Feed, closed, count_with, entry_in, events_behind, events_with, feed_of, reading_of, season_with, with_entry}
+
+-- ---- one entry
+
+-- an entry that a record is may come in its season: its event is one that the season may be told
+abbrev pub EntriesMayCome : Type 0
+EntriesMayCome =
+    (sheet : Sheet) (season : Results) (events : ℕ) (proofs : Bool) (fields : List (List ℕ))
+    (entry : Entry) → IsSeasonOf sheet season
+    → entry_of sheet season events proofs fields ≡ Ok entry → IsEntryAt season events proofs entry
+
+-- no record is the end of the input
+abbrev pub NoRecordIsTheEnd : Type 0
+NoRecordIsTheEnd =
+    (sheet : Sheet) (season : Results) (events : ℕ) (proofs : Bool) (fields : List (List ℕ))
+    → entry_of sheet season events proofs fields ≢ Ok End
+
+-- the same of the next entry of contents
+abbrev pub ReadingsMayCome : Type 0
+ReadingsMayCome =
+    (sheet : Sheet) (season : Results) (events : ℕ) (proofs : Bool) (contents : Contents)
+    (entry : Entry) → IsSeasonOf sheet season
+    → (reading_of (entry_in sheet season events proofs) contents).gives ≡ Ok entry
+    → IsEntryAt season events proofs entry
+
+-- ---- the season behind an event
+
+-- a season of the sheet stays one
+abbrev pub EventsKeepTheSheet : Type 0
+EventsKeepTheSheet =
+    (sheet : Sheet) (season : Results) (event : Event) → IsSeasonOf sheet season
+    → IsSeasonOf sheet (event_applied season event)
+
+-- its scores and deductions are again at most 99
+abbrev pub EventsKeepResults : Type 0
+EventsKeepResults =
+    (season : Results) (event : Event) → IsTrue (are_results season) → IsEventOf season event
+    → IsTrue (are_results (event_applied season event))
+
+-- an event that the season of some events may be told is one more event of the sheet
+abbrev pub EventsAreOfTheSheet : Type 0
+EventsAreOfTheSheet =
+    (sheet : Sheet) (events : List Event) (event : Event) → AreEventsOf sheet events
+    → IsEventOf (season_after sheet events) event → AreEventsOf sheet (events ++ event ∷ [])
+
+-- ---- the whole feed
+
+-- what a feed is by the reading of its first entry
+abbrev pub feed_behind : Sheet → Bool → List Event → Contents → Result Entry FeedStop → Feed
+feed_behind sheet proofs events rest (Ok (Change event)) =
+    with_entry (Change event) (feed_of sheet proofs rest (events ++ event ∷ []))
+feed_behind sheet proofs events rest (Ok Ask) = with_entry Ask (feed_of sheet proofs rest events)
+feed_behind sheet proofs events rest (Ok Proofs) = closed (Ok Proofs) rest
+feed_behind sheet proofs events rest (Ok End) = closed (Ok End) rest
+feed_behind sheet proofs events rest (Err stop) = closed (Err stop) rest
+
+-- the first entry of a feed is the next entry of its contents, read in the season of the events
+-- before it, and the rest of it is the feed of the contents behind that entry
+abbrev pub FeedsAreReadByEntries : Type 0
+FeedsAreReadByEntries =
+    (sheet : Sheet) (proofs : Bool) (contents : Contents) (events : List Event)
+    → let next = reading_of (entry_in sheet (season_after sheet events) (epoch_of events) proofs)
+    contents in
+    feed_of sheet proofs contents events
+    ≡ feed_behind sheet proofs events next.rest next.gives
+
+-- season and number of events grow with each entry
+abbrev pub SeasonsGrowByEntries : Type 0
+SeasonsGrowByEntries =
+    (sheet : Sheet) (events : List Event) (entry : Entry)
+    → (season_after sheet (events_with events entry)
+    ≡ season_with (season_after sheet events) entry)
+    × (epoch_of (events_with events entry) ≡ count_with (epoch_of events) entry)
+
+-- these events and those of a feed behind them are events of the sheet, and not more than may be
+abbrev pub KeepsLog : Sheet → List Event → Feed → Type 0
+KeepsLog sheet events feed =
+    AreEventsOf sheet (events_behind events feed.entries)
+    × (epoch_of (events_behind events feed.entries) ≤ event_limit)
+
+-- a feed's events are events of the sheet, and never more than may be
+abbrev pub FeedsKeepTheLog : Type 0
+FeedsKeepTheLog =
+    (sheet : Sheet) (proofs : Bool) (contents : Contents) (events : List Event)
+    → AreEventsOf sheet events → epoch_of events ≤ event_limit
+    → KeepsLog sheet events (feed_of sheet proofs contents events)
+
+-- the season of any events is a season of the sheet
+abbrev pub LogsAreOfTheSheet : Type 0
+LogsAreOfTheSheet =
+    (sheet : Sheet) (events : List Event) → IsSeasonOf sheet (season_after sheet events)
+
+-- the season of events of the sheet has scores and deductions that may be
+abbrev pub LogsGiveResults : Type 0
+LogsGiveResults =
+    (sheet : Sheet) (events : List Event) → AreEventsOf sheet events
+    → IsTrue (are_results (season_after sheet events))

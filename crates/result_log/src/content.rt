@@ -1,0 +1,45 @@
+//! The entry of one line.
+
+ghost use Rattle.std.specs.Prelude.{◌≤◌, IfOk, IfSome, length};
+ghost use Rattle.league_core.specs.Seasons.{IsSeasonOf};
+ghost use Rattle.result_log.specs.Calls.{AnswersContent};
+ghost use Rattle.result_log.specs.Feeds.{entry_in};
+ghost use Rattle.result_log.specs.Records.{IsEntryAt};
+
+use crate::entry::Entry;
+use crate::fault::{ContentStop, FeedFault};
+use crate::record::read_event;
+use fixture_sheet::{FieldsStop, fields_of};
+use league_core::{Season, Sheet};
+use std::alloc::Global;
+
+/// The entry that the content of a line is, none where no field is left of it, or the first
+/// refusal.
+///
+/// `events` is how many events came before, and `season` is the season after them; `proofs` is
+/// whether proofs may follow the feed.
+pub fn read_content(
+    alloc: Global,
+    sheet: &Sheet,
+    season: &Season,
+    events: u64,
+    proofs: bool,
+    content: &[u8],
+) -> Result<Option<Entry>, ContentStop>
+    requires of_sheet { IsSeasonOf sheet.now season.now }
+    requires numbers { length sheet.now.fixtures ≤ 65535 }
+    ensures answer { AnswersContent (entry_in sheet.now season.now events proofs content.now)
+        result }
+    ensures told { IfOk result (λ found. IfSome found (λ entry.
+        IsEntryAt season.now events proofs entry)) }
+{
+    match fields_of(alloc, content) {
+        Ok(Some(fields)) => match read_event(sheet, season, events, &fields, proofs) {
+            Ok(entry) => Ok(Some(entry)),
+            Err(fault) => Err(ContentStop::Fault(fault)),
+        },
+        Ok(None) => Ok(None),
+        Err(FieldsStop::InnerReturn) => Err(ContentStop::Fault(FeedFault::UnknownRecord)),
+        Err(FieldsStop::OutOfMemory) => Err(ContentStop::OutOfMemory),
+    }
+}

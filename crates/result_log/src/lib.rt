@@ -1,0 +1,30 @@
+//! Reads a league's feed: results, corrections, annulments and asks, one entry a call.
+//!
+//!     line  ── fields ──>  record  ── season of the events before it ──>  entry, or a refusal
+//!
+//! What a record tells, and why it is refused, stands in `specs/Records.antt`; what a whole feed
+//! is, in `specs/Feeds.antt`. Read them in this order.
+#![tactic(auto)]
+
+mod content;
+mod entry;
+mod fault;
+#[cfg(test)]
+mod feed_tests;
+mod kind;
+mod laws;
+#[cfg(test)]
+mod limit_tests;
+mod reader;
+mod record;
+#[cfg(test)]
+mod record_tests;
+#[cfg(test)]
+mod telling;
+
+pub use content::read_content;
+pub use entry::Entry;
+pub use fault::{ContentStop, FeedFault, FeedStop};
+pub use laws::{a_feed_is_read_entry_by_entry, events_told_may_be_applied};
+pub use reader::next_entry;
+pub use record::{EVENT_LIMIT, read_event};

@@ -1,0 +1,88 @@
+//! Records behind as many events as a feed may have, in a league of two matches of which the
+//! first has ended 2:1.
+
+use crate::entry::Entry;
+use crate::record::{EVENT_LIMIT, read_event};
+use crate::telling::{is_of, tell_event};
+use fixture_sheet::{fields_of, read_sheet};
+use league_core::{Season, Sheet};
+use port_core::{LineReader, MemSource};
+use std::alloc::Global;
+use std::io::Write;
+use std::test::Fail;
+
+const SHEET: &[u8] = b"league,T,1\nclub,A,1\nclub,B,2\nmatch,A,B\nmatch,B,A\nline,1\nseason\n";
+
+fn sheet(alloc: Global) -> Result<Sheet, Fail> {
+    let bytes = Vec::from_slice(alloc, SHEET)?;
+    let mut source = MemSource::new(bytes, 1000, Vec::new(alloc));
+    let mut reader = LineReader::new(alloc)?;
+    match read_sheet(alloc, &mut reader, &mut source) {
+        Ok(sheet) => Ok(sheet),
+        Err(_) => Err("no sheet".into()),
+    }
+}
+
+// What a record is behind so many events.
+fn told_behind(alloc: Global, events: u64, record: &[u8]) -> Result<Vec<u8>, Fail> {
+    let sheet = sheet(alloc)?;
+    let mut season = Season::unplayed(alloc, sheet.clubs.len(), sheet.fixtures.len())?;
+    let mut out = Vec::new(alloc);
+    tell_record(alloc, &sheet, &mut season, 0, b"result,1,2,1", &mut out)?;
+    tell_record(alloc, &sheet, &mut season, events, record, &mut out)?;
+    Ok(out)
+}
+
+fn tell_record(
+    alloc: Global,
+    sheet: &Sheet,
+    season: &mut Season,
+    events: u64,
+    record: &[u8],
+    out: &mut Vec<u8>,
+) -> Result<(), Fail> {
+    if !is_of(season, sheet) {
+        return Ok(out.extend_from_slice(b"a season of another sheet")?);
+    }
+    let Ok(Some(fields)) = fields_of(alloc, record) else {
+        return Ok(out.extend_from_slice(b"no record")?);
+    };
+    match read_event(sheet, season, events, &fields, true) {
+        Ok(Entry::Change(event)) => {
+            season.apply(&event);
+            tell_event(&event, out)?;
+        }
+        Ok(Entry::Ask) => out.extend_from_slice(b"ask")?,
+        Ok(Entry::Proofs) => out.extend_from_slice(b"proofs")?,
+        Ok(Entry::End) => out.extend_from_slice(b"end")?,
+        Err(fault) => write!(out, "{fault}")?,
+    }
+    Ok(())
+}
+
+#[test]
+fn a_feed_has_at_most_100000_events(rt: HostRuntime) -> Result<(), Fail> {
+    for (events, record, wanted) in [
+        (
+            99_999,
+            b"result,2,0,0".as_slice(),
+            b"1=2:1 2=0:0 ".as_slice(),
+        ),
+        (99_999, b"void,1", b"1=2:1 1=- "),
+        (EVENT_LIMIT, b"result,2,0,0", b"1=2:1 log_full"),
+        (EVENT_LIMIT, b"fix,1,2,1", b"1=2:1 log_full"),
+        (EVENT_LIMIT, b"void,1", b"1=2:1 log_full"),
+        (u64::MAX, b"void,1", b"1=2:1 log_full"),
+        (EVENT_LIMIT, b"result,1,0,0", b"1=2:1 already_played"),
+        (EVENT_LIMIT, b"fix,2,0,0", b"1=2:1 not_played"),
+        (EVENT_LIMIT, b"void,2", b"1=2:1 not_played"),
+        (EVENT_LIMIT, b"result,2,100,0", b"1=2:1 bad_goals"),
+        (EVENT_LIMIT, b"ask", b"1=2:1 ask"),
+        (EVENT_LIMIT, b"proofs", b"1=2:1 proofs"),
+        (EVENT_LIMIT, b"report", b"1=2:1 unknown_record"),
+    ] {
+        let out = told_behind(rt.alloc(), events, record)?;
+        assert_eq!(rt; out.as_slice(), wanted, "{record:?} behind {events}");
+    }
+    Ok(())
+}
