@@ -1,7 +1,8 @@
-pub mod TextLemmas
+pub mod WordLemmas
 pub mod PathLemmas
-pub mod SoundLemmas
+pub mod FeedLemmas
 pub mod AnswerLemmas
 pub mod ExampleLemmas
+pub mod StandingLemmas
 pub mod OutputLemmas
 pub mod TurnLemmas

@@ -16,7 +16,7 @@ use Rattle.futmax_main.specs.declared.status.Status.TheVariants.{Done, BadWords,
 use Rattle.futmax_main.specs.declared.session.Mode.{Mode}
 use Rattle.futmax_main.specs.declared.session.Session.{Session}
 use Rattle.futmax_main.specs.declared.session.Cause.{Cause}
-use Rattle.futmax_main.specs.declared.session.Cause.TheVariants.{SheetForm, FeedForm, TooWide, LineTooLong, InputTooLong}
+use Rattle.futmax_main.specs.declared.session.Cause.TheVariants as cause
 use Rattle.futmax_main.specs.declared.session.Fault.{Fault}
 use Rattle.futmax_main.specs.declared.session.Step.{Step}
 use Rattle.futmax_main.specs.declared.session.Step.TheVariants.{Goes, Asks, Stops}
@@ -26,7 +26,7 @@ use Rattle.futmax_main.specs.declared.turn.Turn.{Turn}
 use Rattle.futmax_main.specs.declared.turn.Turn.TheVariants.{GoesOn, Ends}
 use Rattle.futmax_main.specs.Session.{first_session, judge, ending, status_of_cause}
 use Rattle.futmax_main.specs.Rows.{fault_row, last_row}
-use Rattle.futmax_main.specs.Path.{line_fault, input_fault, status_of_outcome, status_at_end, row_at_end, IsTextOf, IsFrontOf, AreAnswersFrom, Leads, Path}
+use Rattle.futmax_main.specs.Path.{line_fault, input_fault, status_of_outcome, status_at_end, row_at_end, status_of, IsTextOf, IsFrontOf, AreAnswersFrom, Leads, Path}
 use Rattle.futmax_main.specs.Top.{session_status, IsText, IsTextFront, IsWhole, AreAnswersIn, Serves}
 use Rattle.futmax_main.specs.Turns.{FaultEnds, EndEnds, AskEnds, LineGives, TurnGives}
 use Rattle.futmax_main.specs.Sound.{IsSound}
@@ -34,19 +34,19 @@ use Rattle.futmax_main.proofs.PathLemmas.{leads_start, leads_goes, leads_asks, s
 
 -- no fault of the input ends a run as done
 not_done : (cause : Cause) → status_of_cause cause ≡ Done → ⊥
-not_done SheetForm is = cc
-not_done FeedForm is = cc
-not_done TooWide is = cc
-not_done LineTooLong is = cc
-not_done InputTooLong is = cc
+not_done (cause.Sheet fault) is = cc
+not_done (cause.Feed fault) is = cc
+not_done cause.TooWide is = cc
+not_done cause.LineTooLong is = cc
+not_done cause.InputTooLong is = cc
 
 -- nor with a fault of the source
 not_read : (cause : Cause) → status_of_cause cause ≡ ReadFault → ⊥
-not_read SheetForm is = cc
-not_read FeedForm is = cc
-not_read TooWide is = cc
-not_read LineTooLong is = cc
-not_read InputTooLong is = cc
+not_read (cause.Sheet fault) is = cc
+not_read (cause.Feed fault) is = cc
+not_read cause.TooWide is = cc
+not_read cause.LineTooLong is = cc
+not_read cause.InputTooLong is = cc
 
 -- more was written behind what was written before
 written-more : (old now later : Option (List ℕ)) (written part : List ℕ)
@@ -459,6 +459,12 @@ serves-nothing mode (Some input) left old = (
   front_written (first_session mode) (contents_of input) [] (contents_of input) []
       (first_session mode) (leads_start (first_session mode) (contents_of input)),
 )
+
+-- nothing was written, since the words wanted memory
+pub serves-no_memory : (mode : Option Mode) (input left old : Option (List ℕ))
+    → Serves mode input left old old OutOfMemory
+serves-no_memory None input left old = ([], append_known-nothing old, refl)
+serves-no_memory (Some mode) input left old = serves-nothing mode input left old
 
 -- a reader that has given nothing, and a session before its first line, are where the way starts
 pub run-start : (mode : Mode) (input old : Option (List ℕ)) (reader : Reading) (session : Session)

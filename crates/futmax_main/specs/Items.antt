@@ -8,10 +8,7 @@ use Rattle.finish_walk.specs.declared.reach.Reach.{Reach}
 use Rattle.futmax_main.specs.declared.word.Word.{Word}
 use Rattle.futmax_main.specs.declared.word.Word.TheVariants.{Clinched, Lost, Possible}
 use Rattle.futmax_main.specs.declared.session.Feed.{Feed}
-use Rattle.futmax_main.specs.declared.session.Stage.{Stage}
-use Rattle.futmax_main.specs.declared.session.Stage.TheVariants.{Start, InSheet, InFeed, Asked}
-use Rattle.futmax_main.specs.Answers.{example_text}
-use Rattle.futmax_main.specs.Sound.{IsFeed, IsNarrow}
+use Rattle.futmax_main.specs.Examples.{example_text}
 
 -- clinched where the worst place is inside the line, lost where the best one is outside it
 abbrev pub word_of : Reach → ℕ → Word
@@ -33,14 +30,3 @@ shown_with feed club reach Possible =
 -- one part more stands at the end of a text
 abbrev pub Adds : List ℕ → List ℕ → (List ℕ → Type 0) → Type 0
 Adds old new IsPart = (part : List ℕ) × (new ≡ old ++ part) × IsPart part
-
--- a feed at which an ask is answered
-abbrev pub IsAskedFeed : Feed → Type 0
-IsAskedFeed feed = IsFeed feed × IsNarrow feed
-
--- an ask came
-abbrev pub IsAsked : Stage → Type 0
-IsAsked Start = ⊥
-IsAsked (InSheet sheet) = ⊥
-IsAsked (InFeed feed) = ⊥
-IsAsked (Asked feed) = Unit {0}

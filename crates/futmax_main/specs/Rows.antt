@@ -1,50 +1,43 @@
--- The rows of the output. Each ends with LF. A row of fields has commas between them; a row that
--- shows a part of an example is a JSON array in its compact form. Fixtures and clubs count from 1
--- in all of them.
-use Rattle.std.specs.Prelude.{ℕ, ◌+◌, List, [], ◌∷◌, ◌++◌, map, codes, decimal}
-use Rattle.std.specs.List.{join_with_byte}
+-- The rows of the output. A row of fields is written as csv writes a record, with quotes where they are
+-- needed; a row that shows a part of an example is a proof line. Each ends with LF.
+use Rattle.std.specs.Prelude.{ℕ, ℤ, List, [], ◌∷◌, ◌++◌, codes, decimal}
+use Rattle.std.specs.Fmt.{signed_decimal}
 use Rattle.league_core.specs.declared.question.Claim.{Claim}
-use Rattle.league_core.specs.declared.question.Claim.TheVariants.{Inside, Outside}
 use Rattle.league_core.specs.declared.season.Score.{Score}
+use Rattle.cert_text.specs.declared.proof_line.ProofLine.{ProofLine}
+use Rattle.cert_text.specs.declared.proof_line.ProofLine.TheVariants as line
+use Rattle.cert_text.specs.Rows.{text_of_row}
+use Rattle.cert_text.specs.Lines.{text_of_line}
+use Rattle.fixture_sheet.specs.Faults.{code_of as sheet_code_of}
+use Rattle.result_log.specs.Faults.{code_of as feed_code_of}
 use Rattle.futmax_main.specs.declared.word.Word.{Word}
 use Rattle.futmax_main.specs.declared.word.Word.TheVariants.{Clinched, Lost, Possible}
+use Rattle.futmax_main.specs.declared.standing.Standing.{Standing}
 use Rattle.futmax_main.specs.declared.session.Cause.{Cause}
-use Rattle.futmax_main.specs.declared.session.Cause.TheVariants.{SheetForm, FeedForm, TooWide, LineTooLong, InputTooLong}
+use Rattle.futmax_main.specs.declared.session.Cause.TheVariants as cause
 use Rattle.futmax_main.specs.declared.session.Fault.{Fault}
 use Rattle.futmax_main.specs.declared.session.Outcome.{Outcome}
 use Rattle.futmax_main.specs.declared.session.Outcome.TheVariants.{Complete, Refused}
 
--- fields with commas between them, and the LF
-abbrev pub row_of : List (List ℕ) → List ℕ
-row_of fields = join_with_byte 44 fields ++ 10 ∷ []
-
--- a JSON array of these items
-abbrev pub array_of : List (List ℕ) → List ℕ
-array_of items = (91 ∷ join_with_byte 44 items) ++ 93 ∷ []
-
--- a JSON array alone on its row
-abbrev pub array_row : List (List ℕ) → List ℕ
-array_row items = array_of items ++ 10 ∷ []
-
--- a JSON string of a text that needs no escape
-abbrev pub quoted : List ℕ → List ℕ
-quoted text = (34 ∷ text) ++ 34 ∷ []
+-- ---- rows of fields
 
 -- `usage,..`, for words that fit no mode
 abbrev pub usage_row : List ℕ
-usage_row = codes "usage,futmax MODE [--workers N] [--proofs] [--seed N]" ++ 10 ∷ []
+usage_row =
+    text_of_row (codes "usage" ∷ codes "futmax MODE [--workers N] [--proofs] [--seed N]" ∷ [])
 
 -- the code of a refusal
 abbrev pub cause_text : Cause → List ℕ
-cause_text SheetForm = codes "plain_form"
-cause_text FeedForm = codes "plain_form"
-cause_text TooWide = codes "too_wide"
-cause_text LineTooLong = codes "line_too_long"
-cause_text InputTooLong = codes "input_too_long"
+cause_text (cause.Sheet fault) = sheet_code_of fault
+cause_text (cause.Feed fault) = feed_code_of fault
+cause_text cause.TooWide = codes "too_wide"
+cause_text cause.LineTooLong = codes "line_too_long"
+cause_text cause.InputTooLong = codes "input_too_long"
 
 -- `fault,LINE,CODE`
 abbrev pub fault_row : Fault → List ℕ
-fault_row fault = row_of (codes "fault" ∷ decimal fault.number ∷ cause_text fault.cause ∷ [])
+fault_row fault =
+    text_of_row (codes "fault" ∷ decimal fault.number ∷ cause_text fault.cause ∷ [])
 
 -- what is written last where a session ends so: nothing where it is complete
 abbrev pub last_row : Outcome → List ℕ
@@ -53,7 +46,7 @@ last_row (Refused fault) = fault_row fault
 
 -- `ask,E`
 abbrev pub ask_row : ℕ → List ℕ
-ask_row epoch = row_of (codes "ask" ∷ decimal epoch ∷ [])
+ask_row epoch = text_of_row (codes "ask" ∷ decimal epoch ∷ [])
 
 -- the word of a verdict
 abbrev pub word_text : Word → List ℕ
@@ -63,31 +56,30 @@ word_text Possible = codes "possible"
 
 -- `verdict,K,CLUB,WORD`
 abbrev pub verdict_row : ℕ → List ℕ → Word → List ℕ
-verdict_row line name word = row_of (codes "verdict" ∷ decimal line ∷ name ∷ word_text word ∷ [])
+verdict_row line name word =
+    text_of_row (codes "verdict" ∷ decimal line ∷ name ∷ word_text word ∷ [])
 
--- the word of a claim
-abbrev pub claim_text : Claim → List ℕ
-claim_text Inside = codes "inside"
-claim_text Outside = codes "outside"
+-- `place,BEST,WORST,CLUB,PLAYED,POINTS,DIFF,SCORED`
+abbrev pub place_row : List ℕ → Standing → List ℕ
+place_row name standing =
+    text_of_row (codes "place" ∷ decimal standing.best ∷ decimal standing.worst ∷ name
+    ∷ decimal standing.played ∷ signed_decimal standing.points
+    ∷ signed_decimal standing.difference ∷ signed_decimal standing.scored ∷ [])
+
+-- ---- rows of examples
+
+-- a proof line alone on its row
+abbrev pub line_row : ProofLine → List ℕ
+line_row shown = text_of_line shown ++ 10 ∷ []
 
 -- `["finish",CLAIM]`
 abbrev pub finish_row : Claim → List ℕ
-finish_row claim = array_row (quoted (codes "finish") ∷ quoted (claim_text claim) ∷ [])
+finish_row claim = line_row (line.Finish claim)
 
--- `["score",F,H,A]`
+-- `["score",F,H,A]`; the fixture counts from 0 here, from 1 in the row
 abbrev pub score_row : ℕ → Score → List ℕ
-score_row fixture score =
-    array_row (quoted (codes "score") ∷ decimal fixture ∷ decimal score.home ∷ decimal score.away ∷
-    [])
+score_row fixture score = line_row (line.Score fixture score)
 
--- a club's number from 1
-abbrev pub club_text : ℕ → List ℕ
-club_text club = decimal (club + 1)
-
--- the numbers of these clubs, with commas between them
-abbrev pub clubs_text : List ℕ → List ℕ
-clubs_text clubs = join_with_byte 44 (map club_text clubs)
-
--- `["lots",[..]]`, with the clubs from first to last
+-- `["lots",[..]]`, with the clubs from first to last; they count from 0 here, from 1 in the row
 abbrev pub lots_row : List ℕ → List ℕ
-lots_row lots = array_row (quoted (codes "lots") ∷ array_of (map club_text lots) ∷ [])
+lots_row lots = line_row (line.Lots (record { list = lots }))

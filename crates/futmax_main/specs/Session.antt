@@ -1,33 +1,70 @@
 -- The session: what each line of the input that counts means, and what the end of the input means.
--- A later form of the input changes what is allowed, and nothing here.
-use Rattle.std.specs.Prelude.{ℕ, Bool, nat_lt, List, [], ◌∷◌, Option, None, if◌then◌else◌, option_map, unwrap_or, bytes_eq, codes}
+-- Before `season` a line is one of a sheet, behind it one of a feed.
+use Rattle.std.specs.Prelude.{ℕ, Bool, false, nat_lt, List, Option, Some, None, Result, Ok, Err, if◌then◌else◌, length}
+use Rattle.league_core.specs.declared.sheet.Sheet.{Sheet}
+use Rattle.league_core.specs.Seasons.{unplayed_season}
+use Rattle.league_core.specs.FinishList.{ways_to_finish}
+use Rattle.fixture_sheet.specs.declared.fault.SheetFault.{SheetFault}
+use Rattle.fixture_sheet.specs.declared.record.Progress.{Progress}
+use Rattle.fixture_sheet.specs.declared.record.Progress.TheVariants.{SoFar, Whole}
+use Rattle.fixture_sheet.specs.Records.{content_taken}
+use Rattle.fixture_sheet.specs.Sheets.{fault_at_end}
+use Rattle.result_log.specs.declared.fault.FeedFault.{FeedFault}
+use Rattle.result_log.specs.declared.entry.Entry.{Entry}
+use Rattle.result_log.specs.declared.entry.Entry.TheVariants as entry
+use Rattle.result_log.specs.Feeds.{entry_in, season_with, count_with}
 use Rattle.futmax_main.specs.declared.status.Status.{Status}
 use Rattle.futmax_main.specs.declared.status.Status.TheVariants.{BadSheet, BadFeed, TooLong}
 use Rattle.futmax_main.specs.declared.session.Mode.{Mode}
+use Rattle.futmax_main.specs.declared.session.Mode.TheVariants.{Verdicts, Table}
 use Rattle.futmax_main.specs.declared.session.Feed.{Feed}
 use Rattle.futmax_main.specs.declared.session.Stage.{Stage}
-use Rattle.futmax_main.specs.declared.session.Stage.TheVariants.{Start, InSheet, InFeed, Asked}
+use Rattle.futmax_main.specs.declared.session.Stage.TheVariants.{InSheet, InFeed}
 use Rattle.futmax_main.specs.declared.session.Session.{Session}
 use Rattle.futmax_main.specs.declared.session.Cause.{Cause}
-use Rattle.futmax_main.specs.declared.session.Cause.TheVariants.{SheetForm, FeedForm, TooWide, LineTooLong, InputTooLong}
+use Rattle.futmax_main.specs.declared.session.Cause.TheVariants as cause
 use Rattle.futmax_main.specs.declared.session.Fault.{Fault}
 use Rattle.futmax_main.specs.declared.session.Step.{Step}
 use Rattle.futmax_main.specs.declared.session.Step.TheVariants.{Goes, Asks, Stops}
 use Rattle.futmax_main.specs.declared.session.Outcome.{Outcome}
 use Rattle.futmax_main.specs.declared.session.Outcome.TheVariants.{Complete, Refused}
-use Rattle.league_core.specs.FinishList.{ways_to_finish}
-use Rattle.futmax_main.specs.Texts.{fields_of}
-use Rattle.futmax_main.specs.PlainForm.{after_league, after_sheet_record, after_result, after_ask}
 
 -- a session before its first line
 abbrev pub first_session : Mode → Session
-first_session mode = record { mode = mode; stage = Start }
+first_session mode = record { mode = mode; stage = InSheet None }
 
--- the session goes on to a stage, where there is one
-abbrev pub goes_to : Mode → Option Stage → Option Step
-goes_to mode stage = option_map (λ next. Goes (record { mode = mode; stage = next })) stage
+-- the session goes on to a stage
+abbrev pub goes_to : Mode → Stage → Step
+goes_to mode stage = Goes (record { mode = mode; stage = stage })
 
--- the most finishes that a season may have at an ask
+-- the line of this number is refused, and ends the session
+abbrev pub stops_by : ℕ → Cause → Step
+stops_by number cause = Stops (record { number = number; cause = cause })
+
+-- ---- a line of the sheet
+
+-- the sheet is whole, and nothing is told
+abbrev pub feed_begun : Sheet → Feed
+feed_begun sheet =
+    record {
+      sheet = sheet;
+      season = unplayed_season (length sheet.clubs) (length sheet.fixtures);
+      epoch = 0;
+    }
+
+-- the stage behind a record of the sheet
+abbrev pub stage_of : Progress → Stage
+stage_of (SoFar draft) = InSheet draft
+stage_of (Whole sheet) = InFeed (feed_begun sheet)
+
+-- what a line of the sheet does, by what it makes of the sheet
+abbrev pub sheet_step : Mode → ℕ → Result Progress SheetFault → Step
+sheet_step mode number (Ok progress) = goes_to mode (stage_of progress)
+sheet_step mode number (Err fault) = stops_by number (cause.Sheet fault)
+
+-- ---- a line of the feed
+
+-- the most finishes that a season may have where they are walked
 abbrev pub finish_limit : ℕ
 finish_limit = 10000
 
@@ -35,78 +72,69 @@ finish_limit = 10000
 abbrev pub is_too_wide : Feed → Bool
 is_too_wide feed = nat_lt finish_limit (ways_to_finish feed.sheet.goal_limit feed.season.scores)
 
--- the fault of an ask whose season has too many finishes
-abbrev pub width_fault : ℕ → Fault
-width_fault number = record { number = number; cause = TooWide }
+-- an ask is refused: verdicts are asked for, and the season has too many finishes
+abbrev pub is_refused : Mode → Feed → Bool
+is_refused Verdicts feed = is_too_wide feed
+is_refused Table feed = false
 
--- the session answers, and goes on, unless the season has too many finishes
+-- what an ask does
 abbrev pub ask_step : Mode → ℕ → Feed → Step
 ask_step mode number feed =
-    if is_too_wide feed then Stops (width_fault number)
-    else Asks (record { mode = mode; stage = Asked feed })
+    if is_refused mode feed then stops_by number cause.TooWide
+    else Asks (record { mode = mode; stage = InFeed feed })
 
--- the first record
-abbrev pub first_step : Mode → List ℕ → List (List ℕ) → Option Step
-first_step mode kind fields =
-    if bytes_eq kind (codes "league")
-    then goes_to mode (option_map InSheet (after_league fields))
-    else None
+-- the feed behind an entry: its season and its number of events
+abbrev pub feed_with : Feed → Entry → Feed
+feed_with feed told =
+    record feed {
+      season = season_with feed.season told;
+      epoch = count_with feed.epoch told;
+    }
 
--- a record behind the sheet
-abbrev pub feed_step : Mode → ℕ → Feed → List ℕ → List (List ℕ) → Option Step
-feed_step mode number feed kind fields =
-    if bytes_eq kind (codes "result")
-    then goes_to mode (option_map InFeed (after_result feed fields))
-    else if bytes_eq kind (codes "ask")
-    then option_map (ask_step mode number) (after_ask feed fields)
-    else None
+-- what an entry does; the end of the input, and a record behind which proofs would follow, no line of
+-- this feed is
+abbrev pub entry_step : Mode → ℕ → Feed → Entry → Step
+entry_step mode number feed (entry.Change event) =
+    goes_to mode (InFeed (feed_with feed (entry.Change event)))
+entry_step mode number feed entry.Ask = ask_step mode number feed
+entry_step mode number feed entry.Proofs = goes_to mode (InFeed feed)
+entry_step mode number feed entry.End = goes_to mode (InFeed feed)
 
--- what a record on the line of a number does at this stage, where it is allowed
-abbrev pub step_at : Mode → ℕ → Stage → List ℕ → List (List ℕ) → Option Step
-step_at mode number Start kind fields = first_step mode kind fields
-step_at mode number (InSheet sheet) kind fields =
-    goes_to mode (after_sheet_record sheet kind fields)
-step_at mode number (InFeed feed) kind fields = feed_step mode number feed kind fields
-step_at mode number (Asked feed) kind fields = None
+-- what a line of the feed does, by the entry that it is; a line of empty fields does nothing
+abbrev pub feed_step : Mode → ℕ → Feed → Result (Option Entry) FeedFault → Step
+feed_step mode number feed (Ok None) = goes_to mode (InFeed feed)
+feed_step mode number feed (Ok (Some told)) = entry_step mode number feed told
+feed_step mode number feed (Err fault) = stops_by number (cause.Feed fault)
 
--- a line's record is named by its first field
-abbrev pub step_of_fields : Mode → ℕ → Stage → List (List ℕ) → Option Step
-step_of_fields mode number stage [] = None
-step_of_fields mode number stage (kind ∷ fields) = step_at mode number stage kind fields
+-- the entry that a line is, read in the season of the events before it
+abbrev pub entry_at : Feed → List ℕ → Result (Option Entry) FeedFault
+entry_at feed text = entry_in feed.sheet feed.season feed.epoch false text
 
--- a line that the form does not allow is a fault of the sheet before `season`, and one of the feed
--- after it
-abbrev pub form_cause : Stage → Cause
-form_cause Start = SheetForm
-form_cause (InSheet sheet) = SheetForm
-form_cause (InFeed feed) = FeedForm
-form_cause (Asked feed) = FeedForm
+-- ---- any line, and the end
 
--- the fault of a line, or of the end, that the form does not allow here
-abbrev pub form_fault : ℕ → Stage → Fault
-form_fault number stage = record { number = number; cause = form_cause stage }
-
--- the status of a session that a fault ends
-abbrev pub status_of_cause : Cause → Status
-status_of_cause SheetForm = BadSheet
-status_of_cause FeedForm = BadFeed
-status_of_cause TooWide = BadFeed
-status_of_cause LineTooLong = TooLong
-status_of_cause InputTooLong = TooLong
+-- what a line does at this stage
+abbrev pub judge_at : Mode → ℕ → Stage → List ℕ → Step
+judge_at mode number (InSheet draft) text = sheet_step mode number (content_taken draft text)
+judge_at mode number (InFeed feed) text = feed_step mode number feed (entry_at feed text)
 
 -- what a line does, by its number and by what counts of it
 abbrev pub judge : ℕ → Session → List ℕ → Step
-judge number session text =
-    unwrap_or (step_of_fields session.mode number session.stage (fields_of text))
-    (Stops (form_fault number session.stage))
+judge number session text = judge_at session.mode number session.stage text
 
--- the end of the input, at the number after the last line's
+-- the end of the input, at the number after the last line's; it may come anywhere behind the sheet
 abbrev pub ending_at : ℕ → Stage → Outcome
-ending_at number Start = Refused (form_fault number Start)
-ending_at number (InSheet sheet) = Refused (form_fault number (InSheet sheet))
-ending_at number (InFeed feed) = Refused (form_fault number (InFeed feed))
-ending_at number (Asked feed) = Complete
+ending_at number (InSheet draft) =
+    Refused (record { number = number; cause = cause.Sheet (fault_at_end draft) })
+ending_at number (InFeed feed) = Complete
 
 -- what the end of the input means
 abbrev pub ending : ℕ → Session → Outcome
 ending number session = ending_at number session.stage
+
+-- the status of a session that a fault ends
+abbrev pub status_of_cause : Cause → Status
+status_of_cause (cause.Sheet fault) = BadSheet
+status_of_cause (cause.Feed fault) = BadFeed
+status_of_cause cause.TooWide = BadFeed
+status_of_cause cause.LineTooLong = TooLong
+status_of_cause cause.InputTooLong = TooLong

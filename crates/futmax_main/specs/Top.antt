@@ -58,11 +58,12 @@ Ends mode input left OutOfMemory text = IsTextFront mode input text
 Ends mode input left NotProved text = IsWhole mode input NotProved text
 Ends mode input left TooLong text = IsWhole mode input TooLong text
 
--- what was written where the words fit no mode: the usage row, or a front of it where the sink
--- failed
+-- what was written where the words fit no mode: the usage row, a front of it where the sink failed, or
+-- nothing where there was no memory for it
 abbrev pub EndsUnread : Status → List ℕ → Type 0
 EndsUnread BadWords text = text ≡ usage_row
 EndsUnread WriteFault text = IsFront text usage_row
+EndsUnread OutOfMemory text = text ≡ []
 EndsUnread _ text = ⊥
 
 -- the sink's bytes before and after a run, by the mode of its words and by what the source had left
@@ -75,10 +76,10 @@ Serves (Some mode) None left old new status = Unit {0}
 Serves (Some mode) (Some input) left old new status =
     (text : List ℕ) × (new ≡ append_known old text) × Ends mode input left status text
 
--- the status of a run in which no device failed: that of the session, or want of memory; where the
--- words fit no mode, that alone
+-- the status of a run in which no device failed: that of the session, or that the words fit no mode; or
+-- want of memory
 abbrev pub IsSettled : Option Mode → Option (List ℕ) → Status → Type 0
-IsSettled None input status = status ≡ BadWords
+IsSettled None input status = (status ≡ BadWords) ⊎ (status ≡ OutOfMemory)
 IsSettled (Some mode) None status = Unit {0}
 IsSettled (Some mode) (Some input) status =
     (status ≡ session_status mode input) ⊎ (status ≡ OutOfMemory)

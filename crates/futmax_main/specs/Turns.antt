@@ -1,9 +1,9 @@
 -- What one turn of a run does: what a line, an ask, a fault and the end leave of the sink's bytes,
 -- and how the way goes on.
-use Rattle.std.specs.Prelude.{◌≡◌, ◌<◌, ℕ, List, Option, Some}
+use Rattle.std.specs.Prelude.{◌≡◌, ◌<◌, ◌≤◌, ℕ, List, Option, Some}
 use Rattle.std.specs.Io.KnownBytes.{append_known}
 use Rattle.port_core.specs.Ports.{AppendsFront, Rose}
-use Rattle.port_core.specs.Contents.{Place}
+use Rattle.port_core.specs.Contents.{Place, input_limit}
 use Rattle.futmax_main.specs.declared.status.Status.{Status}
 use Rattle.futmax_main.specs.declared.status.Status.TheVariants.{Done, BadWords, ReadFault, WriteFault, OutOfMemory, NotProved}
 use Rattle.futmax_main.specs.declared.session.Mode.{Mode}
@@ -20,7 +20,7 @@ use Rattle.futmax_main.specs.Rows.{fault_row}
 use Rattle.futmax_main.specs.Answers.{IsAnswer}
 use Rattle.futmax_main.specs.Path.{Path}
 use Rattle.futmax_main.specs.Top.{Serves}
-use Rattle.futmax_main.specs.Sound.{IsSound, lines_to_come}
+use Rattle.futmax_main.specs.Sound.{IsSound}
 
 -- how a fault ends a run: its row is written and its status is the run's, or a device or memory
 -- fails
@@ -65,10 +65,15 @@ TurnGives mode input stream place left old now (GoesOn next) =
 TurnGives mode input stream place left old now (Ends status) =
     Serves (Some mode) input left old now status
 
--- a session that goes on is sound, and fewer lines are to come
-abbrev pub TurnAdvances : Session → Turn → Type 0
-TurnAdvances session (GoesOn next) = IsSound next × (lines_to_come next < lines_to_come session)
-TurnAdvances session (Ends status) = Unit {0}
+-- a session that goes on is sound
+abbrev pub TurnIsSound : Turn → Type 0
+TurnIsSound (GoesOn next) = IsSound next
+TurnIsSound (Ends status) = Unit {0}
+
+-- a session that goes on has more of its input passed, and not more than an input may have
+abbrev pub TurnMovesOn : ℕ → ℕ → Turn → Type 0
+TurnMovesOn old new (GoesOn next) = (old < new) × (new ≤ input_limit)
+TurnMovesOn old new (Ends status) = Unit {0}
 
 -- a run ends with a fault of a device only where that device's count rose; that the words fit no
 -- mode, or that a report is no proof, it does not say

@@ -1,62 +1,94 @@
 //! The rows of an example: a finish of the season and a drawing of lots.
 
-ghost use Rattle.std.specs.Prelude.{◌≡◌, ◌<◌, ◌≤◌, ◌++◌, OnOk, length, string_bytes};
+ghost use Rattle.std.specs.Prelude.{◌≡◌, ◌<◌, ◌≤◌, ◌++◌, IfOk, OnOk, IsTrue, length};
 ghost use Rattle.league_core.specs.Finishes.{IsFinishOf};
-ghost use Rattle.futmax_main.specs.Answers.{score_row_if, score_rows};
+ghost use Rattle.league_core.specs.Results.{is_score_or_none};
+ghost use Rattle.league_core.specs.LotsFor.{lots_for_claim};
+ghost use Rattle.cert_text.specs.declared.proof_line.ProofLine.{ProofLine};
+ghost use Rattle.futmax_main.specs.Examples.{score_row_if, score_rows};
+ghost use Rattle.futmax_main.specs.Rows.{lots_row};
 ghost use Rattle.futmax_main.specs.Items.{example_of};
 
-use crate::rows::{push_finish, push_lots, push_score};
+use crate::rows::push_line;
 use crate::session::Feed;
+use cert_text::{ClubList, ProofLine};
 use final_rank::lots_for;
-use league_core::{Claim, Finish, OutOfMemory, Score, Season};
+use league_core::{Claim, Finish, Listing, OutOfMemory, Score, Season};
 use std::alloc::Global;
 
 /// An example of the claim for a club: this finish, and the lots that favour the claim.
 pub fn push_example(
     alloc: Global,
-    text: &mut String,
+    text: &mut Vec<u8>,
     feed: &Feed,
     club: u8,
     claim: Claim,
     finish: &Finish,
 ) -> Result<(), OutOfMemory>
-    requires limit { length feed.now.sheet.clubs ≤ 24 }
+    requires clubs { length feed.now.sheet.clubs ≤ 24 }
+    requires fixtures { length feed.now.season.scores ≤ 600 }
     requires in_range { club < length feed.now.sheet.clubs }
     requires is_finish { IsFinishOf feed.now.sheet feed.now.season finish.now }
-    ensures { OnOk result (string_bytes text.new
-        ≡ string_bytes text.old ++ example_of feed.now club claim finish.now) }
+    ensures { OnOk result (text.new.items
+        ≡ text.old.items ++ example_of feed.now club claim finish.now) }
 {
-    let lots = lots_for(alloc, feed.sheet.clubs.len() as u8, club, claim)?;
-    push_finish(text, claim)?;
-    push_scores(text, &feed.season, finish.as_season())?;
-    push_lots(text, lots.order())
+    push_line(alloc, text, &ProofLine::Finish(claim))?;
+    push_scores(alloc, text, &feed.season, finish.as_season())?;
+    push_lots(alloc, text, feed.sheet.clubs.len() as u8, club, claim)
+}
+
+// The lots of so many clubs that favour the claim for a club.
+fn push_lots(
+    alloc: Global,
+    text: &mut Vec<u8>,
+    clubs: u8,
+    club: u8,
+    claim: Claim,
+) -> Result<(), OutOfMemory>
+    requires few { clubs ≤ 24 }
+    requires in_range { club < clubs }
+    ensures { OnOk result (text.new.items
+        ≡ text.old.items ++ lots_row (lots_for_claim clubs club claim)) }
+{
+    let lots = lots_for(alloc, clubs, club, claim)?;
+    let list = Listing::from_vec(lots.order().to_vec(alloc)?);
+    push_line(alloc, text, &ProofLine::Lots(ClubList { list }))
 }
 
 // The scores of the fixtures that the season has none for.
-fn push_scores(text: &mut String, season: &Season, finish: &Season) -> Result<(), OutOfMemory>
-    requires { length finish.now.scores ≡ length season.now.scores }
-    ensures { OnOk result (string_bytes text.new
-        ≡ string_bytes text.old ++ score_rows 1 season.now.scores finish.now.scores) }
+fn push_scores(
+    alloc: Global,
+    text: &mut Vec<u8>,
+    season: &Season,
+    finish: &Season,
+) -> Result<(), OutOfMemory>
+    requires few { length season.now.scores ≤ 600 }
+    requires same { length finish.now.scores ≡ length season.now.scores }
+    ensures { OnOk result (text.new.items
+        ≡ text.old.items ++ score_rows 0 season.now.scores finish.now.scores) }
 {
-    let ended = finish.scores();
-    for (i, played) in season.scores().iter().enumerate() {
-        push_score_if(text, i + 1, *played, ended[i])?;
+    for fixture in 0..season.scores().len() as u16 {
+        let ended = finish.score(fixture);
+        push_score_if(alloc, text, fixture, season.score(fixture), ended)?;
     }
     Ok(())
 }
 
-// The row of a fixture, counted from 1, where the season has no score for it.
+// The row of a fixture, by its number from 0, where the season has no score for it.
 fn push_score_if(
-    text: &mut String,
-    fixture: usize,
+    alloc: Global,
+    text: &mut Vec<u8>,
+    fixture: u16,
     played: Option<Score>,
     ended: Option<Score>,
 ) -> Result<(), OutOfMemory>
+    requires in_range { fixture < 600 }
+    requires may_be { IsTrue (is_score_or_none ended) }
     ensures { OnOk result
-        (string_bytes text.new ≡ string_bytes text.old ++ score_row_if fixture played ended) }
+        (text.new.items ≡ text.old.items ++ score_row_if fixture played ended) }
 {
     match (played, ended) {
-        (None, Some(score)) => push_score(text, fixture, score),
+        (None, Some(score)) => push_line(alloc, text, &ProofLine::Score { fixture, score }),
         _ => Ok(()),
     }
 }

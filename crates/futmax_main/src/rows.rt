@@ -1,90 +1,134 @@
 //! Rows of the output, each added whole to a text.
 
-ghost use Rattle.std.specs.Prelude.{◌≡◌, ◌++◌, OnOk, string_bytes};
-ghost use Rattle.futmax_main.specs.Lists.{separator};
-ghost use Rattle.futmax_main.specs.Rows.{ask_row, verdict_row, finish_row, score_row, lots_row, fault_row, clubs_text, word_text, claim_text, cause_text};
+ghost use Rattle.std.specs.Prelude.{◌≡◌, ◌<◌, ◌∷◌, [], ◌++◌, IfOk, OnOk, IsTrue, codes, decimal, length, map, string_bytes};
+ghost use Rattle.std.specs.Fmt.{signed_decimal};
+ghost use Rattle.league_core.specs.Results.{is_score};
+ghost use Rattle.cert_text.specs.Rows.{text_of_row};
+ghost use Rattle.cert_text.specs.Ranges.{is_in_range};
+ghost use Rattle.futmax_main.specs.Rows.{ask_row, verdict_row, place_row, fault_row, usage_row, line_row, word_text, cause_text};
 
 use crate::session::{Cause, Fault};
+use crate::standing::Standing;
 use crate::word::Word;
-use league_core::{Claim, OutOfMemory, Score};
+use cert_text::{ProofLine, write_line, write_row};
+use league_core::OutOfMemory;
+use std::alloc::Global;
 
 /// `ask,E`.
-pub fn push_ask(text: &mut String, epoch: u64) -> Result<(), OutOfMemory>
-    ensures { OnOk result (string_bytes text.new ≡ string_bytes text.old ++ ask_row epoch) }
+pub fn push_ask(alloc: Global, text: &mut Vec<u8>, epoch: u64) -> Result<(), OutOfMemory>
+    ensures { OnOk result (text.new.items ≡ text.old.items ++ ask_row epoch) }
 {
-    writeln!(text, "ask,{epoch}")?;
-    Ok(())
+    let fields = [copy_of(alloc, "ask")?, number(alloc, epoch)?];
+    push_row(alloc, text, &fields)
 }
 
 /// `verdict,K,CLUB,WORD`.
-pub fn push_verdict(text: &mut String, line: u8, name: &str, word: Word) -> Result<(), OutOfMemory>
+pub fn push_verdict(
+    alloc: Global,
+    text: &mut Vec<u8>,
+    line: u8,
+    name: &str,
+    word: Word,
+) -> Result<(), OutOfMemory>
     ensures { OnOk result
-        (string_bytes text.new ≡ string_bytes text.old ++ verdict_row line name.now word) }
+        (text.new.items ≡ text.old.items ++ verdict_row line name.now word) }
 {
-    let word = word_text(word);
-    writeln!(text, "verdict,{line},{name},{word}")?;
-    Ok(())
+    let fields = [
+        copy_of(alloc, "verdict")?,
+        number(alloc, u64::from(line))?,
+        copy_of(alloc, name)?,
+        copy_of(alloc, word_text(word))?,
+    ];
+    push_row(alloc, text, &fields)
 }
 
-/// `fault,LINE,CODE`.
-pub fn push_fault(text: &mut String, fault: &Fault) -> Result<(), OutOfMemory>
-    ensures { OnOk result (string_bytes text.new ≡ string_bytes text.old ++ fault_row fault.now) }
-{
-    let number = fault.number;
-    let code = cause_text(fault.cause);
-    writeln!(text, "fault,{number},{code}")?;
-    Ok(())
-}
-
-/// `["finish",CLAIM]`.
-pub fn push_finish(text: &mut String, claim: Claim) -> Result<(), OutOfMemory>
-    ensures { OnOk result (string_bytes text.new ≡ string_bytes text.old ++ finish_row claim) }
-{
-    let claim = claim_text(claim);
-    writeln!(text, "[\"finish\",\"{claim}\"]")?;
-    Ok(())
-}
-
-/// `["score",F,H,A]`. The fixture counts from 1.
-pub fn push_score(text: &mut String, fixture: usize, score: Score) -> Result<(), OutOfMemory>
+/// `place,BEST,WORST,CLUB,PLAYED,POINTS,DIFF,SCORED`.
+pub fn push_place(
+    alloc: Global,
+    text: &mut Vec<u8>,
+    name: &str,
+    standing: &Standing,
+) -> Result<(), OutOfMemory>
     ensures { OnOk result
-        (string_bytes text.new ≡ string_bytes text.old ++ score_row fixture score) }
+        (text.new.items ≡ text.old.items ++ place_row name.now standing.now) }
 {
-    let Score { home, away } = score;
-    writeln!(text, "[\"score\",{fixture},{home},{away}]")?;
+    let fields = [
+        copy_of(alloc, "place")?,
+        number(alloc, u64::from(standing.best))?,
+        number(alloc, u64::from(standing.worst))?,
+        copy_of(alloc, name)?,
+        number(alloc, u64::from(standing.played))?,
+        signed(alloc, standing.points)?,
+        signed(alloc, standing.difference)?,
+        signed(alloc, standing.scored)?,
+    ];
+    push_row(alloc, text, &fields)
+}
+
+/// `fault,LINE,CODE`, alone.
+pub fn fault_row(alloc: Global, fault: &Fault) -> Result<Vec<u8>, OutOfMemory>
+    ensures { IfOk result (λ row. row.items ≡ fault_row fault.now) }
+{
+    let fields = [
+        copy_of(alloc, "fault")?,
+        number(alloc, fault.number)?,
+        copy_of(alloc, cause_text(fault.cause))?,
+    ];
+    write_row(alloc, &fields)
+}
+
+/// `usage,..`, alone.
+pub fn usage_row(alloc: Global) -> Result<Vec<u8>, OutOfMemory>
+    ensures { IfOk result (λ row. row.items ≡ usage_row) }
+{
+    let fields = [
+        copy_of(alloc, "usage")?,
+        copy_of(alloc, "futmax MODE [--workers N] [--proofs] [--seed N]")?,
+    ];
+    write_row(alloc, &fields)
+}
+
+/// A proof line alone on its row.
+pub fn push_line(alloc: Global, text: &mut Vec<u8>, line: &ProofLine) -> Result<(), OutOfMemory>
+    requires { IsTrue (is_in_range line.now) }
+    ensures { OnOk result (text.new.items ≡ text.old.items ++ line_row line.now) }
+{
+    let row = write_line(alloc, line)?;
+    text.extend_from_slice(row.as_slice())?;
+    text.push(b'\n')?;
     Ok(())
 }
 
-/// `["lots",[..]]`. The clubs count from 0 here, from 1 in the row.
-pub fn push_lots(text: &mut String, lots: &[u8]) -> Result<(), OutOfMemory>
-    ensures { OnOk result (string_bytes text.new ≡ string_bytes text.old ++ lots_row lots.now) }
+// A row of these fields, added whole.
+fn push_row(alloc: Global, text: &mut Vec<u8>, fields: &[Vec<u8>]) -> Result<(), OutOfMemory>
+    requires { 0 < length fields.now }
+    ensures { OnOk result (text.new.items
+        ≡ text.old.items ++ text_of_row (map (λ field. field.items) fields.now)) }
 {
-    write!(text, "[\"lots\",[")?;
-    push_clubs(text, lots)?;
-    writeln!(text, "]]")?;
+    let row = write_row(alloc, fields)?;
+    text.extend_from_slice(row.as_slice())?;
     Ok(())
 }
 
-// The clubs' numbers from 1, with commas between them.
-fn push_clubs(text: &mut String, clubs: &[u8]) -> Result<(), OutOfMemory>
-    ensures { OnOk result (string_bytes text.new ≡ string_bytes text.old ++ clubs_text clubs.now) }
+fn copy_of(alloc: Global, word: &str) -> Result<Vec<u8>, OutOfMemory>
+    ensures { IfOk result (λ field. field.items ≡ word.now) }
 {
-    for (i, club) in clubs.iter().enumerate() {
-        push_separator(text, i)?;
-        let number = u16::from(*club) + 1;
-        write!(text, "{number}")?;
-    }
-    Ok(())
+    let field = word.as_bytes().to_vec(alloc)?;
+    Ok(field)
 }
 
-// A comma before each item of a list but the first.
-fn push_separator(text: &mut String, place: usize) -> Result<(), OutOfMemory>
-    ensures { OnOk result (string_bytes text.new ≡ string_bytes text.old ++ separator place) }
+fn number(alloc: Global, number: u64) -> Result<Vec<u8>, OutOfMemory>
+    ensures { IfOk result (λ field. field.items ≡ decimal number) }
 {
-    if place > 0 {
-        write!(text, ",")?;
-    }
-    Ok(())
+    let text = format!(in alloc; "{number}")?;
+    copy_of(alloc, text.as_str())
+}
+
+fn signed(alloc: Global, number: i32) -> Result<Vec<u8>, OutOfMemory>
+    ensures { IfOk result (λ field. field.items ≡ signed_decimal number) }
+{
+    let text = format!(in alloc; "{number}")?;
+    copy_of(alloc, text.as_str())
 }
 
 fn word_text(word: Word) -> &'static str
@@ -97,20 +141,12 @@ fn word_text(word: Word) -> &'static str
     }
 }
 
-fn claim_text(claim: Claim) -> &'static str
-    ensures { result.now ≡ claim_text claim }
-{
-    match claim {
-        Claim::Inside => "inside",
-        Claim::Outside => "outside",
-    }
-}
-
 fn cause_text(cause: Cause) -> &'static str
     ensures { result.now ≡ cause_text cause }
 {
     match cause {
-        Cause::SheetForm | Cause::FeedForm => "plain_form",
+        Cause::Sheet(fault) => fault.code(),
+        Cause::Feed(fault) => fault.code(),
         Cause::TooWide => "too_wide",
         Cause::LineTooLong => "line_too_long",
         Cause::InputTooLong => "input_too_long",

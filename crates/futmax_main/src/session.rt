@@ -1,15 +1,19 @@
 //! Where a session stands between two lines of its input.
 
+use fixture_sheet::{Draft, SheetFault};
 use league_core::{Season, Sheet};
+use result_log::FeedFault;
 
 /// What the program was started for.
 #[derive(Clone, Copy, Debug, PartialEq, Eq)]
 pub enum Mode {
     /// At each ask, the verdict of every club for every line.
     Verdicts,
+    /// At each ask, the table of the matches played so far.
+    Table,
 }
 
-/// A whole sheet, what was played so far, and how many results told so.
+/// A whole sheet, what was played so far, and how many events told so.
 #[derive(Drop)]
 pub struct Feed {
     pub sheet: Sheet,
@@ -20,14 +24,10 @@ pub struct Feed {
 /// How far the input has come.
 #[derive(Drop)]
 pub enum Stage {
-    /// Nothing is read.
-    Start,
-    /// The sheet so far; its clubs, matches and lines come in this order.
-    InSheet(Sheet),
-    /// The sheet is whole, and results come.
+    /// The sheet so far; none before its first record.
+    InSheet(Option<Draft>),
+    /// The sheet is whole, and events and asks come.
     InFeed(Feed),
-    /// The ask came. Nothing may follow it.
-    Asked(Feed),
 }
 
 #[derive(Drop)]
@@ -39,11 +39,11 @@ pub struct Session {
 /// Why a line is refused.
 #[derive(Clone, Copy, Debug, PartialEq, Eq)]
 pub enum Cause {
-    /// Before `season`: the form of the input does not allow the line here.
-    SheetForm,
-    /// After `season`: the form of the input does not allow the line here.
-    FeedForm,
-    /// The line is an ask, and the season has more finishes than are walked.
+    /// The line, or the end of the input, is none of a sheet here.
+    Sheet(SheetFault),
+    /// The line is none of a feed here.
+    Feed(FeedFault),
+    /// Verdicts are asked for, and the season has more finishes than are walked.
     TooWide,
     /// The line has more bytes than a line may have.
     LineTooLong,

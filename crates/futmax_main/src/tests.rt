@@ -1,12 +1,15 @@
 //! Whole runs over devices in memory. The wanted rows are worked by hand from the rules of the game
-//! and of the form, as the comments say.
+//! and of the input, as the comments say.
 
 mod failing;
-mod form;
+mod feeds;
 mod leagues;
 mod limits;
 mod lines;
 mod open;
+mod order;
+mod tables;
+mod words;
 
 use crate::{Status, futmax};
 use port_core::{MemSink, MemSource};
@@ -19,6 +22,11 @@ const DRAWN: &[u8] =
     b"league,Tiny,1\nclub,A,1\nclub,B,2\nmatch,A,B\nline,1\nseason\nresult,1,0,0\nask\n";
 
 const DRAWN_ROWS: &[u8] = b"ask,1\nverdict,1,A,clinched\nverdict,1,B,lost\n";
+
+// A draw with goals, an ask, the score put right, and an ask again.
+const CORRECTED: &[u8] =
+    b"league,Tiny,1\nclub,A,1\nclub,B,2\nmatch,A,B\nline,1\nseason\nresult,1,1,1\nask\n\
+    fix,1,1,0\nask\n";
 
 // How the devices of a run behave: whether they go byte by byte, the number of the call that fails,
 // where one does, and the sink's room.
@@ -69,4 +77,16 @@ fn run_words(
 
 fn run(alloc: Global, input: &[u8], devices: Devices) -> Result<(Status, Vec<u8>), Fail> {
     run_words(alloc, "futmax verdicts", input, devices)
+}
+
+// The rows of fields: those that do not show a part of an example.
+fn rows_of_fields(alloc: Global, bytes: &[u8]) -> Result<Vec<u8>, Fail> {
+    let mut rows = Vec::new(alloc);
+    for row in bytes.split(|byte| *byte == b'\n') {
+        if !row.is_empty() && !row.starts_with(b"[") {
+            rows.extend_from_slice(row)?;
+            rows.push(b'\n')?;
+        }
+    }
+    Ok(rows)
 }

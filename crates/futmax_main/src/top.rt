@@ -5,17 +5,19 @@ ghost use Rattle.port_core.specs.Ports.{Rose};
 ghost use Rattle.futmax_main.specs.Top.{IsSettled, Serves};
 ghost use Rattle.futmax_main.specs.Words.{mode_of};
 
+use crate::output::put_rows;
+use crate::rows::usage_row;
 use crate::run::run;
 use crate::status::Status;
 use crate::words::mode_of;
-use port_core::{Sink, Source, put_line};
+use port_core::{Sink, Source};
 use std::alloc::Global;
 
 /// Runs a command: its words, of which the first is the program's own name, the input and the
 /// output.
 ///
-/// Rows go to the sink as soon as an ask is read, each as one piece. Want of memory may end any run
-/// whose words fit, with `Status::OutOfMemory`.
+/// Rows go to the sink as soon as an ask is read, each as one piece. Want of memory may end any run,
+/// with `Status::OutOfMemory`.
 pub fn futmax<S: Source, K: Sink>(
     alloc: Global,
     words: Vec<String>,
@@ -43,21 +45,25 @@ pub fn futmax<S: Source, K: Sink>(
     ensures words_cause { result ≡ Status.BadWords → mode_of (map string_bytes words.items) ≡ None }
     ensures unread { mode_of (map string_bytes words.items) ≡ None → source.new ≡ source.old }
 {
-    match mode_of(words.as_slice()) {
-        Some(mode) => run(alloc, mode, source, sink),
-        None => refuse_words(sink),
+    match mode_of(alloc, words.as_slice()) {
+        Ok(Some(mode)) => run(alloc, mode, source, sink),
+        Ok(None) => refuse_words(alloc, sink),
+        Err(_) => Status::OutOfMemory,
     }
 }
 
-fn refuse_words<K: Sink>(sink: &mut K) -> Status
+fn refuse_words<K: Sink>(alloc: Global, sink: &mut K) -> Status
     ensures serves { Serves None None None (K.holds sink.old) (K.holds sink.new) result }
+    ensures settled { result ≢ Status.WriteFault → IsSettled None None result }
     ensures write_cause { result ≡ Status.WriteFault
         → Rose (K.faults sink.old) (K.faults sink.new) }
     ensures no_read { result ≢ Status.ReadFault }
     ensures writes { K.faults sink.old ≤ K.faults sink.new }
 {
-    let usage = b"usage,futmax MODE [--workers N] [--proofs] [--seed N]\n";
-    match put_line(sink, usage.as_slice()) {
+    let Ok(row) = usage_row(alloc) else {
+        return Status::OutOfMemory;
+    };
+    match put_rows(sink, row.as_slice()) {
         Ok(()) => Status::BadWords,
         Err(_) => Status::WriteFault,
     }

@@ -6,13 +6,12 @@ ghost use Rattle.port_core.specs.Reading.{stream_of};
 ghost use Rattle.futmax_main.specs.declared.session.Mode.{Mode};
 ghost use Rattle.futmax_main.specs.Path.{Path, input_fault, line_fault};
 ghost use Rattle.futmax_main.specs.Session.{ending, judge, status_of_cause};
-ghost use Rattle.futmax_main.specs.Sound.{IsSound};
-ghost use Rattle.futmax_main.specs.Items.{IsAsked};
-ghost use Rattle.futmax_main.specs.Turns.{AskGives, EndEnds, FaultEnds, IsCaused, LineGives, TurnAdvances, TurnCaused, TurnGives};
+ghost use Rattle.futmax_main.specs.Sound.{IsAsked, IsSound};
+ghost use Rattle.futmax_main.specs.Turns.{AskGives, EndEnds, FaultEnds, IsCaused, LineGives, TurnCaused, TurnGives, TurnIsSound, TurnMovesOn};
 
 use crate::answer::answer;
 use crate::output::put_rows;
-use crate::rows::push_fault;
+use crate::rows::fault_row;
 use crate::session::{Cause, Fault, Outcome, Session, Step};
 use crate::status::Status;
 use league_core::OutOfMemory;
@@ -41,7 +40,8 @@ pub fn take_turn<S: Source, K: Sink>(
         → TurnGives mode input
         (stream_of reader.new (S.left source.new)) reader.new.place
         (S.left source.new) old (K.holds sink.new) result }
-    ensures advances { TurnAdvances session result }
+    ensures sound { TurnIsSound result }
+    ensures moves { TurnMovesOn reader.old.place.bytes reader.new.place.bytes result }
     ensures causes { TurnCaused (S.faults source.old) (S.faults source.new)
         (K.faults sink.old) (K.faults sink.new) result }
     ensures reads { S.faults source.old ≤ S.faults source.new }
@@ -66,7 +66,7 @@ fn take_line<K: Sink>(
     requires { IsSound session }
     ensures line { LineGives (judge number session text.now)
         (K.holds sink.old) (K.holds sink.new) result }
-    ensures advances { TurnAdvances session result }
+    ensures sound { TurnIsSound result }
     ensures causes { TurnCaused 0 0 (K.faults sink.old) (K.faults sink.new) result }
     ensures no_read { result ≢ Turn.Ends Status.ReadFault }
     ensures writes { K.faults sink.old ≤ K.faults sink.new }
@@ -80,8 +80,8 @@ fn take_line<K: Sink>(
 }
 
 fn take_ask<K: Sink>(alloc: Global, session: Session, sink: &mut K) -> Turn
-    requires sound { IsSound session }
-    requires asked { IsAsked session.stage }
+    requires { IsAsked session }
+    ensures sound { TurnIsSound result }
     ensures answer { AskGives session (K.holds sink.old) (K.holds sink.new) result }
     ensures causes { TurnCaused 0 0 (K.faults sink.old) (K.faults sink.new) result }
     ensures no_read { result ≢ Turn.Ends Status.ReadFault }
@@ -90,7 +90,7 @@ fn take_ask<K: Sink>(alloc: Global, session: Session, sink: &mut K) -> Turn
     let Ok(rows) = answer(alloc, &session) else {
         return Turn::Ends(Status::OutOfMemory);
     };
-    match put_rows(sink, rows.as_bytes()) {
+    match put_rows(sink, rows.as_slice()) {
         Ok(()) => Turn::GoesOn(session),
         Err(_) => Turn::Ends(Status::WriteFault),
     }
@@ -137,11 +137,10 @@ fn refuse<K: Sink>(alloc: Global, fault: &Fault, sink: &mut K) -> Status
     ensures no_read { result ≢ Status.ReadFault }
     ensures writes { K.faults sink.old ≤ K.faults sink.new }
 {
-    let mut row = String::new(alloc);
-    if push_fault(&mut row, fault).is_err() {
+    let Ok(row) = fault_row(alloc, fault) else {
         return Status::OutOfMemory;
-    }
-    match put_rows(sink, row.as_bytes()) {
+    };
+    match put_rows(sink, row.as_slice()) {
         Ok(()) => status_of_cause(fault.cause),
         Err(_) => Status::WriteFault,
     }
@@ -151,8 +150,8 @@ fn status_of_cause(cause: Cause) -> Status
     ensures { result ≡ status_of_cause cause }
 {
     match cause {
-        Cause::SheetForm => Status::BadSheet,
-        Cause::FeedForm | Cause::TooWide => Status::BadFeed,
+        Cause::Sheet(_) => Status::BadSheet,
+        Cause::Feed(_) | Cause::TooWide => Status::BadFeed,
         Cause::LineTooLong | Cause::InputTooLong => Status::TooLong,
     }
 }

@@ -1,25 +1,33 @@
 //! Devices that fail, at each call in turn.
 
-use super::{DRAWN, DRAWN_ROWS, Devices, run};
+use super::{CORRECTED, DRAWN, DRAWN_ROWS, Devices, run};
 use crate::Status;
 use std::test::Fail;
 
+const FIRST_ANSWER: &[u8] = b"ask,1\nverdict,1,A,lost\nverdict,1,B,clinched\n";
+
+const BOTH_ANSWERS: &[u8] = b"ask,1\nverdict,1,A,lost\nverdict,1,B,clinched\n\
+    ask,2\nverdict,1,A,clinched\nverdict,1,B,lost\n";
+
 // In pieces of one byte each call of the source is one byte of the input, and the one behind them
-// meets the end: whichever fails, the answer stands exactly where the ask's LF was read before.
+// meets the end: whichever fails, the answers stand of the asks whose LF was read before.
 #[test]
 fn each_read_fails_in_turn(rt: HostRuntime) -> Result<(), Fail> {
-    let count = DRAWN.len() as u64;
+    let count = CORRECTED.len() as u64;
+    let first = count - 14;
     for call in 1..count + 3 {
         let devices = Devices {
             byte_by_byte: true,
             read_fails: call,
             ..Devices::sound()
         };
-        let (status, bytes) = run(rt.alloc(), DRAWN, devices)?;
-        let rows = if call <= count {
+        let (status, bytes) = run(rt.alloc(), CORRECTED, devices)?;
+        let rows = if call <= first {
             b"".as_slice()
+        } else if call <= count {
+            FIRST_ANSWER
         } else {
-            DRAWN_ROWS
+            BOTH_ANSWERS
         };
         let wanted = if call <= count + 1 {
             Status::ReadFault
@@ -76,7 +84,7 @@ fn each_whole_write_fails_in_turn(rt: HostRuntime) -> Result<(), Fail> {
 // for so many bytes holds just these.
 #[test]
 fn each_byte_is_refused_in_turn(rt: HostRuntime) -> Result<(), Fail> {
-    let rows = DRAWN_ROWS;
+    let rows = BOTH_ANSWERS;
     for taken in 0..rows.len() + 1 {
         let wanted = if taken < rows.len() {
             Status::WriteFault
@@ -93,7 +101,7 @@ fn each_byte_is_refused_in_turn(rt: HostRuntime) -> Result<(), Fail> {
             ..Devices::sound()
         };
         for devices in [failing, full] {
-            let (status, bytes) = run(rt.alloc(), DRAWN, devices)?;
+            let (status, bytes) = run(rt.alloc(), CORRECTED, devices)?;
             assert_eq!(rt; status, wanted, "{taken} bytes");
             assert_eq!(rt; bytes.as_slice(), &rows[..taken], "{taken} bytes");
         }

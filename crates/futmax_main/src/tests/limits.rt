@@ -16,14 +16,14 @@ fn a_line_that_is_too_long(rt: HostRuntime) -> Result<(), Fail> {
             b"".as_slice(),
             1024,
             b"".as_slice(),
-            b"fault,1,plain_form\n".as_slice(),
+            b"fault,1,no_league\n".as_slice(),
         ),
         (b"", 1025, b"", b"fault,1,line_too_long\n"),
-        (b"\n#", 1023, b"\n", b"fault,3,plain_form\n"),
+        (b"\n#", 1023, b"\n", b"fault,3,no_league\n"),
         (b"\n#", 1024, b"\n", b"fault,2,line_too_long\n"),
-        (b"#", 1022, b"\r\n", b"fault,2,plain_form\n"),
+        (b"#", 1022, b"\r\n", b"fault,2,no_league\n"),
         (b"#", 1023, b"\r\n", b"fault,1,line_too_long\n"),
-        (b"\xef\xbb\xbf#", 1020, b"", b"fault,2,plain_form\n"),
+        (b"\xef\xbb\xbf#", 1020, b"", b"fault,2,no_league\n"),
         (b"\xef\xbb\xbf#", 1021, b"", b"fault,1,line_too_long\n"),
     ] {
         let mut input = front.to_vec(rt.alloc())?;
@@ -88,7 +88,7 @@ impl Source for Made {
 #[test]
 fn an_input_that_is_too_long(rt: HostRuntime) -> Result<(), Fail> {
     for (letters, wanted, row) in [
-        (0, Status::BadSheet, b"fault,65537,plain_form\n".as_slice()),
+        (0, Status::BadSheet, b"fault,65537,no_league\n".as_slice()),
         (1, Status::TooLong, b"fault,65537,input_too_long\n"),
     ] {
         let mut source = Made {

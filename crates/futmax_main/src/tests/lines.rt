@@ -38,13 +38,16 @@ fn faults_name_the_line_of_the_input(rt: HostRuntime) -> Result<(), Fail> {
     for (input, row) in [
         (
             b"\n# no league\n\r\n".as_slice(),
-            b"fault,4,plain_form\n".as_slice(),
+            b"fault,4,no_league\n".as_slice(),
         ),
-        (b"\n#\nclub,A,1\n", b"fault,3,plain_form\n"),
-        (b"\xef\xbb\xbf\r\n\nleague,A\n", b"fault,3,plain_form\n"),
-        (b"\n\xef\xbb\xbfleague,A,1\n", b"fault,2,plain_form\n"),
-        (b"league,A,1\n\n#\n", b"fault,4,plain_form\n"),
-        (b"league,A,1\r\r\n", b"fault,1,plain_form\n"),
+        (b"\n#\nclub,A,1\n", b"fault,3,no_league\n"),
+        (b"\xef\xbb\xbf\r\n\nleague,A\n", b"fault,3,wrong_width\n"),
+        (b"league,A,1\n\n#\n", b"fault,4,no_season\n"),
+        (b"league,A,1\r\r\n", b"fault,1,no_league\n"),
+        (
+            b"league,A,1\n,,\nclub,A\rB,1\n",
+            b"fault,3,unknown_record\n",
+        ),
     ] {
         let (status, bytes) = run(rt.alloc(), input, Devices::sound())?;
         assert_eq!(rt; status, Status::BadSheet, "{input:?}");

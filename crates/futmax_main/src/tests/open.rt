@@ -1,22 +1,9 @@
-//! Leagues with open matches. Which finishes show a possible verdict is left open, so the tests
-//! look at the verdict rows, and at what may follow them.
+//! Leagues with open matches. Which finishes show a possible verdict is left open, so the tests look
+//! at the verdict rows, and at what may follow them.
 
-use super::{Devices, run};
+use super::{Devices, rows_of_fields, run};
 use crate::Status;
-use std::alloc::Global;
 use std::test::Fail;
-
-// The rows that begin with `verdict,`.
-fn verdict_rows(alloc: Global, bytes: &[u8]) -> Result<Vec<u8>, Fail> {
-    let mut rows = Vec::new(alloc);
-    for row in bytes.split(|byte| *byte == b'\n') {
-        if row.starts_with(b"verdict,") {
-            rows.extend_from_slice(row)?;
-            rows.push(b'\n')?;
-        }
-    }
-    Ok(rows)
-}
 
 // In the first league the one match may end with any winner. In the others A won the first of two
 // matches 1:0: with goal limit 1 B can only draw level, and the rank or the lots decide; with goal
@@ -26,38 +13,38 @@ fn what_one_open_match_decides(rt: HostRuntime) -> Result<(), Fail> {
     for (input, rows) in [
         (
             b"league,Tiny,1\nclub,A,1\nclub,B,2\nmatch,A,B\nline,1\nseason\nask\n".as_slice(),
-            b"verdict,1,A,possible\nverdict,1,B,possible\n".as_slice(),
+            b"ask,0\nverdict,1,A,possible\nverdict,1,B,possible\n".as_slice(),
         ),
         (
             b"league,Two,1\nclub,A,1\nclub,B,2\nmatch,A,B\nmatch,B,A\nline,1\nseason\n\
             result,1,1,0\nask\n",
-            b"verdict,1,A,clinched\nverdict,1,B,lost\n",
+            b"ask,1\nverdict,1,A,clinched\nverdict,1,B,lost\n",
         ),
         (
             b"league,Two,1\nclub,A,2\nclub,B,1\nmatch,A,B\nmatch,B,A\nline,1\nseason\n\
             result,1,1,0\nask\n",
-            b"verdict,1,A,possible\nverdict,1,B,possible\n",
+            b"ask,1\nverdict,1,A,possible\nverdict,1,B,possible\n",
         ),
         (
             b"league,Two,1\nclub,A,1\nclub,B,1\nmatch,A,B\nmatch,B,A\nline,1\nseason\n\
             result,1,1,0\nask\n",
-            b"verdict,1,A,possible\nverdict,1,B,possible\n",
+            b"ask,1\nverdict,1,A,possible\nverdict,1,B,possible\n",
         ),
         (
             b"league,Two,2\nclub,A,1\nclub,B,2\nmatch,A,B\nmatch,B,A\nline,1\nseason\n\
             result,1,1,0\nask\n",
-            b"verdict,1,A,possible\nverdict,1,B,possible\n",
+            b"ask,1\nverdict,1,A,possible\nverdict,1,B,possible\n",
         ),
         // Three clubs: A has 6 points and C none, B and C play for the second place.
         (
             b"league,Three,2\nclub,A,1\nclub,B,2\nclub,C,3\nmatch,A,B\nmatch,A,C\nmatch,B,C\nline,1\n\
             line,2\nseason\nresult,1,2,0\nresult,2,2,1\nask\n",
-            b"verdict,1,A,clinched\nverdict,1,B,lost\nverdict,1,C,lost\nverdict,2,A,clinched\n\
+            b"ask,2\nverdict,1,A,clinched\nverdict,1,B,lost\nverdict,1,C,lost\nverdict,2,A,clinched\n\
             verdict,2,B,possible\nverdict,2,C,possible\n",
         ),
     ] {
         let (status, bytes) = run(rt.alloc(), input, Devices::sound())?;
-        let verdicts = verdict_rows(rt.alloc(), &bytes)?;
+        let verdicts = rows_of_fields(rt.alloc(), &bytes)?;
         assert_eq!(rt; status, Status::Done, "{input:?}");
         assert_eq!(rt; verdicts.as_slice(), rows, "{input:?}");
     }
@@ -125,8 +112,8 @@ fn seasons_with_too_many_finishes(rt: HostRuntime) -> Result<(), Fail> {
         input.push_str("line,1\nseason\nask\n")?;
         let (status, bytes) = run(rt.alloc(), input.as_bytes(), Devices::sound())?;
         if row.is_empty() {
-            let verdicts = verdict_rows(rt.alloc(), &bytes)?;
-            let both = b"verdict,1,A,possible\nverdict,1,B,possible\n".as_slice();
+            let verdicts = rows_of_fields(rt.alloc(), &bytes)?;
+            let both = b"ask,0\nverdict,1,A,possible\nverdict,1,B,possible\n".as_slice();
             assert_eq!(rt; status, Status::Done, "{limit} goals, {matches} matches");
             assert_eq!(rt;
                 verdicts.as_slice(),

@@ -2,8 +2,8 @@ use Rattle.std.proofs.Common.{◌∙◌, ap, length}
 use Rattle.futmax_main.proofs.ExampleLemmas.{length-ended}
 use Rattle.futmax_main.proofs.example.push_example.Goals as goal
 
-pub push_scores-requires : goal.push_scores-requires
-push_scores-requires c =
+pub push_scores-requires-clause-same : goal.push_scores-requires-clause-same
+push_scores-requires-clause-same c =
     let feed = c.args.feed.now in
     ap (λ finish. length finish.scores) c.as_season.ensures.season
     ∙ length-ended feed.sheet.goal_limit feed.season.scores c.args.finish.now.scores

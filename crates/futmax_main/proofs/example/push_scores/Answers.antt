@@ -1,10 +1,9 @@
-use Rattle.std.proofs.Common.{arith, ap, length}
+use Rattle.std.proofs.Common.{ap, arith, length}
 use Rattle.futmax_main.proofs.ExampleLemmas.{scores-step}
 use Rattle.futmax_main.proofs.example.push_scores.Goals as goal
 
-pub loop-i-preserved : goal.loop-i-preserved
-loop-i-preserved c =
-    scores-step _ _ _ c.args.season.now.scores c.args.finish.now.scores c.loop-i.i
-    (omega (arith, ap length c.scores-played-items.ensures.scores)) c.requires c.loop-i.invariant
-    (rw (c.scores-ended.ensures.scores, c.scores-played-items.ensures.scores)
-    at c.in_ok-push_score_if.ensures)
+pub loop-fixture-preserved : goal.loop-fixture-preserved
+loop-fixture-preserved c =
+    scores-step _ _ _ c.args.season.now.scores c.args.finish.now.scores c.loop-fixture.fixture
+    (omega (arith, ap length c.scores.ensures.scores)) c.requires.same c.loop-fixture.invariant
+    (rw (c.score.ensures.score, c.score-ended.ensures.score) at c.in_ok-push_score_if.ensures)

@@ -1,7 +1,8 @@
-use Rattle.std.proofs.Common.{◌≤◌}
+use Rattle.std.proofs.Common.{◌≤◌, ◌-◌}
+use Rattle.port_core.specs.Contents.{input_limit}
 use Rattle.port_core.specs.Reading.{stream_of}
 use Rattle.futmax_main.specs.Path.{Path}
-use Rattle.futmax_main.specs.Sound.{IsSound, lines_to_come}
+use Rattle.futmax_main.specs.Sound.{IsSound}
 use Rattle.futmax_main.proofs.run.run.Given as goal
 
 -- the session is sound, the way led here, and no count of faults fell
@@ -14,5 +15,6 @@ invariant-lines g l =
     × (g.S.Source.faults l.fn.source ≤ g.S.Source.faults l.source)
     × (g.K.Sink.faults l.fn.sink ≤ g.K.Sink.faults l.sink)
 
+-- the bytes of the input that may still be passed
 abbrev pub decreases-lines : goal.decreases-lines
-decreases-lines g l = lines_to_come l.session
+decreases-lines g l = input_limit - l.reader.place.bytes

@@ -1,0 +1,11 @@
+use Rattle.std.proofs.Common.{◌∙◌, ◌∷◌, [], ap₂}
+use Rattle.std.proofs.lemmas.Result.{IfOk-weaker}
+use Rattle.cert_text.specs.Rows.{text_of_row}
+use Rattle.futmax_main.proofs.rows.usage_row.Goals as goal
+
+pub returns : goal.returns
+returns c =
+    IfOk-weaker c.write_row.result _ _
+    (λ row is. is ∙ ap₂ (λ first second. text_of_row (first ∷ second ∷ []))
+    c.in_ok-copy_of.ensures c.in_ok-copy_of-2.ensures)
+    c.write_row.ensures.text

@@ -1,0 +1,5 @@
+use Rattle.futmax_main.proofs.TurnLemmas.{serves-no_memory}
+use Rattle.futmax_main.proofs.top.futmax.Goals as goal
+
+pub returns-clause-serves : goal.returns-clause-serves
+returns-clause-serves g c = serves-no_memory _ _ _ _

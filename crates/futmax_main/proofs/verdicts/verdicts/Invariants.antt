@@ -1,0 +1,12 @@
+use Rattle.std.proofs.Common.{take, string_bytes}
+use Rattle.futmax_main.specs.Rows.{ask_row}
+use Rattle.futmax_main.specs.Parts.{IsMadeOf}
+use Rattle.futmax_main.specs.Verdicts.{AreItemsOf}
+use Rattle.futmax_main.specs.Items.{Adds}
+use Rattle.futmax_main.proofs.verdicts.verdicts.Given as goal
+
+-- the items of the lines so far stand behind the row of the ask
+abbrev pub invariant-loop-line : goal.invariant-loop-line
+invariant-loop-line l =
+    Adds (ask_row l.feed.epoch) l.text.items
+    (IsMadeOf (AreItemsOf l.feed.sheet l.feed.season) (take l.line-index l.feed.sheet.lines))
