@@ -1,0 +1,84 @@
+"""The words of the command `league`: which part is called, and with which status it ends.
+
+A part is a module with `add_arguments(parser)` and `run(arguments) -> int`. A part raises `Trouble`
+where it cannot go on. Parts whose module is not there are left out.
+"""
+
+from __future__ import annotations
+
+import argparse
+import importlib
+import importlib.util
+import os
+import sys
+
+from . import common
+
+PARTS = {
+    "sheet": "make a sheet from a list of fixtures",
+    "feed": "turn results by names into a feed",
+    "lint": "look for mistakes in a sheet and a feed",
+    "live": "keep a log and have each line answered at once",
+    "explain": "say an answer in plain sentences",
+    "places": "the best and the worst place still possible for each club",
+    "board": "write an answer as a page for the browser",
+}
+
+
+class Parser(argparse.ArgumentParser):
+    """A parser that ends with the status of this command where words do not fit."""
+
+    def error(self, message: str) -> None:
+        """Ends with the usage, the reason, and the status for words that do not fit."""
+        self.print_usage(sys.stderr)
+        common.say(f"{self.prog}: {message}\n`{self.prog} --help` tells the words that fit.")
+        self.exit(common.BAD_WORDS)
+
+
+def make_parser() -> Parser:
+    """The parser with a word for each part that is there."""
+    parser = Parser(
+        prog="league",
+        description="Makes, tests and reads what the program futmax takes and answers.",
+        epilog=common.STATUS_TABLE + "\nThe manual page is docs/man/league.1.",
+        formatter_class=argparse.RawDescriptionHelpFormatter)
+    words = parser.add_subparsers(dest="part", metavar="PART", required=True, parser_class=Parser)
+    for name, summary in PARTS.items():
+        if importlib.util.find_spec(f"{__package__}.{name}") is None:
+            continue
+        part = importlib.import_module(f"{__package__}.{name}")
+        word = words.add_parser(name, help=summary, description=(part.__doc__ or summary).strip(),
+                                epilog=common.STATUS_TABLE,
+                                formatter_class=argparse.RawDescriptionHelpFormatter)
+        part.add_arguments(word)
+        word.set_defaults(run=part.run)
+    return parser
+
+
+def main(words: list[str] | None = None) -> int:
+    """Runs the command with these words, or with those of the process, and gives its status."""
+    try:
+        arguments = make_parser().parse_args(words)
+        status = arguments.run(arguments)
+        sys.stdout.flush()
+        return status
+    except common.Trouble as trouble:
+        common.say(f"league: {trouble.message}")
+        return trouble.status
+    except KeyboardInterrupt:
+        return common.INTERRUPTED
+    except BrokenPipeError:
+        _drop_output()
+        return common.CANNOT_WRITE
+    except OSError as fault:
+        common.say(f"league: {fault.strerror or fault}")
+        _drop_output()
+        return common.CANNOT_WRITE
+
+
+def _drop_output() -> None:
+    """Keeps the interpreter from trying the closed output once more when it ends."""
+    try:
+        os.dup2(os.open(os.devnull, os.O_WRONLY), sys.stdout.fileno())
+    except OSError:
+        pass

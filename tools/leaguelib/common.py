@@ -1,0 +1,87 @@
+"""What every part of `league` shares: exit statuses, messages, and reading and writing of files."""
+
+from __future__ import annotations
+
+import os
+import sys
+from pathlib import Path
+
+DONE = 0
+BAD_WORDS = 1
+TO_MEND = 2
+DOUBTFUL = 3
+CANNOT_READ = 4
+CANNOT_WRITE = 5
+NO_PROGRAM = 6
+INTERRUPTED = 130
+
+STATUS_TABLE = """\
+exit statuses:
+  0    done, and nothing to mend
+  1    the words do not fit
+  2    something in the input has to be mended; the messages say what
+  3    the input can be used, and something in it looks wrong (lint, sheet)
+  4    a file, or standard input, cannot be read
+  5    the output cannot be written
+  6    the program futmax cannot be run, or it ended with a fault
+  130  stopped by hand (Ctrl-C)
+"""
+
+
+class Trouble(Exception):
+    """Ends the command with a message for people and an exit status."""
+
+    def __init__(self, message: str, status: int = TO_MEND) -> None:
+        super().__init__(message)
+        self.message = message
+        self.status = status
+
+
+def say(message: str) -> None:
+    """Writes a message to standard error, whatever signs are in it."""
+    data = (message + "\n").encode("utf-8", "backslashreplace")
+    sys.stderr.flush()
+    sys.stderr.buffer.write(data)
+    sys.stderr.buffer.flush()
+
+
+def read_bytes(path: str) -> bytes:
+    """The bytes of a file, or of standard input where the path is `-`."""
+    if path == "-":
+        return sys.stdin.buffer.read()
+    try:
+        return Path(path).read_bytes()
+    except (OSError, ValueError) as fault:
+        reason = getattr(fault, "strerror", None) or str(fault)
+        raise Trouble(f"{path}: cannot be read: {reason}", CANNOT_READ) from fault
+
+
+def write_text(text: str, path: str = "-") -> None:
+    """Writes text to a file, or to standard output where the path is `-`."""
+    data = text.encode("utf-8", "surrogateescape")
+    if path == "-":
+        sys.stdout.buffer.write(data)
+        sys.stdout.buffer.flush()
+        return
+    try:
+        Path(path).write_bytes(data)
+    except (OSError, ValueError) as fault:
+        reason = getattr(fault, "strerror", None) or str(fault)
+        raise Trouble(f"{path}: cannot be written: {reason}", CANNOT_WRITE) from fault
+
+
+def program_path(given: str | None = None) -> str:
+    """Where the program futmax stands: as told, by FUTMAX, beside these tools, or on the PATH."""
+    if given:
+        return given
+    if os.environ.get("FUTMAX"):
+        return os.environ["FUTMAX"]
+    home = Path(__file__).resolve().parents[2]
+    built = home / "crates" / "futmax" / "out" / "futmax"
+    if os.access(built, os.X_OK):
+        return str(built)
+    for folder in os.environ.get("PATH", "").split(os.pathsep):
+        if folder and os.access(os.path.join(folder, "futmax"), os.X_OK):
+            return os.path.join(folder, "futmax")
+    raise Trouble("the program futmax is not built yet: run ./futmax once, or say --program PATH",
+                  NO_PROGRAM)

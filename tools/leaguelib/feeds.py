@@ -1,0 +1,133 @@
+"""Feeds and whole inputs: the records behind `season`, tested in the order of docs/formats.md."""
+
+from __future__ import annotations
+
+from dataclasses import dataclass, field
+
+from .records import Record, Refused, count_lines, number_of, records_of
+from .texts import (FEED_WIDTHS, MOST_DEDUCTION, MOST_EVENTS, MOST_GOALS, Entry, Season, Sheet,
+                    SheetReader)
+
+
+class FeedReader:
+    """Takes the records of a feed one by one, and keeps the season as it stands."""
+
+    def __init__(self, sheet: Sheet, takes_proofs: bool = False) -> None:
+        self.sheet = sheet
+        self.season = Season()
+        self.takes_proofs = takes_proofs
+
+    def take(self, record: Record) -> Entry:
+        """The entry of the next record, or raises `Refused` and changes nothing."""
+        entry = self.read(record)
+        self.season.apply(entry)
+        return entry
+
+    def read(self, record: Record) -> Entry:
+        """The entry of a record in the season as it stands; changes nothing."""
+        kind = record.kind
+        if kind not in FEED_WIDTHS or (kind == "proofs" and not self.takes_proofs):
+            self._refuse(record, "unknown_record", 1)
+        if len(record.fields) != FEED_WIDTHS[kind]:
+            self._refuse(record, "wrong_width")
+        if kind == "deduct":
+            entry = self._read_deduction(record)
+        elif kind in ("ask", "proofs"):
+            entry = Entry(kind, record.line)
+        else:
+            entry = self._read_score(record)
+        if entry.is_event and self.season.events >= MOST_EVENTS:
+            self._refuse(record, "log_full", 1)
+        return entry
+
+    def _read_score(self, record: Record) -> Entry:
+        """A result, correction or annulment."""
+        fields, kind = record.fields, record.kind
+        fixture = number_of(fields[1])
+        if fixture is None or not 1 <= fixture <= len(self.sheet.fixtures):
+            self._refuse(record, "unknown_fixture", 2)
+        score = (0, 0)
+        if kind != "void":
+            score = (self._goals_in(record, 3), self._goals_in(record, 4))
+        if kind == "result" and fixture in self.season.scores:
+            self._refuse(record, "already_played", 2)
+        if kind != "result" and fixture not in self.season.scores:
+            self._refuse(record, "not_played", 2)
+        return Entry(kind, record.line, fixture, score)
+
+    def _read_deduction(self, record: Record) -> Entry:
+        """Points deducted from a club, in all."""
+        name = record.fields[1]
+        if not self.sheet.club_named(name):
+            self._refuse(record, "unknown_club", 2)
+        points = number_of(record.fields[2])
+        if points is None or points > MOST_DEDUCTION:
+            self._refuse(record, "bad_points", 3)
+        return Entry("deduct", record.line, club=name, points=points)
+
+    def _goals_in(self, record: Record, position: int) -> int:
+        goals = number_of(record.fields[position - 1])
+        if goals is None or goals > MOST_GOALS:
+            self._refuse(record, "bad_goals", position)
+        return goals
+
+    def _refuse(self, record: Record, code: str, position: int = 0) -> None:
+        raise Refused(record.line, code, position, "feed")
+
+
+@dataclass
+class Input:
+    """A whole input: the sheet, the entries of the feed, and the lines behind `proofs`, if any.
+
+    `report_line` is the number of the first line behind `proofs`; 0 where there is none.
+    """
+
+    sheet: Sheet
+    entries: list[Entry] = field(default_factory=list)
+    report_line: int = 0
+
+    def season_at(self, ask: int) -> Season:
+        """The season at an ask of the feed, counted from 0; behind the last ask, the end."""
+        season = Season()
+        asks = 0
+        for entry in self.entries:
+            if entry.kind == "ask":
+                if asks == ask:
+                    break
+                asks += 1
+            season.apply(entry)
+        return season
+
+
+def read_input(data: bytes, takes_proofs: bool = False) -> Input:
+    """Reads a sheet and the feed behind it, or raises `Refused` at the line the program refuses."""
+    reader = SheetReader()
+    feed: FeedReader | None = None
+    entries: list[Entry] = []
+    report_line = 0
+    for record in records_of(data):
+        if feed is None:
+            reader.take(record)
+            if reader.is_ended:
+                feed = FeedReader(reader.sheet, takes_proofs)
+            continue
+        entry = feed.take(record)
+        if entry.kind == "proofs":
+            report_line = record.line + 1
+            break
+        entries.append(entry)
+    if feed is None:
+        code = "no_league" if reader.sheet is None else "no_season"
+        raise Refused(count_lines(data) + 1, code, 0, "sheet")
+    return Input(reader.sheet, entries, report_line)
+
+
+def read_sheet(data: bytes) -> Sheet:
+    """Reads a file that holds a sheet; lines behind `season` are not looked at."""
+    reader = SheetReader()
+    for record in records_of(data):
+        reader.take(record)
+        if reader.is_ended:
+            return reader.sheet
+    code = "no_league" if reader.sheet is None else "no_season"
+    raise Refused(count_lines(data) + 1, code, 0, "sheet")
