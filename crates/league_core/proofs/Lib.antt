@@ -1,5 +1,5 @@
 -- Lemmas on one notion each: results, comparisons, lists of clubs, sets of clubs, standings, the ranking,
--- places, lots, finishes, points and verdicts, options, ranges of points.
+-- places, lots, finishes, points and verdicts, options, boxes, proposed finishes, ranges of points.
 pub mod ResultsLemmas
 pub mod OrderingLemmas
 pub mod ClubLemmas
@@ -19,4 +19,6 @@ pub mod OneVerdictLemmas
 pub mod EachVerdictLemmas
 pub mod WorkedVerdicts
 pub mod OptionLemmas
+pub mod BoxLemmas
+pub mod ProposalLemmas
 pub mod PointRangeLemmas

@@ -20,6 +20,7 @@ pub mod PointRanges
 pub mod SureOrder
 pub mod Reasons
 pub mod Proposals
+pub mod ProposalLaws
 pub mod Trees
 pub mod ZoneLaws
 pub mod WorkedRows

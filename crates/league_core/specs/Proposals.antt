@@ -1,8 +1,9 @@
 -- The proposed finish of a zone: the one finish that is tried first as an example. Each club is
 -- wished points or none, and each fixture takes the option that serves the wishes of its two sides
 -- best. Which finish is proposed is this project's own choice.
-use Rattle.std.specs.Prelude.{ℕ, ℤ, pos, ◌+◌, ◌+ℤ◌, neg_ℤ, Bool, true, false, not, ◌||◌, ◌==◌, if◌then◌else◌, List, [], ◌∷◌, Option, Some, None, fold}
+use Rattle.std.specs.Prelude.{◌≢◌, ℕ, ℤ, pos, ◌+◌, ◌+ℤ◌, neg_ℤ, Bool, true, false, not, ◌||◌, ◌==◌, if◌then◌else◌, IsTrue, List, [], ◌∷◌, Option, Some, None, fold}
 use Rattle.std.specs.declared.cmp.Ordering.{Ordering}
+use Rattle.std.specs.declared.cmp.Ordering.TheVariants.{Less}
 use Rattle.std.specs.Ordering.{is_lt}
 use Rattle.league_core.specs.declared.sheet.Sheet.{Sheet}
 use Rattle.league_core.specs.declared.sheet.Fixture.{Fixture}
@@ -15,7 +16,7 @@ use Rattle.league_core.specs.Results.{Results}
 use Rattle.league_core.specs.Sums.{Worth, match_points, goal_difference}
 use Rattle.league_core.specs.HeadToHead.{by_first_difference}
 use Rattle.league_core.specs.Zones.{marked_before, marked_after}
-use Rattle.league_core.specs.Options.{options_in}
+use Rattle.league_core.specs.Options.{has_score, options_in}
 
 -- the club is wished points: for a place inside the line the question's own club and the rivals
 -- marked before it, for a place outside all but the question's own club and the rivals marked after
@@ -32,10 +33,11 @@ weighed false number = neg_ℤ number
 -- what a score gives to its two sides, each counted for the side or against it
 abbrev pub weighed_together : Worth → Bool → Bool → Score → ℤ
 weighed_together worth home away score =
-    weighed home (worth score.home score.away false) +ℤ weighed away (worth score.away score.home true)
+    weighed home (worth score.home score.away false)
+    +ℤ weighed away (worth score.away score.home true)
 
--- how a score meets the wishes of its two sides: by points, then by margins, then by few goals, then by
--- many of them at home; each greater first
+-- how a score meets the wishes of its two sides: by points, then by margins, then by few goals,
+-- then by many of them at home; each greater first
 abbrev pub wishes_met : Bool → Bool → Score → List ℤ
 wishes_met home away score =
     weighed_together match_points home away score
@@ -58,6 +60,12 @@ first_of_two home away score other =
 abbrev pub first_option : Bool → Bool → List Score → Option Score
 first_option home away [] = None
 first_option home away (score ∷ options) = Some (fold (first_of_two home away) score options)
+
+-- the score is one of the options, and none of them is taken before it
+pub record IsFirstOption (home away : Bool) (options : List Score) (score : Score) : Type 0 where
+  pub option : IsTrue (has_score options score)
+  pub first : (other : Score) → IsTrue (has_score options other)
+      → option_order home away other score ≢ Less
 
 -- each fixture takes the first of its options
 abbrev pub first_options : (ℕ → Bool) → List Fixture → List (List Score) → List (Option Score)

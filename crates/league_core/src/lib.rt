@@ -12,6 +12,7 @@ mod laws;
 mod listing;
 mod lots;
 mod memory;
+mod proposal_laws;
 mod question;
 mod season;
 mod sheet;
@@ -33,6 +34,9 @@ pub use laws::{
 pub use listing::{Listing, Name};
 pub use lots::Lots;
 pub use memory::OutOfMemory;
+pub use proposal_laws::{
+    option_order_is_total, options_have_one_first, proposed_finishes_are_finishes,
+};
 pub use question::{Claim, Question};
 pub use season::{Event, Score, Season};
 pub use sheet::{Club, Fixture, Sheet};
