@@ -38,6 +38,12 @@ are_results-set scores deductions i score may_be all =
     let parts = both_of _ _ all in
     and_of _ _ (list_all-set is_score_or_none scores i score may_be parts.0) parts.1
 
+-- so many points that may be are taken off a club
+pub are_results-deduct : (scores : List (Option Score)) (deductions : List ℕ) (club points : ℕ) → leb points 99 ≡ true → are_results (record { scores = scores; deductions = deductions }) ≡ true → are_results (record { scores = scores; deductions = set deductions club points }) ≡ true
+are_results-deduct scores deductions club points may_be all =
+    let parts = both_of _ _ all in
+    and_of _ _ parts.0 (list_all-set (λ n. leb n 99) deductions club points may_be parts.1)
+
 -- two scores are equal exactly where their goals are
 pub scores_decided : (s t : Score) → Decides ((s.home == t.home) && (s.away == t.away)) (s ≡ t)
 scores_decided s t = (

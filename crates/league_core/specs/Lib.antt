@@ -1,4 +1,5 @@
 -- Read in this order: it is the order in which the notions rest on each other.
+pub mod Limits
 pub mod Sheets
 pub mod Results
 pub mod Seasons

@@ -1,10 +1,11 @@
 -- A question: whether a club can end inside a line, or outside it, with its points in a window; and
 -- the examples that answer it.
-use Rattle.std.specs.Prelude.{ℕ, ℤ, pos, negsuc, ◌<◌, ◌≤◌, Bool, not, ◌&&◌, int_le, IsTrue, List, length}
+use Rattle.std.specs.Prelude.{ℕ, ℤ, ◌<◌, ◌≤◌, Bool, not, ◌&&◌, int_le, IsTrue, List, length}
 use Rattle.league_core.specs.declared.sheet.Sheet.{Sheet}
 use Rattle.league_core.specs.declared.question.Claim.{Claim}
 use Rattle.league_core.specs.declared.question.Claim.TheVariants.{Inside, Outside}
 use Rattle.league_core.specs.declared.question.Question.{Question}
+use Rattle.league_core.specs.Limits.{least_points, most_points}
 use Rattle.league_core.specs.Results.{Results}
 use Rattle.league_core.specs.Sums.{points_of}
 use Rattle.league_core.specs.Ranking.{is_inside, are_lots}
@@ -41,4 +42,4 @@ pub record IsQuestionOf (sheet : Sheet) (question : Question) : Type 0 where
 -- within the limits and deductions of at most 99
 abbrev pub full_question : ℕ → ℕ → Claim → Question
 full_question club line claim =
-    record { club = club; line = line; claim = claim; low = negsuc 98; high = pos 1800 }
+    record { club = club; line = line; claim = claim; low = least_points; high = most_points }

@@ -2,6 +2,7 @@
 use Rattle.std.specs.Prelude.{ℕ, List, Bool, true, ◌&&◌, nat_le, Option, Some, None}
 use Rattle.std.specs.List.{list_all}
 use Rattle.league_core.specs.declared.season.Score.{Score}
+use Rattle.league_core.specs.Limits.{most_goals, most_deduction}
 
 -- for each fixture its score, or none where it is not played; for each club the points taken off
 pub record Results : Type 0 where
@@ -10,7 +11,7 @@ pub record Results : Type 0 where
 
 -- a side of a played match has 0 to 99 goals
 abbrev pub is_score : Score → Bool
-is_score score = nat_le score.home 99 && nat_le score.away 99
+is_score score = nat_le score.home most_goals && nat_le score.away most_goals
 
 -- no score, or one that a match may have
 abbrev pub is_score_or_none : Option Score → Bool
@@ -20,4 +21,4 @@ is_score_or_none (Some score) = is_score score
 -- each score is one that a match may have, and no club has more than 99 points taken off
 abbrev pub are_results : Results → Bool
 are_results results =
-    list_all is_score_or_none results.scores && list_all (λ points. nat_le points 99) results.deductions
+    list_all is_score_or_none results.scores && list_all (λ points. nat_le points most_deduction) results.deductions

@@ -1,9 +1,11 @@
--- The season of a list of events: results, corrections and annulments, taken in the order in which
--- they are reported.
-use Rattle.std.specs.Prelude.{◌≡◌, ◌<◌, ℕ, IsTrue, List, length, replicate, slice_set, fold, All, Some, None}
+-- The season of a list of events: results, corrections, annulments and deductions, taken in the order
+-- in which they are reported.
+use Rattle.std.specs.Prelude.{◌≡◌, ◌<◌, ◌≤◌, ℕ, IsTrue, List, length, replicate, slice_set, fold, All, Some, None}
 use Rattle.league_core.specs.declared.sheet.Sheet.{Sheet}
 use Rattle.league_core.specs.declared.season.Event.{Event}
-use Rattle.league_core.specs.declared.season.Event.TheVariants.{Set, Clear}
+use Rattle.league_core.specs.declared.season.Event.TheVariants.{Set, Clear, Deduct}
+use Rattle.league_core.specs.Limits.{most_deduction}
+use Rattle.league_core.specs.Sheets.{IsWithinLimits}
 use Rattle.league_core.specs.Results.{Results, is_score}
 
 -- nothing is played, and nothing is taken off any club's points; the numbers are of clubs and of fixtures
@@ -11,16 +13,21 @@ abbrev pub unplayed_season : ℕ → ℕ → Results
 unplayed_season clubs fixtures =
     record { scores = replicate fixtures None; deductions = replicate clubs 0 }
 
--- a result and a correction put their score there, whatever stood there; an annulment puts none
+-- a result and a correction put their score there, whatever stood there; an annulment puts none; a
+-- deduction takes the place of the club's earlier one
 abbrev pub event_applied : Results → Event → Results
 event_applied season (Set fixture score) =
     record season { scores = slice_set season.scores fixture (Some score) }
 event_applied season (Clear fixture) = record season { scores = slice_set season.scores fixture None }
+event_applied season (Deduct club points) =
+    record season { deductions = slice_set season.deductions club points }
 
--- what a season may be told: a fixture that it has, and a score that may be
+-- what a season may be told: of a fixture that it has, a score that may be or none; of a club that it
+-- has, a deduction that may be
 abbrev pub IsEventOf : Results → Event → Type 0
 IsEventOf season (Set fixture score) = (fixture < length season.scores) × IsTrue (is_score score)
 IsEventOf season (Clear fixture) = fixture < length season.scores
+IsEventOf season (Deduct club points) = (club < length season.deductions) × (points ≤ most_deduction)
 
 -- each of these events is one that a season of the sheet may be told
 abbrev pub AreEventsOf : Sheet → List Event → Type 0
@@ -41,3 +48,8 @@ epoch_of events = length events
 pub record IsSeasonOf (sheet : Sheet) (season : Results) : Type 0 where
   pub scores : length season.scores ≡ length sheet.fixtures
   pub deductions : length season.deductions ≡ length sheet.clubs
+
+-- a sheet within the limits, and a season of that sheet
+pub record IsLeague (sheet : Sheet) (season : Results) : Type 0 where
+  pub limits : IsWithinLimits sheet
+  pub of_sheet : IsSeasonOf sheet season

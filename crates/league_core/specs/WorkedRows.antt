@@ -3,13 +3,14 @@
 -- fails here. Clubs are named by letters in the comments, and count from 0 below.
 use Rattle.std.specs.Prelude.{◌≡◌, ℕ, ℤ, pos, negsuc, Bool, true, false, List, [], ◌∷◌, Option, Some, None, map, refl}
 use Rattle.league_core.specs.declared.sheet.Sheet.{Sheet}
+use Rattle.league_core.specs.declared.sheet.Order.TheVariants.{HeadFirst}
 use Rattle.league_core.specs.declared.sheet.Fixture.{Fixture}
 use Rattle.league_core.specs.declared.season.Score.{Score}
 use Rattle.league_core.specs.Results.{Results}
 use Rattle.league_core.specs.Sheets.{clubs_of}
 use Rattle.league_core.specs.Sums.{points_of, sum_of, goal_difference}
 use Rattle.league_core.specs.HeadToHead.{head_to_head_of}
-use Rattle.league_core.specs.declared.season.Event.TheVariants.{Set, Clear}
+use Rattle.league_core.specs.declared.season.Event.TheVariants.{Set, Clear, Deduct}
 use Rattle.league_core.specs.declared.question.Claim.TheVariants.{Inside, Outside}
 use Rattle.league_core.specs.Seasons.{season_after, unplayed_season}
 use Rattle.league_core.specs.Finishes.{may_end, may_all_end}
@@ -25,6 +26,7 @@ sheet_of ranks fixtures = record {
   lines = 1 ∷ [];
   goal_limit = 5;
   budget = 2000;
+  order = HeadFirst;
 }
 
 -- home against away
@@ -230,3 +232,7 @@ corrected = refl
 
 annulled : season_after four (Set 0 (record { home = 1; away = 0 }) ∷ Clear 0 ∷ []) ≡ unplayed_season 4 6
 annulled = refl
+
+-- a later deduction of a club takes the place of an earlier one, and 0 takes it away
+deducted : (season_after four (Deduct 1 3 ∷ Deduct 2 4 ∷ Deduct 1 2 ∷ Deduct 2 0 ∷ [])).deductions ≡ 0 ∷ 2 ∷ 0 ∷ 0 ∷ []
+deducted = refl

@@ -3,6 +3,7 @@
 use Rattle.std.specs.Prelude.{◌≡◌, ℕ, pos, true, false, List, [], ◌∷◌, Option, Some, None, map, refl}
 use Rattle.std.specs.List.{range_with_len}
 use Rattle.league_core.specs.declared.sheet.Sheet.{Sheet}
+use Rattle.league_core.specs.declared.sheet.Order.TheVariants.{HeadFirst}
 use Rattle.league_core.specs.declared.sheet.Fixture.{Fixture}
 use Rattle.league_core.specs.declared.season.Score.{Score}
 use Rattle.league_core.specs.declared.club_set.ClubSet.{ClubSet}
@@ -32,6 +33,7 @@ league limit clubs fixtures = record {
   lines = 1 ∷ [];
   goal_limit = limit;
   budget = 2000;
+  order = HeadFirst;
 }
 
 -- home against away

@@ -9,6 +9,7 @@ mod club_set;
 mod finish;
 mod finish_laws;
 mod laws;
+pub mod limits;
 mod listing;
 mod lots;
 mod memory;
@@ -39,7 +40,7 @@ pub use proposal_laws::{
 };
 pub use question::{Claim, Question};
 pub use season::{Event, Score, Season};
-pub use sheet::{Club, Fixture, Sheet};
+pub use sheet::{Club, Fixture, Order, Sheet};
 pub use sure::Sure;
 pub use tree::TreeNode;
 pub use zone::{Literal, Reason, Test, Zone};

@@ -3,10 +3,11 @@
 //! Contracts see a season as the record `Results`. Every call but `unplayed` and `copy` takes no
 //! memory.
 
-ghost use Rattle.std.specs.Prelude.{◌≡◌, ◌<◌, ◌↔◌, length, slice_index, slice_index_or, slice_set, IfOk, IsTrue, None};
+ghost use Rattle.std.specs.Prelude.{◌≡◌, ◌<◌, ◌≤◌, ◌↔◌, length, slice_index, slice_index_or, slice_set, IfOk, IsTrue, None};
 ghost use Rattle.league_core.specs.Results.{are_results, is_score_or_none};
 ghost use Rattle.league_core.specs.Seasons.{unplayed_season, event_applied, IsEventOf};
 
+use crate::limits::MOST_DEDUCTION;
 use crate::memory::OutOfMemory;
 use std::alloc::Global;
 use std::marker::Model;
@@ -18,13 +19,15 @@ pub struct Score {
     pub away: u8,
 }
 
-/// What a feed may report of one fixture, by its number from 0.
+/// What a feed may report of one fixture or club, by its number from 0.
 #[derive(Clone, Copy, Debug, PartialEq, Eq)]
 pub enum Event {
     /// The fixture has this score, as a result or as a correction.
     Set { fixture: u16, score: Score },
     /// The fixture counts as not played.
     Clear { fixture: u16 },
+    /// The club has so many points taken off in all, 0 to 99.
+    Deduct { club: u8, points: u8 },
 }
 
 /// What has been played. No score has more than 99 goals a side, no deduction more than 99 points.
@@ -91,7 +94,8 @@ impl Season {
         self.deductions[club as usize]
     }
 
-    /// Takes one event: `Set` puts its score, also over another, `Clear` takes the score away.
+    /// Takes one event: `Set` puts its score, also over another, `Clear` takes the score away,
+    /// `Deduct` puts its points in the place of the club's deduction.
     pub fn apply(&mut self, event: &Event)
         requires { IsEventOf self.old event.now }
         ensures { self.new ≡ event_applied self.old event.now }
@@ -99,7 +103,18 @@ impl Season {
         match event {
             Event::Set { fixture, score } => self.write(*fixture, Some(*score)),
             Event::Clear { fixture } => self.write(*fixture, None),
+            Event::Deduct { club, points } => self.deduct(*club, *points),
         }
+    }
+
+    fn deduct(&mut self, club: u8, points: u8)
+        requires in_range { club < length self.old.deductions }
+        requires may_be { points ≤ MOST_DEDUCTION }
+        ensures { self.new ≡ record self.old {
+          deductions = slice_set self.old.deductions club points;
+        } }
+    {
+        self.deductions[club as usize] = points;
     }
 
     fn write(&mut self, fixture: u16, score: Option<Score>)
@@ -156,6 +171,18 @@ mod tests {
         assert!(rt; !season.equals(&before));
         season.apply(&Event::Clear { fixture: 0 });
         assert!(rt; season.equals(&before));
+        Ok(())
+    }
+
+    #[test]
+    fn a_later_deduction_replaces_an_earlier_one(rt: HostRuntime) -> Result<(), Fail> {
+        let mut season = Season::unplayed(rt.alloc(), 2, 1).ok().ok_or("room")?;
+        season.apply(&Event::Deduct { club: 1, points: 9 });
+        season.apply(&Event::Deduct { club: 1, points: 2 });
+        assert_eq!(rt; season.deducted(1), 2);
+        assert_eq!(rt; season.deducted(0), 0);
+        season.apply(&Event::Deduct { club: 1, points: 0 });
+        assert_eq!(rt; season.deducted(1), 0);
         Ok(())
     }
 }

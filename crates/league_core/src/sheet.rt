@@ -19,6 +19,15 @@ pub struct Fixture {
     pub away: u8,
 }
 
+/// Which tie-break criteria come first among clubs on one number of points.
+#[derive(Clone, Copy, Debug, PartialEq, Eq)]
+pub enum Order {
+    /// The head-to-head record, then the sums over all matches.
+    HeadFirst,
+    /// Goal difference and goals over all matches, then the head-to-head record.
+    OverallFirst,
+}
+
 /// What is to be played, and what is asked of it.
 #[derive(Drop)]
 pub struct Sheet {
@@ -33,4 +42,6 @@ pub struct Sheet {
     pub goal_limit: u8,
     /// Search nodes per question and epoch, 1 to 50,000.
     pub budget: u32,
+    /// How clubs on one number of points are ranked.
+    pub order: Order,
 }
