@@ -23,6 +23,10 @@ pub mod Reasons
 pub mod Proposals
 pub mod ProposalLaws
 pub mod Trees
+pub mod Leaves
+pub mod Lending
+pub mod TreeLists
+pub mod Splits
 pub mod ZoneLaws
 pub mod WorkedRows
 pub mod ZoneRows

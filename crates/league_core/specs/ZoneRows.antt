@@ -22,7 +22,7 @@ use Rattle.league_core.specs.PointRanges.{least_points_of, most_points_of, own_m
 use Rattle.league_core.specs.SureOrder.{sure_order}
 use Rattle.league_core.specs.Reasons.{has_reason}
 use Rattle.league_core.specs.Proposals.{first_option, proposed_finish}
-use Rattle.league_core.specs.Trees.{is_proper}
+use Rattle.league_core.specs.Splits.{is_proper}
 
 -- a sheet with this goal limit, of so many clubs, the first with rank 1, and of these fixtures
 abbrev league : ℕ → ℕ → List Fixture → Sheet

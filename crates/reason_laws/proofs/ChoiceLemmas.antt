@@ -19,7 +19,7 @@ use Rattle.league_core.specs.Seasons.{IsSeasonOf}
 use Rattle.league_core.specs.FinishList.{ways_to_end, ways_to_finish}
 use Rattle.league_core.specs.Zones.{passes, is_on, is_of_score, is_of_rival, is_as_said, with_test}
 use Rattle.league_core.specs.Options.{scores_up_to, endings, meets_literal, meets, options_of, options_from, options_in, has_option, has_finish}
-use Rattle.league_core.specs.Trees.{is_proper}
+use Rattle.league_core.specs.Splits.{is_proper}
 use Rattle.league_core.proofs.FinishListLemmas.{length-finishes_of}
 use Rattle.reason_laws.specs.Weights.{choices, finishes_in}
 use Rattle.reason_laws.proofs.SplitLemmas.{and_true, list_all-with, proper_names}

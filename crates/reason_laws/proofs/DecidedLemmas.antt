@@ -30,7 +30,7 @@ use Rattle.league_core.proofs.ClubLemmas.{all_in_range}
 use Rattle.league_core.proofs.OthersLemmas.{length-others_of}
 use Rattle.league_core.proofs.RankingLemmas.{order_of-lots, ranks_before-itself}
 use Rattle.league_core.proofs.LotsLemmas.{lots_for_claim-are_lots, lots_for_claim-favoured}
-use Rattle.league_core.specs.Trees.{are_outcomes_fixed}
+use Rattle.league_core.specs.Splits.{are_outcomes_fixed}
 use Rattle.reason_laws.specs.SureLaws.{sure_of}
 use Rattle.reason_laws.proofs.MemberLemmas.{list_all-weaker, points_in_box}
 use Rattle.reason_laws.proofs.ReasonLemmas.{count_by-cons, count_by-front, count_by-other}

@@ -10,7 +10,7 @@ use Rattle.league_core.specs.declared.zone.Literal.{Literal}
 use Rattle.league_core.specs.Results.{Results}
 use Rattle.league_core.specs.Sheets.{clubs_of}
 use Rattle.league_core.specs.Zones.{is_of_score, is_of_rival, marked_before, marked_after, is_marked, rivals_of, with_test}
-use Rattle.league_core.specs.Trees.{is_proper}
+use Rattle.league_core.specs.Splits.{is_proper}
 use Rattle.league_core.proofs.OthersLemmas.{length-others_of}
 use Rattle.reason_laws.specs.Weights.{unmarked_in}
 use Rattle.reason_laws.proofs.SplitLemmas.{before_in_half, after_in_half, before_kept, after_kept}

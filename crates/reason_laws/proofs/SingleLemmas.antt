@@ -18,7 +18,7 @@ use Rattle.league_core.specs.LotsFor.{order_without_lots}
 use Rattle.league_core.specs.Options.{options_in, has_one_score, has_one_outcome, is_single, IsInBox}
 use Rattle.league_core.specs.PointRanges.{Range, range_from, points_range}
 use Rattle.league_core.specs.SureOrder.{has_one_value, sure_by_range, sure_then, sure_by_ranges, is_level, is_apart, range_over, range_among, record_ranges, overall_ranges, by_record_ranges, by_overall_ranges, is_surely_in, is_surely_out, are_all_sure, sure_within, sure_by_points, level_on_points, sure_order}
-use Rattle.league_core.specs.Trees.{are_outcomes_fixed}
+use Rattle.league_core.specs.Splits.{are_outcomes_fixed}
 use Rattle.reason_laws.specs.SureLaws.{sure_of}
 use Rattle.reason_laws.proofs.MemberLemmas.{list_all-weaker}
 use Rattle.reason_laws.proofs.FixedLemmas.{range_from-alike, scores_alike, one_score-outcome}

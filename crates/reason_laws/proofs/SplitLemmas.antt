@@ -15,8 +15,9 @@ use Rattle.league_core.specs.declared.tree.TreeNode.TheVariants.{Split, Open, Le
 use Rattle.league_core.specs.Results.{Results}
 use Rattle.league_core.specs.Verdicts.{HasNoExample}
 use Rattle.league_core.specs.Zones.{is_of_rival, is_test_true, is_as_said, is_literal_true, are_literals_true, IsMember, marked_before, marked_after, is_marked, with_test, is_test_of, is_zone_of, IsZoneFor}
-use Rattle.league_core.specs.Trees.{Tree, open_leaf, lent_leaf, refuted_leaf, branch, zones_from, zones_of, NodesMeet, IsCover, have_both_finish, is_proper}
-use Rattle.reason_laws.specs.Splits.{HoldsNowhereIn, HoldsAtNoLeaf, IsProperNode}
+use Rattle.league_core.specs.Trees.{Tree, open_leaf, lent_leaf, refuted_leaf, branch, zones_from, zones_of, NodesMeet, IsCover}
+use Rattle.league_core.specs.Splits.{have_both_finish, is_proper, IsProperNode}
+use Rattle.reason_laws.specs.Splits.{HoldsNowhereIn, HoldsAtNoLeaf}
 
 pub and_true : (b : Bool) → (b && true) ≡ b
 and_true true = refl

@@ -23,7 +23,7 @@ use Rattle.league_core.specs.Options.{options_in, has_one_outcome, IsInBox}
 use Rattle.league_core.specs.PointRanges.{Range, points_together, points_range, least_points_of, most_points_of}
 use Rattle.league_core.specs.SureOrder.{has_one_value, sure_by_range, sure_within, is_level, sure_by_points, level_on_points, sure_order}
 use Rattle.league_core.proofs.RankingLemmas.{tied_group_of-tied, order_without_lots_total, order_of-lots}
-use Rattle.league_core.specs.Trees.{are_outcomes_fixed}
+use Rattle.league_core.specs.Splits.{are_outcomes_fixed}
 use Rattle.reason_laws.proofs.MemberLemmas.{points_in_box}
 use Rattle.reason_laws.proofs.FixedLemmas.{range_from-alike, points_alike}
 use Rattle.reason_laws.proofs.SureLemmas.{Agrees, IsInRange, then_agrees, range_agrees, within_agrees}

@@ -18,7 +18,7 @@ use Rattle.league_core.specs.Zones.{rivals_of, marked_before, marked_after, IsMe
 use Rattle.league_core.specs.Options.{has_finish}
 use Rattle.league_core.specs.SureOrder.{is_above, is_below, sure_order}
 use Rattle.league_core.specs.Reasons.{has_reason, refutes_by_count, refutes_by_window, refutes_by_floor, refutes_by_ceiling, refutes_by_tie, is_surely_above, is_surely_below, are_too_many_sure, is_surely_wrong}
-use Rattle.league_core.specs.Trees.{are_outcomes_fixed}
+use Rattle.league_core.specs.Splits.{are_outcomes_fixed}
 use Rattle.reason_laws.proofs.MemberLemmas.{member_in_box, before_is, after_is}
 use Rattle.reason_laws.proofs.ReasonLemmas.{too_many_says, holds_parts, count_says, window_says, floor_says, ceiling_says}
 use Rattle.reason_laws.proofs.SureOrderLemmas.{above_is, below_is_not}

@@ -15,8 +15,8 @@ use Rattle.league_core.specs.Seasons.{IsSeasonOf}
 use Rattle.league_core.specs.FinishList.{ways_to_finish}
 use Rattle.league_core.specs.Zones.{is_of_score, is_of_rival, with_test}
 use Rattle.league_core.specs.Options.{has_option, has_finish}
-use Rattle.league_core.specs.Trees.{Tree, open_leaf, lent_leaf, refuted_leaf, branch, preorder, NodesMeet, have_both_finish, is_proper, new_count, has_open, is_spent}
-use Rattle.reason_laws.specs.Splits.{IsProperNode}
+use Rattle.league_core.specs.Trees.{Tree, open_leaf, lent_leaf, refuted_leaf, branch, preorder, NodesMeet, new_count, has_open, is_spent}
+use Rattle.league_core.specs.Splits.{have_both_finish, is_proper, IsProperNode}
 use Rattle.reason_laws.specs.Weights.{choices, finishes_in, unmarked_in, weight_of}
 use Rattle.reason_laws.proofs.ChoiceLemmas.{finishes_some, divided, kept_divided, finishes_divided, options_kept, root_finishes, root_has_finish}
 use Rattle.reason_laws.proofs.MarkLemmas.{one_rival_marked, unmarked_kept, root_unmarked}

@@ -11,7 +11,8 @@ use Rattle.league_core.specs.Results.{Results}
 use Rattle.league_core.specs.Questions.{holds_at}
 use Rattle.league_core.specs.Verdicts.{HasNoExample}
 use Rattle.league_core.specs.Zones.{IsMember, IsZoneFor, with_test}
-use Rattle.league_core.specs.Trees.{Tree, zones_of, NodesMeet, IsCover, is_proper}
+use Rattle.league_core.specs.Trees.{Tree, zones_of, NodesMeet, IsCover}
+use Rattle.league_core.specs.Splits.{IsProperNode}
 
 -- a finish with lots is in a zone exactly where it is in one of the halves by a test
 abbrev pub HalvesCover : Type 0
@@ -56,14 +57,6 @@ LeavesDecide =
     (sheet : Sheet) (season : Results) (question : Question) (tree : Tree)
     → NodesMeet (HoldsAtNoLeaf sheet season question) [] tree
     → HasNoExample sheet season question
-
--- of a split, that it is proper in its zone; of a leaf, nothing
-abbrev pub IsProperNode : Sheet → Results → Question → List Literal → TreeNode → Type 0
-IsProperNode sheet season question zone (Split test fresh) =
-    IsTrue (is_proper sheet season question zone test)
-IsProperNode sheet season question zone Open = Unit {0}
-IsProperNode sheet season question zone (Lent number) = Unit {0}
-IsProperNode sheet season question zone (Refuted reason fresh) = Unit {0}
 
 -- in a tree whose splits are proper the zone of each node is one for the question: it names what
 -- the sheet has, and does not mark the question's own club

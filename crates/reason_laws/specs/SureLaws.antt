@@ -12,7 +12,7 @@ use Rattle.league_core.specs.Laws.{RanksBefore}
 use Rattle.league_core.specs.LotsFor.{order_without_lots}
 use Rattle.league_core.specs.Options.{is_single, IsInBox}
 use Rattle.league_core.specs.SureOrder.{sure_order}
-use Rattle.league_core.specs.Trees.{are_outcomes_fixed}
+use Rattle.league_core.specs.Splits.{are_outcomes_fixed}
 
 -- a rival that is surely above the club ranks before it at each finish in the box, with all lots
 abbrev pub SurelyAboveRanksBefore : Type 0

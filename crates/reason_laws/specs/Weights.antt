@@ -12,8 +12,8 @@ use Rattle.league_core.specs.Seasons.{IsSeasonOf}
 use Rattle.league_core.specs.FinishList.{ways_to_finish}
 use Rattle.league_core.specs.Zones.{is_of_score, is_of_rival, marked_before, marked_after, is_marked, rivals_of, with_test}
 use Rattle.league_core.specs.Options.{options_in, has_finish}
-use Rattle.league_core.specs.Trees.{Tree, preorder, NodesMeet, is_proper, is_spent}
-use Rattle.reason_laws.specs.Splits.{IsProperNode}
+use Rattle.league_core.specs.Trees.{Tree, preorder, NodesMeet, is_spent}
+use Rattle.league_core.specs.Splits.{is_proper, IsProperNode}
 
 -- in how many ways one option can be taken for each fixture
 abbrev pub choices : List (List Score) → ℕ
