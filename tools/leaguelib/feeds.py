@@ -17,6 +17,12 @@ class FeedReader:
         self.season = Season()
         self.takes_proofs = takes_proofs
 
+    def copy(self) -> FeedReader:
+        """The same reader, to be tried apart from this one."""
+        other = FeedReader(self.sheet, self.takes_proofs)
+        other.season = self.season.copy()
+        return other
+
     def take(self, record: Record) -> Entry:
         """The entry of the next record, or raises `Refused` and changes nothing."""
         entry = self.read(record)
@@ -99,27 +105,56 @@ class Input:
         return season
 
 
+class InputReader:
+    """Takes the records of a whole input one by one: those of the sheet, then those of the feed."""
+
+    def __init__(self, takes_proofs: bool = False) -> None:
+        self.sheet_reader = SheetReader()
+        self.feed_reader: FeedReader | None = None
+        self.takes_proofs = takes_proofs
+
+    @property
+    def sheet(self) -> Sheet | None:
+        """The sheet as far as it was read."""
+        return self.sheet_reader.sheet
+
+    def copy(self) -> InputReader:
+        """The same reader, to be tried apart from this one."""
+        other = InputReader(self.takes_proofs)
+        other.sheet_reader = self.sheet_reader.copy()
+        if self.feed_reader is not None:
+            other.feed_reader = self.feed_reader.copy()
+        return other
+
+    def take(self, record: Record) -> Entry | None:
+        """Takes the next record, or raises `Refused` and changes nothing; gives a feed's entry."""
+        if self.feed_reader is not None:
+            return self.feed_reader.take(record)
+        self.sheet_reader.take(record)
+        if self.sheet_reader.is_ended:
+            self.feed_reader = FeedReader(self.sheet_reader.sheet, self.takes_proofs)
+        return None
+
+    def test_end(self, lines: int) -> None:
+        """Raises `Refused` where the input may not end behind so many lines."""
+        if self.feed_reader is None:
+            code = "no_league" if self.sheet is None else "no_season"
+            raise Refused(lines + 1, code, 0, "sheet")
+
+
 def read_input(data: bytes, takes_proofs: bool = False) -> Input:
     """Reads a sheet and the feed behind it, or raises `Refused` at the line the program refuses."""
-    reader = SheetReader()
-    feed: FeedReader | None = None
+    reader = InputReader(takes_proofs)
     entries: list[Entry] = []
-    report_line = 0
     for record in records_of(data):
-        if feed is None:
-            reader.take(record)
-            if reader.is_ended:
-                feed = FeedReader(reader.sheet, takes_proofs)
+        entry = reader.take(record)
+        if entry is None:
             continue
-        entry = feed.take(record)
         if entry.kind == "proofs":
-            report_line = record.line + 1
-            break
+            return Input(reader.sheet, entries, record.line + 1)
         entries.append(entry)
-    if feed is None:
-        code = "no_league" if reader.sheet is None else "no_season"
-        raise Refused(count_lines(data) + 1, code, 0, "sheet")
-    return Input(reader.sheet, entries, report_line)
+    reader.test_end(count_lines(data))
+    return Input(reader.sheet, entries)
 
 
 def read_sheet(data: bytes) -> Sheet:

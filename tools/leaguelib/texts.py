@@ -7,7 +7,7 @@ change nothing where they raise `Refused`. Answers of the program are read in `a
 
 from __future__ import annotations
 
-from dataclasses import dataclass, field
+from dataclasses import dataclass, field, replace
 
 from .records import Record, Refused, is_name, number_of
 
@@ -125,6 +125,15 @@ class SheetReader:
         self.sheet: Sheet | None = None
         self.is_ended = False
 
+    def copy(self) -> SheetReader:
+        """The same reader, to be tried apart from this one."""
+        other = SheetReader()
+        other.is_ended = self.is_ended
+        if self.sheet is not None:
+            other.sheet = replace(self.sheet, clubs=list(self.sheet.clubs),
+                                  fixtures=list(self.sheet.fixtures), lines=list(self.sheet.lines))
+        return other
+
     def take(self, record: Record) -> None:
         """Takes the next record, or raises `Refused` and changes nothing."""
         if self.sheet is None and record.kind != "league":
@@ -132,7 +141,9 @@ class SheetReader:
         self._test_place(record)
         if len(record.fields) not in SHEET_WIDTHS[record.kind]:
             self._refuse(record, "wrong_width")
-        getattr(self, "_take_" + record.kind)(record)
+        takers = {"league": self._take_league, "club": self.take_club, "match": self._take_match,
+                  "line": self._take_line, "season": self._take_season}
+        takers[record.kind](record)
 
     def _test_place(self, record: Record) -> None:
         """Whether a record of this kind may stand here."""
@@ -158,7 +169,8 @@ class SheetReader:
             sheet.order = fields[4]
         self.sheet = sheet
 
-    def _take_club(self, record: Record) -> None:
+    def take_club(self, record: Record) -> None:
+        """Takes a club, wherever it stands."""
         name = self._name_in(record, 2)
         rank = self._number_in(record, 3, 1, MOST_RANK)
         if self.sheet.club_named(name):

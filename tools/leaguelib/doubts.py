@@ -1,0 +1,173 @@
+"""What the program takes without a word, and what is yet likely a mistake."""
+
+from __future__ import annotations
+
+from collections import Counter
+from dataclasses import dataclass
+from typing import Iterator
+
+from .names import plain_form, shown, tidy
+from .texts import MOST_FINISHES, Entry, Season, Sheet
+
+MANY_GOALS = 15
+
+
+@dataclass(frozen=True)
+class Doubt:
+    """A sentence on something that looks wrong, and its line; 0 where it is about the whole."""
+
+    line: int
+    message: str
+
+
+def sheet_doubts(sheet: Sheet) -> Iterator[Doubt]:
+    """What looks wrong in a sheet."""
+    yield from name_doubts(sheet)
+    if not sheet.lines:
+        yield Doubt(0, "the sheet has no `line`, so `verdicts` has nothing to say. Write "
+                       "`line,1` for "
+                       "the first place, `line,4` for the first four")
+    if not sheet.fixtures:
+        yield Doubt(0, "the sheet has no `match`: there is nothing to play for")
+        return
+    yield from pair_doubts(sheet)
+
+
+def name_doubts(sheet: Sheet) -> Iterator[Doubt]:
+    """Names with spaces at their ends, and names that look alike."""
+    forms: dict[str, str] = {}
+    for club in sheet.clubs:
+        if tidy(club.name) != club.name:
+            yield Doubt(0, f"the name {shown(club.name)} begins or ends with a space. It belongs "
+                           f"to "
+                           "the name, and every match has to write it so")
+        form = plain_form(club.name)
+        if form in forms:
+            yield Doubt(0, f"{shown(forms[form])} and {shown(club.name)} are two clubs to the "
+                           f"program, "
+                           "though their names look alike. Is it one club?")
+        forms.setdefault(form, club.name)
+
+
+def meetings(sheet: Sheet) -> tuple[Counter, Counter]:
+    """How often each pair meets, whoever is at home; and how often in each order."""
+    directed = Counter((fixture.home, fixture.away) for fixture in sheet.fixtures)
+    pairs: Counter = Counter()
+    for (home, away), number in directed.items():
+        pairs[tuple(sorted((home, away)))] += number
+    return pairs, directed
+
+
+def pair_doubts(sheet: Sheet) -> Iterator[Doubt]:
+    """Pairs that meet more or less often than the others."""
+    names = [club.name for club in sheet.clubs]
+    pairs, directed = meetings(sheet)
+    every = [tuple(sorted((names[i], names[k])))
+             for i in range(len(names)) for k in range(i + 1, len(names))]
+    usual = Counter(pairs[pair] for pair in every).most_common(1)[0][0]
+    fewer = [pair for pair in every if pairs[pair] < usual]
+    more = [pair for pair in every if pairs[pair] > usual]
+    if fewer:
+        yield Doubt(0, f"most pairs of clubs meet {times(usual)}, and these meet less often: "
+                       f"{some_pairs(fewer)}. Is a match missing?")
+    if more:
+        yield Doubt(0, f"most pairs of clubs meet {times(usual)}, and these meet more often: "
+                       f"{some_pairs(more)}. Does a match stand twice?")
+    if usual % 2 == 0 and not fewer and not more:
+        uneven = [pair for pair in every if directed[pair] != directed[pair[::-1]]]
+        if uneven:
+            yield Doubt(0, "with the same club at home each time: " + some_pairs(uneven)
+                           + ". Are home and away exchanged in one of them?")
+    yield from _club_doubts(sheet)
+
+
+def _club_doubts(sheet: Sheet) -> Iterator[Doubt]:
+    """Clubs that play more or fewer matches than most."""
+    played = Counter({club.name: 0 for club in sheet.clubs})
+    for fixture in sheet.fixtures:
+        played[fixture.home] += 1
+        played[fixture.away] += 1
+    usual = Counter(played.values()).most_common(1)[0][0]
+    others = [f"{name} {number}" for name, number in played.items() if number != usual]
+    if others:
+        yield Doubt(0, f"most clubs have {usual} matches in the sheet; others have another number: "
+                       f"{some(others)}")
+
+
+def times(number: int) -> str:
+    """A number of times in words."""
+    words = {0: "never", 1: "once", 2: "twice"}
+    return words.get(number, f"{number} times")
+
+
+def some(texts: list[str]) -> str:
+    """The first few of the texts, and how many more there are."""
+    more = f" and {len(texts) - 6} more" if len(texts) > 6 else ""
+    return ", ".join(texts[:6]) + more
+
+
+def some_pairs(pairs: list[tuple[str, str]]) -> str:
+    """The first few of the pairs."""
+    return some([f"{home} - {away}" for home, away in pairs])
+
+
+def feed_doubts(sheet: Sheet, entries: list[Entry]) -> Iterator[Doubt]:
+    """What looks wrong in a feed."""
+    asks = [entry for entry in entries if entry.kind == "ask"]
+    if not asks:
+        yield Doubt(0, "the feed has no `ask`, so the program answers nothing. Write `ask` as the "
+                       "last line")
+    elif entries[-1].kind != "ask":
+        yield Doubt(entries[-1].line, "what stands behind the last `ask` is never answered. Write "
+                                      "`ask` once more at the end")
+    yield from _goal_doubts(sheet, entries)
+    season = Season()
+    is_wide_told = False
+    for entry in entries:
+        yield from _event_doubts(sheet, season, entry)
+        if entry.kind == "ask" and sheet.lines and not is_wide_told:
+            if season.has_too_many_finishes(sheet):
+                is_wide_told = True
+                yield Doubt(entry.line, _wide_message(sheet, season))
+        season.apply(entry)
+
+
+def _wide_message(sheet: Sheet, season: Season) -> str:
+    """On an ask with more finishes than the program looks through."""
+    return (f"at this `ask` {len(season.open_fixtures(sheet))} matches are open. With goal limit "
+            f"{sheet.goal_limit} they can end in more than {MOST_FINISHES:,} ways, and a program "
+            f"that "
+            "looks at each of them refuses the mode `verdicts` here (too_wide); `table` is "
+            "answered")
+
+
+def _goal_doubts(sheet: Sheet, entries: list[Entry]) -> Iterator[Doubt]:
+    """A goal limit below the results played, and results with very many goals."""
+    played = [entry for entry in entries if entry.kind in ("result", "fix")]
+    if not played:
+        return
+    top = max(played, key=lambda entry: max(entry.score))
+    goals = max(top.score)
+    if goals > sheet.goal_limit:
+        yield Doubt(top.line, f"a side has scored {goals} goals, and the goal limit is "
+                              f"{sheet.goal_limit}: every verdict takes it that no side scores "
+                              f"more "
+                              f"than {sheet.goal_limit} in an open match. Is it meant so low?")
+    for entry in played:
+        if max(entry.score) >= MANY_GOALS:
+            yield Doubt(entry.line, f"{max(entry.score)} goals: is that the score?")
+
+
+def _event_doubts(sheet: Sheet, season: Season, entry: Entry) -> Iterator[Doubt]:
+    """An event that changes nothing, and a deduction that may have been meant on top of another."""
+    if entry.kind == "fix" and season.scores.get(entry.fixture) == entry.score:
+        yield Doubt(entry.line, f"fixture {entry.fixture} has this score already: the correction "
+                                "changes nothing")
+    if entry.kind == "deduct":
+        before = season.deductions.get(entry.club, 0)
+        if before and entry.points:
+            yield Doubt(entry.line, f"{entry.club} had {before} points deducted before. `deduct` "
+                                    f"says "
+                                    f"how many are deducted in all: {entry.points} from now on, "
+                                    f"and "
+                                    f"not {before + entry.points}")

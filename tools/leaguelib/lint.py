@@ -1,0 +1,219 @@
+"""Looks for mistakes in a sheet and a feed: says what the program would refuse, line by line, with
+what to write instead, and what it would take though it looks wrong. Files are read one behind the
+other, as `cat` joins them; `-` is standard input.
+"""
+
+from __future__ import annotations
+
+import argparse
+from dataclasses import dataclass, field
+
+from . import common
+from .doubts import Doubt, feed_doubts, sheet_doubts
+from .feeds import InputReader, read_input
+from .files import Joined, examine, joined
+from .names import shown
+from .records import Record, Refused, count_lines, lines_of, record_of
+from .refusals import Advice, advise
+from .texts import Entry
+from .words import words_for
+
+MOST_SHOWN = 30
+
+
+@dataclass
+class Finding:
+    """A mistake: where it stands, what is wrong, what stands there, and what to write instead."""
+
+    line: int
+    message: str
+    written: str = ""
+    instead: list[str] = field(default_factory=list)
+    is_dropped: bool = False
+
+
+@dataclass
+class Outcome:
+    """All that was found in an input; `refused` is the line at which the program stops."""
+
+    findings: list[Finding] = field(default_factory=list)
+    doubts: list[Doubt] = field(default_factory=list)
+    refused: Refused | None = None
+    more: int = 0
+
+    @property
+    def status(self) -> int:
+        """The exit status that says this."""
+        if self.findings or self.refused:
+            return common.TO_MEND
+        return common.DOUBTFUL if self.doubts else common.DONE
+
+
+def add_arguments(parser: argparse.ArgumentParser) -> None:
+    """The words of `league lint`."""
+    parser.add_argument("files", nargs="+", metavar="FILE", help="sheet, feed; or both in one file")
+    parser.add_argument("--quiet", action="store_true", help="say nothing where nothing is wrong")
+    parser.add_argument("--sheet-only", action="store_true",
+                        help="the files hold a sheet alone: do not miss a feed")
+
+
+def run(arguments: argparse.Namespace) -> int:
+    """Looks at the files, and prints what was found."""
+    files = [("standard input" if name == "-" else name, common.read_bytes(name))
+             for name in arguments.files]
+    text, status = looked_at(files, arguments.sheet_only)
+    if text or not arguments.quiet:
+        common.write_text(text or "No mistakes found.\n")
+    return status
+
+
+def looked_at(files: list[tuple[str, bytes]], is_sheet_only: bool = False) -> tuple[str, int]:
+    """What there is to say about the files, and the exit status."""
+    examined = [(name, examine(data)) for name, data in files]
+    texts = [f"{name}: {_capital(message)}.\n"
+             for name, file in examined for message in file.messages]
+    if not all(file.is_readable for _, file in examined):
+        return "".join(texts), common.TO_MEND
+    whole = joined([(name, file.data) for name, file in examined])
+    outcome = look(whole.data, is_sheet_only)
+    original = refusal_of(b"".join(data for _, data in files))
+    if texts:
+        outcome.refused = original
+    text = "".join(texts) + outcome_text(outcome, whole)
+    return text, common.TO_MEND if texts else outcome.status
+
+
+def look(data: bytes, is_sheet_only: bool = False) -> Outcome:
+    """Looks at a whole input in UTF-8."""
+    outcome = Outcome(refused=refusal_of(data))
+    reader = InputReader()
+    entries: list[Entry] = []
+    try:
+        for number, raw in lines_of(data):
+            record = record_of(number, raw)
+            if record is not None:
+                entries.extend(_take(record, reader, outcome))
+    except Refused as refused:
+        outcome.findings.append(Finding(refused.line, words_for(refused, [], None)))
+        return outcome
+    _test_end(reader, count_lines(data), outcome)
+    if reader.sheet is not None:
+        outcome.doubts.extend(sheet_doubts(reader.sheet))
+        if reader.feed_reader is not None and not is_sheet_only:
+            outcome.doubts.extend(feed_doubts(reader.sheet, entries))
+    return outcome
+
+
+def refusal_of(data: bytes) -> Refused | None:
+    """The line at which the program stops, if it does."""
+    try:
+        read_input(data)
+    except Refused as refused:
+        return refused
+    return None
+
+
+def _take(record: Record, reader: InputReader, outcome: Outcome) -> list[Entry]:
+    """Takes a record, or notes what is wrong and goes on with what was meant."""
+    try:
+        entry = reader.take(record)
+        return [] if entry is None else [entry]
+    except Refused as refused:
+        if refused.code == "no_league" and any(_is_about_league(f) for f in outcome.findings):
+            outcome.more += 1
+            return []
+        if len(outcome.findings) >= MOST_SHOWN:
+            outcome.more += 1
+            return []
+        return _note(record, refused, reader, outcome)
+
+
+def _is_about_league(finding: Finding) -> bool:
+    return finding.message.startswith("The first record") or "fixture list" in finding.message
+
+
+def _note(record: Record, refused: Refused, reader: InputReader, outcome: Outcome) -> list[Entry]:
+    """Notes a refused record, and gives the reader what was meant."""
+    if refused.code == "no_league" and _is_header(record):
+        advice = Advice("This looks like the first row of a fixture list. futmax takes no header "
+                        "row: leave the line out. `league sheet` makes a sheet of a fixture list.")
+    else:
+        advice = advise(record, refused, reader)
+    outcome.findings.append(Finding(record.line, advice.message, _written(record.raw),
+                                    advice.instead, advice.is_dropped))
+    if refused.code == "unknown_record" and record.kind == "club" and not reader.feed_reader:
+        _take_late_club(record, reader)
+        return []
+    entries: list[Entry] = []
+    for line in advice.instead:
+        meant = record_of(record.line, line.encode("utf-8", "surrogateescape"))
+        if meant is not None:
+            entries.extend(_take(meant, reader, outcome))
+    return entries
+
+
+def _take_late_club(record: Record, reader: InputReader) -> None:
+    """Takes a club that stands too late, so that the matches behind it are understood."""
+    try:
+        reader.sheet_reader.take_club(record)
+    except (Refused, IndexError):
+        pass
+
+
+def _is_header(record: Record) -> bool:
+    """Whether a record is the header row of a table."""
+    words = {part.strip().lower().replace("_", "") for part in record.fields}
+    words |= {word for part in words for word in part.replace(";", " ").replace("\t", " ").split()}
+    return len(words & {"hometeam", "awayteam", "home", "away", "date", "div", "team", "round",
+                        "team1", "team2", "club", "rank", "name", "points", "type", "record"}) > 1
+
+
+def _written(raw: bytes) -> str:
+    return raw.decode("utf-8", "surrogateescape")
+
+
+def _test_end(reader: InputReader, lines: int, outcome: Outcome) -> None:
+    """Notes an input that ends too early."""
+    if lines == 0:
+        outcome.findings.append(Finding(1, "The input is empty."))
+        return
+    try:
+        reader.test_end(lines)
+    except Refused as refused:
+        if refused.code == "no_season" or not outcome.findings:
+            words = _capital(words_for(refused, [], reader.sheet)) + "."
+            instead = ["season"] if refused.code == "no_season" else []
+            outcome.findings.append(Finding(lines + 1, words, "", instead))
+
+
+def outcome_text(outcome: Outcome, whole: Joined) -> str:
+    """What was found, as text for people; nothing where nothing was found."""
+    parts = [_finding_text(finding, whole) for finding in outcome.findings]
+    if outcome.more:
+        parts.append(f"And {outcome.more} more lines that are refused. Mend these first.\n")
+    for doubt in outcome.doubts:
+        where = f"{whole.origin(doubt.line)}: " if doubt.line else ""
+        parts.append(f"{where}Is this meant? {_capital(doubt.message)}\n")
+    refused = outcome.refused
+    if refused is not None:
+        parts.append(f"futmax stops at {whole.origin(refused.line)}, with the row "
+                     f"`fault,{refused.line},{refused.code}` and status {refused.status}.\n")
+    elif parts:
+        parts.append("futmax takes this input.\n")
+    return "".join(parts)
+
+
+def _finding_text(finding: Finding, whole: Joined) -> str:
+    """One mistake with what stands there and what to write."""
+    lines = [f"{whole.origin(finding.line)}: {finding.message}"]
+    if finding.written:
+        lines.append(f"    you wrote:  {shown(finding.written)[1:-1]}")
+    for number, text in enumerate(finding.instead):
+        lines.append(("    write:      " if number == 0 else "                ") + text)
+    if finding.is_dropped:
+        lines.append("    write:      nothing; leave the line out")
+    return "\n".join(lines) + "\n"
+
+
+def _capital(text: str) -> str:
+    return text[:1].upper() + text[1:]

@@ -1,0 +1,129 @@
+"""What each refusal means in plain words, where no line to write instead could be found."""
+
+from __future__ import annotations
+
+from .names import nearest_name, shown
+from .records import Refused
+from .texts import Sheet
+
+FORMS = {
+    "league": "`league,NAME,GOAL_LIMIT`, and behind it, if wanted, `,BUDGET` and `,ORDER`",
+    "club": "`club,NAME,RANK`",
+    "match": "`match,HOME,AWAY`",
+    "line": "`line,PLACES`, like `line,4`",
+    "season": "`season` alone",
+    "result": "`result,FIXTURE,HOME_GOALS,AWAY_GOALS`, like `result,1,2,0`",
+    "fix": "`fix,FIXTURE,HOME_GOALS,AWAY_GOALS`, like `fix,1,2,0`",
+    "void": "`void,FIXTURE`, like `void,1`",
+    "deduct": "`deduct,CLUB,POINTS`, with the points taken away in all",
+    "ask": "`ask` alone",
+}
+ANSWER_WORDS = ("verdict", "place", "fault", "usage", "accepted", "refused", "sample")
+BAD_FIELDS = {
+    ("league", 2): "the league's name (field 2) is 1 to 40 bytes long, without control signs",
+    ("league", 3): "the goal limit (field 3) is a whole number from 1 to 20, and 9 fits most "
+                   "leagues",
+    ("league", 4): "the budget (field 4) is a whole number from 1 to 50,000, and can be left out",
+    ("league", 5): "the order (field 5) is `head_first` or `overall_first`",
+    ("club", 2): "the club's name (field 2) is 1 to 40 bytes long, without control signs",
+    ("club", 3): "the rank (field 3) is a whole number from 1 to 999, and 1 for all fits most "
+                 "leagues",
+    ("line", 2): "a line (field 2) is a whole number: how many places count, like 4",
+}
+
+
+def words_for(refused: Refused, fields: list[str], sheet: Sheet | None) -> str:
+    """One or two sentences on a refused record, from its fields put right in form."""
+    kind = fields[0] if fields else ""
+    if refused.code == "unknown_record":
+        return _unknown_record(kind, refused.where)
+    if refused.code == "wrong_width":
+        return f"this record has {_count(len(fields))}; it is written {FORMS.get(kind, '')}"
+    if refused.code == "bad_field":
+        return BAD_FIELDS.get((kind, refused.field), "a field is not of its kind")
+    if refused.code == "unknown_club":
+        return _unknown_club(fields, refused.field, sheet)
+    return _plain_words(refused.code, fields, sheet)
+
+
+def _count(number: int) -> str:
+    return "one field" if number == 1 else f"{number} fields"
+
+
+def _unknown_record(kind: str, where: str) -> str:
+    """A first word that does not fit here."""
+    if kind in ANSWER_WORDS or kind.startswith("["):
+        return "this is a row of an answer of futmax; lint reads what goes into it: sheet and feed"
+    if where == "feed" and kind in ("club", "match", "line", "league"):
+        return f"`{kind}` belongs into the sheet: move this line up, before `season`"
+    if where == "feed" and kind == "season":
+        return "`season` stands once, at the end of the sheet: leave this line out"
+    if where == "sheet" and kind == "club":
+        return "clubs come before the first match and the first line: move this line up"
+    if where == "sheet" and kind == "league":
+        return "`league` stands once, as the first record: leave this line out"
+    fitting = list(FORMS)[:5] if where == "sheet" else list(FORMS)[5:]
+    near = nearest_name(kind, fitting)
+    hint = f"; the nearest is `{near}`, written {FORMS[near]}" if near else ""
+    return (f"{shown(kind)} is no word that begins a record here: {', '.join(fitting)} do{hint}. "
+            "A comment begins with `#`")
+
+
+def _unknown_club(fields: list[str], position: int, sheet: Sheet | None) -> str:
+    """A name that no club has."""
+    name = fields[position - 1] if 0 < position <= len(fields) else ""
+    names = [club.name for club in sheet.clubs] if sheet else []
+    near = nearest_name(name, names)
+    hint = f" The nearest name is {shown(near)}." if near else ""
+    if not name:
+        return "a club's name is missing"
+    return (f"no club is called {shown(name)}.{hint} A name is written as in its `club` line, to "
+            "the letter")
+
+
+def _plain_words(code: str, fields: list[str], sheet: Sheet | None) -> str:
+    """The codes that need no more than a sentence."""
+    fixtures = len(sheet.fixtures) if sheet else 0
+    clubs = len(sheet.clubs) if sheet else 0
+    sentences = {
+        "no_league": "the first record has to be `league,NAME,GOAL_LIMIT`, like "
+                     "`league,My league,9`",
+        "no_season": "the sheet has no `season` line at its end, which stands between the sheet "
+                     "and "
+                     "the results",
+        "too_few_clubs": f"two clubs at least have to stand before this line, and {clubs} "
+                         f"{'does' if clubs == 1 else 'do'}: write `club,NAME,RANK` lines above it",
+        "club_twice": "this club stands already: leave the line out",
+        "self_match": "a club cannot play against itself: one of the two names has to be another "
+                      "one",
+        "line_range": f"a line is a number from 1 to {clubs - 1}, one less than the number of "
+                      f"clubs",
+        "line_twice": "this line stands already: leave it out",
+        "too_many": "this is one more than futmax takes: at most 24 clubs, 600 matches and 4 "
+                    "lines. "
+                    "For more lines, ask in two runs",
+        "unknown_fixture": _unknown_fixture(fields, fixtures),
+        "bad_goals": "goals are whole numbers from 0 to 99; where the match was not played, leave "
+                     "the line out",
+        "bad_points": "the points taken away are a whole number from 0 to 99, without a sign",
+        "already_played": "this match has a result already; to correct it, write `fix`",
+        "not_played": "this match has no result yet",
+        "log_full": "more than 100,000 events: begin a new feed with one `result` a match",
+        "line_too_long": "this line has more than 1,024 bytes",
+        "input_too_long": "the input has more than 67,108,864 bytes",
+    }
+    return sentences.get(code, code)
+
+
+def _unknown_fixture(fields: list[str], fixtures: int) -> str:
+    """A number that no fixture has."""
+    number = fields[1] if len(fields) > 1 else ""
+    if number.isdigit() and int(number[:9]) == 0:
+        return ("fixtures count from 1, in the order of the `match` lines, and there is no fixture "
+                "0. If the numbers were counted from 0, all of them have to go up by one")
+    if number.isdigit():
+        return (f"there is no fixture {number}: the sheet has {fixtures}, numbered from 1 in the "
+                "order of its `match` lines")
+    return (f"{shown(number)} is no number of a fixture. Fixtures are numbered from 1 in the "
+            f"order of "
+            "the `match` lines; `league feed` takes names")
