@@ -4,6 +4,7 @@ pub mod ResultsLemmas
 pub mod OrderingLemmas
 pub mod ClubLemmas
 pub mod ClubSetLemmas
+pub mod ClubBitLemmas
 pub mod StandingLemmas
 pub mod TimesLemmas
 pub mod RankingLemmas

@@ -1,5 +1,6 @@
 -- Read in this order: it is the order in which the notions rest on each other.
 pub mod Limits
+pub mod Rooms
 pub mod Sheets
 pub mod Results
 pub mod Seasons

@@ -1,9 +1,9 @@
 //! Sets of clubs: a number each, whose bit i stands for club i.
 //!
-//! Contracts see the clubs of a set in the order of the sheet. No call takes memory, and each but
-//! `len` and `first` takes a few steps.
+//! Contracts see the clubs of a set in the order of the sheet. No call takes memory, and each takes
+//! a few steps.
 
-ghost use Rattle.std.specs.Prelude.{◌≡◌, ◌<◌, ◌≤◌, ◌==◌, ◌&&◌, ◌||◌, not, ℕ, [], length, IsTrue, ◌↔◌};
+ghost use Rattle.std.specs.Prelude.{◌≡◌, ◌≢◌, ◌<◌, ◌≤◌, ◌==◌, ◌&&◌, ◌||◌, not, nat_lt, ℕ, [], ◌∷◌, length, IsTrue, ◌↔◌};
 ghost use Rattle.std.specs.List.{range_with_len};
 ghost use Rattle.league_core.specs.Sums.{has_club};
 ghost use Rattle.league_core.specs.ClubSets.{clubs_in};
@@ -27,11 +27,17 @@ impl ClubSet {
         requires { clubs ≤ 32 }
         ensures { clubs_in result ≡ range_with_len 0 clubs }
     {
-        let mut found = ClubSet::empty();
-        for club in 0..clubs {
-            found = found.with_if(true, club);
+        ClubSet {
+            bits: ((1_u64 << clubs) - 1) as u32,
         }
-        found
+    }
+
+    /// The set of one club.
+    pub fn single(club: u8) -> ClubSet
+        requires { club < 32 }
+        ensures { clubs_in result ≡ club ∷ [] }
+    {
+        ClubSet { bits: 1 << club }
     }
 
     pub fn has(self, club: u8) -> bool
@@ -75,6 +81,34 @@ impl ClubSet {
         }
     }
 
+    /// The clubs that are in both sets.
+    pub fn intersection(self, other: ClubSet) -> ClubSet
+        ensures { (club : ℕ) → has_club (clubs_in result) club
+            ≡ (has_club (clubs_in self) club && has_club (clubs_in other) club) }
+    {
+        ClubSet {
+            bits: self.bits & other.bits,
+        }
+    }
+
+    /// The clubs 0, 1 and so on, so many of them, without those of the set.
+    pub fn others(self, clubs: u8) -> ClubSet
+        requires { clubs ≤ 32 }
+        ensures { (club : ℕ) → has_club (clubs_in result) club
+            ≡ (nat_lt club clubs && not (has_club (clubs_in self) club)) }
+    {
+        ClubSet::first(clubs).without(self)
+    }
+
+    /// The first club of the set, in the order of the sheet.
+    pub fn first_club(self) -> u8
+        requires { clubs_in self ≢ [] }
+        ensures member { IsTrue (has_club (clubs_in self) result) }
+        ensures least { (club : ℕ) → IsTrue (has_club (clubs_in self) club) → result ≤ club }
+    {
+        self.bits.trailing_zeros() as u8
+    }
+
     pub fn is_empty(self) -> bool
         ensures { IsTrue result ↔ (clubs_in self ≡ []) }
     {
@@ -85,10 +119,23 @@ impl ClubSet {
     pub fn len(self) -> u8
         ensures { result ≡ length (clubs_in self) }
     {
-        let mut clubs = 0;
-        for club in 0..32 {
-            clubs += u8::from(self.has(club));
-        }
-        clubs
+        self.bits.count_ones() as u8
+    }
+}
+
+#[cfg(test)]
+mod tests {
+    use super::*;
+    use std::test::Fail;
+
+    #[test]
+    fn sets_are_joined_cut_and_counted(rt: HostRuntime) -> Result<(), Fail> {
+        let some = ClubSet::single(2).union(ClubSet::single(31));
+        assert_eq!(rt; some.len(), 2);
+        assert_eq!(rt; some.first_club(), 2);
+        assert!(rt; some.intersection(ClubSet::first(24)) == ClubSet::single(2));
+        assert!(rt; some.others(3) == ClubSet::first(2));
+        assert_eq!(rt; ClubSet::first(32).len(), 32);
+        Ok(())
     }
 }

@@ -15,6 +15,7 @@ mod lots;
 mod memory;
 mod proposal_laws;
 mod question;
+mod roomy_list;
 mod season;
 mod sheet;
 mod sure;
@@ -39,6 +40,7 @@ pub use proposal_laws::{
     option_order_is_total, options_have_one_first, proposed_finishes_are_finishes,
 };
 pub use question::{Claim, Question};
+pub use roomy_list::RoomyList;
 pub use season::{Event, Score, Season};
 pub use sheet::{Club, Fixture, Order, Sheet};
 pub use sure::Sure;

@@ -1,7 +1,7 @@
 //! Lists and names that contracts see as plain data: two with the same items are equal, whatever
 //! room they keep.
 
-ghost use Rattle.std.specs.Prelude.{◌≡◌, [], ◌∷◌, ◌++◌, length, ◌↔◌, IsTrue, OnOk, OnErr, string_bytes};
+ghost use Rattle.std.specs.Prelude.{◌≡◌, [], ◌∷◌, ◌++◌, length, ◌↔◌, IsTrue, IfOk, OnOk, OnErr, option_to_list, IsNone, string_bytes};
 
 use crate::memory::OutOfMemory;
 use std::alloc::Global;
@@ -66,6 +66,24 @@ impl<T> Listing<T> {
         self.items.push(item)?;
         Ok(())
     }
+
+    /// Takes the last item off the list; `None` where there is none. It takes no memory.
+    pub fn pop(&mut self) -> Option<T>
+        ensures items { self.old ≡ self.new ++ option_to_list result }
+        ensures none { IsNone result ↔ (self.old ≡ []) }
+    {
+        self.items.pop()
+    }
+}
+
+impl<T: Copy> Listing<T> {
+    /// The same items once more.
+    pub fn copy(&self, alloc: Global) -> Result<Listing<T>, OutOfMemory>
+        ensures { IfOk result (λ listing. listing ≡ self.now) }
+    {
+        let items = Vec::from_slice(alloc, self.items.as_slice())?;
+        Ok(Listing { items })
+    }
 }
 
 /// The name of a league or of a club. Contracts see its bytes; names are equal if their bytes are.
@@ -93,5 +111,38 @@ impl Name {
         ensures { result.now ≡ self.now }
     {
         self.text.as_str()
+    }
+
+    /// The same name once more.
+    pub fn copy(&self, alloc: Global) -> Result<Name, OutOfMemory>
+        ensures { IfOk result (λ name. name ≡ self.now) }
+    {
+        let text = String::from_str(alloc, self.text.as_str())?;
+        Ok(Name { text })
+    }
+}
+
+#[cfg(test)]
+mod tests {
+    use super::*;
+    use std::test::Fail;
+
+    #[test]
+    fn a_copy_of_a_list_goes_its_own_way(rt: HostRuntime) -> Result<(), Fail> {
+        let mut list = Listing::new(rt.alloc());
+        list.push(7).ok().ok_or("room")?;
+        let copy = list.copy(rt.alloc()).ok().ok_or("room")?;
+        assert_eq!(rt; list.pop(), Some(7));
+        assert_eq!(rt; list.pop(), None);
+        assert!(rt; list.is_empty() && copy.as_slice() == [7].as_slice());
+        Ok(())
+    }
+
+    #[test]
+    fn a_name_is_copied(rt: HostRuntime) -> Result<(), Fail> {
+        let name = Name::new(String::from_str(rt.alloc(), "Alder")?);
+        let copy = name.copy(rt.alloc()).ok().ok_or("room")?;
+        assert!(rt; copy.as_str() == "Alder");
+        Ok(())
     }
 }

@@ -1,4 +1,3 @@
-use Rattle.std.proofs.Common.{◌∙◌, ap, sym, refl, ◌≡◌, true, ◌&&◌, ◌||◌, ◌==◌, subst}
 use Rattle.league_core.proofs.ClubSetLemmas.{has_club-with_bit}
 use Rattle.league_core.proofs.club_set.ClubSet.with_if.Goals as goal
 

@@ -1,0 +1,142 @@
+//! A list for callers that may not fail: room is taken beforehand, and what is put in later needs
+//! no memory.
+//!
+//! Contracts see the items and the room, as `Roomy` of `specs/Rooms.antt`. A type that keeps such a
+//! list may say in its own invariant how much room it always has.
+
+ghost use Rattle.std.specs.Prelude.{◌≡◌, ◌<◌, ◌≤◌, ◌+◌, [], ◌∷◌, ◌++◌, length, OnOk, OnErr, slice_index_or, slice_set};
+ghost use Rattle.std.specs.List.{insert, remove};
+
+use crate::memory::OutOfMemory;
+use std::alloc::Global;
+use std::marker::Model;
+use std::mem;
+
+/// A list that knows for how many items more it has room.
+#[derive(Drop)]
+pub struct RoomyList<T> {
+    items: Vec<T>,
+}
+
+impl<T> Model for RoomyList<T> {
+    ghost use Rattle.league_core.specs.Rooms.{Roomy};
+
+    ghost Value = { Roomy T };
+
+    ghost use Rattle.std.specs.Prelude.{◌-◌, vec_len, vec_capacity};
+
+    ghost view = { λ list. record { items = list.items.items; room = vec_capacity list.items - vec_len list.items } };
+}
+
+impl<T> RoomyList<T> {
+    /// The empty list, without room. It takes no memory.
+    pub fn new(alloc: Global) -> RoomyList<T>
+        ensures { result.items ≡ [] }
+    {
+        RoomyList {
+            items: Vec::new(alloc),
+        }
+    }
+
+    pub fn as_slice(&self) -> &[T]
+        ensures { result.now ≡ self.now.items }
+    {
+        self.items.as_slice()
+    }
+
+    pub fn len(&self) -> usize
+        ensures { result ≡ length self.now.items }
+    {
+        self.items.len()
+    }
+
+    /// How many items more can be put in without taking memory.
+    pub fn room(&self) -> usize
+        ensures { result ≡ self.now.room }
+    {
+        self.items.capacity() - self.items.len()
+    }
+
+    /// Takes room for so many items more. After a refusal the list is as before.
+    pub fn reserve(&mut self, more: usize) -> Result<(), OutOfMemory>
+        ensures items { self.new.items ≡ self.old.items }
+        ensures ok { OnOk result (more ≤ self.new.room) }
+        ensures kept { self.old.room ≤ self.new.room }
+        ensures err { OnErr result (self.new ≡ self.old) }
+    {
+        self.items.reserve(more)?;
+        Ok(())
+    }
+
+    /// Adds an item at the end. It takes no memory.
+    pub fn push(&mut self, item: T)
+        requires room { 0 < self.old.room }
+        ensures items { self.new.items ≡ self.old.items ++ item ∷ [] }
+        ensures room { self.new.room + 1 ≡ self.old.room }
+    {
+        self.items.push_reserved(item);
+    }
+
+    /// Takes the last item off the list; its place is room again.
+    pub fn pop(&mut self) -> T
+        requires some { 0 < length self.old.items }
+        ensures items { self.old.items ≡ self.new.items ++ result ∷ [] }
+        ensures room { self.new.room ≡ self.old.room + 1 }
+    {
+        self.items.take_last()
+    }
+
+    /// Puts an item at a place, and moves those from there on up by one. It takes no memory.
+    pub fn insert(&mut self, index: usize, item: T)
+    where
+        T: Drop,
+        requires room { 0 < self.old.room }
+        requires in_range { index ≤ length self.old.items }
+        ensures items { self.new.items ≡ insert self.old.items index item }
+        ensures room { self.new.room + 1 ≡ self.old.room }
+    {
+        let _put = self.items.insert(index, item);
+    }
+
+    /// Takes the item off a place, and moves those behind it down by one.
+    pub fn remove(&mut self, index: usize) -> T
+        requires in_range { index < length self.old.items }
+        ensures item { result ≡ slice_index_or self.old.items index result }
+        ensures items { self.new.items ≡ remove self.old.items index }
+        ensures room { self.new.room ≡ self.old.room + 1 }
+    {
+        self.items.remove(index)
+    }
+
+    /// Puts an item in place of another, which is handed back.
+    pub fn replace(&mut self, index: usize, item: T) -> T
+        requires in_range { index < length self.old.items }
+        ensures item { result ≡ slice_index_or self.old.items index result }
+        ensures items { self.new.items ≡ slice_set self.old.items index item }
+        ensures room { self.new.room ≡ self.old.room }
+    {
+        mem::replace(&mut self.items[index], item)
+    }
+}
+
+#[cfg(test)]
+mod tests {
+    use super::*;
+    use std::test::Fail;
+
+    #[test]
+    fn what_has_room_goes_in(rt: HostRuntime) -> Result<(), Fail> {
+        let mut list = RoomyList::new(rt.alloc());
+        list.reserve(3).ok().ok_or("room")?;
+        assert!(rt; list.room() >= 3);
+        list.push('a');
+        list.push('c');
+        list.insert(1, 'b');
+        assert!(rt; list.as_slice() == ['a', 'b', 'c'].as_slice());
+        assert_eq!(rt; list.replace(0, 'd'), 'a');
+        assert_eq!(rt; list.remove(1), 'b');
+        assert_eq!(rt; list.pop(), 'c');
+        assert!(rt; list.len() == 1 && list.room() >= 2);
+        Ok(())
+    }
+}
