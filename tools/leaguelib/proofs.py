@@ -1,0 +1,195 @@
+"""A proof in steps that a reader can add up: each supposes something and shows it cannot be.
+
+Nothing here tests a proof: that is the work of the program's mode `check`. Only proofs which it
+has accepted are put into words.
+"""
+
+from __future__ import annotations
+
+from dataclasses import dataclass
+
+from .answers import Proof, Verdict
+from .standing import Standing
+from .texts import Fixture, Season, Sheet
+from .wording import counted, listed, match_text, paragraph, place_phrase, shown
+from .zones import Zone
+
+DEEPEST_INDENT = 10
+
+
+@dataclass
+class Case:
+    """A case that is still to be shut: how deep it lies, and the words that lead to it."""
+
+    zone: Zone
+    depth: int
+    lead: str
+
+
+def steps_of(sheet: Sheet, season: Season, verdict: Verdict, proof: Proof) -> list[str]:
+    """The steps of a proof, a paragraph each, with the sentence that opens and closes it."""
+    club = sheet.club_named(verdict.club).number
+    name, place = shown(verdict.club), place_phrase(verdict.places)
+    is_inside = proof.claim == "inside"
+    supposed = f"ended in {place}" if is_inside else f"missed {place}"
+    cases = [Case(Zone(sheet, season, club), 0, f"Suppose that {name} {supposed}.")]
+    steps: list[str] = []
+    lines = [line.parts for line in proof.lines]
+    for position, parts in enumerate(lines):
+        case = cases.pop()
+        number = len(steps) + 1
+        if parts[0] in ("leaf", "new_leaf"):
+            text = f"{case.lead} {reason_text(case.zone, verdict, is_inside, parts[1:])}"
+            steps.append(_step(number, case.depth, text))
+            continue
+        test = parts[1:]
+        yes, no = test_texts(case.zone, test)
+        shuts_at_once = lines[position + 1][0] in ("leaf", "new_leaf")
+        if shuts_at_once:
+            lead = f"{case.lead} Suppose that {yes}.".strip()
+            inner = Case(case.zone.supposed(test, True), case.depth, lead)
+            outer = f"So {no}."
+        else:
+            text = f"{case.lead} There are two cases. The first is that {yes}."
+            steps.append(_step(number, case.depth, text))
+            inner = Case(case.zone.supposed(test, True), case.depth + 1, "")
+            outer = f"The other case of step {number} is that {no}."
+        cases += [Case(case.zone.supposed(test, False), case.depth, outer), inner]
+    end = f"No case is left. So {name} {'cannot reach' if is_inside else 'has'} {place}."
+    return [*steps, paragraph(end, 4)]
+
+
+def _step(number: int, depth: int, text: str) -> str:
+    indent = 4 + 2 * min(depth, DEEPEST_INDENT)
+    return paragraph(f"Step {number}. {text.strip()}", indent)
+
+
+def test_texts(zone: Zone, test: list) -> tuple[str, str]:
+    """A test in words, where it holds and where it does not."""
+    club = shown(zone.name(zone.club))
+    if test[0] == "rival":
+        rival = shown(zone.name(test[1]))
+        return f"{rival} ends ahead of {club}", f"{rival} does not end ahead of {club}"
+    fixture = zone.sheet.fixture(test[1])
+    home, away, match = shown(fixture.home), shown(fixture.away), match_text(fixture)
+    if test[0] == "home":
+        return f"{home} wins {match}", f"{home} does not win {match}"
+    if test[0] == "draw":
+        return f"{match} is drawn", f"{match} is not drawn"
+    side = home if test[0] == "hg" else away
+    return (f"{side} scores at most {test[2]} in {match}",
+            f"{side} scores at least {test[2] + 1} in {match}")
+
+
+def reason_text(zone: Zone, verdict: Verdict, is_inside: bool, reason: list) -> str:
+    """Why a case cannot be."""
+    kind = reason[0]
+    if kind == "count":
+        text = _count_text(zone, verdict, is_inside)
+    elif kind == "low":
+        text = _low_text(zone, reason[1])
+    elif kind == "high":
+        text = _high_text(zone, reason[1])
+    elif kind == "tie":
+        text = _tie_text(zone)
+    else:
+        text = f"The points that are supposed of {shown(zone.name(zone.club))} cannot be reached."
+    return text + " That cannot be."
+
+
+def _names(zone: Zone, clubs: list[int]) -> str:
+    return listed([shown(zone.name(club)) for club in clubs])
+
+
+def _count_text(zone: Zone, verdict: Verdict, is_inside: bool) -> str:
+    """Too many rivals ahead for a place inside the line, or too few for one outside."""
+    club, size = shown(verdict.club), len(zone.sheet.clubs)
+    if is_inside:
+        ahead = zone.marked(True)
+        return (f"Then {_names(zone, ahead)} {_is_are(ahead)} ahead of {club}, which is in place "
+                f"{len(ahead) + 1} or further down, and not in {place_phrase(verdict.places)}.")
+    behind = zone.marked(False)
+    return (f"Then {_names(zone, behind)} {_is_are(behind)} not ahead of {club}, so at most "
+            f"{size - 1 - len(behind)} of the other {size - 1} clubs are, and {club} is in place "
+            f"{size - len(behind)} or higher: it does not miss {place_phrase(verdict.places)}.")
+
+
+def _is_are(clubs: list[int]) -> str:
+    return "is" if len(clubs) == 1 else "are"
+
+
+def _low_text(zone: Zone, clubs: list[int]) -> str:
+    """Rivals that must stay at the club's most points, and have more."""
+    club, most = shown(zone.name(zone.club)), zone.points([zone.club], True)
+    each = "" if len(clubs) == 1 else "Each of "
+    return (f"{each}{_names(zone, clubs)}, not being ahead of {club}, has at most as many points "
+            f"as {club}. "
+            f"{_sum_text(zone, [zone.club], True)} {_bound_text(zone, clubs, most, 'at most')} "
+            f"But {_sum_text(zone, clubs, False)} {zone.points(clubs, False)} is more than "
+            f"{len(clubs) * most}.")
+
+
+def _high_text(zone: Zone, clubs: list[int]) -> str:
+    """Rivals that must come up to the club's least points, and have fewer."""
+    club, least = shown(zone.name(zone.club)), zone.points([zone.club], False)
+    each = "" if len(clubs) == 1 else "Each of "
+    return (f"{each}{_names(zone, clubs)}, being ahead of {club}, has at least as many points as "
+            f"{club}. {_sum_text(zone, [zone.club], False)} "
+            f"{_bound_text(zone, clubs, least, 'at least')} But {_sum_text(zone, clubs, True)} "
+            f"{zone.points(clubs, True)} is less than {len(clubs) * least}.")
+
+
+def _bound_text(zone: Zone, clubs: list[int], bound: int, word: str) -> str:
+    """What the rivals have to keep to, together."""
+    if len(clubs) == 1:
+        return f"So {_names(zone, clubs)} has {word} {bound}."
+    return (f"So the {len(clubs)} have together {word} {len(clubs)} times {bound}, "
+            f"which is {len(clubs) * bound}.")
+
+
+def _sum_text(zone: Zone, clubs: list[int], most: bool) -> str:
+    """Points now, and what the open matches give at least or at most."""
+    word, together = "at most" if most else "at least", " together" if len(clubs) > 1 else ""
+    names = {zone.name(club) for club in clubs}
+    now = [f"{shown(zone.name(club))} has {zone.points_now(club)}" for club in clubs]
+    gains = [f"{gain} from {match_text(fixture)}{_shared(fixture, names, gain, most)}"
+             for fixture, gain in zone.gains(clubs, most) if gain]
+    gets = "gets" if len(clubs) == 1 else "they get"
+    more = f"{gets} {word} {listed(gains)}" if gains else "need not get any more"
+    if most and not gains:
+        more = f"{gets} no more"
+    return f"{listed(now)} points now and {more}: {word} {zone.points(clubs, most)}{together}."
+
+
+def _shared(fixture: Fixture, names: set[str], gain: int, most: bool) -> str:
+    """Why a match between two clubs of a set gives them two points at least."""
+    if most or gain != 2 or not {fixture.home, fixture.away} <= names:
+        return ""
+    return " (a draw gives one to each, a win three to one)"
+
+
+def _tie_text(zone: Zone) -> str:
+    """Each match has its outcome, and the criteria place the rivals."""
+    standing = Standing(zone)
+    outcomes = [_outcome_text(zone, fixture) for fixture in zone.season.open_fixtures(zone.sheet)]
+    club = shown(zone.name(zone.club))
+    text = f"Here it is settled who wins: {listed(outcomes)}." if outcomes else "All is played."
+    text += f" {club} ends on {counted(standing.points[zone.club], 'point')}."
+    marks = {**{rival: "ahead" for rival in zone.marked(True)},
+             **{rival: "not ahead" for rival in zone.marked(False)}}
+    for rival in (entry.number for entry in zone.sheet.clubs if entry.number != zone.club):
+        found, why = standing.judge(rival)
+        place = {"above": "ahead of", "below": "behind"}.get(found)
+        if place:
+            text += f" {shown(zone.name(rival))} is {place} {club} ({why})."
+        if rival in marks:
+            text += f" {shown(zone.name(rival))} was supposed to be {marks[rival]}."
+    return text + " This does not fit what was supposed."
+
+
+def _outcome_text(zone: Zone, fixture: Fixture) -> str:
+    """The one outcome that the scores of a match have."""
+    home, away = zone.options(fixture)[0]
+    if home == away:
+        return f"{match_text(fixture)} is drawn"
+    return f"{shown(fixture.home if home > away else fixture.away)} wins {match_text(fixture)}"
