@@ -18,6 +18,15 @@ then-then Less b c = refl
 then-then Equal b c = refl
 then-then Greater b c = refl
 
+-- two comparisons and then a third are three in a row
+pub then-two : (a b c : Ordering) → ordering_then (ordering_then a (ordering_then b Equal)) c
+    ≡ ordering_then a (ordering_then b c)
+then-two Less b c = refl
+then-two Greater b c = refl
+then-two Equal Less c = refl
+then-two Equal Equal c = refl
+then-two Equal Greater c = refl
+
 -- three comparisons and then a fourth are four in a row
 pub then-three : (a b c d : Ordering)
     → ordering_then (ordering_then a (ordering_then b (ordering_then c Equal))) d

@@ -17,7 +17,7 @@ use Rattle.league_core.specs.Ranking.{are_lots, lot_of, tied_group_of, order_of,
 use Rattle.league_core.specs.LotsFor.{order_without_lots}
 use Rattle.league_core.proofs.OrderingLemmas.{then_agree, then-then, then-equal, nat_cmp-equal, less-is_lt}
 use Rattle.league_core.proofs.ClubLemmas.{each_in_range, lot_of-within}
-use Rattle.league_core.proofs.StandingLemmas.{by_first_difference_total, key_within, standing_within-key}
+use Rattle.league_core.proofs.StandingLemmas.{by_first_difference_total, key_by, standing_by-key}
 
 -- two clubs on one number of points are tied with the same clubs
 pub tied_group_of-tied : (sheet : Sheet) (season : Results) (club other : ℕ)
@@ -36,7 +36,7 @@ tied_group_of-tied sheet season club other tied =
 abbrev pub key_of : Sheet → Results → ℕ → List ℤ
 key_of sheet season club =
     let group = tied_group_of sheet season club in
-    points_of sheet season club ∷ key_within (length group) sheet season group club
+    points_of sheet season club ∷ key_by sheet.order sheet season group club
 
 -- before the lots, clubs compare by their keys
 pub order_without_lots-key : (sheet : Sheet) (season : Results) (club other : ℕ)
@@ -45,9 +45,9 @@ pub order_without_lots-key : (sheet : Sheet) (season : Results) (club other : �
 order_without_lots-key sheet season club other =
     let group = tied_group_of sheet season club in
     then_agree (greater_first (points_of sheet season club) (points_of sheet season other)) _ _
-    (λ tied. standing_within-key (length group) sheet season group club other
-    ∙ ap (λ (g : List ℕ). by_first_difference (key_within (length group) sheet season group club)
-    (key_within (length g) sheet season g other))
+    (λ tied. standing_by-key sheet.order sheet season group club other
+    ∙ ap (λ (g : List ℕ). by_first_difference (key_by sheet.order sheet season group club)
+    (key_by sheet.order sheet season g other))
     (tied_group_of-tied sheet season club other tied))
 
 -- before the lots, clubs are in a total order

@@ -7,11 +7,13 @@ use Rattle.std.proofs.lemmas.Bool.{false≢true, true≢false}
 use Rattle.std.proofs.lemmas.Cmp.{int_cmp_total, on_total, back_total, lists_total, alike_right}
 use Rattle.std.proofs.lemmas.List.Elements.{filter_agree}
 use Rattle.league_core.specs.declared.sheet.Sheet.{Sheet}
+use Rattle.league_core.specs.declared.sheet.Order.{Order}
+use Rattle.league_core.specs.declared.sheet.Order.TheVariants.{HeadFirst, OverallFirst}
 use Rattle.league_core.specs.Results.{Results}
-use Rattle.league_core.specs.Sums.{sum_among, match_points, goal_difference, goals}
+use Rattle.league_core.specs.Sums.{sum_of, sum_among, match_points, goal_difference, goals}
 use Rattle.league_core.specs.HeadToHead.{greater_first, by_first_difference, head_to_head_of, by_head_to_head, are_level_in, level_with}
-use Rattle.league_core.specs.Ahead.{overall_of, by_overall, standing_within, standing_in, IsAheadIn}
-use Rattle.league_core.proofs.OrderingLemmas.{then_agree, then-three}
+use Rattle.league_core.specs.Ahead.{overall_of, by_overall, lead_within, lead_in, first_sums_of, by_first_sums, are_level_overall, level_overall, standing_by, standing_in, IsAheadIn}
+use Rattle.league_core.proofs.OrderingLemmas.{then_agree, then-two, then-three}
 
 -- by the first number at which two lists differ, lists are in a total order
 pub by_first_difference_total : IsTotalOrder by_first_difference
@@ -57,13 +59,13 @@ same_way false false here further a b c d e h k = k
 same_way true false here further a b c d e h k = absurd (true≢false e)
 same_way false true here further a b c d e h k = absurd (false≢true e)
 
--- the standing compares the clubs' keys
-pub standing_within-key : (times : ℕ) (sheet : Sheet) (season : Results) (group : List ℕ)
-    (club other : ℕ) → standing_within times sheet season group club other
+-- who leads is told by the clubs' keys
+pub lead_within-key : (times : ℕ) (sheet : Sheet) (season : Results) (group : List ℕ)
+    (club other : ℕ) → lead_within times sheet season group club other
     ≡ by_first_difference (key_within times sheet season group club)
     (key_within times sheet season group other)
-standing_within-key zero sheet season group club other = refl
-standing_within-key (suc times) sheet season group club other =
+lead_within-key zero sheet season group club other = refl
+lead_within-key (suc times) sheet season group club other =
     let mine = level_with sheet season group club in
     let theirs = level_with sheet season group other in
     let my_rest : List
@@ -82,11 +84,11 @@ standing_within-key (suc times) sheet season group club other =
     (by_first_difference my_rest their_rest)
     (λ tied. let e : mine ≡ theirs = level_with-tied sheet season group club other tied in
     same_way (length mine == length group) (length theirs == length group)
-    (by_overall sheet season club other) (standing_within times sheet season mine club other)
+    (by_overall sheet season club other) (lead_within times sheet season mine club other)
     (overall_of sheet season club) (overall_of sheet season other)
     (key_within times sheet season mine club) (key_within times sheet season theirs other)
     (ap (λ (g : List ℕ). length g == length group) e) refl
-    (standing_within-key times sheet season mine club other
+    (lead_within-key times sheet season mine club other
     ∙ ap (λ (g : List ℕ). by_first_difference (key_within times sheet season mine club)
     (key_within times sheet season g other)) e))
     ∙ then-three
@@ -98,17 +100,67 @@ standing_within-key (suc times) sheet season group club other =
     (sum_among group goals sheet season other))
     (by_first_difference my_rest their_rest)
 
--- clubs are in a total order by how they stand in a group, however often the record is taken
-pub standing_within_total : (times : ℕ) (sheet : Sheet) (season : Results) (group : List ℕ)
-    → IsTotalOrder (standing_within times sheet season group)
-standing_within_total times sheet season group =
-    subst IsTotalOrder (λ i a b. sym (standing_within-key times sheet season group a b) i)
+-- clubs are in a total order by who leads in a group, however often the record is taken
+pub lead_within_total : (times : ℕ) (sheet : Sheet) (season : Results) (group : List ℕ)
+    → IsTotalOrder (lead_within times sheet season group)
+lead_within_total times sheet season group =
+    subst IsTotalOrder (λ i a b. sym (lead_within-key times sheet season group a b) i)
     (on_total (key_within times sheet season group) by_first_difference_total)
 
--- and so by the standing itself
+-- and so by the two first sums over all matches
+pub by_first_sums_total : (sheet : Sheet) (season : Results)
+    → IsTotalOrder (by_first_sums sheet season)
+by_first_sums_total sheet season = on_total (first_sums_of sheet season) by_first_difference_total
+
+-- two clubs with one difference and one number of goals share them with the same clubs
+pub level_overall-tied : (sheet : Sheet) (season : Results) (group : List ℕ) (club other : ℕ)
+    → by_first_sums sheet season club other ≡ Equal → level_overall sheet season group club
+    ≡ level_overall sheet season group other
+level_overall-tied sheet season group club other tied =
+    filter_agree (are_level_overall sheet season club) (are_level_overall sheet season other)
+    (λ third. ap is_eq
+    (alike_right (by_first_sums_total sheet season) club other third tied)) group
+
+-- what decides in a group by an order of the criteria: the key in the group, or the two sums first and
+-- then the key among the clubs that share them
+abbrev pub key_by : Order → Sheet → Results → List ℕ → ℕ → List ℤ
+key_by HeadFirst sheet season group club = key_within (length group) sheet season group club
+key_by OverallFirst sheet season group club =
+    let level = level_overall sheet season group club in
+    sum_of goal_difference sheet season club
+    ∷ sum_of goals sheet season club
+    ∷ key_within (length level) sheet season level club
+
+-- the standing compares these keys
+pub standing_by-key : (order : Order) (sheet : Sheet) (season : Results) (group : List ℕ)
+    (club other : ℕ) → standing_by order sheet season group club other
+    ≡ by_first_difference (key_by order sheet season group club)
+    (key_by order sheet season group other)
+standing_by-key HeadFirst sheet season group club other =
+    lead_within-key (length group) sheet season group club other
+standing_by-key OverallFirst sheet season group club other =
+    let mine = level_overall sheet season group club in
+    let theirs = level_overall sheet season group other in
+    let my_rest : List ℤ = key_within (length mine) sheet season mine club in
+    let their_rest : List ℤ = key_within (length theirs) sheet season theirs other in
+    then_agree (by_first_sums sheet season club other) (lead_in sheet season mine club other)
+    (by_first_difference my_rest their_rest)
+    (λ tied. lead_within-key (length mine) sheet season mine club other
+    ∙ ap (λ (g : List ℕ). by_first_difference my_rest
+    (key_within (length g) sheet season g other))
+    (level_overall-tied sheet season group club other tied))
+    ∙ then-two
+    (greater_first (sum_of goal_difference sheet season club)
+    (sum_of goal_difference sheet season other))
+    (greater_first (sum_of goals sheet season club) (sum_of goals sheet season other))
+    (by_first_difference my_rest their_rest)
+
+-- clubs are in a total order by how they stand in a group
 pub standing_in_total : (sheet : Sheet) (season : Results) (group : List ℕ)
     → IsTotalOrder (standing_in sheet season group)
-standing_in_total sheet season group = standing_within_total (length group) sheet season group
+standing_in_total sheet season group =
+    subst IsTotalOrder (λ i a b. sym (standing_by-key sheet.order sheet season group a b) i)
+    (on_total (key_by sheet.order sheet season group) by_first_difference_total)
 
 -- of two clubs one at most is ahead
 pub standing_in-one : (sheet : Sheet) (season : Results) (group : List ℕ) (club other : ℕ)

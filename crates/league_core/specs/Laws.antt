@@ -6,6 +6,8 @@ use Rattle.std.specs.declared.cmp.Ordering.{Ordering}
 use Rattle.std.specs.declared.cmp.Ordering.TheVariants.{Less, Equal}
 use Rattle.std.specs.Ordering.{nat_cmp, ordering_then}
 use Rattle.league_core.specs.declared.sheet.Sheet.{Sheet}
+use Rattle.league_core.specs.declared.sheet.Order.{Order}
+use Rattle.league_core.specs.declared.sheet.Order.TheVariants.{HeadFirst, OverallFirst}
 use Rattle.league_core.specs.declared.season.Event.{Event}
 use Rattle.league_core.specs.declared.question.Claim.{Claim}
 use Rattle.league_core.specs.declared.question.Claim.TheVariants.{Inside, Outside}
@@ -14,9 +16,9 @@ use Rattle.league_core.specs.Sheets.{IsWithinLimits}
 use Rattle.league_core.specs.Results.{Results, are_results}
 use Rattle.league_core.specs.Seasons.{event_applied, season_after}
 use Rattle.league_core.specs.Finishes.{IsFinishOf, is_played}
-use Rattle.league_core.specs.Sums.{has_club, points_of}
-use Rattle.league_core.specs.HeadToHead.{by_head_to_head, level_with}
-use Rattle.league_core.specs.Ahead.{by_overall, standing_within, standing_in, IsAheadIn}
+use Rattle.league_core.specs.Sums.{has_club, points_of, sum_of, goal_difference, goals}
+use Rattle.league_core.specs.HeadToHead.{greater_first, by_head_to_head, level_with}
+use Rattle.league_core.specs.Ahead.{by_overall, lead_within, lead_in, level_overall, standing_in, IsAheadIn}
 use Rattle.league_core.specs.Ranking.{are_lots, lot_of, order_of, ranks_before, place_of, is_inside}
 use Rattle.league_core.specs.Questions.{is_on_side, is_in_window, holds_at, IsExample, full_question}
 use Rattle.league_core.specs.Verdicts.{IsClinched, IsLost, IsPossible}
@@ -177,30 +179,44 @@ EachStandsAlikeToABlock =
     → standing_in sheet season group club other ≡ Equal
     → standing_in sheet season group third club ≡ standing_in sheet season group third other
 
--- for a club of the group any two numbers of times that its clubs do not exceed give one standing
+-- for a club of the group any two numbers of times that its clubs do not exceed give one lead
 abbrev pub TimesAreEnough : Type 0
 TimesAreEnough =
     (sheet : Sheet) (season : Results) (group : List ℕ) (club other times more : ℕ)
     → IsTrue (has_club group club) → length group ≤ times → length group ≤ more
-    → standing_within times sheet season group club other
-    ≡ standing_within more sheet season group club other
+    → lead_within times sheet season group club other
+    ≡ lead_within more sheet season group club other
 
 -- the rule as it is said: the head-to-head record; where that is one, the sums over all matches if
--- the clubs with that record are the whole group, else the standing among those clubs
-abbrev pub standing_by_the_rule : Sheet → Results → List ℕ → ℕ → ℕ → Ordering
-standing_by_the_rule sheet season group club other =
+-- the clubs with that record are the whole group, else the lead among those clubs
+abbrev pub lead_by_the_rule : Sheet → Results → List ℕ → ℕ → ℕ → Ordering
+lead_by_the_rule sheet season group club other =
     let level = level_with sheet season group club in
     let overall = by_overall sheet season club other in
-    let again = standing_in sheet season level club other in
+    let again = lead_in sheet season level club other in
     ordering_then (by_head_to_head sheet season group club other)
     (if length level == length group then overall else again)
+
+-- either order as it is said: the lead in the group; or the greater difference over all matches, then
+-- the more goals, then the lead among the clubs of the group with that difference and those goals
+abbrev pub standing_by_the_rule : Order → Sheet → Results → List ℕ → ℕ → ℕ → Ordering
+standing_by_the_rule HeadFirst sheet season group club other =
+    lead_by_the_rule sheet season group club other
+standing_by_the_rule OverallFirst sheet season group club other =
+    ordering_then
+    (greater_first (sum_of goal_difference sheet season club)
+    (sum_of goal_difference sheet season other))
+    (ordering_then
+    (greater_first (sum_of goals sheet season club) (sum_of goals sheet season other))
+    (lead_by_the_rule sheet season (level_overall sheet season group club) club other))
 
 -- for a club of the group the standing is the one by the rule
 abbrev pub StandingIsByTheRule : Type 0
 StandingIsByTheRule =
     (sheet : Sheet) (season : Results) (group : List ℕ) (club other : ℕ)
     → IsTrue (has_club group club)
-    → standing_in sheet season group club other ≡ standing_by_the_rule sheet season group club other
+    → standing_in sheet season group club other
+    ≡ standing_by_the_rule sheet.order sheet season group club other
 
 -- a club with more points ranks before one with fewer
 abbrev pub MorePointsRankBefore : Type 0

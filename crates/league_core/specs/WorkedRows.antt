@@ -3,7 +3,7 @@
 -- fails here. Clubs are named by letters in the comments, and count from 0 below.
 use Rattle.std.specs.Prelude.{◌≡◌, ℕ, ℤ, pos, negsuc, Bool, true, false, List, [], ◌∷◌, Option, Some, None, map, refl}
 use Rattle.league_core.specs.declared.sheet.Sheet.{Sheet}
-use Rattle.league_core.specs.declared.sheet.Order.TheVariants.{HeadFirst}
+use Rattle.league_core.specs.declared.sheet.Order.TheVariants.{HeadFirst, OverallFirst}
 use Rattle.league_core.specs.declared.sheet.Fixture.{Fixture}
 use Rattle.league_core.specs.declared.season.Score.{Score}
 use Rattle.league_core.specs.Results.{Results}
@@ -28,6 +28,10 @@ sheet_of ranks fixtures = record {
   budget = 2000;
   order = HeadFirst;
 }
+
+-- the same sheet with difference and goals over all matches before the head-to-head
+abbrev pub overall_first : Sheet → Sheet
+overall_first sheet = record sheet { order = OverallFirst }
 
 -- home against away
 abbrev pub vs : ℕ → ℕ → Fixture
@@ -118,6 +122,34 @@ four_overall = refl
 -- the group taken again splits the pair; going straight to overall difference would put B second
 group_taken_again : places four four_season (3 ∷ 2 ∷ 1 ∷ 0 ∷ []) ≡ 2 ∷ 3 ∷ 1 ∷ 4 ∷ []
 group_taken_again = refl
+
+-- the difference over all matches first puts B first; C and A share it, and C scored more
+overall_difference_first : places (overall_first four) four_season (3 ∷ 2 ∷ 1 ∷ 0 ∷ []) ≡ 3 ∷ 1 ∷ 2 ∷ 4 ∷ []
+overall_difference_first = refl
+
+-- A beat B, C beat A, B beat D, each 1:0: three clubs have 3 points, C has the greatest difference, and
+-- A and B are level over all matches, so their own match counts
+abbrev three_wins : Sheet
+three_wins = overall_first (sheet_of (2 ∷ 1 ∷ 3 ∷ 4 ∷ []) (vs 0 1 ∷ vs 2 0 ∷ vs 1 3 ∷ []))
+
+own_match_after_overall : places three_wins (played (ended 1 0 ∷ ended 1 0 ∷ ended 1 0 ∷ []) (0 ∷ 0 ∷ 0 ∷ 0 ∷ [])) (1 ∷ 0 ∷ 2 ∷ 3 ∷ []) ≡ 2 ∷ 3 ∷ 1 ∷ 4 ∷ []
+own_match_after_overall = refl
+
+-- A beat B 1:0 and lost 0:1 to C, B beat C 2:0, and with A's 2:1 and B's 1:1 against D both have
+-- difference 1 from 3 goals; three points are taken off A and one off B, so that all three have 3
+abbrev three_level : Sheet
+three_level = sheet_of (2 ∷ 1 ∷ 3 ∷ 4 ∷ []) (vs 0 1 ∷ vs 2 0 ∷ vs 1 2 ∷ vs 0 3 ∷ vs 1 3 ∷ [])
+
+abbrev three_level_season : Results
+three_level_season =
+    played (ended 1 0 ∷ ended 1 0 ∷ ended 2 0 ∷ ended 2 1 ∷ ended 1 1 ∷ []) (3 ∷ 1 ∷ 0 ∷ 0 ∷ [])
+
+-- the head-to-head of all three puts B first; that of the two with one difference puts A first
+head_to_head_of_three : places three_level three_level_season (0 ∷ 1 ∷ 2 ∷ 3 ∷ []) ≡ 2 ∷ 1 ∷ 3 ∷ 4 ∷ []
+head_to_head_of_three = refl
+
+head_to_head_of_two : places (overall_first three_level) three_level_season (1 ∷ 0 ∷ 2 ∷ 3 ∷ []) ≡ 1 ∷ 2 ∷ 3 ∷ 4 ∷ []
+head_to_head_of_two = refl
 
 -- ---- five clubs, four of them with four points: the head-to-head leaves A, B and D level, then A and
 -- B, whose own match B won 2:1; overall sums, ranks and lots are for A

@@ -82,7 +82,8 @@ pub fn times_are_enough()
 
 /// The standing in a group, in the words of the rule: the head-to-head record; among the clubs
 /// that it leaves level the same again, if these are fewer; and the sums over all matches if they
-/// are not.
+/// are not. Where the sheet puts the overall sums first: difference and goals over all matches, and
+/// then this rule among the clubs that share both.
 pub fn standing_is_the_recursion()
     ensures { StandingIsByTheRule }
 {}
