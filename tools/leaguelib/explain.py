@@ -70,8 +70,10 @@ def _own_report(program: str | None, data: bytes, league: Input) -> Told:
     if written.status == 1:
         return Told(league, report_of(run_program(path, ["verdicts"], data)), False, "")
     report = report_of(written)
-    verdict = _check(path, data, written.output)
-    return Told(league, report, verdict == "accepted", "")
+    found = _check(path, data, written.output)
+    note = "" if found in ("accepted", "unknown") else (
+        f"The program's own check refuses its proofs: {found}. They are not told.")
+    return Told(league, report, found == "accepted", note)
 
 
 def _given_report(arguments: argparse.Namespace, data: bytes, league: Input) -> Told:

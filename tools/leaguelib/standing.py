@@ -15,7 +15,8 @@ from .zones import Score, Zone, match_points
 Range = tuple[int, int]
 Part = tuple[str, Callable[[Score, bool], int]]
 
-DIFFERENCE: Part = ("goal difference", lambda score, home: _own(score, home) - _own(score, not home))
+DIFFERENCE: Part = ("goal difference",
+                    lambda score, home: _own(score, home) - _own(score, not home))
 GOALS: Part = ("goals", lambda score, home: _own(score, home))
 POINTS: Part = ("points", lambda score, home: match_points(score)[0 if home else 1])
 AWAY_GOALS: Part = ("away goals", lambda score, home: 0 if home else score[1])

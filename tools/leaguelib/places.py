@@ -1,0 +1,118 @@
+"""The best and the worst place that each club can still reach, at one ask of the feed.
+
+The program is run on the sheet with other `line` records, four lines a run, until each place is
+asked for. A best place is the first line that is not lost, a worst one the first that is clinched.
+"""
+
+from __future__ import annotations
+
+import argparse
+from concurrent.futures import ThreadPoolExecutor
+from dataclasses import dataclass
+
+from . import common
+from .answers import Answer
+from .feeds import Input
+from .records import record_of, lines_of, row_text
+from .running import (add_input_arguments, ask_lines, front_of, position_of_ask, read_files,
+                      read_league, report_of, run_program)
+from .texts import MOST_LINES, Season, Sheet
+from .wording import counted, limit_phrase, paragraph, shown
+
+RUNS_AT_ONCE = 4
+
+
+@dataclass(frozen=True)
+class Reach:
+    """The places of a club; where a budget was spent, the ends are not sure."""
+
+    club: str
+    best: int
+    worst: int
+    is_best_sure: bool = True
+    is_worst_sure: bool = True
+
+
+def add_arguments(parser: argparse.ArgumentParser) -> None:
+    """The words of this part."""
+    add_input_arguments(parser)
+    parser.add_argument("--csv", action="store_true",
+                        help="rows `reach,BEST,WORST,CLUB` instead of a table for people")
+
+
+def run(arguments: argparse.Namespace) -> int:
+    """Prints the places of each club, and gives the exit status."""
+    data = read_files(arguments.files)
+    league = read_league(data)
+    position = position_of_ask(league, arguments.ask)
+    path = common.program_path(arguments.program)
+    found = reach_of(path, data, league, position)
+    if arguments.csv:
+        text = "".join(row_text("reach", entry.best, entry.worst, entry.club) for entry in found)
+    else:
+        text = places_text(league.sheet, league.season_at(position), found)
+    common.write_text(text)
+    is_sure = all(entry.is_best_sure and entry.is_worst_sure for entry in found)
+    return common.DONE if is_sure else common.DOUBTFUL
+
+
+def reach_of(path: str, data: bytes, league: Input, position: int) -> list[Reach]:
+    """The best and worst place of each club, in the order of the sheet."""
+    places = list(range(1, len(league.sheet.clubs)))
+    runs = [places[at:at + MOST_LINES] for at in range(0, len(places), MOST_LINES)]
+    ask_line = ask_lines(league)[position]
+
+    def words_of(lines: list[int]) -> Answer:
+        asked = with_lines(front_of(data, ask_line), lines)
+        return report_of(run_program(path, ["verdicts", "--workers", "1"], asked)).answers[-1]
+
+    with ThreadPoolExecutor(RUNS_AT_ONCE) as pool:
+        answers = list(pool.map(words_of, runs))
+    return [_reach(league.sheet, club.name, answers) for club in league.sheet.clubs]
+
+
+def with_lines(data: bytes, lines: list[int]) -> bytes:
+    """The input with these `line` records in place of its own, and with one ask, at its end."""
+    kept = []
+    is_sheet = True
+    for number, raw in lines_of(data):
+        record = record_of(number, raw)
+        kind = record.kind if record else ""
+        if is_sheet and kind == "season":
+            kept += [b"line,%d" % places for places in lines]
+            is_sheet = False
+        elif (is_sheet and kind == "line") or (not is_sheet and kind == "ask"):
+            continue
+        kept.append(raw)
+    return b"\n".join([*kept, b"ask"]) + b"\n"
+
+
+def _reach(sheet: Sheet, club: str, answers: list[Answer]) -> Reach:
+    """The places of a club by its words on every line."""
+    words = {verdict.places: verdict.word for answer in answers for verdict in answer.verdicts
+             if verdict.club == club}
+    size = len(sheet.clubs)
+    best = next((place for place in range(1, size) if words[place] != "lost"), size)
+    worst = next((place for place in range(1, size) if words[place] == "clinched"), size)
+    unsettled = [place for place in range(1, size) if words[place] == "unsettled"]
+    is_best_sure = best == size or words[best] != "unsettled"
+    is_worst_sure = worst == 1 or words[worst - 1] != "unsettled"
+    return Reach(club, best, worst, is_best_sure or not unsettled, is_worst_sure)
+
+
+def places_text(sheet: Sheet, season: Season, found: list[Reach]) -> str:
+    """A table for people: best and worst place of each club, the best off first."""
+    rows = sorted(found, key=lambda entry: (entry.worst, entry.best))
+    width = max(len(shown(entry.club)) for entry in rows)
+    lines = [paragraph(f"{shown(sheet.name)}: the places that each club can still reach, "
+                       f"{limit_phrase(sheet, season)}. Open: "
+                       f"{counted(len(season.open_fixtures(sheet)), 'match', 'matches')}."), "",
+             f"{'club'.ljust(width)}  best  worst"]
+    for entry in rows:
+        best = f"{entry.best}" + ("" if entry.is_best_sure else "?")
+        worst = f"{entry.worst}" + ("" if entry.is_worst_sure else "?")
+        lines.append(f"{shown(entry.club).ljust(width)}  {best:>4}  {worst:>5}")
+    if any(not (entry.is_best_sure and entry.is_worst_sure) for entry in found):
+        lines += ["", paragraph("? : not settled within the budget, the fourth field of the "
+                                "record `league`; the place may be nearer to the other one.")]
+    return "\n".join(lines) + "\n"
