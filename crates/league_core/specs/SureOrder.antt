@@ -5,6 +5,8 @@ use Rattle.std.specs.Prelude.{ℕ, zero, suc, pos, neg_ℤ, Bool, true, false, �
 use Rattle.std.specs.List.{list_all}
 use Rattle.std.specs.Ordering.{int_eq}
 use Rattle.league_core.specs.declared.sheet.Sheet.{Sheet}
+use Rattle.league_core.specs.declared.sheet.Order.{Order}
+use Rattle.league_core.specs.declared.sheet.Order.TheVariants.{HeadFirst, OverallFirst}
 use Rattle.league_core.specs.declared.season.Score.{Score}
 use Rattle.league_core.specs.declared.sure.Sure.{Sure}
 use Rattle.league_core.specs.declared.sure.Sure.TheVariants.{Above, Below, Level, Unknown}
@@ -138,6 +140,57 @@ sure_within (suc times) sheet options group rival club =
       ]
     ])
 
+-- the rival against the club within a group, with the head-to-head first
+abbrev pub sure_in : Sheet → List (List Score) → List ℕ → ℕ → ℕ → Sure
+sure_in sheet options group rival club = sure_within (length group) sheet options group rival club
+
+-- the ranges of the two sums that may come before the head-to-head: difference and goals over all
+-- matches
+abbrev pub first_sum_ranges : Sheet → List (List Score) → ℕ → List Range
+first_sum_ranges sheet options club =
+    range_over goal_difference sheet options club
+    ∷ range_over goals sheet options club
+    ∷ []
+
+-- a rival's difference and goals over all matches against the club's
+abbrev pub by_first_sum_ranges : Sheet → List (List Score) → ℕ → ℕ → Sure
+by_first_sum_ranges sheet options rival club =
+    sure_by_ranges (first_sum_ranges sheet options rival) (first_sum_ranges sheet options club)
+
+-- a club surely has the club's difference and goals: each has one value, the club's own
+abbrev pub is_surely_level_overall : Sheet → List (List Score) → ℕ → ℕ → Bool
+is_surely_level_overall sheet options club other =
+    is_level (by_first_sum_ranges sheet options other club)
+
+-- a club surely has another difference or other goals: one of the two misses the club's own value. It
+-- is used only where the club's difference and goals have one value each
+abbrev pub is_surely_apart_overall : Sheet → List (List Score) → ℕ → ℕ → Bool
+is_surely_apart_overall sheet options club other =
+    is_apart (first_sum_ranges sheet options other) (first_sum_ranges sheet options club)
+
+-- of each club of the group it is sure whether it has the club's difference and goals
+abbrev pub are_all_sure_overall : Sheet → List (List Score) → List ℕ → ℕ → Bool
+are_all_sure_overall sheet options group club =
+    list_all (λ other. is_surely_level_overall sheet options club other
+    || is_surely_apart_overall sheet options club other) group
+
+-- the clubs of the group that surely have the club's difference and goals
+abbrev pub surely_level_overall : Sheet → List (List Score) → List ℕ → ℕ → List ℕ
+surely_level_overall sheet options group club =
+    filter (is_surely_level_overall sheet options club) group
+
+-- the rival against the club within a group by an order of the criteria: with the head-to-head first;
+-- or by difference and goals over all matches, and where these are level and it is sure who shares
+-- them, with the head-to-head among those clubs
+abbrev pub sure_by : Order → Sheet → List (List Score) → List ℕ → ℕ → ℕ → Sure
+sure_by HeadFirst sheet options group rival club = sure_in sheet options group rival club
+sure_by OverallFirst sheet options group rival club =
+    sure_then (by_first_sum_ranges sheet options rival club)
+    (elim (are_all_sure_overall sheet options group club) [
+      | false ↦ Unknown
+      | true ↦ sure_in sheet options (surely_level_overall sheet options group club) rival club
+    ])
+
 -- the rival's points against the club's
 abbrev pub sure_by_points : Sheet → Results → List (List Score) → ℕ → ℕ → Sure
 sure_by_points sheet season options rival club =
@@ -149,10 +202,11 @@ abbrev pub level_on_points : Sheet → Results → List (List Score) → ℕ →
 level_on_points sheet season options club =
     filter (λ other. is_level (sure_by_points sheet season options other club)) (clubs_of sheet)
 
--- what is sure of the rival against the club: by points, then within the group of all clubs on them
+-- what is sure of the rival against the club: by points, then within the group of all clubs on them by
+-- the sheet's order of the criteria
 unfoldable pub sure_order : Sheet → Results → List Literal → ℕ → ℕ → Sure
 sure_order sheet season zone rival club =
     let options = options_in sheet season zone in
     let group = level_on_points sheet season options club in
     sure_then (sure_by_points sheet season options rival club)
-    (sure_within (length group) sheet options group rival club)
+    (sure_by sheet.order sheet options group rival club)

@@ -137,10 +137,10 @@ own_match_after_overall = refl
 
 -- A beat B 1:0 and lost 0:1 to C, B beat C 2:0, and with A's 2:1 and B's 1:1 against D both have
 -- difference 1 from 3 goals; three points are taken off A and one off B, so that all three have 3
-abbrev three_level : Sheet
+abbrev pub three_level : Sheet
 three_level = sheet_of (2 ∷ 1 ∷ 3 ∷ 4 ∷ []) (vs 0 1 ∷ vs 2 0 ∷ vs 1 2 ∷ vs 0 3 ∷ vs 1 3 ∷ [])
 
-abbrev three_level_season : Results
+abbrev pub three_level_season : Results
 three_level_season =
     played (ended 1 0 ∷ ended 1 0 ∷ ended 2 0 ∷ ended 2 1 ∷ ended 1 1 ∷ []) (3 ∷ 1 ∷ 0 ∷ 0 ∷ [])
 

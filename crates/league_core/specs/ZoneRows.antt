@@ -23,6 +23,7 @@ use Rattle.league_core.specs.SureOrder.{sure_order}
 use Rattle.league_core.specs.Reasons.{has_reason}
 use Rattle.league_core.specs.Proposals.{first_option, proposed_finish}
 use Rattle.league_core.specs.Splits.{is_proper}
+use Rattle.league_core.specs.WorkedRows.{overall_first, three_level, three_level_season}
 
 -- a sheet with this goal limit, of so many clubs, the first with rank 1, and of these fixtures
 abbrev league : ℕ → ℕ → List Fixture → Sheet
@@ -158,6 +159,11 @@ ten_sure : map (λ zone. sure_order ten ten_season zone 1 0) (ten_draw (yes (Hom
 unfolding sure_order
 ten_sure = refl
 
+-- with the overall sums first X is before C by difference, 3 against 1, whatever the goals of its draw
+ten_sure_overall : map (λ zone. sure_order (overall_first ten) ten_season zone 1 0) (ten_draw (yes (HomeMost 5 0) ∷ []) ∷ ten_draw (no (HomeMost 5 0) ∷ []) ∷ ten_draw [] ∷ []) ≡ Above ∷ Above ∷ Above ∷ []
+unfolding sure_order
+ten_sure_overall = refl
+
 ten_tie : map (λ zone. has_reason ten ten_season nine_question zone Tie) (ten_draw (yes (HomeMost 5 0) ∷ []) ∷ ten_draw (no (HomeMost 5 0) ∷ []) ∷ ten_draw [] ∷ []) ≡ true ∷ true ∷ false ∷ []
 unfolding has_reason has_finish sure_order
 ten_tie = refl
@@ -226,6 +232,26 @@ third_club_unsure = refl
 level_by_rank : sure_order (open_third (1 ∷ 1 ∷ 3 ∷ 4 ∷ [])) open_third_season (yes (Draw 1) ∷ yes (HomeMost 1 0) ∷ []) 1 0 ≡ Level
 unfolding sure_order
 level_by_rank = refl
+
+-- the same by the overall sums first: whether C shares A's two sums over all matches is open until its
+-- goals are
+abbrev open_third_overall : List ℕ → Sheet
+open_third_overall ranks = overall_first (open_third ranks)
+
+third_club_unsure_overall : map (λ zone. sure_order (open_third_overall (1 ∷ 2 ∷ 3 ∷ 4 ∷ [])) open_third_season zone 1 0) ((yes (Draw 1) ∷ []) ∷ (yes (Draw 1) ∷ yes (HomeMost 1 0) ∷ []) ∷ (yes (Draw 1) ∷ no (HomeMost 1 0) ∷ []) ∷ []) ≡ Unknown ∷ Below ∷ Below ∷ []
+unfolding sure_order
+third_club_unsure_overall = refl
+
+level_by_rank_overall : sure_order (open_third_overall (1 ∷ 1 ∷ 3 ∷ 4 ∷ [])) open_third_season (yes (Draw 1) ∷ yes (HomeMost 1 0) ∷ []) 1 0 ≡ Level
+unfolding sure_order
+level_by_rank_overall = refl
+
+-- ---- three clubs on 3 points, all played: the head-to-head of the three puts B before A; by the overall
+-- sums first C is out of it, and that of the two puts A before B
+
+three_level_sure : map (λ sheet. sure_order sheet three_level_season [] 0 1) (three_level ∷ overall_first three_level ∷ []) ≡ Below ∷ Above ∷ []
+unfolding sure_order
+three_level_sure = refl
 
 -- ---- sixteen clubs and goal limit 20: the first beat the second twice, and the last round is open
 
