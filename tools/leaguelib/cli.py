@@ -35,8 +35,8 @@ class Parser(argparse.ArgumentParser):
         self.exit(common.BAD_WORDS)
 
 
-def make_parser() -> Parser:
-    """The parser with a word for each part that is there."""
+def make_parser(chosen: str) -> Parser:
+    """The parser with a word for each part that is there; the chosen part alone is loaded."""
     parser = Parser(
         prog="league",
         description="Makes, tests and reads what the program futmax takes and answers.",
@@ -45,6 +45,9 @@ def make_parser() -> Parser:
     words = parser.add_subparsers(dest="part", metavar="PART", required=True, parser_class=Parser)
     for name, summary in PARTS.items():
         if importlib.util.find_spec(f"{__package__}.{name}") is None:
+            continue
+        if name != chosen:
+            words.add_parser(name, help=summary)
             continue
         part = importlib.import_module(f"{__package__}.{name}")
         word = words.add_parser(name, help=summary, description=(part.__doc__ or summary).strip(),
@@ -58,7 +61,9 @@ def make_parser() -> Parser:
 def main(words: list[str] | None = None) -> int:
     """Runs the command with these words, or with those of the process, and gives its status."""
     try:
-        arguments = make_parser().parse_args(words)
+        given = sys.argv[1:] if words is None else words
+        chosen = next((word for word in given if not word.startswith("-")), "")
+        arguments = make_parser(chosen).parse_args(given)
         status = arguments.run(arguments)
         sys.stdout.flush()
         return status

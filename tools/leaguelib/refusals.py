@@ -105,7 +105,8 @@ def _glued(text: str) -> Iterator[Candidate]:
             if rest == kind or rest.startswith(kind + ","):
                 yield Candidate("two records stand on one line: the file before ended without a "
                                 "line "
-                                "end. Put one behind its last line", [text[:start], rest], is_split=True)
+                                "end. Put one behind its last line", [text[:start], rest],
+                                is_split=True)
             start = text.find(kind, start + 1)
 
 

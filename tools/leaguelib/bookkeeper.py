@@ -1,0 +1,212 @@
+"""Keeps a season by names: turns a line by names into a line of the feed, and tests it."""
+
+from __future__ import annotations
+
+import re
+
+from . import common
+from .cleaning import KINDS, OTHER_WORDS
+from .feeds import FeedReader, InputReader
+from .matches import Match, match_of_line, plain_date
+from .names import nearest_name, same_name, shown
+from .records import Refused, count_lines, lines_of, record_of, records_of, row_text
+from .refusals import advise
+from .texts import Fixture, Sheet
+from .words import words_for
+
+DATE_COMMENT = re.compile(r"^#\s*(\d{4}-\d{2}-\d{2}|[A-Z][a-z]{2}[/ ]\d{1,2}|no date)\s*$")
+FIRST_WORD = re.compile(r"^(correct|correction|fix|annul|annulled|void|cancel|deduct|result)"
+                        r"\s*:?\s+(\S.*)$", re.IGNORECASE)
+DEDUCTION = re.compile(r"^(?:(\d+)\s+points?\s+from\s+(.+)|(.+?)\s+[-−]?(\d+)(?:\s+points?)?)$",
+                       re.IGNORECASE)
+MEANINGS = {"correct": "fix", "correction": "fix", "annul": "void", "annulled": "void",
+            "cancel": "void"}
+
+
+class Unclear(Exception):
+    """A line that cannot be turned into a line of the feed, and why."""
+
+    def __init__(self, message: str) -> None:
+        super().__init__(message)
+        self.message = message
+
+
+class Bookkeeper:
+    """A sheet and the season so far, which takes lines by names."""
+
+    def __init__(self, sheet: bytes, log: bytes = b"", sheet_name: str = "the sheet",
+                 log_name: str = "the feed") -> None:
+        self.reader = InputReader()
+        self.notes: list[str] = []
+        self._read_sheet(sheet, sheet_name)
+        self._read_log(log, log_name)
+        self.dates = dates_of(sheet, self.sheet)
+
+    @property
+    def sheet(self) -> Sheet:
+        """The sheet."""
+        return self.reader.sheet
+
+    @property
+    def feed(self) -> FeedReader:
+        """The reader of the feed, with the season as it stands."""
+        return self.reader.feed_reader
+
+    def _read_sheet(self, data: bytes, name: str) -> None:
+        fields: list[str] = []
+        try:
+            for record in records_of(data):
+                if self.reader.feed_reader is not None:
+                    raise common.Trouble(f"{name}, line {record.line}: a line stands behind "
+                                         f"`season`; "
+                                         "the sheet ends there, and the feed has a file of its own")
+                fields = record.fields
+                self.reader.take(record)
+            fields = []
+            self.reader.test_end(count_lines(data))
+        except Refused as refused:
+            words = words_for(refused, fields, self.reader.sheet)
+            raise common.Trouble(f"{name}, line {refused.line}: {words} (`league lint` tells "
+                                 f"more)") \
+                from refused
+
+    def _read_log(self, data: bytes, name: str) -> None:
+        fields: list[str] = []
+        try:
+            for record in records_of(data):
+                fields = record.fields
+                self.feed.take(record)
+        except Refused as refused:
+            words = words_for(refused, fields, self.reader.sheet)
+            raise common.Trouble(f"{name}, line {refused.line}: {words} (`league lint` tells "
+                                 f"more)") \
+                from refused
+
+    def take_notes(self) -> list[str]:
+        """What has to be said about the last line; it is said once."""
+        notes, self.notes = self.notes, []
+        return notes
+
+    def enter(self, line: str) -> None:
+        """Takes a line that was made here."""
+        record = record_of(1, line.encode("utf-8"))
+        if record is not None:
+            self.feed.take(record)
+
+    def line_of(self, text: str) -> str | None:
+        """The line of the feed for a line by names, tested; none where it is empty or a comment."""
+        line = text.strip()
+        if not line or line.startswith("#"):
+            return None
+        word = line.split(",")[0].strip().lower()
+        if "," in line and (word in KINDS or word in OTHER_WORDS) or line.lower() in KINDS:
+            return self._tested(line.lower() if line.lower() in KINDS else line)
+        found = FIRST_WORD.match(line)
+        kind, rest = ("result", line)
+        if found:
+            word = found.group(1).lower()
+            kind, rest = MEANINGS.get(word, word), found.group(2)
+        if kind == "deduct":
+            return self._deduction(rest)
+        match = match_of_line(rest)
+        if not isinstance(match, Match):
+            raise Unclear("this is not understood. A result is written like `Germany 5-1 "
+                          "Scotland`; "
+                          "`league feed --help` has the other forms")
+        return self._line_of_match(kind, match)
+
+    def line_of_listed(self, match: Match) -> str | None:
+        """The line for a match of a list, none where its score stands already."""
+        fixture = self.fixture_of("result", match)
+        if self.feed.season.scores.get(fixture.number) == match.score:
+            return None
+        return self._line_of_match("result", match)
+
+    def _line_of_match(self, kind: str, match: Match) -> str:
+        """The line for a match by names."""
+        if kind != "void" and match.score is None:
+            raise Unclear("the score is missing, as in `Germany 5-1 Scotland`")
+        fixture = self.fixture_of(kind, match)
+        date = self.dates.get(fixture.number, "")
+        if match.date and date and match.date != date:
+            self.notes.append(f"the sheet has {fixture.home} - {fixture.away} on {date}, and not "
+                              f"on "
+                              f"{match.date}; it was taken all the same")
+        goals = [] if kind == "void" else [str(goal) for goal in match.score or ()]
+        return self._tested(",".join([kind, str(fixture.number), *goals]))
+
+    def _deduction(self, text: str) -> str:
+        """The line for points deducted."""
+        found = DEDUCTION.match(text)
+        if not found:
+            raise Unclear("a deduction is written like `deduct Scotland 3`, with the points "
+                          "deducted "
+                          "in all")
+        name = found.group(2) or found.group(3)
+        points = found.group(1) or found.group(4)
+        return self._tested(row_text("deduct", self.club(name.strip()), points).rstrip("\n"))
+
+    def club(self, name: str) -> str:
+        """The club of exactly this name; raises `Unclear` with the nearest name."""
+        if self.sheet.club_named(name):
+            return name
+        names = [club.name for club in self.sheet.clubs]
+        near = same_name(name, names) or nearest_name(name, names)
+        hint = f"the nearest name is {shown(near)}" if near else "the clubs are " + ", ".join(names)
+        raise Unclear(f"no club is called {shown(name)}; {hint}")
+
+    def fixture_of(self, kind: str, match: Match) -> Fixture:
+        """The fixture of a match by names, by its date where the two meet there more than once."""
+        home, away = self.club(match.home), self.club(match.away)
+        found = [one for one in self.sheet.fixtures if (one.home, one.away) == (home, away)]
+        if not found:
+            turned = [one for one in self.sheet.fixtures if (one.home, one.away) == (away, home)]
+            hint = f": they meet as {away} - {home}, fixture {turned[0].number}" if turned else ""
+            raise Unclear(f"the sheet has no match {home} - {away}{hint}")
+        dated = [one for one in found if match.date and self.dates.get(one.number) == match.date]
+        if len(found) == 1 or len(dated) == 1:
+            return found[0] if len(found) == 1 else dated[0]
+        raise Unclear(self._which(kind, match, found))
+
+    def _which(self, kind: str, match: Match, found: list[Fixture]) -> str:
+        """What to say where two clubs meet more than once with the same one at home."""
+        goals = ""
+        if match.score is not None and kind != "void":
+            goals = f",{match.score[0]},{match.score[1]}"
+        choices = []
+        for one in found:
+            date = self.dates.get(one.number)
+            state = "played" if one.number in self.feed.season.scores else "open"
+            choices.append(f"`{kind},{one.number}{goals}` ({date + ', ' if date else ''}{state})")
+        return (f"{match.home} - {match.away} stands {len(found)} times in the sheet. Write the "
+                f"date "
+                f"in front, or one of these: {', '.join(choices)}")
+
+    def _tested(self, line: str) -> str:
+        """The line, where the program takes it; raises `Unclear` where it does not."""
+        record = record_of(1, line.encode("utf-8", "surrogateescape"))
+        if record is None:
+            raise Unclear("this line has no field")
+        try:
+            self.feed.read(record)
+        except Refused as refused:
+            advice = advise(record, refused, self.reader)
+            hint = " Write: " + " / ".join(advice.instead) if advice.instead else ""
+            raise Unclear(advice.message + hint) from refused
+        return line
+
+
+def dates_of(data: bytes, sheet: Sheet) -> dict[int, str]:
+    """The dates of the fixtures, from the comments above them that hold a date alone."""
+    starts = {fixture.line: fixture.number for fixture in sheet.fixtures}
+    dates: dict[int, str] = {}
+    date = ""
+    for number, raw in lines_of(data):
+        found = DATE_COMMENT.match(raw.decode("utf-8", "replace"))
+        if found:
+            date = "" if found.group(1) == "no date" else plain_date(found.group(1))
+        elif raw.startswith(b"# added"):
+            date = ""
+        elif number in starts and date:
+            dates[starts[number]] = date
+    return dates

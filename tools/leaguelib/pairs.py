@@ -1,0 +1,104 @@
+"""How often each pair of clubs meets in a list, and which matches full rounds still need."""
+
+from __future__ import annotations
+
+from collections import Counter
+from dataclasses import dataclass, field
+from itertools import combinations
+
+from .doubts import some, some_pairs, times
+from .matches import Match
+from .names import nearest_name, shown
+
+
+@dataclass
+class Gaps:
+    """What a list has too little and too much of, for so many meetings of each pair.
+
+    `missing` are matches with home and away, `unsure` those whose home side nothing tells.
+    """
+
+    rounds: int
+    missing: list[tuple[str, str]] = field(default_factory=list)
+    extra: list[tuple[str, str]] = field(default_factory=list)
+    unsure: list[tuple[str, str]] = field(default_factory=list)
+
+    def extra_text(self) -> str:
+        """What to say where pairs meet too often."""
+        return (f"if each pair meets {times(self.rounds)}, these stand too often in the list "
+                f"(home - "
+                f"away): {some_pairs(self.extra)}. Leave out what stands double, or exchange "
+                f"home and "
+                "away where they are wrong, or say --rounds N for how often each pair meets, or "
+                "--as-is if the list is meant so")
+
+    def missing_text(self, are_played: bool) -> str:
+        """What to say where pairs meet too seldom, or where every match was played."""
+        if are_played and not self.missing:
+            return ("all matches of this list have a score: are there matches to come? Each pair "
+                    f"meets {times(self.rounds)} in it. Say --rounds N for how often each pair "
+                    "meets in the season, and what is missing is added as open matches; or say "
+                    "--as-is if the list is the whole season")
+        front = f"the list is not complete: each pair meets {times(self.rounds)}, but for "
+        if are_played:
+            front = ("all matches of this list have a score, and it is not complete: it seems to "
+                     "be a list of results, without the matches to come. Missing are ")
+        number = len(self.missing)
+        names = some([f"{home} - {away}" for home, away in self.missing])
+        return (f"{front}{number} match{'' if number == 1 else 'es'}: {names}. Add them; or say "
+                "--rounds N for how often each pair meets, and they are added as open matches; "
+                "or say --as-is if the list is meant so")
+
+    def notes(self) -> list[str]:
+        """What to say about matches that were added."""
+        notes = []
+        if self.missing:
+            notes.append(f"{len(self.missing)} matches were added that the list does not have: "
+                         f"{some_pairs(self.missing)}")
+        if self.unsure:
+            notes.append("nothing tells who is at home in these; look at them: "
+                         f"{some_pairs(self.unsure)}")
+        return notes
+
+
+def usual_rounds(matches: list[Match]) -> int:
+    """How often each pair meets, as far as the list tells: the number of most pairs that meet."""
+    pairs = Counter(frozenset((match.home, match.away)) for match in matches)
+    directed = Counter((match.home, match.away) for match in matches)
+    numbers = Counter(pairs.values())
+    usual = max(numbers, key=lambda number: (numbers[number], number))
+    both_ways = any((away, home) in directed for home, away in directed)
+    return max(usual, 2) if both_ways else usual
+
+
+def lone_names(matches: list[Match]) -> str:
+    """A question on names that stand seldom and look like another: is it one club?"""
+    played = Counter(name for match in matches for name in (match.home, match.away))
+    often = [name for name, number in played.items() if 2 * number > max(played.values())]
+    questions = []
+    for name, number in played.items():
+        near = None if name in often else nearest_name(name, often)
+        if near is not None:
+            questions.append(f"{shown(name)} stands {times(number)}: is it {shown(near)}?")
+    return ". " + " ".join(questions) if questions else ""
+
+
+def gaps_in(matches: list[Match], names: list[str], rounds: int) -> Gaps:
+    """What the list has too little and too much of, if each pair meets so many times."""
+    gaps = Gaps(rounds)
+    directed = Counter((match.home, match.away) for match in matches)
+    half = rounds // 2
+    most = half + rounds % 2
+    for first, second in combinations(names, 2):
+        ways = [(first, second), (second, first)]
+        total = sum(directed[way] for way in ways)
+        gaps.extra.extend(way for way in ways if directed[way] > most)
+        if total > rounds and all(directed[way] <= most for way in ways):
+            gaps.extra.append(ways[0])
+        for way in ways:
+            gaps.missing.extend([way] * max(0, half - directed[way]))
+        if rounds % 2 and all(directed[way] <= half for way in ways):
+            gaps.missing.append(ways[0])
+            gaps.unsure.append(ways[0])
+    gaps.extra.extend((name, name) for name in names if directed[(name, name)])
+    return gaps

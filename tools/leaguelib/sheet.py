@@ -1,0 +1,202 @@
+"""Makes a sheet from a list of fixtures by names: a table with the columns HomeTeam and AwayTeam
+(as football-data has it, with or without scores), a text of openfootball, or lines `Home - Away`.
+A list that is not complete, or that has played matches alone, is refused, unless --rounds says how
+often each pair meets (the missing matches are then added), or --as-is says that it is meant so.
+"""
+
+from __future__ import annotations
+
+import argparse
+import sys
+
+from . import common
+from .doubts import name_doubts
+from .matches import Match, MatchList, read_matches
+from .names import nearest_name, shown
+from .pairs import Gaps, gaps_in, lone_names, usual_rounds
+from .records import Refused, number_of, records_of, row_text
+from .texts import ORDERS, USUAL_BUDGET, SheetReader
+from .words import words_for
+
+ORDER_HELP = """\
+Which criteria decide first between clubs level on points? Say --order head_first or overall_first.
+  head_first     the matches between the clubs that are level, before goal difference:
+                 European Championship groups, Spain (La Liga), Italy (Serie A), Portugal,
+                 Champions League groups up to 2023/24
+  overall_first  goal difference and goals over all matches, before the matches between them:
+                 Premier League, Bundesliga, Eredivisie, Champions League league phase,
+                 World Cup groups up to 2022
+Rules change, and a play-off or fair play may come in: look into the rules of your competition."""
+LINES_HELP = """\
+Which places count? Say --lines, like `--lines 1,4,17` for the title, the first four, and all but
+the last three of twenty; or `--lines none` where only the table is wanted."""
+
+
+def add_arguments(parser: argparse.ArgumentParser) -> None:
+    """The words of `league sheet`."""
+    parser.add_argument("list", metavar="LIST", help="the list of fixtures; - is standard input")
+    parser.add_argument("--name", help="the league's name; else the title of the list")
+    parser.add_argument("--lines", help="the places that count, like 1,4,17; or none")
+    parser.add_argument("--order", choices=ORDERS, help="which criteria come first")
+    parser.add_argument("--goal-limit", type=int, default=9, metavar="L",
+                        help="most goals a side in an open match, 1 to 20 (9)")
+    parser.add_argument("--budget", type=int, metavar="B", help="the node budget, 1 to 50000")
+    parser.add_argument("--ranks", metavar="FILE",
+                        help="lines NAME,RANK: the clubs in their order, with their ranks")
+    parser.add_argument("--rounds", type=int, metavar="N", help="how often each pair meets")
+    parser.add_argument("--as-is", action="store_true", help="the list is meant as it stands")
+    parser.add_argument("--no-comments", action="store_true", help="write records alone")
+    parser.add_argument("-o", "--output", default="-", metavar="FILE", help="where to write it")
+
+
+def run(arguments: argparse.Namespace) -> int:
+    """Makes the sheet, or says what is missing."""
+    found = read_matches(common.read_bytes(arguments.list))
+    if not found.matches:
+        raise common.Trouble("the list has no matches")
+    if arguments.rounds is not None and not 1 <= arguments.rounds <= 20:
+        raise common.Trouble("--rounds is a number from 1 to 20", common.BAD_WORDS)
+    name = arguments.name or found.title
+    if not name:
+        raise common.Trouble("what is the league called? Say --name \"NAME\"", common.BAD_WORDS)
+    ranks = _ranks(arguments.ranks, found.matches)
+    gaps = complete(found.matches, list(ranks), arguments.rounds, arguments.as_is)
+    order = arguments.order or _asked_order()
+    lines = _lines(arguments.lines)
+    records = _records(name, order, arguments, ranks, lines)
+    text = _text(found, gaps, ranks, records, order, arguments)
+    notes = list(found.notes) + list(_test(text)) + gaps.notes()
+    common.write_text(text, arguments.output)
+    for note in notes:
+        common.say(f"league: {note}")
+    return common.DOUBTFUL if notes else common.DONE
+
+
+def complete(matches: list[Match], names: list[str], rounds: int | None, is_as_is: bool) -> Gaps:
+    """The matches to add to the list; raises `Trouble` where the list is not complete."""
+    expected = rounds or usual_rounds(matches)
+    gaps = gaps_in(matches, names, expected)
+    if is_as_is:
+        return Gaps(expected)
+    if gaps.extra:
+        raise common.Trouble(gaps.extra_text())
+    are_played = all(match.score is not None for match in matches)
+    if rounds is None and (gaps.missing or are_played):
+        raise common.Trouble(gaps.missing_text(are_played) + lone_names(matches))
+    return gaps
+
+
+def _asked_order() -> str:
+    """The order of the criteria, asked for where a person can answer."""
+    if not (sys.stdin.isatty() and sys.stderr.isatty()):
+        raise common.Trouble(ORDER_HELP, common.BAD_WORDS)
+    common.say(ORDER_HELP)
+    answer = input("order: ").strip()
+    if answer not in ORDERS:
+        raise common.Trouble("the order is head_first or overall_first", common.BAD_WORDS)
+    return answer
+
+
+def _lines(text: str | None) -> list[int]:
+    """The lines of the sheet as told."""
+    if text is None:
+        raise common.Trouble(LINES_HELP, common.BAD_WORDS)
+    if text == "none":
+        return []
+    numbers = [number_of(part.strip()) for part in text.split(",")]
+    if None in numbers:
+        raise common.Trouble(LINES_HELP, common.BAD_WORDS)
+    return [number for number in numbers if number is not None]
+
+
+def _ranks(path: str | None, matches: list[Match]) -> dict[str, int]:
+    """The clubs in their order with their ranks: 1 for all, in order of the list, unless told."""
+    names = dict.fromkeys(name for match in matches for name in (match.home, match.away))
+    if path is None:
+        return {name: 1 for name in names}
+    ranks: dict[str, int] = {}
+    try:
+        for record in records_of(common.read_bytes(path)):
+            fields = record.fields[1:] if record.kind == "club" else record.fields
+            rank = number_of(fields[1].strip()) if len(fields) == 2 else None
+            if rank is None or not 1 <= rank <= 999:
+                raise common.Trouble(f"{path}, line {record.line}: a line is NAME,RANK, with a "
+                                     f"rank "
+                                     "from 1 to 999")
+            ranks[fields[0]] = rank
+    except Refused as refused:
+        raise common.Trouble(f"{path}, line {refused.line}: this line is too long") from refused
+    for name in names:
+        if name not in ranks:
+            near = nearest_name(name, ranks)
+            hint = f"; the nearest name there is {shown(near)}" if near else ""
+            raise common.Trouble(f"{path} has no rank for {shown(name)}{hint}")
+    return ranks
+
+
+def _records(name: str, order: str, arguments: argparse.Namespace, ranks: dict[str, int],
+             lines: list[int]) -> tuple[list[str], list[str]]:
+    """The records before the matches, and those behind them."""
+    league: list[object] = ["league", name, arguments.goal_limit]
+    if arguments.budget is not None or order != ORDERS[0]:
+        budget = USUAL_BUDGET if arguments.budget is None else arguments.budget
+        league.append(budget)
+    if order != ORDERS[0]:
+        league.append(order)
+    front = [row_text(*league)]
+    front.extend(row_text("club", club, rank) for club, rank in ranks.items())
+    back = [row_text("line", places) for places in lines] + [row_text("season")]
+    return front, back
+
+
+def _text(found: MatchList, gaps: Gaps, ranks: dict[str, int],
+          records: tuple[list[str], list[str]], order: str, arguments: argparse.Namespace) -> str:
+    """The sheet as text."""
+    front, back = records
+    parts = [] if arguments.no_comments else _comments(found, gaps, ranks, order, arguments)
+    parts.extend(front)
+    date = ""
+    for match in found.matches:
+        if match.date != date and not arguments.no_comments:
+            parts.append(f"# {match.date or 'no date'}\n")
+        date = match.date
+        parts.append(row_text("match", match.home, match.away))
+    if gaps.missing and not arguments.no_comments:
+        parts.append(f"# added, to make {gaps.rounds} rounds of all pairs: no date\n")
+    parts.extend(row_text("match", home, away) for home, away in gaps.missing)
+    return "".join(parts + back)
+
+
+def _comments(found: MatchList, gaps: Gaps, ranks: dict[str, int], order: str,
+              arguments: argparse.Namespace) -> list[str]:
+    """What was chosen, as comments at the head of the sheet."""
+    number = len(found.matches) + len(gaps.missing)
+    limit = arguments.goal_limit
+    comments = [f"# Made by `league sheet`: {len(ranks)} clubs, {number} matches.",
+                f"# Goal limit {limit}: it is taken that no side scores more than {limit} goals in "
+                "an open match."]
+    if arguments.ranks is None:
+        comments.append("# Rank 1 for all: clubs that are level on every other criterion are "
+                        "decided by lots.")
+    else:
+        comments.append("# The ranks are those that were given; they decide before lots.")
+    if order == ORDERS[0]:
+        comments.append("# Level on points: head-to-head record first (head_first).")
+    else:
+        comments.append("# Level on points: goal difference and goals first (overall_first).")
+    return [comment + "\n" for comment in comments]
+
+
+def _test(text: str) -> list[str]:
+    """Tests the sheet as the program does; gives what looks wrong in it."""
+    reader = SheetReader()
+    try:
+        for record in records_of(text.encode("utf-8", "surrogateescape")):
+            fields = record.fields
+            reader.take(record)
+    except Refused as refused:
+        words = words_for(refused, fields, reader.sheet)
+        line = ",".join(fields)
+        raise common.Trouble(f"this sheet would be refused at {shown(line)}: {words}") from refused
+    return [doubt.message for doubt in name_doubts(reader.sheet)] if reader.sheet else []
+
