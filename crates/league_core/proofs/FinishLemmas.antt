@@ -1,11 +1,13 @@
--- A season that is played to its end has one finish, which is the season itself.
-use Rattle.std.proofs.Common.{◌≡◌, ℕ, true, ◌==◌, List, [], ◌∷◌, Option, Some, None, is_some, refl, sym, ap₂}
+-- Finishes: a season that is played to its end has one, which is the season itself; and what every
+-- finish of a season has.
+use Rattle.std.proofs.Common.{◌≡◌, ◌<◌, ℕ, zero, suc, true, ◌==◌, List, [], ◌∷◌, length, get_or, Option, Some, None, is_some, refl, sym, ap, ap₂, ◌∙◌, arith}
 use Rattle.std.specs.List.{list_all}
 use Rattle.std.proofs.lemmas.Bool.{false≢true, and_parts, and_from, eqb-true, eq-eqb}
 use Rattle.league_core.specs.declared.sheet.Sheet.{Sheet}
 use Rattle.league_core.specs.declared.season.Score.{Score}
 use Rattle.league_core.specs.Results.{Results}
-use Rattle.league_core.specs.Finishes.{same_score, may_all_end, IsFinishOf, is_played}
+use Rattle.league_core.specs.Seasons.{IsSeasonOf}
+use Rattle.league_core.specs.Finishes.{same_score, may_end, may_all_end, IsFinishOf, is_played}
 
 -- the same goals on both sides make the same score
 pub same_score-true : (score other : Score) → same_score score other ≡ true → other ≡ score
@@ -58,3 +60,72 @@ pub played_only_finish : (sheet : Sheet) (season finish : Results) → is_played
 played_only_finish sheet season finish played h =
     let scores = may_all_end-played sheet.goal_limit season.scores finish.scores played h.scores in
     λ i. record { scores = scores i; deductions = h.deductions i }
+
+-- a season ends as it may exactly where each of its fixtures does
+pub may_all_end-each : (limit : ℕ) (season finish : List (Option Score))
+    → length season ≡ length finish
+    → ((k : ℕ) → k < length season
+    → may_end limit (get_or season k None) (get_or finish k None) ≡ true)
+    → may_all_end limit season finish ≡ true
+may_all_end-each limit [] [] same each = refl
+may_all_end-each limit [] (ended ∷ finish) same each = absurd (omega arith)
+may_all_end-each limit (played ∷ season) [] same each = absurd (omega arith)
+may_all_end-each limit (played ∷ season) (ended ∷ finish) same each =
+    and_from (may_end limit played ended) (may_all_end limit season finish)
+    (each 0 (omega arith))
+    (may_all_end-each limit season finish (omega arith) (λ k below. each (suc k) (omega arith)))
+
+pub may_end-at : (limit : ℕ) (season finish : List (Option Score))
+    → may_all_end limit season finish ≡ true → (k : ℕ) → k < length season
+    → may_end limit (get_or season k None) (get_or finish k None) ≡ true
+may_end-at limit [] finish all k below = absurd (omega arith)
+may_end-at limit (played ∷ season) [] all k below = absurd (false≢true all)
+may_end-at limit (played ∷ season) (ended ∷ finish) all zero below =
+    (and_parts (may_end limit played ended) (may_all_end limit season finish) all).0
+may_end-at limit (played ∷ season) (ended ∷ finish) all (suc k) below =
+    may_end-at limit season finish
+    (and_parts (may_end limit played ended) (may_all_end limit season finish) all).1 k (omega arith)
+
+-- and only seasons of as many fixtures do
+pub may_all_end-length : (limit : ℕ) (season finish : List (Option Score))
+    → may_all_end limit season finish ≡ true → length season ≡ length finish
+may_all_end-length limit [] [] all = refl
+may_all_end-length limit [] (ended ∷ finish) all = absurd (false≢true all)
+may_all_end-length limit (played ∷ season) [] all = absurd (false≢true all)
+may_all_end-length limit (played ∷ season) (ended ∷ finish) all =
+    ap suc (may_all_end-length limit season finish
+    (and_parts (may_end limit played ended) (may_all_end limit season finish) all).1)
+
+-- what ends has a score
+may_end-is_some : (limit : ℕ) (played ended : Option Score) → may_end limit played ended ≡ true
+    → is_some ended ≡ true
+may_end-is_some limit None None may = absurd (false≢true may)
+may_end-is_some limit (Some played) None may = absurd (false≢true may)
+may_end-is_some limit played (Some ended) may = refl
+
+-- so a finish is played
+pub may_all_end-is_some : (limit : ℕ) (season finish : List (Option Score))
+    → may_all_end limit season finish ≡ true → list_all is_some finish ≡ true
+may_all_end-is_some limit [] [] all = refl
+may_all_end-is_some limit [] (ended ∷ finish) all = absurd (false≢true all)
+may_all_end-is_some limit (played ∷ season) [] all = absurd (false≢true all)
+may_all_end-is_some limit (played ∷ season) (ended ∷ finish) all =
+    let parts = and_parts (may_end limit played ended) (may_all_end limit season finish) all in
+    and_from (is_some ended) (list_all is_some finish)
+    (may_end-is_some limit played ended parts.0)
+    (may_all_end-is_some limit season finish parts.1)
+
+pub finish_is_played : (sheet : Sheet) (season finish : Results)
+    → IsFinishOf sheet season finish → is_played finish ≡ true
+finish_is_played sheet season finish is =
+    may_all_end-is_some sheet.goal_limit season.scores finish.scores is.scores
+
+-- and is one of the sheet where the season is
+pub finish_is_of : (sheet : Sheet) (season finish : Results) → IsSeasonOf sheet season
+    → IsFinishOf sheet season finish → IsSeasonOf sheet finish
+finish_is_of sheet season finish of_sheet is = record {
+  scores =
+      sym (may_all_end-length sheet.goal_limit season.scores finish.scores is.scores)
+      ∙ of_sheet.scores;
+  deductions = ap length is.deductions ∙ of_sheet.deductions;
+}

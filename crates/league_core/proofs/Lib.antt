@@ -1,6 +1,7 @@
--- Lemmas on one notion each: results, comparisons, lists of clubs, sets of clubs, standings, the ranking,
+-- Lemmas on one notion each: results, logs, comparisons, lists of clubs, sets of clubs, standings, the ranking,
 -- places, lots, finishes, points and verdicts, options, boxes, proposed finishes, ranges of points.
 pub mod ResultsLemmas
+pub mod LogLemmas
 pub mod OrderingLemmas
 pub mod ClubLemmas
 pub mod ClubSetLemmas

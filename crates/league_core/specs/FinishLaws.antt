@@ -1,11 +1,12 @@
--- What holds of the list of all finishes, and that each club of a season is clinched, lost or
+-- What holds of finishes and of the list of them all, and that each club of a season is clinched, lost or
 -- possible: each statement is the contract of a function of src/finish_laws.rt that does nothing.
 use Rattle.std.specs.Prelude.{◌≡◌, ◌⊎◌, ◌<◌, ◌↔◌, ℕ, IsTrue, List, length, Contains, slice_get, Option, Some}
 use Rattle.league_core.specs.declared.sheet.Sheet.{Sheet}
 use Rattle.league_core.specs.declared.season.Score.{Score}
 use Rattle.league_core.specs.Sheets.{IsWithinLimits}
 use Rattle.league_core.specs.Results.{Results, are_results}
-use Rattle.league_core.specs.Finishes.{may_all_end}
+use Rattle.league_core.specs.Seasons.{IsSeasonOf}
+use Rattle.league_core.specs.Finishes.{may_all_end, is_played, IsFinishOf}
 use Rattle.league_core.specs.FinishList.{finishes_of, ways_to_finish, number_of}
 use Rattle.league_core.specs.Verdicts.{IsClinched, IsLost, IsPossible}
 
@@ -26,6 +27,18 @@ abbrev pub FinishesAreNumbered : Type 0
 FinishesAreNumbered =
     (limit : ℕ) (season finish : List (Option Score)) → IsTrue (may_all_end limit season finish)
     → slice_get (finishes_of limit season) (number_of limit season finish) ≡ Some finish
+
+-- every fixture of a finish has a score
+abbrev pub FinishesArePlayed : Type 0
+FinishesArePlayed =
+    (sheet : Sheet) (season finish : Results) → IsFinishOf sheet season finish
+    → IsTrue (is_played finish)
+
+-- a finish of a season of the sheet is one too
+abbrev pub FinishesAreOfTheSheet : Type 0
+FinishesAreOfTheSheet =
+    (sheet : Sheet) (season finish : Results) → IsSeasonOf sheet season
+    → IsFinishOf sheet season finish → IsSeasonOf sheet finish
 
 -- a club of the sheet has clinched a line, or lost it, or both is possible
 abbrev pub OneVerdictHolds : Type 0

@@ -4,6 +4,8 @@ pub mod Rooms
 pub mod Sheets
 pub mod Results
 pub mod Seasons
+pub mod Codes
+pub mod LogLaws
 pub mod Finishes
 pub mod Sums
 pub mod ClubSets

@@ -2,9 +2,10 @@
 
 ghost use Rattle.std.specs.Prelude.{◌≡◌, ◌↔◌, IfOk, IfErr, IsTrue, is_ok, is_some};
 ghost use Rattle.std.specs.List.{list_all};
-ghost use Rattle.league_core.specs.Finishes.{is_played};
+ghost use Rattle.league_core.specs.Finishes.{is_played, may_end, may_all_end, IsFinishOf};
 
 use crate::season::{Score, Season};
+use crate::sheet::Sheet;
 use std::marker::Model;
 
 /// A season that is played to its end. Contracts see that season.
@@ -46,10 +47,88 @@ impl Finish {
     {
         &self.season
     }
+
+    /// The season may end like this: what it has played stays, nothing else passes the sheet's goal
+    /// limit, and the same points are taken off.
+    pub fn is_of(&self, sheet: &Sheet, season: &Season) -> bool
+        ensures { IsTrue result ↔ IsFinishOf sheet.now season.now self.now }
+    {
+        same_deductions(self.season.deductions(), season.deductions())
+            && all_may_end(sheet.goal_limit, season.scores(), self.season.scores())
+    }
+}
+
+fn same_deductions(points: &[u8], others: &[u8]) -> bool
+    ensures { IsTrue result ↔ (points.now ≡ others.now) }
+{
+    points == others
+}
+
+fn all_may_end(limit: u8, season: &[Option<Score>], finish: &[Option<Score>]) -> bool
+    ensures { IsTrue result ↔ IsTrue (may_all_end limit season.now finish.now) }
+{
+    if season.len() != finish.len() {
+        return false;
+    }
+    for fixture in 0..season.len() {
+        if !one_may_end(limit, season[fixture], finish[fixture]) {
+            return false;
+        }
+    }
+    true
+}
+
+fn one_may_end(limit: u8, played: Option<Score>, ended: Option<Score>) -> bool
+    ensures { result ≡ may_end limit played ended }
+{
+    match (played, ended) {
+        (_, None) => false,
+        (Some(played), Some(ended)) => played == ended,
+        (None, Some(ended)) => ended.home <= limit && ended.away <= limit,
+    }
 }
 
 fn all_played(scores: &[Option<Score>]) -> bool
     ensures { result ≡ list_all is_some scores.now }
 {
     scores.iter().all(|score| score.is_some())
+}
+
+#[cfg(test)]
+mod tests {
+    use super::*;
+    use crate::listing::{Listing, Name};
+    use crate::season::Event;
+    use crate::sheet::Order;
+    use std::test::Fail;
+
+    #[test]
+    fn a_result_can_end_a_kept_finish(rt: HostRuntime) -> Result<(), Fail> {
+        let alloc = rt.alloc();
+        let sheet = Sheet {
+            name: Name::new("".to_string(alloc)?),
+            clubs: Listing::new(alloc),
+            fixtures: Listing::new(alloc),
+            lines: Listing::new(alloc),
+            goal_limit: 2,
+            budget: 1,
+            order: Order::HeadFirst,
+        };
+        let mut season = Season::unplayed(alloc, 2, 2).ok().ok_or("room")?;
+        let mut kept = season.copy(alloc).ok().ok_or("room")?;
+        let score = Score { home: 2, away: 0 };
+        kept.apply(&Event::Set { fixture: 0, score });
+        kept.apply(&Event::Set { fixture: 1, score });
+        let finish = Finish::of_season(kept).ok().ok_or("played")?;
+        assert!(rt; finish.is_of(&sheet, &season));
+        season.apply(&Event::Set { fixture: 1, score });
+        assert!(rt; finish.is_of(&sheet, &season));
+        let other = Score { home: 0, away: 0 };
+        season.apply(&Event::Set {
+            fixture: 0,
+            score: other,
+        });
+        assert!(rt; !finish.is_of(&sheet, &season));
+        Ok(())
+    }
 }

@@ -4,8 +4,15 @@
 //! `specs/FinishList.antt`.
 
 ghost use Rattle.league_core.specs.FinishLaws.{FinishesAreListed, FinishesAreCounted};
-ghost use Rattle.league_core.specs.FinishLaws.{FinishesAreNumbered};
+ghost use Rattle.league_core.specs.FinishLaws.{FinishesAreNumbered, FinishesArePlayed};
+ghost use Rattle.league_core.specs.FinishLaws.{FinishesAreOfTheSheet};
 ghost use Rattle.league_core.specs.FinishLaws.{OneVerdictHolds};
+
+/// A finish leaves nothing open, and has the sheet's fixtures and clubs.
+pub fn finishes_are_played()
+    ensures played { FinishesArePlayed }
+    ensures sheet { FinishesAreOfTheSheet }
+{}
 
 /// A season has finitely many finishes: those of a list, which is as long as the product of the
 /// ways in which each fixture may end.

@@ -11,6 +11,7 @@ mod finish_laws;
 mod laws;
 pub mod limits;
 mod listing;
+mod log_laws;
 mod lots;
 mod memory;
 mod proposal_laws;
@@ -25,7 +26,7 @@ mod zone_laws;
 
 pub use club_set::ClubSet;
 pub use finish::Finish;
-pub use finish_laws::{finishes_are_listed, one_verdict_at_least};
+pub use finish_laws::{finishes_are_listed, finishes_are_played, one_verdict_at_least};
 pub use laws::{
     a_played_season_is_its_only_finish, each_season_has_a_finish, events_are_taken_in_order,
     lots_give_each_table, more_points_rank_before, one_verdict_at_most,
@@ -34,6 +35,7 @@ pub use laws::{
     two_places_decide_a_played_season,
 };
 pub use listing::{Listing, Name};
+pub use log_laws::{events_have_codes, events_keep_seasons, logs_give_seasons};
 pub use lots::Lots;
 pub use memory::OutOfMemory;
 pub use proposal_laws::{

@@ -3,9 +3,11 @@
 //! The statements are in `specs/ZoneLaws.antt`. They hold by the definitions alone, for every sheet
 //! and every season, so that code and proofs elsewhere may rest on them.
 
-ghost use Rattle.league_core.specs.ZoneLaws.{FinishesTakeOptions};
+ghost use Rattle.league_core.specs.ZoneLaws.{FinishesTakeOptions, BoxesHoldFinishes};
 
-/// A finish is one option for each fixture, and nothing else is.
+/// A finish is one option for each fixture, and nothing else is; with the options that a zone
+/// leaves it is a finish still.
 pub fn finishes_take_options()
-    ensures { FinishesTakeOptions }
+    ensures season { FinishesTakeOptions }
+    ensures zone { BoxesHoldFinishes }
 {}

@@ -1,0 +1,32 @@
+//! The laws of events and of logs, the lists of them: functions that do nothing, each with laws as
+//! contract.
+//!
+//! The statements are in `specs/LogLaws.antt`.
+
+ghost use Rattle.league_core.specs.LogLaws.{EventsKeepTheSheet, EventsKeepResults};
+ghost use Rattle.league_core.specs.LogLaws.{SeasonsAreToldTheSame, EventsHaveCodes};
+ghost use Rattle.league_core.specs.LogLaws.{EventsAreCounted, EventsAreOfTheSheet};
+ghost use Rattle.league_core.specs.LogLaws.{LogsAreOfTheSheet, LogsGiveResults, LogsHaveCodes};
+
+/// The season behind an event is again a season of the sheet, with scores and deductions of at
+/// most 99.
+pub fn events_keep_seasons()
+    ensures sheet { EventsKeepTheSheet }
+    ensures results { EventsKeepResults }
+    ensures told { SeasonsAreToldTheSame }
+{}
+
+/// The season of a log is a season of its sheet, with scores and deductions of at most 99, and the
+/// log may grow by an event that this season may be told.
+pub fn logs_give_seasons()
+    ensures sheet { LogsAreOfTheSheet }
+    ensures results { LogsGiveResults }
+    ensures log { EventsAreOfTheSheet }
+    ensures epoch { EventsAreCounted }
+{}
+
+/// Every event that a season may be told has a code, where the sheet is within the limits.
+pub fn events_have_codes()
+    ensures event { EventsHaveCodes }
+    ensures log { LogsHaveCodes }
+{}
