@@ -4,6 +4,7 @@ pub mod MemberLemmas
 pub mod FixedLemmas
 pub mod BoxLemmas
 pub mod SureLemmas
+pub mod SureOverallLemmas
 pub mod SureOrderLemmas
 pub mod SingleLemmas
 pub mod ReasonLemmas

@@ -6,6 +6,8 @@ use Rattle.std.specs.List.{list_all}
 use Rattle.std.proofs.lemmas.Bool.{false≢true, and_parts, and_from}
 use Rattle.std.proofs.lemmas.Bool.Decides.{Decides-int_eq}
 use Rattle.league_core.specs.declared.sheet.Sheet.{Sheet}
+use Rattle.league_core.specs.declared.sheet.Order.{Order}
+use Rattle.league_core.specs.declared.sheet.Order.TheVariants.{HeadFirst, OverallFirst}
 use Rattle.league_core.specs.declared.sheet.Fixture.{Fixture}
 use Rattle.league_core.specs.declared.season.Score.{Score}
 use Rattle.league_core.specs.declared.sure.Sure.{Sure}
@@ -17,7 +19,7 @@ use Rattle.league_core.specs.Ahead.{rank_of}
 use Rattle.league_core.specs.LotsFor.{order_without_lots}
 use Rattle.league_core.specs.Options.{options_in, has_one_score, has_one_outcome, is_single, IsInBox}
 use Rattle.league_core.specs.PointRanges.{Range, range_from, points_range}
-use Rattle.league_core.specs.SureOrder.{has_one_value, sure_by_range, sure_then, sure_by_ranges, is_level, is_apart, range_over, range_among, record_ranges, overall_ranges, by_record_ranges, by_overall_ranges, is_surely_in, is_surely_out, are_all_sure, sure_within, sure_by_points, level_on_points, sure_order}
+use Rattle.league_core.specs.SureOrder.{has_one_value, sure_by_range, sure_then, sure_by_ranges, is_level, is_apart, range_over, range_among, record_ranges, overall_ranges, by_record_ranges, by_overall_ranges, is_surely_in, is_surely_out, are_all_sure, sure_within, first_sum_ranges, by_first_sum_ranges, is_surely_level_overall, is_surely_apart_overall, are_all_sure_overall, surely_level_overall, sure_in, sure_by, sure_by_points, level_on_points, sure_order}
 use Rattle.league_core.specs.Splits.{are_outcomes_fixed}
 use Rattle.reason_laws.specs.SureLaws.{sure_of}
 use Rattle.reason_laws.proofs.MemberLemmas.{list_all-weaker}
@@ -113,6 +115,33 @@ within_clear (suc times) sheet options group rival club one unknown =
     (within_clear times sheet options level rival club one))
     unknown
 
+-- so have difference and goals over all matches
+one_first_sums : (sheet : Sheet) (options : List (List Score)) (club : ℕ) → list_all has_one_score options ≡ true → HaveOneValue (first_sum_ranges sheet options club)
+one_first_sums sheet options club one =
+    both (over goal_difference) (over goals)
+  where
+    over : (worth : Worth) → has_one_value (range_over worth sheet options club) ≡ true
+    over worth = one_range (worth_to worth club) sheet.fixtures options one
+
+    both : {a b : Bool} → a ≡ true → b ≡ true → (a && (b && true)) ≡ true
+    both {a} {b} p q = and_from a _ p (and_from b true q refl)
+
+if_sure_clear : (sure : Bool) (further : Sure) → sure ≡ true → further ≢ Unknown → elim sure [ false ↦ Unknown | true ↦ further ] ≢ Unknown
+if_sure_clear true further sure more = more
+if_sure_clear false further sure more = absurd (false≢true sure)
+
+by_clear : (order : Order) (sheet : Sheet) (options : List (List Score)) (group : List ℕ) (rival club : ℕ) → list_all has_one_score options ≡ true → sure_by order sheet options group rival club ≢ Unknown
+by_clear HeadFirst sheet options group rival club one =
+    within_clear (length group) sheet options group rival club one
+by_clear OverallFirst sheet options group rival club one =
+    let level = surely_level_overall sheet options group club in
+    then_clear (by_first_sum_ranges sheet options rival club) _
+    (ranges_clear (first_sum_ranges sheet options rival) (first_sum_ranges sheet options club) (one_first_sums sheet options rival one) (one_first_sums sheet options club one))
+    (if_sure_clear (are_all_sure_overall sheet options group club) (sure_in sheet options level rival club)
+    (all_pass (λ other. is_surely_level_overall sheet options club other || is_surely_apart_overall sheet options club other) group
+    (λ other. level_or_apart (first_sum_ranges sheet options other) (first_sum_ranges sheet options club) (one_first_sums sheet options other one) (one_first_sums sheet options club one)))
+    (within_clear (length level) sheet options level rival club one))
+
 -- one option has one outcome
 pub single_fixed : (sheet : Sheet) (season : Results) (zone : List Literal) → is_single sheet season zone ≡ true → are_outcomes_fixed sheet season zone ≡ true
 unfolding is_single
@@ -126,9 +155,9 @@ order_clear sheet season zone rival club single =
     let options = options_in sheet season zone in
     let group = level_on_points sheet season options club in
     let fixed = single_fixed sheet season zone single in
-    then_clear (sure_by_points sheet season options rival club) (sure_within (length group) sheet options group rival club)
+    then_clear (sure_by_points sheet season options rival club) (sure_by sheet.order sheet options group rival club)
     (range_clear (points_range sheet season options (rival ∷ [])) (points_range sheet season options (club ∷ [])) (points_fixed sheet season zone rival fixed) (points_fixed sheet season zone club fixed))
-    (within_clear (length group) sheet options group rival club single)
+    (by_clear sheet.order sheet options group rival club single)
 
 -- what is known and agrees with a comparison is that comparison
 known_is : (sure : Sure) (order : Ordering) → sure ≢ Unknown → Agrees sure order → sure ≡ sure_of order

@@ -15,7 +15,7 @@ use Rattle.league_core.specs.declared.sure.Sure.TheVariants.{Above, Below, Level
 use Rattle.league_core.specs.Results.{Results}
 use Rattle.league_core.specs.Sums.{Worth, match_points, goal_difference, goals, away_goals, wins, away_wins, worth_to, worth_among, sum_of, sum_among}
 use Rattle.league_core.specs.HeadToHead.{greater_first, by_first_difference, head_to_head_of, by_head_to_head, are_level_in, level_with}
-use Rattle.league_core.specs.Ahead.{overall_of, by_overall, standing_within}
+use Rattle.league_core.specs.Ahead.{overall_of, by_overall, lead_within}
 use Rattle.league_core.specs.Options.{take_options}
 use Rattle.league_core.specs.PointRanges.{Range}
 use Rattle.league_core.specs.SureOrder.{has_one_value, sure_by_range, sure_then, sure_by_ranges, is_level, is_apart, range_over, range_among, record_ranges, overall_ranges, by_record_ranges, by_overall_ranges, is_surely_in, is_surely_out, are_all_sure, sure_within}
@@ -83,7 +83,7 @@ range_agrees rival club x y in_rival in_club =
     by_tests false false false a b c = tt
 
 -- list by list
-ranges_agree : (rivals clubs : List Range) (xs ys : List ℤ) → length rivals ≡ length clubs → AreInRanges rivals xs → AreInRanges clubs ys → Agrees (sure_by_ranges rivals clubs) (by_first_difference xs ys)
+pub ranges_agree : (rivals clubs : List Range) (xs ys : List ℤ) → length rivals ≡ length clubs → AreInRanges rivals xs → AreInRanges clubs ys → Agrees (sure_by_ranges rivals clubs) (by_first_difference xs ys)
 ranges_agree [] [] [] [] as_many in_rivals in_clubs = refl
 ranges_agree [] [] [] (y ∷ ys) as_many in_rivals in_clubs = absurd in_clubs
 ranges_agree [] [] (x ∷ xs) ys as_many in_rivals in_clubs = absurd in_rivals
@@ -97,7 +97,7 @@ ranges_agree (rival ∷ rivals) (club ∷ clubs) (x ∷ xs) (y ∷ ys) as_many i
     (λ _. ranges_agree rivals clubs xs ys (omega arith) in_rivals.1 in_clubs.1)
 
 -- numbers in ranges of which two miss each other do not compare as equal
-apart_differ : (rivals clubs : List Range) (xs ys : List ℤ) → AreInRanges rivals xs → AreInRanges clubs ys → is_apart rivals clubs ≡ true → by_first_difference xs ys ≡ Equal → ⊥
+pub apart_differ : (rivals clubs : List Range) (xs ys : List ℤ) → AreInRanges rivals xs → AreInRanges clubs ys → is_apart rivals clubs ≡ true → by_first_difference xs ys ≡ Equal → ⊥
 apart_differ [] clubs xs ys in_rivals in_clubs apart same = false≢true apart
 apart_differ (rival ∷ rivals) [] xs ys in_rivals in_clubs apart same = false≢true apart
 apart_differ (rival ∷ rivals) (club ∷ clubs) [] ys in_rivals in_clubs apart same = in_rivals
@@ -117,7 +117,7 @@ apart_differ (rival ∷ rivals) (club ∷ clubs) (x ∷ xs) (y ∷ ys) in_rivals
         ]
 
 -- a club's sum over all matches, or over those of a group, is in its range
-over_in_range : (worth : Worth) (sheet : Sheet) (options : List (List Score)) (finish : Results) (club : ℕ) → take_options options finish.scores ≡ true → IsInRange (range_over worth sheet options club) (sum_of worth sheet finish club)
+pub over_in_range : (worth : Worth) (sheet : Sheet) (options : List (List Score)) (finish : Results) (club : ℕ) → take_options options finish.scores ≡ true → IsInRange (range_over worth sheet options club) (sum_of worth sheet finish club)
 over_in_range worth sheet options finish club takes =
     sum_in_range (worth_to worth club) sheet.fixtures options finish.scores takes
 
@@ -152,7 +152,7 @@ overall_agrees sheet options finish rival club takes =
     (overall_in_ranges sheet options finish rival takes) (overall_in_ranges sheet options finish club takes)
 
 -- what comparison tells a club that is surely level with another from one that surely is not
-in_or_out : (sure : Sure) (out : Bool) (order : Ordering) → Agrees sure order → (out ≡ true → order ≡ Equal → ⊥) → (is_level sure || out) ≡ true → is_level sure ≡ is_eq order
+pub in_or_out : (sure : Sure) (out : Bool) (order : Ordering) → Agrees sure order → (out ≡ true → order ≡ Equal → ⊥) → (is_level sure || out) ≡ true → is_level sure ≡ is_eq order
 in_or_out Above out order is differs known = sym (ap is_eq is)
 in_or_out Below out order is differs known = sym (ap is_eq is)
 in_or_out Level out order is differs known = sym (ap is_eq is)
@@ -165,7 +165,7 @@ in_or_out Unknown true order is differs known = not_equal order (differs refl)
 in_or_out Unknown false order is differs known = absurd (false≢true known)
 
 -- two tests that agree where a third one passes keep the same of a list that passes it
-filter_where : (test other known : ℕ → Bool) (clubs : List ℕ) → ((club : ℕ) → known club ≡ true → test club ≡ other club) → list_all known clubs ≡ true → filter test clubs ≡ filter other clubs
+pub filter_where : (test other known : ℕ → Bool) (clubs : List ℕ) → ((club : ℕ) → known club ≡ true → test club ≡ other club) → list_all known clubs ≡ true → filter test clubs ≡ filter other clubs
 filter_where test other known [] agree all = refl
 filter_where test other known (club ∷ clubs) agree all =
     let parts = and_parts (known club) (list_all known clubs) all in
@@ -193,7 +193,7 @@ chosen_agrees true whole other here further order beyond same is more = by_way w
     by_way false true e = absurd (false≢true e)
 
 -- within a group, the head-to-head taken as often on both sides
-pub within_agrees : (times : ℕ) (sheet : Sheet) (options : List (List Score)) (finish : Results) (group : List ℕ) (rival club : ℕ) → take_options options finish.scores ≡ true → Agrees (sure_within times sheet options group rival club) (standing_within times sheet finish group rival club)
+pub within_agrees : (times : ℕ) (sheet : Sheet) (options : List (List Score)) (finish : Results) (group : List ℕ) (rival club : ℕ) → take_options options finish.scores ≡ true → Agrees (sure_within times sheet options group rival club) (lead_within times sheet finish group rival club)
 within_agrees zero sheet options finish group rival club takes = refl
 within_agrees (suc times) sheet options finish group rival club takes =
     let level = filter (is_surely_in sheet options group club) group in
@@ -203,7 +203,7 @@ within_agrees (suc times) sheet options finish group rival club takes =
     let same = λ (sure : are_all_sure sheet options group club ≡ true). surely_level sheet options finish group club takes sure ∙ sym (level_with-tied sheet finish group rival club tied) in
     chosen_agrees (are_all_sure sheet options group club) (length level == length group) (length (level_with sheet finish group rival) == length group)
     (by_overall_ranges sheet options rival club) (sure_within times sheet options level rival club)
-    (by_overall sheet finish rival club) (standing_within times sheet finish (level_with sheet finish group rival) rival club)
+    (by_overall sheet finish rival club) (lead_within times sheet finish (level_with sheet finish group rival) rival club)
     (λ sure. ap (λ (g : List ℕ). length g == length group) (same sure))
     (overall_agrees sheet options finish rival club takes)
-    (λ sure. subst (λ (g : List ℕ). Agrees (sure_within times sheet options level rival club) (standing_within times sheet finish g rival club)) (same sure) (within_agrees times sheet options finish level rival club takes)))
+    (λ sure. subst (λ (g : List ℕ). Agrees (sure_within times sheet options level rival club) (lead_within times sheet finish g rival club)) (same sure) (within_agrees times sheet options finish level rival club takes)))

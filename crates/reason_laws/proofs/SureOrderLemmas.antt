@@ -21,12 +21,13 @@ use Rattle.league_core.specs.Ranking.{tied_group_of, lot_of, ranks_before}
 use Rattle.league_core.specs.LotsFor.{order_without_lots}
 use Rattle.league_core.specs.Options.{options_in, has_one_outcome, IsInBox}
 use Rattle.league_core.specs.PointRanges.{Range, points_together, points_range, least_points_of, most_points_of}
-use Rattle.league_core.specs.SureOrder.{has_one_value, sure_by_range, sure_within, is_level, sure_by_points, level_on_points, sure_order}
+use Rattle.league_core.specs.SureOrder.{has_one_value, sure_by_range, sure_by, is_level, sure_by_points, level_on_points, sure_order}
 use Rattle.league_core.proofs.RankingLemmas.{tied_group_of-tied, order_without_lots_total, order_of-lots}
 use Rattle.league_core.specs.Splits.{are_outcomes_fixed}
 use Rattle.reason_laws.proofs.MemberLemmas.{points_in_box}
 use Rattle.reason_laws.proofs.FixedLemmas.{range_from-alike, points_alike}
-use Rattle.reason_laws.proofs.SureLemmas.{Agrees, IsInRange, then_agrees, range_agrees, within_agrees}
+use Rattle.reason_laws.proofs.SureLemmas.{Agrees, IsInRange, then_agrees, range_agrees}
+use Rattle.reason_laws.proofs.SureOverallLemmas.{by_agrees}
 
 -- a club's points at a finish in the box are in their range
 points_in_range : (sheet : Sheet) (season : Results) (zone : List Literal) (finish : Results) (club : ℕ) → IsInBox sheet season zone finish → IsInRange (points_range sheet season (options_in sheet season zone) (club ∷ [])) (points_of sheet finish club)
@@ -85,12 +86,12 @@ unfolding sure_order
 order_agrees sheet season zone finish rival club fixed box =
     let options = options_in sheet season zone in
     let group = level_on_points sheet season options club in
-    then_agrees (sure_by_points sheet season options rival club) (sure_within (length group) sheet options group rival club)
+    then_agrees (sure_by_points sheet season options rival club) (sure_by sheet.order sheet options group rival club)
     (greater_first (points_of sheet finish rival) (points_of sheet finish club)) (standing_in sheet finish (tied_group_of sheet finish rival) rival club)
     (points_agree sheet season zone finish rival club box)
-    (λ tied. subst (λ (g : List ℕ). Agrees (sure_within (length group) sheet options group rival club) (standing_in sheet finish g rival club))
+    (λ tied. subst (λ (g : List ℕ). Agrees (sure_by sheet.order sheet options group rival club) (standing_in sheet finish g rival club))
     (level_on_points-tied sheet season zone finish club fixed box ∙ sym (tied_group_of-tied sheet finish rival club tied))
-    (within_agrees (length group) sheet options finish group rival club box.scores))
+    (by_agrees sheet.order sheet options finish group rival club box.scores))
 
 -- a club that is surely above another ranks before it
 pub above_is : (sheet : Sheet) (season : Results) (zone : List Literal) (finish : Results) (rival club : ℕ) → are_outcomes_fixed sheet season zone ≡ true → IsInBox sheet season zone finish → sure_order sheet season zone rival club ≡ Above → (lots : List ℕ) → ranks_before sheet finish lots rival club ≡ true

@@ -2,6 +2,7 @@
 -- played, two open, each with the four scores up to one goal a side.
 use Rattle.std.specs.Prelude.{◌≡◌, ℕ, true, false, List, [], ◌∷◌, Some, None, map, length, refl}
 use Rattle.league_core.specs.declared.sheet.Sheet.{Sheet}
+use Rattle.league_core.specs.declared.sheet.Order.TheVariants.{HeadFirst}
 use Rattle.league_core.specs.declared.sheet.Fixture.{Fixture}
 use Rattle.league_core.specs.declared.question.Claim.TheVariants.{Inside}
 use Rattle.league_core.specs.declared.question.Question.{Question}
@@ -26,6 +27,7 @@ sheet = record {
   lines = 1 ∷ [];
   goal_limit = 1;
   budget = 9;
+  order = HeadFirst;
 }
 
 abbrev season : Results
