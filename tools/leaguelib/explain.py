@@ -49,7 +49,7 @@ def run(arguments: argparse.Namespace) -> int:
     program = arguments.program
     position = position_of_ask(league, arguments.ask)
     told = _given_report(arguments, data, league) if (
-        arguments.answer or league.report_line) else _own_report(program, data, league)
+        arguments.answer or league.report_line) else own_report(program, data, league)
     if position >= len(told.report.answers):
         raise common.Trouble(f"the report has {len(told.report.answers)} answers and the feed "
                              f"{len(ask_lines(league))} asks: they do not belong together.")
@@ -63,7 +63,7 @@ def run(arguments: argparse.Namespace) -> int:
     return common.DOUBTFUL if told.note == NO_CHECK else common.DONE
 
 
-def _own_report(program: str | None, data: bytes, league: Input) -> Told:
+def own_report(program: str | None, data: bytes, league: Input) -> Told:
     """The program's own answer, with proofs where it can write and check them."""
     path = common.program_path(program)
     written = run_program(path, ["verdicts", "--proofs"], data)
@@ -138,7 +138,7 @@ def explanation(league: Input, position: int, answer: Answer, with_proofs: bool,
         raise common.Trouble("the answer has no verdict of this club and line; clubs are written "
                              "as in the sheet: " + listed([shown(c.name) for c in sheet.clubs]))
     ask_line = ask_lines(league)[position]
-    parts = [_opening(sheet, season, _events_text(league, ask_line), ask_line, days)]
+    parts = [_opening(sheet, season, events_text(league, ask_line), ask_line, days)]
     for places in dict.fromkeys(verdict.places for verdict in verdicts):
         of_line = [verdict for verdict in verdicts if verdict.places == places]
         parts += ["", place_phrase(places).capitalize(), ""]
@@ -147,11 +147,11 @@ def explanation(league: Input, position: int, answer: Answer, with_proofs: bool,
             if verdict.word == "possible":
                 parts += _two_ways(sheet, verdict)
             elif verdict.word == "unsettled":
-                parts += _unsettled(sheet, verdict)
+                parts += unsettled_texts(sheet, verdict)
     return "\n".join(parts) + "\n"
 
 
-def _events_text(league: Input, line: int) -> str:
+def events_text(league: Input, line: int) -> str:
     """What the feed has told before a line, by kinds."""
     nouns = {"result": "result", "fix": "correction", "void": "annulment", "deduct": "deduction"}
     kinds = [entry.kind for entry in league.entries if entry.line < line]
@@ -184,13 +184,14 @@ def _decided(sheet: Sheet, season: Season, verdicts: list[Verdict], with_proofs:
         rest = [verdict for verdict in found if verdict not in told]
         groups = ([rest] if rest else []) + [[verdict] for verdict in told]
         for group in groups:
-            parts.append(paragraph("- " + _decided_text(group, word, limit)))
+            parts.append(paragraph("- " + decided_text(group, word, limit)))
             if group[0] in told:
-                parts += ["  Why:", *_steps(sheet, season, group[0], claim)]
+                parts += ["  Why:", *proof_steps(sheet, season, group[0], claim)]
     return parts
 
 
-def _decided_text(group: list[Verdict], word: str, limit: str) -> str:
+def decided_text(group: list[Verdict], word: str, limit: str) -> str:
+    """The sentence on clubs that have one place for sure, or miss it for sure."""
     names = listed([shown(verdict.club) for verdict in group])
     has, place = "has" if len(group) == 1 else "have", place_phrase(group[0].places)
     if word == "clinched":
@@ -198,7 +199,8 @@ def _decided_text(group: list[Verdict], word: str, limit: str) -> str:
     return f"{names} {has} lost {place}: sure to miss it {limit}."
 
 
-def _steps(sheet: Sheet, season: Season, verdict: Verdict, claim: str) -> list[str]:
+def proof_steps(sheet: Sheet, season: Season, verdict: Verdict, claim: str) -> list[str]:
+    """The steps of a proof that was accepted, as paragraphs."""
     try:
         return steps_of(sheet, season, verdict, verdict.proofs[claim])
     except (IndexError, KeyError, TypeError, ValueError, AttributeError) as fault:
@@ -224,10 +226,11 @@ def way_text(sheet: Sheet, example: Example, club: str) -> str:
     lots = lots_phrase(sheet, example.lots, club)
     if not scores:
         return lots
-    return f"the matches end {listed(scores)}, and, {lots}"
+    ends = "the match ends" if len(scores) == 1 else "the matches end"
+    return f"{ends} {listed(scores)}, and, {lots}"
 
 
-def _unsettled(sheet: Sheet, verdict: Verdict) -> list[str]:
+def unsettled_texts(sheet: Sheet, verdict: Verdict) -> list[str]:
     """What the program found out before its budget was spent."""
     name, place = shown(verdict.club), place_phrase(verdict.places)
     parts = [paragraph(f"- {name} and {place}: not settled. The program stopped when its budget of "

@@ -4,12 +4,14 @@ from __future__ import annotations
 
 import re
 import textwrap
+import unicodedata
 
 from .records import lines_of
 from .texts import Fixture, Season, Sheet
 
 WIDTH = 96
 DASH = " – "
+FIRST_STRONG_ISOLATE, END_OF_ISOLATE = "\u2068", "\u2069"
 GLUED = "\0–\0"
 DATE = re.compile(
     rb"\d{4}-\d{2}-\d{2}|\d{1,2}[./]\d{1,2}[./]\d{2,4}"
@@ -18,8 +20,14 @@ MATCHDAY = re.compile(rb"(?:matchday|round|gameweek) \d+", re.IGNORECASE)
 
 
 def shown(name: str) -> str:
-    """A text as it can be printed, whatever bytes are in it."""
-    return name.encode("utf-8", "replace").decode("utf-8")
+    """A name as it can be printed among other words, whatever bytes are in it.
+
+    A name that is written from right to left is set apart, so that it does not turn what follows.
+    """
+    text = name.encode("utf-8", "replace").decode("utf-8")
+    if any(unicodedata.bidirectional(sign) in ("R", "AL", "AN") for sign in text):
+        return FIRST_STRONG_ISOLATE + text + END_OF_ISOLATE
+    return text
 
 
 def place_phrase(places: int) -> str:
