@@ -7,7 +7,7 @@ use Rattle.league_core.specs.declared.season.Score.{Score}
 use Rattle.league_core.specs.Results.{Results}
 use Rattle.league_core.specs.Finishes.{may_end, may_all_end}
 use Rattle.league_core.specs.FinishList.{ways_to_end, number_of}
-use Rattle.league_core.proofs.FinishLemmas.{same_score-itself}
+use Rattle.league_core.proofs.OptionLemmas.{same_score-itself}
 use Rattle.finish_walk.specs.Walks.{IsNumbered, nil_nil, with_start}
 
 -- what is played ends with its score, what is open 0:0
@@ -78,7 +78,7 @@ begun_may limit (suc fixtures) (None ∷ season) past =
     (begun_may limit fixtures season (omega arith))
 begun_may limit (suc fixtures) (Some score ∷ season) past =
     and_from (may_end limit (Some score) (Some score))
-    (may_all_end limit season (begun fixtures season)) (same_score-itself score)
+    (may_all_end limit season (begun fixtures season)) (same_score-itself score score refl)
     (begun_may limit fixtures season (omega arith))
 
 begun_number : (limit fixtures : ℕ) (season : List (Option Score)) → length season ≤ fixtures

@@ -9,8 +9,9 @@ use Rattle.std.proofs.lemmas.List.Elements.{All-nil, All-append, All-map, All-co
 use Rattle.std.proofs.lemmas.List.FromFn.{length-range_with_len, get_or-range_with_len, length-map-range_with_len, get_or-map-range_with_len}
 use Rattle.league_core.specs.declared.season.Score.{Score}
 use Rattle.league_core.specs.Finishes.{may_end, may_all_end}
-use Rattle.league_core.specs.FinishList.{scores_at_home, scores_within, ends_of, with_first, finishes_of, ways_to_end, ways_to_finish, score_number, end_number, number_of}
-use Rattle.league_core.proofs.FinishLemmas.{same_score-true, same_score-itself}
+use Rattle.league_core.specs.Options.{score_of, scores_up_to}
+use Rattle.league_core.specs.FinishList.{ends_of, with_first, finishes_of, ways_to_end, ways_to_finish, score_number, end_number, number_of}
+use Rattle.league_core.proofs.OptionLemmas.{same_score-true, same_score-itself}
 
 -- pieces of one length make a list of so many times their number
 length-pieces : {X A : Type 0} (f : X → List A) (size : ℕ) → ((x : X) → length (f x) ≡ size)
@@ -41,11 +42,14 @@ within_pieces i j pieces size below within =
     let whole : suc i * size ≤ pieces * size = mul-le-mul_right size (omega arith) in
     omega arith
 
-length-scores_within : (limit : ℕ) → length (scores_within limit) ≡ (limit + 1) * (limit + 1)
-length-scores_within limit =
-    length-pieces (scores_at_home limit) (limit + 1)
-    (λ home. length-map-range_with_len (λ (away : ℕ). record { home = home; away = away }) 0
-    (limit + 1))
+-- the scores with these goals at home
+abbrev row_of : ℕ → ℕ → List Score
+row_of limit home = map (score_of home) (range_with_len 0 (limit + 1))
+
+length-scores_up_to : (limit : ℕ) → length (scores_up_to limit) ≡ (limit + 1) * (limit + 1)
+length-scores_up_to limit =
+    length-pieces (row_of limit) (limit + 1)
+    (λ home. length-map-range_with_len (score_of home) 0 (limit + 1))
     (range_with_len 0 (limit + 1))
     ∙ ap (λ n. n * (limit + 1)) (length-range_with_len 0 (limit + 1))
 
@@ -53,7 +57,7 @@ length-scores_within limit =
 length-ends_of : (limit : ℕ) (played : Option Score)
     → length (ends_of limit played) ≡ ways_to_end limit played
 length-ends_of limit None =
-    length-map (scores_within limit) Some ∙ length-scores_within limit
+    length-map (scores_up_to limit) Some ∙ length-scores_up_to limit
 length-ends_of limit (Some played) = refl
 
 length-with_first : (limit : ℕ) (played : Option Score) (later : List (Option Score))
@@ -90,22 +94,21 @@ pub record StandsAt {A : Type 0} (xs : List A) (i : ℕ) (x : A) : Type 0 where
   pub there : (d : A) → get_or xs i d ≡ x
 
 score_stands : (limit : ℕ) (score : Score) → score.home ≤ limit → score.away ≤ limit
-    → StandsAt (scores_within limit) (score_number limit score) score
+    → StandsAt (scores_up_to limit) (score_number limit score) score
 score_stands limit score home away =
     let homes = range_with_len 0 (limit + 1) in
-    let with_home : (x : ℕ) → ℕ → Score = λ x y. record { home = x; away = y } in
-    let each : (x : ℕ) → length (scores_at_home limit x) ≡ limit + 1 =
-    λ x. length-map-range_with_len (with_home x) 0 (limit + 1) in
+    let each : (x : ℕ) → length (row_of limit x) ≡ limit + 1 =
+    λ x. length-map-range_with_len (score_of x) 0 (limit + 1) in
     record {
       within =
-          subst (λ n. score_number limit score < n) (sym (length-scores_within limit))
+          subst (λ n. score_number limit score < n) (sym (length-scores_up_to limit))
           (within_pieces score.home score.away (limit + 1) (limit + 1) (omega arith) (omega arith));
       there = λ d.
-          get_or-pieces (scores_at_home limit) (limit + 1) each homes score.home score.away 0 d
+          get_or-pieces (row_of limit) (limit + 1) each homes score.home score.away 0 d
           (omega (arith, length-range_with_len 0 (limit + 1))) (omega arith)
-          ∙ ap (λ x. get_or (scores_at_home limit x) score.away d)
+          ∙ ap (λ x. get_or (row_of limit x) score.away d)
           (get_or-range_with_len 0 (limit + 1) score.home 0 (omega arith) ∙ omega arith)
-          ∙ get_or-map-range_with_len (with_home score.home) 0 (limit + 1) score.away score.away d
+          ∙ get_or-map-range_with_len (score_of score.home) 0 (limit + 1) score.away score.away d
           (omega arith) (omega arith);
     }
 
@@ -118,14 +121,14 @@ end_stands limit None (Some ended) may =
     let at = score_stands limit ended (leb-true ended.home limit parts.0)
     (leb-true ended.away limit parts.1) in
     record {
-      within = omega (arith, at.within, length-map (scores_within limit) Some);
+      within = omega (arith, at.within, length-map (scores_up_to limit) Some);
       there = λ d.
-          get_or-map Some (scores_within limit) (score_number limit ended) ended d at.within
+          get_or-map Some (scores_up_to limit) (score_number limit ended) ended d at.within
           ∙ ap Some (at.there ended);
     }
 end_stands limit (Some played) (Some ended) may = record {
   within = omega arith;
-  there = λ d. ap Some (sym (same_score-true played ended may));
+  there = λ d. ap Some (same_score-true played ended may);
 }
 
 -- a finish stands in the list of all at its number
@@ -193,12 +196,12 @@ numbers_below count =
 ends_may : (limit : ℕ) (played : Option Score)
     → All (λ ended. may_end limit played ended ≡ true) (ends_of limit played)
 ends_may limit None =
-    All-map (λ ended. may_end limit None ended ≡ true) Some (scores_within limit)
+    All-map (λ ended. may_end limit None ended ≡ true) Some (scores_up_to limit)
     (All-pieces (λ home. home < limit + 1) (λ score. may_end limit None (Some score) ≡ true)
-    (scores_at_home limit)
+    (row_of limit)
     (λ home home_below.
     All-map (λ (score : Score). may_end limit None (Some score) ≡ true)
-    (λ away. record { home = home; away = away }) (range_with_len 0 (limit + 1))
+    (score_of home) (range_with_len 0 (limit + 1))
     (λ k d h.
     let away : get_or (range_with_len 0 (limit + 1)) k d
     < limit + 1 = numbers_below (limit + 1) k d h in
@@ -211,7 +214,7 @@ ends_may limit (Some played) =
     first
   where
     first : (i : ℕ) → i < 1 → may_end limit (Some played) (get_or (Some played ∷ []) i None) ≡ true
-    first zero h = same_score-itself played
+    first zero h = same_score-itself played played refl
     first (suc i) h = absurd (omega arith)
 
 -- each list of scores in the list of finishes is a finish's

@@ -2,6 +2,7 @@
 -- fixture.
 use Rattle.std.proofs.Common.{◌≡◌, ℕ, zero, suc, ◌+◌, ◌<◌, Bool, true, false, ◌&&◌, ◌||◌, ◌==◌, nat_le, nat_lt, List, [], ◌∷◌, ◌++◌, map, length, get_or, Option, Some, None, refl, sym, ap, ◌∙◌, inl, inr, arith}
 use Rattle.std.specs.List.{list_any, list_all, flat_map, range_with_len}
+use Rattle.std.proofs.Math.Bool.{and-false, or-false}
 use Rattle.std.proofs.lemmas.Bool.{and_parts, and_from, or_left, or_right, or_cases, false≢true}
 use Rattle.std.proofs.lemmas.Bool.Decides.{nat_tests}
 use Rattle.std.proofs.lemmas.List.Folds.{list_any-append, list_all-append}
@@ -16,10 +17,6 @@ use Rattle.league_core.specs.Options.{score_of, scores_up_to, endings, meets_lit
 use Rattle.league_core.proofs.ResultsLemmas.{scores_decided}
 use Rattle.league_core.proofs.ClubSetLemmas.{has_club-range}
 
-and_false : (b : Bool) → (b && false) ≡ false
-and_false true = refl
-and_false false = refl
-
 -- two scores with the same goals are one
 pub same_score-true : (score other : Score) → same_score score other ≡ true → score ≡ other
 same_score-true score other h = (scores_decided score other).0 h
@@ -33,7 +30,7 @@ same_score-swap score other = grind (arith, nat_tests)
 
 -- the scores with these goals at home and one of a list of goals away
 any-row : (score : Score) (home : ℕ) (goals : List ℕ) → list_any (same_score score) (map (score_of home) goals) ≡ ((score.home == home) && has_club goals score.away)
-any-row score home [] = sym (and_false (score.home == home))
+any-row score home [] = sym (and-false (score.home == home))
 any-row score home (away ∷ goals) =
     ap (λ b. ((score.home == home) && (score.away == away)) || b) (any-row score home goals)
     ∙ in_row (score.home == home) score.away away (has_club goals score.away)
@@ -76,11 +73,7 @@ has_score-scores_up_to limit score =
 -- the scores with which a fixture may end are those that are listed
 pub has_score-endings : (limit : ℕ) (played : Option Score) (score : Score) → has_score (endings limit played) score ≡ may_end limit played (Some score)
 has_score-endings limit None score = has_score-scores_up_to limit score
-has_score-endings limit (Some played) score = or_false (same_score score played) ∙ same_score-swap score played
-  where
-    or_false : (b : Bool) → (b || false) ≡ b
-    or_false true = refl
-    or_false false = refl
+has_score-endings limit (Some played) score = or-false (same_score score played) ∙ same_score-swap score played
 
 -- an option of a fixture is a score with which it may end, and which makes the literals on it true
 pub has_score-options_of : (limit : ℕ) (zone : List Literal) (fixture : ℕ) (played : Option Score) (score : Score) → has_score (options_of limit zone fixture played) score ≡ (meets zone fixture score && may_end limit played (Some score))

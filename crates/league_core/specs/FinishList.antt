@@ -1,22 +1,13 @@
 -- All finishes of a season in one list, and how many they are: what is played stays, and what is not
 -- may end with each score up to the goal limit.
 use Rattle.std.specs.Prelude.{ℕ, ◌+◌, ◌*◌, List, [], ◌∷◌, map, Option, Some, None}
-use Rattle.std.specs.List.{flat_map, range_with_len}
+use Rattle.std.specs.List.{flat_map}
 use Rattle.league_core.specs.declared.season.Score.{Score}
-
--- the scores with these goals of the home side, and at most so many of the away side
-abbrev pub scores_at_home : ℕ → ℕ → List Score
-scores_at_home limit home =
-    map (λ away. record { home = home; away = away }) (range_with_len 0 (limit + 1))
-
--- the scores with at most so many goals a side
-abbrev pub scores_within : ℕ → List Score
-scores_within limit = flat_map (scores_at_home limit) (range_with_len 0 (limit + 1))
+use Rattle.league_core.specs.Options.{endings}
 
 -- how a fixture may end: with its score if it was played, else with each score within the limit
 abbrev pub ends_of : ℕ → Option Score → List (Option Score)
-ends_of limit None = map Some (scores_within limit)
-ends_of limit (Some played) = Some played ∷ []
+ends_of limit played = map Some (endings limit played)
 
 -- the ends of the later fixtures after each way in which the first may end
 abbrev pub with_first : ℕ → Option Score → List (Option Score) → List (List (Option Score))

@@ -16,10 +16,10 @@ pub mod Questions
 pub mod Verdicts
 pub mod LotsFor
 pub mod Laws
-pub mod FinishList
-pub mod FinishLaws
 pub mod Zones
 pub mod Options
+pub mod FinishList
+pub mod FinishLaws
 pub mod PointRanges
 pub mod SureOrder
 pub mod Reasons

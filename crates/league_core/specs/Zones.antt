@@ -1,6 +1,6 @@
 -- Literals and zones: parts of what may still happen, cut out by tests of scores and of who ranks
 -- before the club of a question. How a season is split this way is this project's own choice.
-use Rattle.std.specs.Prelude.{ℕ, Bool, true, false, not, ◌&&◌, ◌||◌, ◌==◌, nat_lt, nat_le, IsTrue, List, [], ◌∷◌, ◌++◌, length, filter, Option, Some, None, slice_index_or}
+use Rattle.std.specs.Prelude.{ℕ, Bool, true, false, not, ◌&&◌, ◌||◌, ◌==◌, nat_lt, nat_le, IsTrue, List, [], ◌∷◌, ◌++◌, length, Option, Some, None, slice_index_or}
 use Rattle.std.specs.List.{list_all, list_any}
 use Rattle.league_core.specs.declared.sheet.Sheet.{Sheet}
 use Rattle.league_core.specs.declared.season.Score.{Score}
@@ -9,9 +9,9 @@ use Rattle.league_core.specs.declared.zone.Test.{Test}
 use Rattle.league_core.specs.declared.zone.Test.TheVariants.{Home, Draw, HomeMost, AwayMost, Rival}
 use Rattle.league_core.specs.declared.zone.Literal.{Literal}
 use Rattle.league_core.specs.Results.{Results}
-use Rattle.league_core.specs.Sheets.{clubs_of}
 use Rattle.league_core.specs.Finishes.{IsFinishOf}
 use Rattle.league_core.specs.Ranking.{ranks_before, are_lots}
+use Rattle.league_core.specs.LotsFor.{others_of}
 
 -- the goals of a score are as the test asks; a test of a rival asks nothing of them
 abbrev pub passes : Test → Score → Bool
@@ -85,7 +85,7 @@ pub record IsMember (sheet : Sheet) (season : Results) (club : ℕ) (zone : List
 
 -- all clubs but the question's own
 abbrev pub rivals_of : Sheet → ℕ → List ℕ
-rivals_of sheet club = filter (λ other. not (other == club)) (clubs_of sheet)
+rivals_of sheet club = others_of (length sheet.clubs) club
 
 -- the zone has a yes literal of the rival: it ranks before the club
 abbrev pub marked_before : List Literal → ℕ → Bool
