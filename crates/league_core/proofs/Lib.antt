@@ -11,6 +11,7 @@ pub mod TimesLemmas
 pub mod RankingLemmas
 pub mod PlaceLemmas
 pub mod TableLemmas
+pub mod LotTableLemmas
 pub mod OthersLemmas
 pub mod LotsLemmas
 pub mod FinishLemmas

@@ -4,7 +4,7 @@ use Rattle.std.specs.Prelude.{◌≡◌, ◌≢◌, ◌⊎◌, ◌<◌, ◌≤�
 use Rattle.std.specs.Cmp.{IsTotalOrder}
 use Rattle.std.specs.declared.cmp.Ordering.{Ordering}
 use Rattle.std.specs.declared.cmp.Ordering.TheVariants.{Less, Equal}
-use Rattle.std.specs.Ordering.{nat_cmp, ordering_then}
+use Rattle.std.specs.Ordering.{ordering_then}
 use Rattle.league_core.specs.declared.sheet.Sheet.{Sheet}
 use Rattle.league_core.specs.declared.sheet.Order.{Order}
 use Rattle.league_core.specs.declared.sheet.Order.TheVariants.{HeadFirst, OverallFirst}
@@ -19,7 +19,7 @@ use Rattle.league_core.specs.Finishes.{IsFinishOf, is_played}
 use Rattle.league_core.specs.Sums.{has_club, points_of, sum_of, goal_difference, goals}
 use Rattle.league_core.specs.HeadToHead.{greater_first, by_head_to_head, level_with}
 use Rattle.league_core.specs.Ahead.{by_overall, lead_within, lead_in, level_overall, standing_in, IsAheadIn}
-use Rattle.league_core.specs.Ranking.{are_lots, lot_of, order_of, ranks_before, place_of, is_inside}
+use Rattle.league_core.specs.Ranking.{are_lots, lot_of, order_of, ranks_before, place_of, is_inside, IsTable}
 use Rattle.league_core.specs.Questions.{is_on_side, is_in_window, holds_at, IsExample, full_question}
 use Rattle.league_core.specs.Verdicts.{IsClinched, IsLost, IsPossible}
 use Rattle.league_core.specs.LotsFor.{lots_for_claim, IsFavoured, best_place_of, worst_place_of, order_without_lots}
@@ -268,9 +268,9 @@ IsAllowedTable sheet season table =
     (club other : ℕ) → club < length sheet.clubs → other < length sheet.clubs
     → order_without_lots sheet season club other ≡ Less → lot_of table club < lot_of table other
 
--- a table that is allowed is the one that it gives as lots
+-- lots that are allowed as a table are the table that they give
 abbrev pub AllowedTableAsLots : Type 0
 AllowedTableAsLots =
-    (sheet : Sheet) (season : Results) (table : List ℕ) → IsAllowedTable sheet season table
-    → (club other : ℕ) → club < length sheet.clubs → other < length sheet.clubs
-    → order_of sheet season table club other ≡ nat_cmp (lot_of table club) (lot_of table other)
+    (sheet : Sheet) (season : Results) (table : List ℕ)
+    → IsTrue (are_lots (length sheet.clubs) table) → IsAllowedTable sheet season table
+    → IsTable sheet season table table

@@ -1,7 +1,8 @@
 -- The table: which club ranks before which, once the lots are drawn, and in which place.
-use Rattle.std.specs.Prelude.{ℕ, ◌+◌, Bool, ◌&&◌, ◌==◌, List, length, filter, count_by, nat_le}
+use Rattle.std.specs.Prelude.{◌≡◌, ℕ, ◌+◌, Bool, ◌&&◌, ◌==◌, IsTrue, List, [], ◌∷◌, length, filter, count_by, nat_le}
 use Rattle.std.specs.List.{list_all, range_with_len, position_or_len}
 use Rattle.std.specs.declared.cmp.Ordering.{Ordering}
+use Rattle.std.specs.declared.cmp.Ordering.TheVariants.{Less}
 use Rattle.std.specs.Ordering.{int_eq, nat_cmp, ordering_then, is_lt}
 use Rattle.league_core.specs.declared.sheet.Sheet.{Sheet}
 use Rattle.league_core.specs.Results.{Results}
@@ -43,3 +44,14 @@ place_of sheet season lots club =
 -- the club is among the first so many
 abbrev pub is_inside : Sheet → Results → List ℕ → ℕ → ℕ → Bool
 is_inside sheet season lots club line = nat_le (place_of sheet season lots club) line
+
+-- each club of the list comes before all later ones
+abbrev pub AreRanked : (ℕ → ℕ → Ordering) → List ℕ → Type 0
+AreRanked order [] = Unit {0}
+AreRanked order (club ∷ later) =
+    ((other : ℕ) → IsTrue (has_club later other) → order club other ≡ Less) × AreRanked order later
+
+-- the list has the sheet's clubs, and each of them ranks before all later ones
+pub record IsTable (sheet : Sheet) (season : Results) (lots table : List ℕ) : Type 0 where
+  pub ranked : AreRanked (order_of sheet season lots) table
+  pub clubs : (club : ℕ) → has_club table club ≡ has_club (clubs_of sheet) club

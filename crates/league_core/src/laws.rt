@@ -112,7 +112,7 @@ pub fn one_verdict_at_most()
 {}
 
 /// Each order of the clubs that points and criteria allow is the table with some lots: with that
-/// order as the lots.
+/// order as the lots. So whatever points and criteria leave open, lots can settle either way.
 pub fn lots_give_each_table()
     ensures { AllowedTableAsLots }
 {}
