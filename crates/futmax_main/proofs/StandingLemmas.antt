@@ -11,7 +11,7 @@ use Rattle.league_core.specs.Results.{Results}
 use Rattle.league_core.specs.Sheets.{clubs_of}
 use Rattle.league_core.specs.Sums.{has_club, points_of, sum_of, goal_difference, goals}
 use Rattle.league_core.specs.LotsFor.{lots_for_claim}
-use Rattle.final_rank.specs.Tables.{IsTable}
+use Rattle.league_core.specs.Ranking.{IsTable}
 use Rattle.final_rank.specs.Places.{IsBestPlace, IsWorstPlace}
 use Rattle.final_rank.proofs.TierLemmas.{below_clubs}
 use Rattle.futmax_main.specs.declared.session.Feed.{Feed}

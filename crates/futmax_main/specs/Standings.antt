@@ -7,7 +7,7 @@ use Rattle.league_core.specs.declared.season.Score.{Score}
 use Rattle.league_core.specs.Results.{Results}
 use Rattle.league_core.specs.Sheets.{clubs_of}
 use Rattle.league_core.specs.Sums.{points_of, sum_of, goal_difference, goals}
-use Rattle.final_rank.specs.Tables.{IsTable}
+use Rattle.league_core.specs.Ranking.{IsTable}
 use Rattle.final_rank.specs.Places.{IsBestPlace, IsWorstPlace}
 use Rattle.futmax_main.specs.declared.standing.Standing.{Standing}
 use Rattle.futmax_main.specs.declared.session.Feed.{Feed}
