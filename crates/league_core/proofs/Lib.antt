@@ -2,6 +2,7 @@
 -- places, lots, finishes, points and verdicts, options, boxes, proposed finishes, ranges of points.
 pub mod ResultsLemmas
 pub mod LogLemmas
+pub mod ScoreCodeLemmas
 pub mod OrderingLemmas
 pub mod ClubLemmas
 pub mod ClubSetLemmas

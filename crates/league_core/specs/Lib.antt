@@ -3,6 +3,7 @@ pub mod Limits
 pub mod Rooms
 pub mod Sheets
 pub mod Results
+pub mod ScoreCodes
 pub mod Seasons
 pub mod Codes
 pub mod LogLaws

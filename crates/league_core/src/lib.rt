@@ -17,6 +17,7 @@ mod memory;
 mod proposal_laws;
 mod question;
 mod roomy_list;
+mod score_code;
 mod season;
 mod sheet;
 mod sure;

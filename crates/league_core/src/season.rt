@@ -9,6 +9,7 @@ ghost use Rattle.league_core.specs.Seasons.{unplayed_season, event_applied, IsEv
 
 use crate::limits::MOST_DEDUCTION;
 use crate::memory::OutOfMemory;
+use crate::score_code::score_code;
 use std::alloc::Global;
 use std::marker::Model;
 
@@ -31,9 +32,13 @@ pub enum Event {
 }
 
 /// What has been played. No score has more than 99 goals a side, no deduction more than 99 points.
+///
+/// Beside the scores it keeps a code of two bytes for each: two seasons are compared by their codes,
+/// which is one comparison of memory.
 #[derive(Drop)]
 pub struct Season {
     scores: Vec<Option<Score>>,
+    codes: Vec<u16>,
     deductions: Vec<u8>,
 }
 
@@ -42,13 +47,21 @@ impl Model for Season {
 
     ghost Value = { Results };
 
-    ghost use Rattle.std.specs.Prelude.{IsTrue};
+    ghost use Rattle.std.specs.Prelude.{IsTrue, ◌≡◌, map};
     ghost use Rattle.league_core.specs.Results.{are_results};
+    ghost use Rattle.league_core.specs.ScoreCodes.{score_code};
 
-    ghost view = { λ season. record { scores = season.scores.items; deductions = season.deductions.items } };
+    ghost view = { λ season. record {
+      scores = season.scores.items;
+      deductions = season.deductions.items;
+    } };
 
     ghost invariant = { λ season.
-        IsTrue (are_results (record { scores = season.scores.items; deductions = season.deductions.items })) };
+        IsTrue (are_results (record {
+          scores = season.scores.items;
+          deductions = season.deductions.items;
+        }))
+        × (season.codes.items ≡ map score_code season.scores.items) };
 }
 
 impl Season {
@@ -57,8 +70,13 @@ impl Season {
         ensures { IfOk result (λ season. season ≡ unplayed_season clubs fixtures) }
     {
         let scores = vec![in alloc; None; fixtures]?;
+        let codes = vec![in alloc; score_code(None); fixtures]?;
         let deductions = vec![in alloc; 0; clubs]?;
-        Ok(Season { scores, deductions })
+        Ok(Season {
+            scores,
+            codes,
+            deductions,
+        })
     }
 
     /// The scores in the order of the fixtures.
@@ -122,6 +140,7 @@ impl Season {
         requires may_be { IsTrue (is_score_or_none score) }
         ensures { self.new ≡ record self.old { scores = slice_set self.old.scores fixture score } }
     {
+        self.codes[fixture as usize] = score_code(score);
         self.scores[fixture as usize] = score;
     }
 
@@ -129,24 +148,26 @@ impl Season {
     pub fn copy(&self, alloc: Global) -> Result<Season, OutOfMemory>
         ensures { IfOk result (λ season. season ≡ self.now) }
     {
-        let scores = self.scores.as_slice().to_vec(alloc)?;
-        let deductions = self.deductions.as_slice().to_vec(alloc)?;
-        Ok(Season { scores, deductions })
+        Ok(Season {
+            scores: Vec::from_slice(alloc, self.scores.as_slice())?,
+            codes: Vec::from_slice(alloc, self.codes.as_slice())?,
+            deductions: Vec::from_slice(alloc, self.deductions.as_slice())?,
+        })
     }
 
     /// Both seasons have the same scores and the same deductions.
     pub fn equals(&self, other: &Season) -> bool
         ensures { IsTrue result ↔ (self.now ≡ other.now) }
     {
-        same_scores(self.scores(), other.scores())
-            && same_points(self.deductions(), other.deductions())
+        same_codes(self.codes.as_slice(), other.codes.as_slice())
+            && same_points(self.deductions.as_slice(), other.deductions.as_slice())
     }
 }
 
-fn same_scores(scores: &[Option<Score>], others: &[Option<Score>]) -> bool
-    ensures { IsTrue result ↔ (scores.now ≡ others.now) }
+fn same_codes(codes: &[u16], others: &[u16]) -> bool
+    ensures { IsTrue result ↔ (codes.now ≡ others.now) }
 {
-    scores == others
+    codes == others
 }
 
 fn same_points(points: &[u8], others: &[u8]) -> bool

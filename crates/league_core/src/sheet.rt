@@ -3,13 +3,29 @@
 //! Clubs and fixtures count from 0 here, in the order of the sheet; texts count them from 1. What a
 //! sheet has to be is `IsWithinLimits` of `specs/Sheets.antt`.
 
+ghost use Rattle.std.specs.Prelude.{◌≡◌, IfOk};
+
 use crate::listing::{Listing, Name};
+use crate::memory::OutOfMemory;
+use std::alloc::Global;
 
 /// A club and its fixed rank, 1 to 999. Two clubs may share a rank.
 #[derive(Drop)]
 pub struct Club {
     pub name: Name,
     pub rank: u16,
+}
+
+impl Club {
+    /// The same club once more.
+    pub fn copy(&self, alloc: Global) -> Result<Club, OutOfMemory>
+        ensures { IfOk result (λ club. club ≡ self.now) }
+    {
+        Ok(Club {
+            name: self.name.copy(alloc)?,
+            rank: self.rank,
+        })
+    }
 }
 
 /// A match of two different clubs, by their numbers.
@@ -44,4 +60,61 @@ pub struct Sheet {
     pub budget: u32,
     /// How clubs on one number of points are ranked.
     pub order: Order,
+}
+
+impl Sheet {
+    /// The same sheet once more.
+    pub fn copy(&self, alloc: Global) -> Result<Sheet, OutOfMemory>
+        ensures { IfOk result (λ sheet. sheet ≡ self.now) }
+    {
+        Ok(Sheet {
+            name: self.name.copy(alloc)?,
+            clubs: copy_clubs(alloc, self.clubs.as_slice())?,
+            fixtures: self.fixtures.copy(alloc)?,
+            lines: self.lines.copy(alloc)?,
+            goal_limit: self.goal_limit,
+            budget: self.budget,
+            order: self.order,
+        })
+    }
+}
+
+fn copy_clubs(alloc: Global, clubs: &[Club]) -> Result<Listing<Club>, OutOfMemory>
+    ensures { IfOk result (λ copies. copies ≡ clubs.now) }
+{
+    let mut copies = Listing::new(alloc);
+    for club in clubs {
+        copies.push(club.copy(alloc)?)?;
+    }
+    Ok(copies)
+}
+
+#[cfg(test)]
+mod tests {
+    use super::*;
+    use std::test::Fail;
+
+    #[test]
+    fn a_sheet_is_copied_with_its_names(rt: HostRuntime) -> Result<(), Fail> {
+        let mut sheet = Sheet {
+            name: Name::new(String::from_str(rt.alloc(), "Cup")?),
+            clubs: Listing::new(rt.alloc()),
+            fixtures: Listing::from_vec([Fixture { home: 0, away: 1 }].to_vec(rt.alloc())?),
+            lines: Listing::from_vec([1].to_vec(rt.alloc())?),
+            goal_limit: 5,
+            budget: 100,
+            order: Order::OverallFirst,
+        };
+        for name in ["Alder", "Birch"] {
+            let name = Name::new(String::from_str(rt.alloc(), name)?);
+            let club = Club { name, rank: 3 };
+            sheet.clubs.push(club).ok().ok_or("room")?;
+        }
+        let copy = sheet.copy(rt.alloc()).ok().ok_or("room")?;
+        assert!(rt; copy.name.as_str() == "Cup" && copy.clubs.len() == 2);
+        assert!(rt; copy.clubs.as_slice()[1].name.as_str() == "Birch");
+        assert!(rt; copy.fixtures.as_slice() == sheet.fixtures.as_slice());
+        assert!(rt; copy.lines.len() == 1 && copy.order == Order::OverallFirst);
+        Ok(())
+    }
 }

@@ -5,5 +5,8 @@ use Rattle.league_core.proofs.season.Season.deduct.Goals as goal
 
 pub invariant_of-self : goal.invariant_of-self
 invariant_of-self c =
-    are_results-deduct c.self.inside.scores.items c.self.inside.deductions.items c.args.club c.args.points
-    (le-leb _ _ c.requires.may_be) c.self.invariant
+    let season = c.self.inside in (
+      are_results-deduct season.scores.items season.deductions.items c.args.club c.args.points
+          (le-leb _ _ c.requires.may_be) c.self.invariant.0,
+      c.self.invariant.1,
+    )
