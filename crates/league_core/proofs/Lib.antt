@@ -1,5 +1,6 @@
--- Lemmas on one notion each: results, logs, comparisons, lists of clubs, sets of clubs, standings, the ranking,
--- places, lots, finishes, points and verdicts, options, boxes, proposed finishes, ranges of points.
+-- Lemmas on one notion each: results, logs, comparisons, lists of clubs, sets of clubs, standings,
+-- the ranking, places, lots, finishes, points and verdicts, options, boxes, proposed finishes,
+-- ranges of points, trees, lent leaves, trees as lists, halves of a zone.
 pub mod ResultsLemmas
 pub mod LogLemmas
 pub mod ScoreCodeLemmas
@@ -26,3 +27,9 @@ pub mod OptionLemmas
 pub mod BoxLemmas
 pub mod ProposalLemmas
 pub mod PointRangeLemmas
+pub mod TreeLemmas
+pub mod LendingLemmas
+pub mod PutLemmas
+pub mod NodeFactLemmas
+pub mod TreeListLemmas
+pub mod HalfLemmas

@@ -31,6 +31,9 @@ pub mod Leaves
 pub mod Lending
 pub mod TreeLists
 pub mod Splits
+pub mod TreeLaws
+pub mod LendingLaws
+pub mod SplitLaws
 pub mod ZoneLaws
 pub mod WorkedRows
 pub mod ZoneRows

@@ -9,6 +9,7 @@ mod club_set;
 mod finish;
 mod finish_laws;
 mod laws;
+mod lending_laws;
 pub mod limits;
 mod listing;
 mod log_laws;
@@ -22,6 +23,7 @@ mod season;
 mod sheet;
 mod sure;
 mod tree;
+mod tree_laws;
 mod zone;
 mod zone_laws;
 
@@ -34,6 +36,10 @@ pub use laws::{
     points_are_in_the_full_window, ranking_is_a_total_order, standing_is_a_total_order,
     standing_is_the_recursion, times_are_enough, two_lots_suffice,
     two_places_decide_a_played_season,
+};
+pub use lending_laws::{
+    loans_are_counted, loans_keep_facts, opened_trees_lend_nothing, put_changes_its_leaves_alone,
+    put_counts_what_it_brings,
 };
 pub use listing::{Listing, Name};
 pub use log_laws::{events_have_codes, events_keep_seasons, logs_give_seasons};
@@ -48,5 +54,8 @@ pub use season::{Event, Score, Season};
 pub use sheet::{Club, Fixture, Order, Sheet};
 pub use sure::Sure;
 pub use tree::TreeNode;
+pub use tree_laws::{
+    leaves_tell_the_tree, nodes_are_counted, splits_leave_finishes, trees_are_their_lists,
+};
 pub use zone::{Literal, Reason, Test, Zone};
 pub use zone_laws::finishes_take_options;
