@@ -33,3 +33,5 @@ pub mod PutLemmas
 pub mod NodeFactLemmas
 pub mod TreeListLemmas
 pub mod HalfLemmas
+pub mod SumLemmas
+pub mod PairLemmas

@@ -15,6 +15,7 @@ mod listing;
 mod log_laws;
 mod lots;
 mod memory;
+mod pair_laws;
 mod proposal_laws;
 mod question;
 mod roomy_list;
@@ -45,6 +46,7 @@ pub use listing::{Listing, Name};
 pub use log_laws::{events_have_codes, events_keep_seasons, logs_give_seasons};
 pub use lots::Lots;
 pub use memory::OutOfMemory;
+pub use pair_laws::group_sums_are_of_pairs;
 pub use proposal_laws::{
     option_order_is_total, options_have_one_first, proposed_finishes_are_finishes,
 };
