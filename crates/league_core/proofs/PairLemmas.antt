@@ -61,8 +61,11 @@ home_pair : (worth : Worth) (club : ℕ) (match : Fixture) (score : Score) → m
     → match.away ≢ club → (rival : ℕ) → worth_among (club ∷ rival ∷ []) worth club match score
     ≡ cond (rival == match.away) (worth score.home score.away false) (pos 0)
 home_pair worth club match score home away rival =
-    rw (eq-eqb club match.home (sym home), ne_eqb club match.away (λ e. away (sym e)),
-    eq-eqb match.home club home)
+    rw (
+      eq-eqb club match.home (sym home),
+      ne_eqb club match.away (λ e. away (sym e)),
+      eq-eqb match.home club home,
+    )
     (ap (λ b. cond b (worth score.home score.away false) (pos 0)) (or-false (rival == match.away)))
 
 -- an away match against the one that is at home
@@ -70,8 +73,12 @@ away_pair : (worth : Worth) (club : ℕ) (match : Fixture) (score : Score) → m
     → match.away ≡ club → (rival : ℕ) → worth_among (club ∷ rival ∷ []) worth club match score
     ≡ cond (rival == match.home) (worth score.away score.home true) (pos 0)
 away_pair worth club match score home away rival =
-    rw (ne_eqb club match.home (λ e. home (sym e)), eq-eqb club match.away (sym away),
-    ne_eqb match.home club home, eq-eqb match.away club away)
+    rw (
+      ne_eqb club match.home (λ e. home (sym e)),
+      eq-eqb club match.away (sym away),
+      ne_eqb match.home club home,
+      eq-eqb match.away club away,
+    )
     (ap (λ b. cond b (worth score.away score.home true) (pos 0))
     (and-true ((rival == match.home) || false) ∙ or-false (rival == match.home)))
 
@@ -104,8 +111,11 @@ match_of_pairs group worth club match score different member apart =
         (sym (total_of-one match.away (worth score.home score.away false) group different))
         ∙ sym (total_of-same _ _ group (home_pair worth club match score home away))
     by_side (inr home) (inl away) =
-        rw (ap (has_club group) away ∙ member, ne_eqb match.home club home,
-        eq-eqb match.away club away)
+        rw (
+          ap (has_club group) away ∙ member,
+          ne_eqb match.home club home,
+          eq-eqb match.away club away,
+        )
         (ap (λ b. cond b (worth score.away score.home true) (pos 0))
         (and-true (has_club group match.home))
         ∙ sym (total_of-one match.home (worth score.away score.home true) group different))

@@ -1,5 +1,5 @@
--- Sums over matches, and totals over clubs: of nothing, of two values, of values that agree; and that
--- it does not matter which of the two is taken first.
+-- Sums over matches, and totals over clubs: of nothing, of two values, of values that agree; and
+-- that it does not matter which of the two is taken first.
 use Rattle.std.proofs.Common.{◌≡◌, ℕ, ℤ, pos, ◌+ℤ◌, Bool, true, false, not, ◌&&◌, ◌==◌, cond, List, [], ◌∷◌, filter, Option, Some, None, refl, sym, ap, ◌∙◌, subst, inl, inr, arith}
 use Rattle.std.specs.List.{list_all}
 use Rattle.std.proofs.lemmas.Int.{ints}
