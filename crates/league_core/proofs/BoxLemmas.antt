@@ -6,7 +6,8 @@ use Rattle.league_core.specs.declared.season.Score.{Score}
 use Rattle.league_core.specs.declared.zone.Literal.{Literal}
 use Rattle.league_core.specs.Results.{Results}
 use Rattle.league_core.specs.Finishes.{may_end, may_all_end, IsFinishOf}
-use Rattle.league_core.specs.Options.{meets, options_of, options_from, takes_option, take_options, IsInBox}
+use Rattle.league_core.specs.Options.{meets, options_of, options_from, takes_option, take_options}
+use Rattle.league_core.specs.Options.{IsInBox}
 use Rattle.league_core.proofs.OptionLemmas.{has_score-options_of}
 
 -- what takes options ends as it may

@@ -1,5 +1,7 @@
 -- Logs: what stays true of a season that is told events, one or many.
-use Rattle.std.proofs.Common.{◌≡◌, ◌+◌, ◌<◌, ◌≤◌, ℕ, true, nat_le, IsTrue, get_or, List, [], ◌∷◌, ◌++◌, All, length, fold, None, Some, refl, sym, ◌∙◌, subst, arith, length-set, nat_lt}
+use Rattle.std.proofs.Common.{◌≡◌, ◌+◌, ◌<◌, ◌≤◌, ℕ, true, nat_le, IsTrue, get_or, List, [], ◌∷◌}
+use Rattle.std.proofs.Common.{◌++◌, All, length, fold, None, Some, refl, sym, ◌∙◌, subst, arith}
+use Rattle.std.proofs.Common.{length-set, nat_lt}
 use Rattle.std.proofs.lemmas.Bool.{and_from, le-leb, lt-ltb}
 use Rattle.std.proofs.lemmas.List.{length-replicate, length-append}
 use Rattle.std.proofs.lemmas.List.Elements.{All-push, All-head, All-tail}
@@ -9,9 +11,11 @@ use Rattle.league_core.specs.declared.season.Event.TheVariants.{Set, Clear, Dedu
 use Rattle.league_core.specs.Limits.{most_clubs, most_fixtures, most_deduction}
 use Rattle.league_core.specs.Sheets.{IsWithinLimits}
 use Rattle.league_core.specs.Results.{Results, are_results, is_score}
-use Rattle.league_core.specs.Seasons.{AreEventsOf, IsEventOf, IsLeague, IsSeasonOf, epoch_of, event_applied, season_after, unplayed_season}
+use Rattle.league_core.specs.Seasons.{AreEventsOf, IsEventOf, IsLeague, IsSeasonOf, epoch_of}
+use Rattle.league_core.specs.Seasons.{event_applied, season_after, unplayed_season}
 use Rattle.league_core.specs.Codes.{has_code}
-use Rattle.league_core.proofs.ResultsLemmas.{are_results-deduct, are_results-set, are_results-unplayed}
+use Rattle.league_core.proofs.ResultsLemmas.{are_results-deduct, are_results-set}
+use Rattle.league_core.proofs.ResultsLemmas.{are_results-unplayed}
 
 -- ---- one event
 

@@ -1,6 +1,8 @@
 -- The options of a fixture: which scores they are, and that a finish takes one of them for each
 -- fixture.
-use Rattle.std.proofs.Common.{◌≡◌, ℕ, zero, suc, ◌+◌, ◌<◌, Bool, true, false, ◌&&◌, ◌||◌, ◌==◌, nat_le, nat_lt, List, [], ◌∷◌, ◌++◌, map, length, get_or, Option, Some, None, refl, sym, ap, ◌∙◌, inl, inr, arith}
+use Rattle.std.proofs.Common.{◌≡◌, ℕ, zero, suc, ◌+◌, ◌<◌, Bool, true, false, ◌&&◌, ◌||◌, ◌==◌}
+use Rattle.std.proofs.Common.{nat_le, nat_lt, List, [], ◌∷◌, ◌++◌, map, length, get_or, Option}
+use Rattle.std.proofs.Common.{Some, None, refl, sym, ap, ◌∙◌, inl, inr, arith}
 use Rattle.std.specs.List.{list_any, list_all, flat_map, range_with_len}
 use Rattle.std.proofs.Math.Bool.{and-false, or-false}
 use Rattle.std.proofs.lemmas.Bool.{and_parts, and_from, or_left, or_right, or_cases, false≢true}
@@ -13,7 +15,9 @@ use Rattle.league_core.specs.declared.zone.Literal.{Literal}
 use Rattle.league_core.specs.Results.{Results}
 use Rattle.league_core.specs.Sums.{has_club}
 use Rattle.league_core.specs.Finishes.{same_score, may_end, may_all_end, IsFinishOf}
-use Rattle.league_core.specs.Options.{score_of, scores_up_to, endings, meets_literal, meets, options_of, options_from, has_score, takes_option, take_options, IsInBox}
+use Rattle.league_core.specs.Options.{score_of, scores_up_to, endings, meets_literal, meets}
+use Rattle.league_core.specs.Options.{options_of, options_from, has_score, takes_option}
+use Rattle.league_core.specs.Options.{take_options, IsInBox}
 use Rattle.league_core.proofs.ResultsLemmas.{scores_decided}
 use Rattle.league_core.proofs.ClubSetLemmas.{has_club-range}
 

@@ -1,6 +1,8 @@
 -- Head-to-head sums add up over the pairs of a group: each match of a club in a group is one
 -- against one other club.
-use Rattle.std.proofs.Common.{◌≡◌, ◌≢◌, ◌⊎◌, ℕ, ℤ, pos, ◌+ℤ◌, Bool, true, false, not, ◌&&◌, ◌||◌, ◌==◌, nat_eq, nat_lt, cond, List, [], ◌∷◌, filter, length, refl, sym, ap, ◌∙◌, subst, inl, inr, arith}
+use Rattle.std.proofs.Common.{◌≡◌, ◌≢◌, ◌⊎◌, ℕ, ℤ, pos, ◌+ℤ◌, Bool, true, false, not, ◌&&◌, ◌||◌}
+use Rattle.std.proofs.Common.{◌==◌, nat_eq, nat_lt, cond, List, [], ◌∷◌, filter, length, refl, sym}
+use Rattle.std.proofs.Common.{ap, ◌∙◌, subst, inl, inr, arith}
 use Rattle.std.specs.List.{list_any}
 use Rattle.std.proofs.Math.Bool.{and-true, or-false}
 use Rattle.std.proofs.lemmas.Int.{ints}
@@ -15,7 +17,8 @@ use Rattle.league_core.specs.Sums.{Worth, has_club, worth_to, worth_among, sum_o
 use Rattle.league_core.specs.PointRanges.{total_of}
 use Rattle.league_core.specs.PairSums.{sum_against}
 use Rattle.league_core.proofs.PointRangeLemmas.{total_of-same}
-use Rattle.league_core.proofs.SumLemmas.{sum_over-zero, sum_over-agree, total_of-sum_over, total_of-zero, total_of-others}
+use Rattle.league_core.proofs.SumLemmas.{sum_over-zero, sum_over-agree, total_of-sum_over}
+use Rattle.league_core.proofs.SumLemmas.{total_of-zero, total_of-others}
 
 -- a number for the one club that is meant, out of clubs that are all different
 total_of-one : (x : ℕ) (number : ℤ) (clubs : List ℕ) → are_different nat_eq clubs ≡ true

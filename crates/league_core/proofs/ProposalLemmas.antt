@@ -1,5 +1,8 @@
 -- The order in which scores are proposed, the first of some options by it, and the proposed finish.
-use Rattle.std.proofs.Common.{◌≡◌, ◌≢◌, ◌⊎◌, inl, inr, ◌+◌, ℕ, ℤ, pos, neg_ℤ, Bool, true, false, List, [], ◌∷◌, length, fold, Some, None, is_some, Ordering, Less, Equal, Greater, is_lt, is_gt, if◌then◌else◌, refl, sym, ap, ap₂, subst, ◌∙◌, arith}
+use Rattle.std.proofs.Common.{◌≡◌, ◌≢◌, ◌⊎◌, inl, inr, ◌+◌, ℕ, ℤ, pos, neg_ℤ, Bool, true, false}
+use Rattle.std.proofs.Common.{List, [], ◌∷◌, length, fold, Some, None, is_some, Ordering, Less}
+use Rattle.std.proofs.Common.{Equal, Greater, is_lt, is_gt, if◌then◌else◌, refl, sym, ap, ap₂}
+use Rattle.std.proofs.Common.{subst, ◌∙◌, arith}
 use Rattle.std.specs.Cmp.{IsTotalOrder}
 use Rattle.std.specs.List.{list_all}
 use Rattle.std.specs.Ordering.{ordering_reverse}
@@ -15,11 +18,14 @@ use Rattle.league_core.specs.Results.{Results}
 use Rattle.league_core.specs.Seasons.{IsSeasonOf}
 use Rattle.league_core.specs.Finishes.{same_score, IsFinishOf}
 use Rattle.league_core.specs.HeadToHead.{greater_first, by_first_difference}
-use Rattle.league_core.specs.Options.{options_in, has_score, has_option, has_finish, take_options, IsInBox}
-use Rattle.league_core.specs.Proposals.{is_wished, wishes_met, option_order, first_of_two, first_option, IsFirstOption, first_options, proposed_finish}
+use Rattle.league_core.specs.Options.{options_in, has_score, has_option, has_finish, take_options}
+use Rattle.league_core.specs.Options.{IsInBox}
+use Rattle.league_core.specs.Proposals.{is_wished, wishes_met, option_order, first_of_two}
+use Rattle.league_core.specs.Proposals.{first_option, IsFirstOption, first_options, proposed_finish}
 use Rattle.league_core.proofs.OrderingLemmas.{then-equal}
 use Rattle.league_core.proofs.StandingLemmas.{by_first_difference_total}
-use Rattle.league_core.proofs.OptionLemmas.{same_score-true, same_score-itself, has_score-first, length-options_from}
+use Rattle.league_core.proofs.OptionLemmas.{same_score-true, same_score-itself, has_score-first}
+use Rattle.league_core.proofs.OptionLemmas.{length-options_from}
 use Rattle.league_core.proofs.BoxLemmas.{box_is_finish}
 
 -- ---- the order

@@ -1,6 +1,7 @@
 -- What holds of finishes and of the list of them all, and that each club of a season is clinched, lost or
 -- possible: each statement is the contract of a function of src/finish_laws.rt that does nothing.
-use Rattle.std.specs.Prelude.{◌≡◌, ◌⊎◌, ◌<◌, ◌↔◌, ℕ, IsTrue, List, length, Contains, slice_get, Option, Some}
+use Rattle.std.specs.Prelude.{◌≡◌, ◌⊎◌, ◌<◌, ◌↔◌, ℕ, IsTrue, List, length, Contains, slice_get}
+use Rattle.std.specs.Prelude.{Option, Some}
 use Rattle.league_core.specs.declared.sheet.Sheet.{Sheet}
 use Rattle.league_core.specs.declared.season.Score.{Score}
 use Rattle.league_core.specs.Sheets.{IsWithinLimits}

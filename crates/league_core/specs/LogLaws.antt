@@ -5,7 +5,8 @@ use Rattle.league_core.specs.declared.sheet.Sheet.{Sheet}
 use Rattle.league_core.specs.declared.season.Event.{Event}
 use Rattle.league_core.specs.Sheets.{IsWithinLimits}
 use Rattle.league_core.specs.Results.{Results, are_results}
-use Rattle.league_core.specs.Seasons.{AreEventsOf, IsEventOf, IsLeague, IsSeasonOf, epoch_of, event_applied, season_after}
+use Rattle.league_core.specs.Seasons.{AreEventsOf, IsEventOf, IsLeague, IsSeasonOf, epoch_of}
+use Rattle.league_core.specs.Seasons.{event_applied, season_after}
 use Rattle.league_core.specs.Codes.{has_code}
 
 -- ---- one event

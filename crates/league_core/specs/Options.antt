@@ -1,6 +1,7 @@
 -- The options of a fixture in a zone: the scores with which it may still end there. Literals of
 -- rivals take none of them away.
-use Rattle.std.specs.Prelude.{◌≡◌, ℕ, suc, ◌+◌, Bool, true, false, not, ◌&&◌, ◌||◌, ◌==◌, nat_lt, IsTrue, List, [], ◌∷◌, map, filter, Option, Some, None}
+use Rattle.std.specs.Prelude.{◌≡◌, ℕ, suc, ◌+◌, Bool, true, false, not, ◌&&◌, ◌||◌, ◌==◌, nat_lt}
+use Rattle.std.specs.Prelude.{IsTrue, List, [], ◌∷◌, map, filter, Option, Some, None}
 use Rattle.std.specs.List.{list_all, list_any, flat_map, range_with_len}
 use Rattle.league_core.specs.declared.sheet.Sheet.{Sheet}
 use Rattle.league_core.specs.declared.season.Score.{Score}

@@ -1,7 +1,8 @@
 -- The proposed finish of a zone: the one finish that is tried first as an example. Each club is
 -- wished points or none, and each fixture takes the option that serves the wishes of its two sides
 -- best. Which finish is proposed is this project's own choice.
-use Rattle.std.specs.Prelude.{◌≢◌, ℕ, ℤ, pos, ◌+◌, ◌+ℤ◌, neg_ℤ, Bool, true, false, not, ◌||◌, ◌==◌, if◌then◌else◌, IsTrue, List, [], ◌∷◌, Option, Some, None, fold}
+use Rattle.std.specs.Prelude.{◌≢◌, ℕ, ℤ, pos, ◌+◌, ◌+ℤ◌, neg_ℤ, Bool, true, false, not, ◌||◌, ◌==◌}
+use Rattle.std.specs.Prelude.{if◌then◌else◌, IsTrue, List, [], ◌∷◌, Option, Some, None, fold}
 use Rattle.std.specs.declared.cmp.Ordering.{Ordering}
 use Rattle.std.specs.declared.cmp.Ordering.TheVariants.{Less}
 use Rattle.std.specs.Ordering.{is_lt}

@@ -1,4 +1,5 @@
-use Rattle.league_core.proofs.LogLemmas.{AreEventsOf-push, epoch_of-push, season_after_of, season_after_results}
+use Rattle.league_core.proofs.LogLemmas.{AreEventsOf-push, epoch_of-push, season_after_of}
+use Rattle.league_core.proofs.LogLemmas.{season_after_results}
 use Rattle.league_core.proofs.log_laws.logs_give_seasons.Goals as goal
 
 pub returns-clause-sheet : goal.returns-clause-sheet

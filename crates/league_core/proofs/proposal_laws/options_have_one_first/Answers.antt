@@ -1,4 +1,5 @@
-use Rattle.league_core.proofs.ProposalLemmas.{first_option-same, first_option_is, first_option_of, is_some-first_option}
+use Rattle.league_core.proofs.ProposalLemmas.{first_option-same, first_option_is, first_option_of}
+use Rattle.league_core.proofs.ProposalLemmas.{is_some-first_option}
 use Rattle.league_core.proofs.proposal_laws.options_have_one_first.Goals as goal
 
 pub returns-clause-some : goal.returns-clause-some
