@@ -72,11 +72,12 @@ def looked_at(files: list[tuple[str, bytes]], is_sheet_only: bool = False) -> tu
     examined = [(name, examine(data)) for name, data in files]
     texts = [f"{name}: {_capital(message)}.\n"
              for name, file in examined for message in file.messages]
+    original = refusal_of(b"".join(data for _, data in files))
     if not all(file.is_readable for _, file in examined):
-        return "".join(texts), common.TO_MEND
+        whole = joined(files)
+        return "".join(texts) + outcome_text(Outcome(refused=original), whole), common.TO_MEND
     whole = joined([(name, file.data) for name, file in examined])
     outcome = look(whole.data, is_sheet_only)
-    original = refusal_of(b"".join(data for _, data in files))
     if texts:
         outcome.refused = original
     text = "".join(texts) + outcome_text(outcome, whole)
@@ -94,7 +95,8 @@ def look(data: bytes, is_sheet_only: bool = False) -> Outcome:
             if record is not None:
                 entries.extend(_take(record, reader, outcome))
     except Refused as refused:
-        outcome.findings.append(Finding(refused.line, words_for(refused, [], None)))
+        words = _capital(words_for(refused, [], None)) + "."
+        outcome.findings.append(Finding(refused.line, words))
         return outcome
     _test_end(reader, count_lines(data), outcome)
     if reader.sheet is not None:

@@ -47,6 +47,12 @@ def nearest_name(name: str, names: Iterable[str]) -> str | None:
     return forms[parts[0]] if len(parts) == 1 else None
 
 
+def are_alike(first: str, second: str) -> bool:
+    """Whether two names are likely one, with a slip of the fingers in it."""
+    forms = (plain_form(first), plain_form(second))
+    return difflib.SequenceMatcher(None, *forms).ratio() > 0.85
+
+
 def shown(text: str) -> str:
     """A text as a message shows it: in quotes, with signs that cannot be seen written out."""
     signs = []

@@ -8,7 +8,7 @@ from itertools import combinations
 
 from .doubts import some, some_pairs, times
 from .matches import Match
-from .names import nearest_name, shown
+from .names import are_alike, shown
 
 
 @dataclass
@@ -74,12 +74,12 @@ def usual_rounds(matches: list[Match]) -> int:
 def lone_names(matches: list[Match]) -> str:
     """A question on names that stand seldom and look like another: is it one club?"""
     played = Counter(name for match in matches for name in (match.home, match.away))
-    often = [name for name, number in played.items() if 2 * number > max(played.values())]
+    most = max(played.values())
     questions = []
-    for name, number in played.items():
-        near = None if name in often else nearest_name(name, often)
-        if near is not None:
-            questions.append(f"{shown(name)} stands {times(number)}: is it {shown(near)}?")
+    for first, second in combinations(played, 2):
+        rarer, other = sorted((first, second), key=lambda name: played[name])
+        if played[rarer] < most and are_alike(first, second):
+            questions.append(f"{shown(rarer)} stands {times(played[rarer])}: is it {shown(other)}?")
     return ". " + " ".join(questions) if questions else ""
 
 

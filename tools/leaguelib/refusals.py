@@ -5,6 +5,7 @@ Every line that is offered was tried first: the program takes it where the refus
 
 from __future__ import annotations
 
+import re
 from dataclasses import dataclass, field
 from typing import Iterator
 
@@ -65,6 +66,7 @@ def candidates(fields: list[str], record: Record, reader: InputReader) -> Iterat
     """What the record was meant to be, likeliest first."""
     if not fields:
         return
+    yield from _comment(fields)
     yield from _glued(line_text(*fields))
     kind, sheet, feed = fields[0], reader.sheet, reader.feed_reader
     if sheet is None:
@@ -96,6 +98,14 @@ def candidates(fields: list[str], record: Record, reader: InputReader) -> Iterat
         yield from feed_repairs.ask_repairs(fields)
 
 
+def _comment(fields: list[str]) -> Iterator[Candidate]:
+    """A comment that does not begin with the right sign, or not at the line's begin."""
+    found = re.match(r"^(#|//|%|--|;|/\*)\s*(.*)$", ",".join(fields))
+    if found:
+        yield Candidate("a comment begins with `#`, as the first sign of its line",
+                        ["# " + found.group(2)])
+
+
 def _glued(text: str) -> Iterator[Candidate]:
     """Two records on one line, as where a file without an end of its last line was followed."""
     for kind in KINDS:
@@ -114,6 +124,8 @@ def takes(reader: InputReader, number: int, lines: list[str]) -> bool:
     """Whether the reader would take these lines where it stands."""
     trial = reader.copy()
     for line in lines:
+        if line.startswith("#"):
+            continue
         record = record_of(number, line.encode("utf-8", "surrogateescape"))
         if record is None:
             return False

@@ -78,7 +78,8 @@ def league_repairs(fields: list[str]) -> Iterator[Candidate]:
     if len(fields) > 2 and number_of(fields[1]) and number_of(fields[2]) is None:
         yield Candidate("the name comes first, then the goal limit",
                         [line_text("league", fields[2], fields[1], *fields[3:])])
-    yield from _name_with_comma(fields)
+    if len(fields) > 3 and number_of(fields[2]) is None:
+        yield from _name_with_comma(fields)
     if len(fields) > 2 and number_of(fields[2]) is not None:
         yield Candidate("the goal limit is 1 to 20, and 9 fits most leagues",
                         [line_text(*fields[:2], 9, *fields[3:])])
