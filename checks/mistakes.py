@@ -1,5 +1,5 @@
-"""Everyday mistakes in sheets and feeds: an input, the row with which the program ends, and words that
-`league lint` has to say about it, among them the line to write instead.
+"""Everyday mistakes in sheets and feeds: an input, the row with which the program ends, and what
+`league lint` has to say about it, among it the line to write instead.
 
 `fault` is the row of the program, nothing where it takes the input. `writes` are the lines that
 lint offers in place of the wrong one; `LEAVE_OUT` where it says that the line can be left out.
