@@ -4,9 +4,8 @@ use Rattle.std.proofs.Common.{◌≡◌, ℕ, suc, ◌+◌, ◌*◌, ◌<◌, �
 use Rattle.std.specs.List.{list_all}
 use Rattle.std.proofs.Math.Nat.{add-mul, mul-add}
 use Rattle.std.proofs.lemmas.Nat.{mul-le}
-use Rattle.std.proofs.lemmas.Bool.{false≢true, or_left, eq-eqb, ne_eqb, cases_eq, ltb-true}
+use Rattle.std.proofs.lemmas.Bool.{false≢true, eq-eqb, ne_eqb, cases_eq, ltb-true}
 use Rattle.std.proofs.lemmas.List.Sums.{length-filter}
-use Rattle.std.proofs.lemmas.List.Elements.{filter_agree}
 use Rattle.std.proofs.lemmas.List.{length-map}
 use Rattle.league_core.specs.declared.sheet.Sheet.{Sheet}
 use Rattle.league_core.specs.declared.season.Score.{Score}
@@ -17,12 +16,13 @@ use Rattle.league_core.specs.declared.zone.Literal.{Literal}
 use Rattle.league_core.specs.Results.{Results}
 use Rattle.league_core.specs.Seasons.{IsSeasonOf}
 use Rattle.league_core.specs.FinishList.{ways_to_end, ways_to_finish}
-use Rattle.league_core.specs.Zones.{passes, is_on, is_of_score, is_of_rival, is_as_said, with_test}
+use Rattle.league_core.specs.Zones.{passes, is_on, is_of_score, with_test}
 use Rattle.league_core.specs.Options.{scores_up_to, endings, meets_literal, meets, options_of, options_from, options_in, has_option, has_finish}
 use Rattle.league_core.specs.Splits.{is_proper}
 use Rattle.league_core.proofs.FinishListLemmas.{length-finishes_of}
 use Rattle.reason_laws.specs.Weights.{choices, finishes_in}
-use Rattle.reason_laws.proofs.SplitLemmas.{and_true, list_all-with, proper_names}
+use Rattle.league_core.proofs.HalfLemmas.{list_all-with, options_of-off, options_from-off}
+use Rattle.reason_laws.proofs.SplitLemmas.{proper_names}
 use Rattle.reason_laws.proofs.CountLemmas.{count_by-parts, filter-all}
 
 -- where each fixture has an option there is a choice
@@ -44,28 +44,13 @@ length-parts : (counted taken left test : Score → Bool) → ((x : Score) → t
 length-parts counted taken left test is_taken is_left xs =
     omega (arith, length-filter taken xs, length-filter left xs, length-filter counted xs, count_by-parts counted taken left test is_taken is_left xs)
 
--- a literal on another fixture takes no option away
-options_of-off : (limit : ℕ) (zone : List Literal) (test : Test) (holds : Bool) (fixture : ℕ) (played : Option Score) → is_on fixture test ≡ false → options_of limit (with_test zone test holds) fixture played ≡ options_of limit zone fixture played
-options_of-off limit zone test holds fixture played off =
-    filter_agree (meets (with_test zone test holds) fixture) (meets zone fixture) (λ score.
-    list_all-with (meets_literal fixture score) zone test holds
-    ∙ ap (λ b. meets zone fixture score && b) (or_left (not (is_on fixture test)) (is_as_said holds (passes test score)) (ap not off))
-    ∙ and_true (meets zone fixture score)) (endings limit played)
-
--- one on the fixture itself divides its options among the halves
+-- a literal on the fixture divides its options among the halves
 options_of-on : (limit : ℕ) (zone : List Literal) (test : Test) (fixture : ℕ) (played : Option Score) → is_on fixture test ≡ true → length (options_of limit (with_test zone test true) fixture played) + length (options_of limit (with_test zone test false) fixture played) ≡ length (options_of limit zone fixture played)
 options_of-on limit zone test fixture played on =
     length-parts (meets zone fixture) (meets (with_test zone test true) fixture) (meets (with_test zone test false) fixture) (passes test)
     (λ score. list_all-with (meets_literal fixture score) zone test true ∙ ap (λ b. meets zone fixture score && (not b || passes test score)) on)
     (λ score. list_all-with (meets_literal fixture score) zone test false ∙ ap (λ b. meets zone fixture score && (not b || not (passes test score))) on)
     (endings limit played)
-
--- a test on none of the fixtures from one on leaves all their options
-options_from-off : (limit : ℕ) (zone : List Literal) (test : Test) (holds : Bool) (season : List (Option Score)) (fixture : ℕ) → ((i : ℕ) → fixture ≤ i → is_on i test ≡ false) → options_from limit (with_test zone test holds) fixture season ≡ options_from limit zone fixture season
-options_from-off limit zone test holds [] fixture off = refl
-options_from-off limit zone test holds (played ∷ season) fixture off =
-    ap (λ here. here ∷ options_from limit (with_test zone test holds) (suc fixture) season) (options_of-off limit zone test holds fixture played (off fixture (omega arith)))
-    ∙ ap (λ more. options_of limit zone fixture played ∷ more) (options_from-off limit zone test holds season (suc fixture) (λ i later. off i (omega arith)))
 
 -- products with one factor divided and the other kept
 pub divided : (a b c x y z : ℕ) → a + b ≡ c → x ≡ z → y ≡ z → a * x + b * y ≡ c * z
@@ -125,17 +110,6 @@ finishes_divided sheet season question zone (AwayMost fixture most) is_season of
 finishes_divided sheet season question zone (Rival club) is_season of_score proper =
     absurd (false≢true of_score)
 
-no_fixture : (test : Test) (rival i : ℕ) → is_of_rival rival test ≡ true → is_on i test ≡ false
-no_fixture (Home fixture) rival i of_rival = absurd (false≢true of_rival)
-no_fixture (Draw fixture) rival i of_rival = absurd (false≢true of_rival)
-no_fixture (HomeMost fixture most) rival i of_rival = absurd (false≢true of_rival)
-no_fixture (AwayMost fixture most) rival i of_rival = absurd (false≢true of_rival)
-no_fixture (Rival club) rival i of_rival = refl
-
-pub options_kept : (sheet : Sheet) (season : Results) (zone : List Literal) (test : Test) (holds : Bool) (rival : ℕ) → is_of_rival rival test ≡ true → options_in sheet season (with_test zone test holds) ≡ options_in sheet season zone
-options_kept sheet season zone test holds rival of_rival =
-    options_from-off sheet.goal_limit zone test holds season.scores 0 (λ i from. no_fixture test rival i of_rival)
-
 -- the scores up to the goal limit are so many
 length-scores_up_to : (limit : ℕ) → length (scores_up_to limit) ≡ (limit + 1) * (limit + 1)
 length-scores_up_to limit =
@@ -157,22 +131,3 @@ choices-all limit (played ∷ season) fixture =
 
 pub root_finishes : (sheet : Sheet) (season : Results) → finishes_in sheet season [] ≡ ways_to_finish sheet.goal_limit season.scores
 root_finishes sheet season = choices-all sheet.goal_limit season.scores 0
-
--- so there is one for each fixture
-has_endings : (limit : ℕ) (season : List (Option Score)) (fixture : ℕ) → list_all has_option (options_from limit [] fixture season) ≡ true
-has_endings limit [] fixture = refl
-has_endings limit (played ∷ season) fixture =
-    ap (λ b. b && list_all has_option (options_from limit [] (suc fixture) season)) (has_option-some (endings limit played) (length-endings limit played) (some_way limit played))
-    ∙ has_endings limit season (suc fixture)
-  where
-    some_way : (most : ℕ) (score : Option Score) → 1 ≤ ways_to_end most score
-    some_way most None = mul-le 1 1 (most + 1) (most + 1) (omega arith) (omega arith)
-    some_way most (Some score) = omega arith
-
-    has_option-some : (options : List Score) {ways : ℕ} → length options ≡ ways → 1 ≤ ways → has_option (filter (λ score. true) options) ≡ true
-    has_option-some [] count some = absurd (omega arith)
-    has_option-some (score ∷ options) count some = refl
-
-pub root_has_finish : (sheet : Sheet) (season : Results) → has_finish sheet season [] ≡ true
-unfolding has_finish
-root_has_finish sheet season = has_endings sheet.goal_limit season.scores 0

@@ -2,32 +2,21 @@
 -- root.
 use Rattle.std.proofs.Common.{◌≡◌, ℕ, Bool, true, false, not, ◌&&◌, ◌||◌, ◌==◌, nat_lt, List, [], ◌∷◌, length, refl, sym, ap, ◌∙◌, inl, inr}
 use Rattle.std.specs.Prelude.{◌⊎◌, ◌↔◌}
-use Rattle.std.specs.List.{list_any, list_all}
+use Rattle.std.specs.List.{list_any}
 use Rattle.std.proofs.lemmas.Bool.{true≢false, and_parts, and_from, or_left, or_right, not-true, cases_Bool}
-use Rattle.std.proofs.lemmas.List.Folds.{list_any-append, list_all-append}
+use Rattle.std.proofs.lemmas.List.Folds.{list_any-append}
 use Rattle.league_core.specs.declared.sheet.Sheet.{Sheet}
 use Rattle.league_core.specs.declared.question.Question.{Question}
 use Rattle.league_core.specs.declared.zone.Test.{Test}
 use Rattle.league_core.specs.declared.zone.Test.TheVariants.{Home, Draw, HomeMost, AwayMost, Rival}
 use Rattle.league_core.specs.declared.zone.Literal.{Literal}
-use Rattle.league_core.specs.declared.tree.TreeNode.{TreeNode}
-use Rattle.league_core.specs.declared.tree.TreeNode.TheVariants.{Split, Open, Lent, Refuted}
 use Rattle.league_core.specs.Results.{Results}
 use Rattle.league_core.specs.Verdicts.{HasNoExample}
 use Rattle.league_core.specs.Zones.{is_of_rival, is_test_true, is_as_said, is_literal_true, are_literals_true, IsMember, marked_before, marked_after, is_marked, with_test, is_test_of, is_zone_of, IsZoneFor}
-use Rattle.league_core.specs.Trees.{Tree, open_leaf, lent_leaf, refuted_leaf, branch, zones_from, zones_of, NodesMeet, IsCover}
+use Rattle.league_core.specs.Trees.{Tree, open_leaf, lent_leaf, refuted_leaf, branch, zones_from, zones_of, NodesMeet, IsCover, IsCoverOf}
 use Rattle.league_core.specs.Splits.{have_both_finish, is_proper, IsProperNode}
+use Rattle.league_core.proofs.HalfLemmas.{list_all-with}
 use Rattle.reason_laws.specs.Splits.{HoldsNowhereIn, HoldsAtNoLeaf}
-
-pub and_true : (b : Bool) → (b && true) ≡ b
-and_true true = refl
-and_true false = refl
-
--- what all of a zone pass and the new literal passes, the half passes
-pub list_all-with : (p : Literal → Bool) (zone : List Literal) (test : Test) (holds : Bool) → list_all p (with_test zone test holds) ≡ (list_all p zone && p (record { test = test; yes = holds }))
-list_all-with p zone test holds =
-    list_all-append p zone (record { test = test; yes = holds } ∷ [])
-    ∙ ap (λ b. list_all p zone && b) (and_true (p (record { test = test; yes = holds })))
 
 -- a half is the zone's literals and what it says of the test
 pub true_in_half : (sheet : Sheet) (club : ℕ) (finish : Results) (lots : List ℕ) (zone : List Literal) (test : Test) (holds : Bool) → are_literals_true sheet club finish lots (with_test zone test holds) ≡ (are_literals_true sheet club finish lots zone && is_as_said holds (is_test_true sheet club finish lots test))
@@ -103,28 +92,9 @@ pub leaves_cover : (sheet : Sheet) (season : Results) (question : Question) (tre
 leaves_cover sheet season question tree finish lots is_finish is_drawn =
     leaves_from sheet question.club finish lots tree [] refl
 
--- a fact of each node gives what it implies there
-pub NodesMeet-weaker : (Fact Other : List Literal → TreeNode → Type 0) → ((zone : List Literal) (node : TreeNode) → Fact zone node → Other zone node) → (tree : Tree) (zone : List Literal) → NodesMeet Fact zone tree → NodesMeet Other zone tree
-NodesMeet-weaker Fact Other gives open_leaf zone facts = gives zone Open facts
-NodesMeet-weaker Fact Other gives (lent_leaf number) zone facts = gives zone (Lent number) facts
-NodesMeet-weaker Fact Other gives (refuted_leaf reason fresh) zone facts =
-    gives zone (Refuted reason fresh) facts
-NodesMeet-weaker Fact Other gives (branch test fresh yes_half no_half) zone facts = (
-  gives zone (Split test fresh) facts.0,
-  NodesMeet-weaker Fact Other gives yes_half (with_test zone test true) facts.1,
-  NodesMeet-weaker Fact Other gives no_half (with_test zone test false) facts.2,
-)
-
--- two facts of each node are one fact of each
-pub NodesMeet-both : (Fact Other : List Literal → TreeNode → Type 0) (tree : Tree) (zone : List Literal) → NodesMeet Fact zone tree → NodesMeet Other zone tree → NodesMeet (λ z node. Fact z node × Other z node) zone tree
-NodesMeet-both Fact Other open_leaf zone facts others = (facts, others)
-NodesMeet-both Fact Other (lent_leaf number) zone facts others = (facts, others)
-NodesMeet-both Fact Other (refuted_leaf reason fresh) zone facts others = (facts, others)
-NodesMeet-both Fact Other (branch test fresh yes_half no_half) zone facts others = (
-  (facts.0, others.0),
-  NodesMeet-both Fact Other yes_half (with_test zone test true) facts.1 others.1,
-  NodesMeet-both Fact Other no_half (with_test zone test false) facts.2 others.2,
-)
+pub leaves_cover_zone : (sheet : Sheet) (season : Results) (club : ℕ) (zone : List Literal) (tree : Tree) → IsCoverOf sheet season club zone (zones_from zone tree)
+leaves_cover_zone sheet season club zone tree finish lots member =
+    leaves_from sheet club finish lots tree zone member.literals
 
 -- where the question holds in no leaf's zone, it holds nowhere in the zone of the root
 pub leaves_decide : (sheet : Sheet) (season : Results) (question : Question) (tree : Tree) (zone : List Literal) → NodesMeet (HoldsAtNoLeaf sheet season question) zone tree → HoldsNowhereIn sheet season question zone

@@ -1,7 +1,6 @@
 -- Weights of zones: how a proper split divides what there is to decide, and how many nodes a tree
 -- has then.
-use Rattle.std.proofs.Common.{◌≡◌, ℕ, suc, ◌+◌, ◌*◌, ◌^◌, ◌<◌, ◌≤◌, Bool, true, false, ◌&&◌, ◌==◌, nat_lt, cond, List, [], length, refl, sym, ap, ◌∙◌, subst, arith, length-append}
-use Rattle.std.specs.List.{list_all}
+use Rattle.std.proofs.Common.{◌≡◌, ℕ, suc, ◌+◌, ◌*◌, ◌^◌, ◌<◌, ◌≤◌, Bool, true, false, ◌==◌, List, [], length, refl, sym, ap, ◌∙◌, subst, arith, length-append}
 use Rattle.std.proofs.Math.Nat.{mul_comm, mul_assoc, pow-succ'}
 use Rattle.std.proofs.lemmas.Nat.{mul-le, pow_pos}
 use Rattle.std.proofs.lemmas.Bool.{and_parts, eqb-true, eq-eqb}
@@ -14,11 +13,13 @@ use Rattle.league_core.specs.Results.{Results}
 use Rattle.league_core.specs.Seasons.{IsSeasonOf}
 use Rattle.league_core.specs.FinishList.{ways_to_finish}
 use Rattle.league_core.specs.Zones.{is_of_score, is_of_rival, with_test}
-use Rattle.league_core.specs.Options.{has_option, has_finish}
+use Rattle.league_core.specs.Options.{has_finish}
 use Rattle.league_core.specs.Trees.{Tree, open_leaf, lent_leaf, refuted_leaf, branch, preorder, NodesMeet, new_count, has_open, is_spent}
-use Rattle.league_core.specs.Splits.{have_both_finish, is_proper, IsProperNode}
+use Rattle.league_core.specs.Splits.{is_proper, IsProperNode}
+use Rattle.league_core.proofs.TreeLemmas.{length-preorder, new_count-le}
+use Rattle.league_core.proofs.HalfLemmas.{options_kept, root_has_finish, half_has_finish}
 use Rattle.reason_laws.specs.Weights.{choices, finishes_in, unmarked_in, weight_of}
-use Rattle.reason_laws.proofs.ChoiceLemmas.{finishes_some, divided, kept_divided, finishes_divided, options_kept, root_finishes, root_has_finish}
+use Rattle.reason_laws.proofs.ChoiceLemmas.{finishes_some, divided, kept_divided, finishes_divided, root_finishes}
 use Rattle.reason_laws.proofs.MarkLemmas.{one_rival_marked, unmarked_kept, root_unmarked}
 
 -- twice a power of two is the next one
@@ -60,28 +61,6 @@ weights_divided sheet season question zone (AwayMost fixture most) is_season pro
     score_divides sheet season question zone (AwayMost fixture most) is_season refl proper
 weights_divided sheet season question zone (Rival club) is_season proper =
     rival_divides sheet season question zone (Rival club) club (eq-eqb club club refl) proper
-
--- each half of a proper split of a zone with a finish has one
-scores_have_finish : (sheet : Sheet) (season : Results) (zone : List Literal) (test : Test) (named : Bool) (holds : Bool) → (named && have_both_finish sheet season zone test) ≡ true → has_finish sheet season (with_test zone test holds) ≡ true
-scores_have_finish sheet season zone test named holds proper =
-    by_half holds (and_parts (has_finish sheet season (with_test zone test true)) (has_finish sheet season (with_test zone test false)) (and_parts named (have_both_finish sheet season zone test) proper).1)
-  where
-    by_half : (b : Bool) → (has_finish sheet season (with_test zone test true) ≡ true) × (has_finish sheet season (with_test zone test false) ≡ true) → has_finish sheet season (with_test zone test b) ≡ true
-    by_half true both = both.0
-    by_half false both = both.1
-
-pub half_has_finish : (sheet : Sheet) (season : Results) (question : Question) (zone : List Literal) (test : Test) (holds : Bool) → has_finish sheet season zone ≡ true → is_proper sheet season question zone test ≡ true → has_finish sheet season (with_test zone test holds) ≡ true
-unfolding has_finish
-half_has_finish sheet season question zone (Home fixture) holds some proper =
-    scores_have_finish sheet season zone (Home fixture) (nat_lt fixture (length sheet.fixtures)) holds proper
-half_has_finish sheet season question zone (Draw fixture) holds some proper =
-    scores_have_finish sheet season zone (Draw fixture) (nat_lt fixture (length sheet.fixtures)) holds proper
-half_has_finish sheet season question zone (HomeMost fixture most) holds some proper =
-    scores_have_finish sheet season zone (HomeMost fixture most) (nat_lt fixture (length sheet.fixtures)) holds proper
-half_has_finish sheet season question zone (AwayMost fixture most) holds some proper =
-    scores_have_finish sheet season zone (AwayMost fixture most) (nat_lt fixture (length sheet.fixtures)) holds proper
-half_has_finish sheet season question zone (Rival club) holds some proper =
-    ap (list_all has_option) (options_kept sheet season zone (Rival club) holds club (eq-eqb club club refl)) ∙ some
 
 -- a zone with a finish weighs something
 pub weight_some : (sheet : Sheet) (season : Results) (question : Question) (zone : List Literal) → has_finish sheet season zone ≡ true → 1 ≤ weight_of sheet season question zone
@@ -125,19 +104,7 @@ nodes_below_finishes sheet season question tree is_season club_in proper =
         ∙ ap (λ n. 2 ^ suc unmarked * n) same
         ∙ ap (λ n. 2 ^ n * ways) next
 
-one_at_most : (b : Bool) → cond {A = ℕ} b 1 0 ≤ 1
-one_at_most true = omega arith
-one_at_most false = omega arith
-
--- no more nodes are new than there are
-new_nodes : (tree : Tree) → new_count tree ≤ length (preorder tree)
-new_nodes open_leaf = omega arith
-new_nodes (lent_leaf number) = omega arith
-new_nodes (refuted_leaf reason fresh) = one_at_most fresh
-new_nodes (branch test fresh yes_half no_half) =
-    omega (arith, one_at_most fresh, new_nodes yes_half, new_nodes no_half, length-append (preorder yes_half) (preorder no_half))
-
 pub spent_below_finishes : (sheet : Sheet) (season : Results) (question : Question) (budget : ℕ) (tree : Tree) → IsSeasonOf sheet season → question.club < length sheet.clubs → NodesMeet (IsProperNode sheet season question) [] tree → is_spent budget tree ≡ true → budget < 2 ^ length sheet.clubs * ways_to_finish sheet.goal_limit season.scores
 spent_below_finishes sheet season question budget tree is_season club_in proper spent =
     let used = eqb-true (new_count tree) budget (and_parts (new_count tree == budget) (has_open tree) spent).0 in
-    omega (arith, new_nodes tree, nodes_below_finishes sheet season question tree is_season club_in proper, used)
+    omega (arith, new_count-le tree, length-preorder tree, nodes_below_finishes sheet season question tree is_season club_in proper, used)

@@ -11,7 +11,7 @@ use Rattle.league_core.specs.Results.{Results}
 use Rattle.league_core.specs.Questions.{holds_at}
 use Rattle.league_core.specs.Verdicts.{HasNoExample}
 use Rattle.league_core.specs.Zones.{IsMember, IsZoneFor, with_test}
-use Rattle.league_core.specs.Trees.{Tree, zones_of, NodesMeet, IsCover}
+use Rattle.league_core.specs.Trees.{Tree, zones_from, zones_of, NodesMeet, IsCover, IsCoverOf}
 use Rattle.league_core.specs.Splits.{IsProperNode}
 
 -- a finish with lots is in a zone exactly where it is in one of the halves by a test
@@ -37,6 +37,12 @@ LeavesCover =
     (sheet : Sheet) (season : Results) (question : Question) (tree : Tree)
     → IsCover sheet season question (zones_of tree)
 
+-- the zones of the leaves below a zone hold each of its members
+abbrev pub LeavesCoverZones : Type 0
+LeavesCoverZones =
+    (sheet : Sheet) (season : Results) (club : ℕ) (zone : List Literal) (tree : Tree)
+    → IsCoverOf sheet season club zone (zones_from zone tree)
+
 -- the question holds at no member of the zone
 abbrev pub HoldsNowhereIn : Sheet → Results → Question → List Literal → Type 0
 HoldsNowhereIn sheet season question zone =
@@ -57,6 +63,13 @@ LeavesDecide =
     (sheet : Sheet) (season : Results) (question : Question) (tree : Tree)
     → NodesMeet (HoldsAtNoLeaf sheet season question) [] tree
     → HasNoExample sheet season question
+
+-- where it holds in the zone of no leaf below a zone, it holds nowhere in this zone
+abbrev pub LeavesDecideZones : Type 0
+LeavesDecideZones =
+    (sheet : Sheet) (season : Results) (question : Question) (zone : List Literal) (tree : Tree)
+    → NodesMeet (HoldsAtNoLeaf sheet season question) zone tree
+    → HoldsNowhereIn sheet season question zone
 
 -- in a tree whose splits are proper the zone of each node is one for the question: it names what
 -- the sheet has, and does not mark the question's own club

@@ -11,7 +11,7 @@ mod splits;
 mod sure_laws;
 
 pub use laws::{boxes_bound_their_members, reasons_are_sound, single_zones_are_decided};
-pub use refutations::refuted_trees_decide;
+pub use refutations::{examples_are_in_unsettled_leaves, refuted_trees_decide};
 pub use splits::{
     halves_cover_the_zone, leaves_cover_the_season, leaves_decide_the_question,
     proper_splits_divide_weights, proper_trees_name_rivals, rival_tests_mark_one,

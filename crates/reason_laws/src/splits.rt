@@ -1,6 +1,7 @@
 //! The laws of splits, trees and weights: functions that do nothing, with laws as their contracts.
 
 ghost use Rattle.reason_laws.specs.Splits.{HalvesCover, HalvesAreApart, LeavesCover, LeavesDecide};
+ghost use Rattle.reason_laws.specs.Splits.{LeavesCoverZones, LeavesDecideZones};
 ghost use Rattle.reason_laws.specs.Splits.{ProperTreesNameRivals};
 ghost use Rattle.reason_laws.specs.Weights.{TheRootHasAllFinishes, ScoreTestsDivideFinishes};
 ghost use Rattle.reason_laws.specs.Weights.{ScoreTestsLeaveMarks, RivalTestsLeaveOptions};
@@ -14,14 +15,16 @@ pub fn halves_cover_the_zone()
     ensures apart { HalvesAreApart }
 {}
 
-/// The leaves of a tree leave no finish and no lots out.
+/// The leaves of a tree leave no finish and no lots out, and below a zone no member of it.
 pub fn leaves_cover_the_season()
-    ensures { LeavesCover }
+    ensures season { LeavesCover }
+    ensures zone { LeavesCoverZones }
 {}
 
-/// A question that holds at no leaf has no example.
+/// A question that holds at no leaf has no example, and below a zone it holds nowhere there.
 pub fn leaves_decide_the_question()
-    ensures { LeavesDecide }
+    ensures season { LeavesDecide }
+    ensures zone { LeavesDecideZones }
 {}
 
 /// Where all splits are proper, no zone of the tree marks the question's own club.

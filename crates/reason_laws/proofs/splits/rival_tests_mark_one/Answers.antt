@@ -1,4 +1,4 @@
-use Rattle.reason_laws.proofs.ChoiceLemmas.{options_kept}
+use Rattle.league_core.proofs.HalfLemmas.{options_kept}
 use Rattle.reason_laws.proofs.MarkLemmas.{one_rival_marked}
 use Rattle.reason_laws.proofs.splits.rival_tests_mark_one.Goals as goal
 
