@@ -78,7 +78,7 @@ WHOLE_FILES = (
     Mistake("no league record", SHEET.split("\n", 1)[1] + "ask\n", "fault,1,no_league",
             ("first record has to be `league`",), ("league,My league,9",)),
     Mistake("records in the wrong order", "match,Anchor,Köln\n" + SHEET, "fault,1,no_league",
-            ("first record has to be `league,NAME,GOAL_LIMIT`",)),
+            ("stands further down, in line 2",)),
     Mistake("a comment with two slashes", "// my league\n" + SHEET + "ask\n", "fault,1,no_league",
             ("begins with `#`",), ("# my league",)),
     Mistake("a comment behind spaces", in_feed("  # second day"), "fault,11,unknown_record",

@@ -19,7 +19,6 @@ from dataclasses import dataclass
 
 from . import common
 from .bookkeeper import Bookkeeper, Unclear
-from .files import examine
 from .matches import Match, is_openfootball, is_table, read_matches, text_of
 from .names import shown
 
@@ -49,7 +48,7 @@ def run(arguments: argparse.Namespace) -> int:
     if arguments.append and not arguments.log:
         raise common.Trouble("--append needs --log FEED", common.BAD_WORDS)
     log = common.read_bytes(arguments.log) if arguments.log else b""
-    book = Bookkeeper(examine(common.read_bytes(arguments.sheet)).data, log, arguments.sheet,
+    book = Bookkeeper(common.read_bytes(arguments.sheet), log, arguments.sheet,
                       arguments.log or "the feed")
     made = made_lines(book, common.read_bytes(arguments.lines))
     for note in made.notes + made.wrong:

@@ -9,11 +9,12 @@ import argparse
 from dataclasses import dataclass, field
 
 from . import common
+from .cleaning import KINDS
 from .doubts import Doubt, feed_doubts, sheet_doubts
 from .feeds import InputReader, read_input
 from .files import Joined, examine, joined
 from .names import shown
-from .records import Record, Refused, count_lines, lines_of, record_of
+from .records import Record, Refused, count_lines, lines_of, record_of, records_of
 from .refusals import Advice, advise
 from .texts import Entry
 from .words import words_for
@@ -30,16 +31,22 @@ class Finding:
     written: str = ""
     instead: list[str] = field(default_factory=list)
     is_dropped: bool = False
+    field_number: int = 0
 
 
 @dataclass
 class Outcome:
-    """All that was found in an input; `refused` is the line at which the program stops."""
+    """All that was found in an input; `refused` is the line at which the program stops.
+
+    `league_line` is the line of the first `league` record, wherever it stands; 0 where none does.
+    """
 
     findings: list[Finding] = field(default_factory=list)
     doubts: list[Doubt] = field(default_factory=list)
     refused: Refused | None = None
     more: int = 0
+    league_line: int = 0
+    is_league_missed: bool = False
 
     @property
     def status(self) -> int:
@@ -86,7 +93,7 @@ def looked_at(files: list[tuple[str, bytes]], is_sheet_only: bool = False) -> tu
 
 def look(data: bytes, is_sheet_only: bool = False) -> Outcome:
     """Looks at a whole input in UTF-8."""
-    outcome = Outcome(refused=refusal_of(data))
+    outcome = Outcome(refused=refusal_of(data), league_line=_league_line(data))
     reader = InputReader()
     entries: list[Entry] = []
     try:
@@ -106,6 +113,14 @@ def look(data: bytes, is_sheet_only: bool = False) -> Outcome:
     return outcome
 
 
+def _league_line(data: bytes) -> int:
+    """The line of the first `league` record; 0 where none stands in the input."""
+    try:
+        return next((record.line for record in records_of(data) if record.kind == "league"), 0)
+    except Refused:
+        return 0
+
+
 def refusal_of(data: bytes) -> Refused | None:
     """The line at which the program stops, if it does."""
     try:
@@ -121,28 +136,24 @@ def _take(record: Record, reader: InputReader, outcome: Outcome) -> list[Entry]:
         entry = reader.take(record)
         return [] if entry is None else [entry]
     except Refused as refused:
-        if refused.code == "no_league" and any(_is_about_league(f) for f in outcome.findings):
-            outcome.more += 1
-            return []
-        if len(outcome.findings) >= MOST_SHOWN:
+        is_known = refused.code == "no_league" and outcome.is_league_missed
+        if is_known or len(outcome.findings) >= MOST_SHOWN:
             outcome.more += 1
             return []
         return _note(record, refused, reader, outcome)
 
 
-def _is_about_league(finding: Finding) -> bool:
-    return finding.message.startswith("The first record") or "fixture list" in finding.message
-
-
 def _note(record: Record, refused: Refused, reader: InputReader, outcome: Outcome) -> list[Entry]:
     """Notes a refused record, and gives the reader what was meant."""
-    if refused.code == "no_league" and _is_header(record):
-        advice = Advice("This looks like the first row of a fixture list. futmax takes no header "
-                        "row: leave the line out. `league sheet` makes a sheet of a fixture list.")
-    else:
+    advice = None
+    if refused.code == "no_league":
+        advice = _advice_on_first(record, outcome.league_line)
+    if advice is None:
         advice = advise(record, refused, reader)
+    if refused.code == "no_league" and not advice.instead:
+        outcome.is_league_missed = True
     outcome.findings.append(Finding(record.line, advice.message, _written(record.raw),
-                                    advice.instead, advice.is_dropped))
+                                    advice.instead, advice.is_dropped, refused.field))
     if refused.code == "unknown_record" and record.kind == "club" and not reader.feed_reader:
         _take_late_club(record, reader)
         return []
@@ -152,6 +163,17 @@ def _note(record: Record, refused: Refused, reader: InputReader, outcome: Outcom
         if meant is not None:
             entries.extend(_take(meant, reader, outcome))
     return entries
+
+
+def _advice_on_first(record: Record, league_line: int) -> Advice | None:
+    """Advice on a first record that is no `league`, where the line alone does not tell it."""
+    if _is_header(record):
+        return Advice("This looks like the first row of a fixture list. futmax takes no header "
+                      "row: leave the line out. `league sheet` makes a sheet of a fixture list.")
+    if league_line and record.kind in KINDS:
+        return Advice("The first record has to be `league`, and it stands further down, in line "
+                      f"{league_line}: move it to the top.")
+    return None
 
 
 def _take_late_club(record: Record, reader: InputReader) -> None:
@@ -192,7 +214,8 @@ def outcome_text(outcome: Outcome, whole: Joined) -> str:
     """What was found, as text for people; nothing where nothing was found."""
     parts = [_finding_text(finding, whole) for finding in outcome.findings]
     if outcome.more:
-        parts.append(f"And {outcome.more} more lines that are refused. Mend these first.\n")
+        lines = "1 more line" if outcome.more == 1 else f"{outcome.more} more lines"
+        parts.append(f"And {lines} of that kind. Mend these first, and look again.\n")
     for doubt in outcome.doubts:
         where = f"{whole.origin(doubt.line)}: " if doubt.line else ""
         parts.append(f"{where}Is this meant? {_capital(doubt.message)}\n")
@@ -207,7 +230,8 @@ def outcome_text(outcome: Outcome, whole: Joined) -> str:
 
 def _finding_text(finding: Finding, whole: Joined) -> str:
     """One mistake with what stands there and what to write."""
-    lines = [f"{whole.origin(finding.line)}: {finding.message}"]
+    place = f", field {finding.field_number}" if finding.field_number else ""
+    lines = [f"{whole.origin(finding.line)}{place}: {finding.message}"]
     if finding.written:
         lines.append(f"    you wrote:  {shown(finding.written)[1:-1]}")
     for number, text in enumerate(finding.instead):

@@ -7,7 +7,7 @@ from __future__ import annotations
 import csv
 import io
 import re
-from dataclasses import dataclass
+from dataclasses import dataclass, replace
 
 from .common import Trouble
 from .files import examine, without_mark
@@ -84,6 +84,17 @@ def plain_date(text: str) -> str:
         month = MONTHS.index(found.group(1).lower()) + 1
         return f"{int(found.group(3)):04}-{month:02}-{int(found.group(2)):02}"
     return text
+
+
+def with_year(date: str, before: str) -> str:
+    """A date like Aug/12 with the year of the full date before it, or the next where it is past."""
+    found = re.match(r"^([A-Z][a-z]{2})[a-z]*[/ ](\d{1,2})$", date)
+    earlier = re.match(r"^(\d{4})-(\d{2})-\d{2}$", before)
+    if not found or not earlier or found.group(1).lower() not in MONTHS:
+        return date
+    month = MONTHS.index(found.group(1).lower()) + 1
+    year = int(earlier.group(1)) + (month < int(earlier.group(2)))
+    return f"{year:04}-{month:02}-{int(found.group(2)):02}"
 
 
 def is_table(text: str) -> bool:
@@ -174,10 +185,10 @@ def _read_lines(text: str) -> MatchList:
             continue
         match = match_of_line(line, number, date)
         if isinstance(match, Match):
-            matches.append(match)
-            date = match.date or date
+            date = with_year(match.date, date)
+            matches.append(replace(match, date=date))
         elif match:
-            date = match
+            date = with_year(match, date)
         else:
             wrong.append(f"line {number}: cannot be read as a match: {whole.strip()}")
     if wrong:
@@ -199,7 +210,7 @@ def match_of_line(line: str, number: int = 0, date: str = "") -> Match | str | N
             return date
     rest = re.sub(r"^\[?" + DAY + r"\]?\s+", "", rest)
     rest = FRONT_TIME.sub("", rest)
-    rest = re.sub(r"\s+@\s.*$", "", rest).strip()
+    rest = re.sub(r"\s+@\s.*$|\s+\[[a-z ]+\]$", "", rest).strip()
     if re.search(r"a\.e\.t\.|\bpen\.|\baet\b", rest):
         return None
     found = MIDDLE_SCORE.match(rest)
