@@ -26,7 +26,10 @@ pub mod WorkedVerdicts
 pub mod OptionLemmas
 pub mod BoxLemmas
 pub mod ProposalLemmas
+pub mod OutcomeLemmas
 pub mod PointRangeLemmas
+pub mod WorthLemmas
+pub mod ExtentLemmas
 pub mod TreeLemmas
 pub mod LendingLemmas
 pub mod PutLemmas

@@ -13,7 +13,7 @@ use Rattle.league_core.specs.declared.sheet.Fixture.{Fixture}
 use Rattle.league_core.specs.declared.season.Score.{Score}
 use Rattle.league_core.specs.Sheets.{IsWithinLimits, are_different, is_fixture}
 use Rattle.league_core.specs.Results.{Results}
-use Rattle.league_core.specs.Sums.{Worth, has_club, worth_to, worth_among, sum_over, sum_among}
+use Rattle.league_core.specs.Sums.{Worth, has_club, worth_among, sum_among}
 use Rattle.league_core.specs.PointRanges.{total_of}
 use Rattle.league_core.specs.PairSums.{sum_against}
 use Rattle.league_core.proofs.PointRangeLemmas.{total_of-same}

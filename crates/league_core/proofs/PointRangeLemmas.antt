@@ -1,9 +1,11 @@
 -- Ranges of sums: their ends are bounds that options reach, the points of a set of clubs come from the
 -- two sides of each match, and what is taken off a set is taken off its clubs.
-use Rattle.std.proofs.Common.{◌≡◌, ℕ, zero, suc, ◌+◌, ◌<◌, ◌≤◌, ◌≢◌, ◌⊎◌, ℤ, pos, ◌+ℤ◌, ◌≤ℤ◌, Bool, true, false, ◌&&◌, ◌||◌, ◌==◌, eqb, ltb, cond, nat_lt, List, [], ◌∷◌, ◌++◌, length, get_or, drop, refl, sym, ap, ◌∙◌, subst, inl, inr, arith, add-one}
+use Rattle.std.proofs.Common.{◌≡◌, ℕ, zero, suc, ◌+◌, ◌<◌, ◌≤◌, ◌≢◌, ◌⊎◌, ℤ, pos, ◌+ℤ◌, ◌≤ℤ◌, Bool}
+use Rattle.std.proofs.Common.{true, false, ◌&&◌, ◌||◌, eqb, ltb, cond, List, [], ◌∷◌, ◌++◌, length}
+use Rattle.std.proofs.Common.{get_or, drop, refl, sym, ap, ◌∙◌, inl, inr, arith, add-one}
 use Rattle.std.specs.Int.{int_min, int_max, bit_at}
 use Rattle.std.proofs.lemmas.Int.{ints, clamps}
-use Rattle.std.proofs.lemmas.Bool.{false≢true, or_cases, cases_eq, eq-eqb, eqb-true, ne_eqb, lt-ltb, le-ltb, and_left}
+use Rattle.std.proofs.lemmas.Bool.{false≢true, or_cases, cases_eq, eq-eqb, ne_eqb, lt-ltb, le-ltb}
 use Rattle.std.proofs.lemmas.Bool.Decides.{nat_tests}
 use Rattle.std.proofs.lemmas.List.{drop_more, drop_all}
 use Rattle.league_core.specs.declared.sheet.Fixture.{Fixture}
@@ -11,7 +13,8 @@ use Rattle.league_core.specs.declared.season.Score.{Score}
 use Rattle.league_core.specs.Sums.{has_club, match_points, worth_to}
 use Rattle.league_core.specs.ClubSets.{clubs_below}
 use Rattle.league_core.specs.Options.{has_score, has_option}
-use Rattle.league_core.specs.PointRanges.{Range, one_value, added, range_of, range_from, total_of, points_together, points_of_sides}
+use Rattle.league_core.specs.PointRanges.{one_value, added, range_of, range_from, total_of}
+use Rattle.league_core.specs.PointRanges.{points_together, points_of_sides}
 use Rattle.league_core.proofs.OptionLemmas.{same_score-true, has_score-first}
 use Rattle.league_core.proofs.ClubSetLemmas.{has_club-clubs_below, clubs_below-suc}
 

@@ -1,6 +1,6 @@
 -- Sums over matches, and totals over clubs: of nothing, of two values, of values that agree; and
 -- that it does not matter which of the two is taken first.
-use Rattle.std.proofs.Common.{◌≡◌, ℕ, ℤ, pos, ◌+ℤ◌, Bool, true, false, not, ◌&&◌, ◌==◌, cond, List}
+use Rattle.std.proofs.Common.{◌≡◌, ℕ, ℤ, pos, ◌+ℤ◌, Bool, true, not, ◌==◌, cond, List}
 use Rattle.std.proofs.Common.{[], ◌∷◌, filter, Option, Some, None, refl, sym, ap, ◌∙◌, subst, inl}
 use Rattle.std.proofs.Common.{inr, arith}
 use Rattle.std.specs.List.{list_all}

@@ -1,5 +1,5 @@
--- All finishes of a season in one list, and how many they are: what is played stays, and what is not
--- may end with each score up to the goal limit.
+-- All finishes of a season in one list, and how many they are: what is played stays, and what is
+-- not may end with each score up to the goal limit.
 use Rattle.std.specs.Prelude.{ℕ, ◌+◌, ◌*◌, List, [], ◌∷◌, map, Option, Some, None}
 use Rattle.std.specs.List.{flat_map}
 use Rattle.league_core.specs.declared.season.Score.{Score}
@@ -18,7 +18,8 @@ abbrev pub finishes_of : ℕ → List (Option Score) → List (List (Option Scor
 finishes_of limit [] = [] ∷ []
 finishes_of limit (played ∷ season) = flat_map (with_first limit played) (finishes_of limit season)
 
--- in how many ways a fixture may end: in one if it was played, else each side in one more than the limit
+-- in how many ways a fixture may end: in one if it was played, else each side in one more than the
+-- limit
 abbrev pub ways_to_end : ℕ → Option Score → ℕ
 ways_to_end limit None = (limit + 1) * (limit + 1)
 ways_to_end limit (Some played) = 1

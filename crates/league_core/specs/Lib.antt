@@ -22,6 +22,7 @@ pub mod Options
 pub mod FinishList
 pub mod FinishLaws
 pub mod PointRanges
+pub mod Extents
 pub mod PairSums
 pub mod SureOrder
 pub mod Reasons

@@ -68,7 +68,8 @@ take_options (options ∷ more) (ended ∷ finish) =
 
 -- a finish in the box of a zone: each of its scores is an option there, whatever the zone's marks
 -- say
-pub record IsInBox (sheet : Sheet) (season : Results) (zone : List Literal) (finish : Results) : Type 0 where
+pub record IsInBox (sheet : Sheet) (season : Results) (zone : List Literal)
+    (finish : Results) : Type 0 where
   pub deductions : finish.deductions ≡ season.deductions
   pub scores : IsTrue (take_options (options_in sheet season zone) finish.scores)
 

@@ -1,6 +1,6 @@
 -- The least and the most that the fixtures of a zone can add up to, fixture by fixture: each of
 -- them takes the option that gives least, or most. The clubs of a set are counted together.
-use Rattle.std.specs.Prelude.{Bool, true, false, if◌then◌else◌, ℕ, ℤ, pos, ◌+ℤ◌, ◌-ℤ◌, List, [], ◌∷◌, slice_index}
+use Rattle.std.specs.Prelude.{Bool, true, false, if◌then◌else◌, ℕ, ◌+◌, ℤ, pos, neg_ℤ, ◌+ℤ◌, ◌-ℤ◌, List, [], ◌∷◌, slice_index}
 use Rattle.std.specs.Int.{int_min, int_max}
 use Rattle.league_core.specs.declared.sheet.Sheet.{Sheet}
 use Rattle.league_core.specs.declared.sheet.Fixture.{Fixture}
@@ -19,6 +19,10 @@ pub record Range : Type 0 where
 -- a sum that has but one value
 abbrev pub one_value : ℤ → Range
 one_value value = record { least = value; greatest = value }
+
+-- the range of a sum with its sign turned round
+abbrev pub negated : Range → Range
+negated range = record { least = neg_ℤ range.greatest; greatest = neg_ℤ range.least }
 
 -- both sums together
 abbrev pub added : Range → Range → Range
@@ -57,6 +61,16 @@ abbrev pub points_of_sides : Bool → Bool → Score → ℤ
 points_of_sides home away score =
     (if home then match_points score.home score.away false else pos 0)
     +ℤ (if away then match_points score.away score.home true else pos 0)
+
+-- what a home win, a draw and an away win give to the two sides, where each of them counts or not
+abbrev pub won_points : Bool → ℕ
+won_points home = if home then 3 else 0
+
+abbrev pub drawn_points : Bool → Bool → ℕ
+drawn_points home away = (if home then 1 else 0) + (if away then 1 else 0)
+
+abbrev pub lost_points : Bool → ℕ
+lost_points away = if away then 3 else 0
 
 -- the points taken off the clubs of a set
 abbrev pub deducted_from : Results → List ℕ → ℤ

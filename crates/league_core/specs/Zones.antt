@@ -79,7 +79,8 @@ are_literals_true sheet club finish lots zone =
     list_all (is_literal_true sheet club finish lots) zone
 
 -- a finish of the season and lots of all clubs are in the zone, for a question of this club
-pub record IsMember (sheet : Sheet) (season : Results) (club : ℕ) (zone : List Literal) (finish : Results) (lots : List ℕ) : Type 0 where
+pub record IsMember (sheet : Sheet) (season : Results) (club : ℕ) (zone : List Literal)
+    (finish : Results) (lots : List ℕ) : Type 0 where
   pub is_finish : IsFinishOf sheet season finish
   pub is_drawn : IsTrue (are_lots (length sheet.clubs) lots)
   pub literals : IsTrue (are_literals_true sheet club finish lots zone)

@@ -18,6 +18,7 @@ mod memory;
 mod pair_laws;
 mod proposal_laws;
 mod question;
+mod range_laws;
 mod roomy_list;
 mod score_code;
 mod season;
@@ -51,6 +52,7 @@ pub use proposal_laws::{
     option_order_is_total, options_have_one_first, proposed_finishes_are_finishes,
 };
 pub use question::{Claim, Question};
+pub use range_laws::ranges_are_exact;
 pub use roomy_list::RoomyList;
 pub use season::{Event, Score, Season};
 pub use sheet::{Club, Fixture, Order, Sheet};

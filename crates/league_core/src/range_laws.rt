@@ -1,0 +1,11 @@
+//! The law of ranges: a function that does nothing, with the law as its contract.
+//!
+//! The statement is in `specs/Extents.antt`.
+
+ghost use Rattle.league_core.specs.Extents.{RangesAreExact};
+
+/// The least and the greatest value over some options bound the value at each of them, and each
+/// is the value at one of them.
+pub fn ranges_are_exact()
+    ensures { RangesAreExact }
+{}
