@@ -13,7 +13,7 @@ from pathlib import Path
 from typing import TYPE_CHECKING
 
 from .answers import Place, Verdict
-from .explain import decided_text, proof_steps, unsettled_texts
+from .sentences import decided_text, proof_steps, unsettled_texts
 from .wording import counted, limit_phrase, lots_phrase, match_text, place_phrase, score_text
 
 if TYPE_CHECKING:

@@ -80,7 +80,11 @@ def report_of(run: Run) -> Report:
         raise common.Trouble(f"futmax wrote what these tools do not know: {fault}",
                              common.NO_PROGRAM) from fault
     if report.fault is not None:
-        raise common.Trouble(refusal_text(*report.fault))
+        line, code = report.fault
+        if code == "too_wide":
+            raise common.Trouble(refusal_text(line, code))
+        raise common.Trouble(f"futmax refuses line {line} as `{code}`, and these tools do not: it "
+                             "may be an older program. Build it anew.", common.NO_PROGRAM)
     if run.status != 0:
         reason = ENDINGS.get(run.status, "nothing is known of this status")
         raise common.Trouble(f"futmax ended with status {run.status}: {reason}.",
