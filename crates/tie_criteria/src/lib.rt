@@ -1,7 +1,8 @@
 //! Groups of clubs on one number of points: which of them the tie-break criteria put ahead.
 //!
 //! The criteria are league_core's `Ahead`: the head-to-head record in the group, taken again in each
-//! smaller group that it leaves level, then the sums over all matches, then the fixed rank. Read
+//! smaller group that it leaves level, then the sums over all matches, then the fixed rank; or, by
+//! the sheet's order, difference and goals over all matches before all that. Read
 //! `specs/Parts.antt` first, which ties the types here to those definitions.
 #![tactic(auto)]
 
@@ -9,7 +10,6 @@ mod blocks;
 mod keys;
 mod measure;
 mod mini_table;
-mod pairs;
 mod points;
 mod records;
 mod sums;
@@ -19,7 +19,6 @@ mod triple;
 pub use blocks::refine;
 pub use keys::Keys;
 pub use mini_table::{MiniTable, Row};
-pub use pairs::compare;
 pub use points::points_of;
 pub use tail::{Tail, tail_of};
 pub use triple::{Triple, triple_of};

@@ -3,8 +3,7 @@
 //! It takes one pass over the fixtures for the whole group.
 
 ghost use Rattle.std.specs.Prelude.{◌≡◌, IfOk, OnOk, if◌then◌else◌, [], ◌∷◌, ◌++◌, map};
-ghost use Rattle.league_core.specs.Sheets.{IsWithinLimits};
-ghost use Rattle.league_core.specs.Seasons.{IsSeasonOf};
+ghost use Rattle.league_core.specs.Seasons.{IsLeague};
 ghost use Rattle.league_core.specs.Sums.{has_club};
 ghost use Rattle.league_core.specs.ClubSets.{clubs_in};
 ghost use Rattle.tie_criteria.specs.Groups.{IsGroupOf};
@@ -47,8 +46,7 @@ impl MiniTable {
         season: &Season,
         group: ClubSet,
     ) -> Result<MiniTable, OutOfMemory>
-        requires limits { IsWithinLimits sheet.now }
-        requires of_sheet { IsSeasonOf sheet.now season.now }
+        requires league { IsLeague sheet.now season.now }
         requires of_group { IsGroupOf sheet.now (clubs_in group) }
         ensures { IfOk result (λ table. table
             ≡ map (row_of sheet.now season.now (clubs_in group)) (clubs_in group)) }

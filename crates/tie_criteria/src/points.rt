@@ -1,8 +1,7 @@
 //! A club's points: those of all its matches, less what is taken off.
 
 ghost use Rattle.std.specs.Prelude.{◌≡◌, ◌<◌, length};
-ghost use Rattle.league_core.specs.Sheets.{IsWithinLimits};
-ghost use Rattle.league_core.specs.Seasons.{IsSeasonOf};
+ghost use Rattle.league_core.specs.Seasons.{IsLeague};
 ghost use Rattle.league_core.specs.Sums.{points_of};
 
 use crate::measure::{Matches, Measure};
@@ -11,8 +10,7 @@ use league_core::{Season, Sheet};
 
 /// The club's points from the matches that are played, less its deduction; it may be negative.
 pub fn points_of(sheet: &Sheet, season: &Season, club: u8) -> i32
-    requires limits { IsWithinLimits sheet.now }
-    requires of_sheet { IsSeasonOf sheet.now season.now }
+    requires league { IsLeague sheet.now season.now }
     requires in_range { club < length sheet.now.clubs }
     ensures { result ≡ points_of sheet.now season.now club }
 {

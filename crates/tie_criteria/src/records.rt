@@ -1,8 +1,7 @@
 //! The records of all clubs in a group, in one pass over the fixtures.
 
 ghost use Rattle.std.specs.Prelude.{◌≡◌, ◌≢◌, ◌<◌, ℕ, length, IfOk};
-ghost use Rattle.league_core.specs.Sheets.{IsWithinLimits};
-ghost use Rattle.league_core.specs.Seasons.{IsSeasonOf};
+ghost use Rattle.league_core.specs.Seasons.{IsLeague};
 ghost use Rattle.league_core.specs.Sums.{Worth, worth_to, worth_among, if_played};
 ghost use Rattle.league_core.specs.ClubSets.{clubs_in};
 ghost use Rattle.tie_criteria.specs.Records.{no_record, record_at, IsBounded, GrowsBy, AddsMatch, AreRecords};
@@ -18,8 +17,7 @@ pub fn records(
     season: &Season,
     group: ClubSet,
 ) -> Result<Vec<Triple>, OutOfMemory>
-    requires limits { IsWithinLimits sheet.now }
-    requires of_sheet { IsSeasonOf sheet.now season.now }
+    requires league { IsLeague sheet.now season.now }
     ensures { IfOk result
         (λ found. AreRecords sheet.now season.now (clubs_in group) found.items) }
 {
@@ -30,8 +28,7 @@ pub fn records(
 
 /// Adds all matches of the group to records that have none yet.
 fn add_all(found: &mut [Triple], sheet: &Sheet, season: &Season, group: ClubSet)
-    requires limits { IsWithinLimits sheet.now }
-    requires of_sheet { IsSeasonOf sheet.now season.now }
+    requires league { IsLeague sheet.now season.now }
     requires clubs { length found.old ≡ length sheet.now.clubs }
     requires none { (club : ℕ) → record_at found.old club ≡ no_record }
     ensures { AreRecords sheet.now season.now (clubs_in group) found.new }

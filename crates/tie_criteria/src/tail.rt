@@ -1,8 +1,7 @@
 //! What decides among clubs that the head-to-head leaves level: the sums over all matches and the rank.
 
 ghost use Rattle.std.specs.Prelude.{◌≡◌, ◌<◌, length};
-ghost use Rattle.league_core.specs.Sheets.{IsWithinLimits};
-ghost use Rattle.league_core.specs.Seasons.{IsSeasonOf};
+ghost use Rattle.league_core.specs.Seasons.{IsLeague};
 ghost use Rattle.league_core.specs.HeadToHead.{by_first_difference};
 ghost use Rattle.league_core.specs.Ahead.{overall_of};
 ghost use Rattle.tie_criteria.specs.Parts.{tail_parts};
@@ -49,8 +48,7 @@ impl Tail {
 
 /// The club's sums over all matches that are played, and its rank.
 pub fn tail_of(sheet: &Sheet, season: &Season, club: u8) -> Tail
-    requires limits { IsWithinLimits sheet.now }
-    requires of_sheet { IsSeasonOf sheet.now season.now }
+    requires league { IsLeague sheet.now season.now }
     requires in_range { club < length sheet.now.clubs }
     ensures { tail_parts result ≡ overall_of sheet.now season.now club }
 {

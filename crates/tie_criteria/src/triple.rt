@@ -1,11 +1,10 @@
 //! The head-to-head record of a club in a group of clubs.
 
 ghost use Rattle.std.specs.Prelude.{◌≡◌, Bool};
-ghost use Rattle.league_core.specs.Sheets.{IsWithinLimits};
-ghost use Rattle.league_core.specs.Seasons.{IsSeasonOf};
+ghost use Rattle.league_core.specs.Seasons.{IsLeague};
 ghost use Rattle.league_core.specs.HeadToHead.{head_to_head_of, by_first_difference};
 ghost use Rattle.league_core.specs.ClubSets.{clubs_in};
-ghost use Rattle.tie_criteria.specs.Parts.{triple_parts};
+ghost use Rattle.tie_criteria.specs.Parts.{triple_parts, goal_parts};
 ghost use Rattle.tie_criteria.specs.Records.{record_at, IsBounded, GrowsBy};
 
 use crate::measure::{Matches, Measure, match_points};
@@ -45,16 +44,24 @@ impl Triple {
     pub fn order(&self, other: &Triple) -> Ordering
         ensures { result ≡ by_first_difference (triple_parts self.now) (triple_parts other.now) }
     {
+        other
+            .points
+            .cmp(&self.points)
+            .then(self.order_by_goals(other))
+    }
+
+    /// `Less` where this triple has the greater difference, or else the more goals.
+    pub fn order_by_goals(&self, other: &Triple) -> Ordering
+        ensures { result ≡ by_first_difference (goal_parts self.now) (goal_parts other.now) }
+    {
         let by_scored = other.scored.cmp(&self.scored);
-        let by_difference = other.difference.cmp(&self.difference).then(by_scored);
-        other.points.cmp(&self.points).then(by_difference)
+        other.difference.cmp(&self.difference).then(by_scored)
     }
 }
 
 /// The club's record in the matches of the group, from the matches that are played.
 pub fn triple_of(sheet: &Sheet, season: &Season, group: ClubSet, club: u8) -> Triple
-    requires limits { IsWithinLimits sheet.now }
-    requires of_sheet { IsSeasonOf sheet.now season.now }
+    requires league { IsLeague sheet.now season.now }
     ensures { triple_parts result ≡ head_to_head_of sheet.now season.now (clubs_in group) club }
 {
     let matches = Matches::Among(group);
