@@ -79,6 +79,8 @@ WHOLE_FILES = (
             ("first record has to be `league`",), ("league,My league,9",)),
     Mistake("records in the wrong order", "match,Anchor,Köln\n" + SHEET, "fault,1,no_league",
             ("stands further down, in line 2",)),
+    Mistake("a feed without its sheet", "result,1,2,1\nask\n", "fault,1,no_league",
+            ("sheet is missing in front",)),
     Mistake("a comment with two slashes", "// my league\n" + SHEET + "ask\n", "fault,1,no_league",
             ("begins with `#`",), ("# my league",)),
     Mistake("a comment behind spaces", in_feed("  # second day"), "fault,11,unknown_record",

@@ -20,10 +20,10 @@ class Doubt:
     message: str
 
 
-def sheet_doubts(sheet: Sheet) -> Iterator[Doubt]:
-    """What looks wrong in a sheet."""
+def sheet_doubts(sheet: Sheet, is_for_table: bool = False) -> Iterator[Doubt]:
+    """What looks wrong in a sheet; for the table alone no line is needed."""
     yield from name_doubts(sheet)
-    if not sheet.lines:
+    if not sheet.lines and not is_for_table:
         yield Doubt(0, "the sheet has no `line`, so `verdicts` has nothing to say. Write "
                        "`line,1` for "
                        "the first place, `line,4` for the first four")
@@ -111,8 +111,9 @@ def some_pairs(pairs: list[tuple[str, str]]) -> str:
     return some([f"{home} - {away}" for home, away in pairs])
 
 
-def feed_doubts(sheet: Sheet, entries: list[Entry]) -> Iterator[Doubt]:
-    """What looks wrong in a feed."""
+def feed_doubts(sheet: Sheet, entries: list[Entry],
+                is_for_table: bool = False) -> Iterator[Doubt]:
+    """What looks wrong in a feed; for the table alone no ask is too wide."""
     asks = [entry for entry in entries if entry.kind == "ask"]
     if not asks:
         yield Doubt(0, "the feed has no `ask`, so the program answers nothing. Write `ask` as the "
@@ -122,7 +123,7 @@ def feed_doubts(sheet: Sheet, entries: list[Entry]) -> Iterator[Doubt]:
                                       "`ask` once more at the end")
     yield from _goal_doubts(sheet, entries)
     season = Season()
-    is_wide_told = False
+    is_wide_told = is_for_table
     for entry in entries:
         yield from _event_doubts(sheet, season, entry)
         if entry.kind == "ask" and sheet.lines and not is_wide_told:

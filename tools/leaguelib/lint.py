@@ -16,6 +16,7 @@ from .files import Joined, examine, joined
 from .names import shown
 from .records import Record, Refused, count_lines, lines_of, record_of, records_of
 from .refusals import Advice, advise
+from .repairs import FEED_KINDS
 from .texts import Entry
 from .words import words_for
 
@@ -62,19 +63,22 @@ def add_arguments(parser: argparse.ArgumentParser) -> None:
     parser.add_argument("--quiet", action="store_true", help="say nothing where nothing is wrong")
     parser.add_argument("--sheet-only", action="store_true",
                         help="the files hold a sheet alone: do not miss a feed")
+    parser.add_argument("--mode", default="verdicts", choices=("verdicts", "table"),
+                        help="the mode in which futmax is to be run (verdicts)")
 
 
 def run(arguments: argparse.Namespace) -> int:
     """Looks at the files, and prints what was found."""
     files = [("standard input" if name == "-" else name, common.read_bytes(name))
              for name in arguments.files]
-    text, status = looked_at(files, arguments.sheet_only)
+    text, status = looked_at(files, arguments.sheet_only, arguments.mode == "table")
     if text or not arguments.quiet:
         common.write_text(text or "No mistakes found.\n")
     return status
 
 
-def looked_at(files: list[tuple[str, bytes]], is_sheet_only: bool = False) -> tuple[str, int]:
+def looked_at(files: list[tuple[str, bytes]], is_sheet_only: bool = False,
+              is_for_table: bool = False) -> tuple[str, int]:
     """What there is to say about the files, and the exit status."""
     examined = [(name, examine(data)) for name, data in files]
     texts = [f"{name}: {_capital(message)}.\n"
@@ -84,14 +88,14 @@ def looked_at(files: list[tuple[str, bytes]], is_sheet_only: bool = False) -> tu
         whole = joined(files)
         return "".join(texts) + outcome_text(Outcome(refused=original), whole), common.TO_MEND
     whole = joined([(name, file.data) for name, file in examined])
-    outcome = look(whole.data, is_sheet_only)
+    outcome = look(whole.data, is_sheet_only, is_for_table)
     if texts:
         outcome.refused = original
     text = "".join(texts) + outcome_text(outcome, whole)
     return text, common.TO_MEND if texts else outcome.status
 
 
-def look(data: bytes, is_sheet_only: bool = False) -> Outcome:
+def look(data: bytes, is_sheet_only: bool = False, is_for_table: bool = False) -> Outcome:
     """Looks at a whole input in UTF-8."""
     outcome = Outcome(refused=refusal_of(data), league_line=_league_line(data))
     reader = InputReader()
@@ -107,9 +111,9 @@ def look(data: bytes, is_sheet_only: bool = False) -> Outcome:
         return outcome
     _test_end(reader, count_lines(data), outcome)
     if reader.sheet is not None:
-        outcome.doubts.extend(sheet_doubts(reader.sheet))
+        outcome.doubts.extend(sheet_doubts(reader.sheet, is_for_table))
         if reader.feed_reader is not None and not is_sheet_only:
-            outcome.doubts.extend(feed_doubts(reader.sheet, entries))
+            outcome.doubts.extend(feed_doubts(reader.sheet, entries, is_for_table))
     return outcome
 
 
@@ -173,6 +177,9 @@ def _advice_on_first(record: Record, league_line: int) -> Advice | None:
     if league_line and record.kind in KINDS:
         return Advice("The first record has to be `league`, and it stands further down, in line "
                       f"{league_line}: move it to the top.")
+    if record.kind in FEED_KINDS:
+        return Advice("This is a line of a feed, and the sheet is missing in front of it: "
+                      "`league lint SHEET FEED` reads both.")
     return None
 
 

@@ -88,14 +88,23 @@ def fields_of(raw: bytes) -> list[str]:
     """
     if raw.startswith(BYTE_ORDER_MARK):
         raw = raw[len(BYTE_ORDER_MARK):]
+    if b'"' in raw:
+        pieces = _pieces_of(raw)
+    else:
+        pieces = raw.split(b",")
+    texts = [piece.decode("utf-8", "surrogateescape") for piece in pieces]
+    while texts and texts[-1] == "":
+        texts.pop()
+    return texts
+
+
+def _pieces_of(raw: bytes) -> list[bytes]:
+    """The fields of a line that has double quotes."""
     fields: list[bytearray] = [bytearray()]
     state = "start"
     for byte in raw:
         state = _take_byte(fields, state, byte)
-    texts = [bytes(field).decode("utf-8", "surrogateescape") for field in fields]
-    while texts and texts[-1] == "":
-        texts.pop()
-    return texts
+    return [bytes(field) for field in fields]
 
 
 def _take_byte(fields: list[bytearray], state: str, byte: int) -> str:
