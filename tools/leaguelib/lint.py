@@ -6,14 +6,12 @@ other, as `cat` joins them; `-` is standard input.
 from __future__ import annotations
 
 import argparse
-from dataclasses import dataclass, field
-
 from . import common
 from .cleaning import KINDS
-from .doubts import Doubt, feed_doubts, sheet_doubts
+from .doubts import feed_doubts, sheet_doubts
 from .feeds import InputReader, read_input
-from .files import Joined, examine, joined
-from .names import shown
+from .files import examine, joined
+from .findings import Finding, Outcome, capital, outcome_text
 from .records import Record, Refused, count_lines, lines_of, record_of, records_of
 from .refusals import Advice, advise
 from .repairs import FEED_KINDS
@@ -21,40 +19,6 @@ from .texts import Entry
 from .words import words_for
 
 MOST_SHOWN = 30
-
-
-@dataclass
-class Finding:
-    """A mistake: where it stands, what is wrong, what stands there, and what to write instead."""
-
-    line: int
-    message: str
-    written: str = ""
-    instead: list[str] = field(default_factory=list)
-    is_dropped: bool = False
-    field_number: int = 0
-
-
-@dataclass
-class Outcome:
-    """All that was found in an input; `refused` is the line at which the program stops.
-
-    `league_line` is the line of the first `league` record, wherever it stands; 0 where none does.
-    """
-
-    findings: list[Finding] = field(default_factory=list)
-    doubts: list[Doubt] = field(default_factory=list)
-    refused: Refused | None = None
-    more: int = 0
-    league_line: int = 0
-    is_league_missed: bool = False
-
-    @property
-    def status(self) -> int:
-        """The exit status that says this."""
-        if self.findings or self.refused:
-            return common.TO_MEND
-        return common.DOUBTFUL if self.doubts else common.DONE
 
 
 def add_arguments(parser: argparse.ArgumentParser) -> None:
@@ -81,7 +45,7 @@ def looked_at(files: list[tuple[str, bytes]], is_sheet_only: bool = False,
               is_for_table: bool = False) -> tuple[str, int]:
     """What there is to say about the files, and the exit status."""
     examined = [(name, examine(data)) for name, data in files]
-    texts = [f"{name}: {_capital(message)}.\n"
+    texts = [f"{name}: {capital(message)}.\n"
              for name, file in examined for message in file.messages]
     original = refusal_of(b"".join(data for _, data in files))
     if not all(file.is_readable for _, file in examined):
@@ -106,7 +70,7 @@ def look(data: bytes, is_sheet_only: bool = False, is_for_table: bool = False) -
             if record is not None:
                 entries.extend(_take(record, reader, outcome))
     except Refused as refused:
-        words = _capital(words_for(refused, [], None)) + "."
+        words = capital(words_for(refused, [], None)) + "."
         outcome.findings.append(Finding(refused.line, words))
         return outcome
     _test_end(reader, count_lines(data), outcome)
@@ -212,41 +176,6 @@ def _test_end(reader: InputReader, lines: int, outcome: Outcome) -> None:
         reader.test_end(lines)
     except Refused as refused:
         if refused.code == "no_season" or not outcome.findings:
-            words = _capital(words_for(refused, [], reader.sheet)) + "."
+            words = capital(words_for(refused, [], reader.sheet)) + "."
             instead = ["season"] if refused.code == "no_season" else []
             outcome.findings.append(Finding(lines + 1, words, "", instead))
-
-
-def outcome_text(outcome: Outcome, whole: Joined) -> str:
-    """What was found, as text for people; nothing where nothing was found."""
-    parts = [_finding_text(finding, whole) for finding in outcome.findings]
-    if outcome.more:
-        lines = "1 more line" if outcome.more == 1 else f"{outcome.more} more lines"
-        parts.append(f"And {lines} of that kind. Mend these first, and look again.\n")
-    for doubt in outcome.doubts:
-        where = f"{whole.origin(doubt.line)}: " if doubt.line else ""
-        parts.append(f"{where}Is this meant? {_capital(doubt.message)}\n")
-    refused = outcome.refused
-    if refused is not None:
-        parts.append(f"futmax stops at {whole.origin(refused.line)}, with the row "
-                     f"`fault,{refused.line},{refused.code}` and status {refused.status}.\n")
-    elif parts:
-        parts.append("futmax takes this input.\n")
-    return "".join(parts)
-
-
-def _finding_text(finding: Finding, whole: Joined) -> str:
-    """One mistake with what stands there and what to write."""
-    place = f", field {finding.field_number}" if finding.field_number else ""
-    lines = [f"{whole.origin(finding.line)}{place}: {finding.message}"]
-    if finding.written:
-        lines.append(f"    you wrote:  {shown(finding.written)[1:-1]}")
-    for number, text in enumerate(finding.instead):
-        lines.append(("    write:      " if number == 0 else "                ") + text)
-    if finding.is_dropped:
-        lines.append("    write:      nothing; leave the line out")
-    return "\n".join(lines) + "\n"
-
-
-def _capital(text: str) -> str:
-    return text[:1].upper() + text[1:]
