@@ -1,10 +1,11 @@
 -- The line at the front of bytes in hand, whatever is left behind them: one that ended there, and
 -- one that is longer than a line may be.
-use Rattle.std.proofs.Common.{◌≡◌, ℕ, ◌+◌, ◌<◌, ◌≤◌, eqb, List, [], ◌∷◌, ◌++◌, length, take, drop, ap, sym, ◌∙◌, arith, append_assoc, length-append}
+use Rattle.std.proofs.Common.{◌≡◌, ℕ, ◌+◌, ◌<◌, ◌≤◌, eqb, List, [], ◌∷◌, ◌++◌, length, take, drop}
+use Rattle.std.proofs.Common.{ap, sym, ◌∙◌, arith, append_assoc, length-append}
 use Rattle.std.proofs.lemmas.List.{take-append-drop, length-take-le}
 use Rattle.std.proofs.lemmas.Bool.{cond_both}
 use Rattle.port_core.specs.Lines.{lines_of, text_of_line, line_limit}
-use Rattle.port_core.specs.Window.{EndsAt, IsOverlong}
+use Rattle.port_core.specs.Buffers.{EndsAt, IsOverlong}
 use Rattle.port_core.proofs.LineLemmas.{lines_of-ended, lines_of-front, text_of_line-front}
 
 -- this line is the first of an input, and the others are the lines of what follows it

@@ -1,11 +1,14 @@
 -- Lines: what joining them gives, which lists of lines are those of an input, and the line at the
 -- front of one.
-use Rattle.std.proofs.Common.{◌≡◌, ◌≢◌, ℕ, ◌<◌, Bool, false, eqb, if◌then◌else◌, List, [], ◌∷◌, ◌++◌, length, refl, ap, sym, ◌∙◌, subst, inl, inr, arith, append_assoc, append-nil}
+use Rattle.std.proofs.Common.{◌≡◌, ◌≢◌, ℕ, ◌<◌, Bool, false, eqb, if◌then◌else◌, List, [], ◌∷◌}
+use Rattle.std.proofs.Common.{◌++◌, length, refl, ap, sym, ◌∙◌, subst, inl, inr, arith}
+use Rattle.std.proofs.Common.{append_assoc, append-nil}
 use Rattle.std.specs.Prelude.{◌⊎◌}
 use Rattle.std.specs.List.{concat}
 use Rattle.std.proofs.lemmas.List.Elements.{All-nil, All-cons, All-head, All-tail}
 use Rattle.std.proofs.lemmas.Bool.{cond_both}
-use Rattle.port_core.specs.Lines.{onto_first, lines_of, text_of_line, HasNoLineFeed, IsEndedLine, IsOpenLine, AreLines}
+use Rattle.port_core.specs.Lines.{onto_first, lines_of, text_of_line, HasNoLineFeed, IsEndedLine}
+use Rattle.port_core.specs.Lines.{IsOpenLine, AreLines}
 
 -- ---- the first byte
 

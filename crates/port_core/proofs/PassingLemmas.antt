@@ -1,39 +1,56 @@
 -- Lines that are passed: none, one after the other, the one that ended in hand, and the last one.
-use Rattle.std.proofs.Common.{◌≡◌, ℕ, ◌+◌, ◌<◌, ◌≤◌, Bool, true, false, if◌then◌else◌, leb, eqb, List, [], ◌∷◌, ◌++◌, length, take, drop, Option, Some, None, Result, Ok, Err, refl, ap, sym, ◌∙◌, subst, arith, append_assoc, append-nil}
+use Rattle.std.proofs.Common.{◌≡◌, ℕ, ◌+◌, ◌<◌, ◌≤◌, Bool, true, false, if◌then◌else◌, leb, eqb}
+use Rattle.std.proofs.Common.{List, [], ◌∷◌, ◌++◌, length, take, drop, Option, Some, None, Result}
+use Rattle.std.proofs.Common.{Ok, Err, refl, ap, sym, ◌∙◌, subst, arith, append_assoc, append-nil}
 use Rattle.std.specs.Prelude.{option_map}
 use Rattle.std.specs.Io.KnownBytes.{IsAtEnd}
 use Rattle.std.proofs.lemmas.List.{take_all, drop_all}
-use Rattle.std.proofs.lemmas.Bool.{leb-false}
+use Rattle.std.proofs.lemmas.Bool.{leb-false, false≢true}
+use Rattle.std.proofs.lemmas.List.Elements.{All-append, All-cons, All-nil}
 use Rattle.std.proofs.lemmas.Bool.Decides.{nat_tests}
 use Rattle.port_core.specs.declared.answers.Line.{Line}
 use Rattle.port_core.specs.declared.answers.Line.TheVariants.{Text, End}
 use Rattle.port_core.specs.declared.answers.ReadStop.{ReadStop}
 use Rattle.port_core.specs.declared.answers.ReadStop.TheVariants.{InputTooLong}
-use Rattle.port_core.specs.Lines.{lines_of, text_of_line, HasNoLineFeed}
-use Rattle.port_core.specs.Window.{EndsAt, IsPartial}
-use Rattle.port_core.specs.Contents.{Place, place_behind, number_at, content_at, is_skipped, line_stop, Contents, with_line, with_lines, contents_from}
-use Rattle.port_core.specs.Reading.{Reading, stream_of, Passes, PassesKnown, PassesTo, given_there, GivesLine, EndsLine, EndsInput}
+use Rattle.port_core.specs.Lines.{lines_of, text_of_line, HasNoLineFeed, IsEndedLine}
+use Rattle.port_core.specs.Buffers.{EndsAt, IsPartial}
+use Rattle.port_core.specs.Contents.{Position, position_behind, number_at, content_at, is_skipped}
+use Rattle.port_core.specs.Contents.{line_stop, Contents, with_line, with_lines, contents_from}
+use Rattle.port_core.specs.Readers.{Reader, stream_of, Passes, PassesKnown, PassesTo, given_there}
+use Rattle.port_core.specs.Readers.{GivesLine, Stops, EndsLine, EndsInput}
 use Rattle.port_core.proofs.LineLemmas.{lines_of-open, text_of_line-ended, text_of_line-open}
 use Rattle.port_core.proofs.FirstLineLemmas.{first_line-ended}
-use Rattle.port_core.proofs.ContentLemmas.{contents-line, length-ended, stop-none, stop-inside, match_bool}
+use Rattle.port_core.proofs.StopLemmas.{length-ended, stop-none, stop-inside}
+use Rattle.port_core.proofs.ContentLemmas.{contents-line}
+use Rattle.port_core.proofs.AnswerLemmas.{match_bool}
 
 -- ---- none, and some after others
 
 -- no line is passed where nothing changes
-pub passes-none : (place : Place) (before after : Option (List ℕ)) → before ≡ after
-    → PassesKnown place before place after []
-passes-none place before None same =
-    let P : Option (List ℕ) → Type 0 = λ known. PassesKnown place known place None [] in
+pub passes-none : (position : Position) (before after : Option (List ℕ)) (ended ended' : Bool)
+    → before ≡ after → (ended' ≡ false → ended ≡ false)
+    → PassesKnown position before ended position after ended' []
+passes-none position before None ended ended' same told =
+    let P : Option (List ℕ) → Type 0 =
+    λ known. PassesKnown position known ended position None ended' [] in
     subst P (sym same) tt
-passes-none place before (Some bytes) same =
-    let P : Option (List ℕ) → Type 0 = λ known. PassesKnown place known place (Some bytes) [] in
-    subst P (sym same) (record { lines = []; split = refl; gives = λ more. refl })
+passes-none position before (Some bytes) ended ended' same told =
+    let P : Option (List ℕ) → Type 0 =
+    λ known. PassesKnown position known ended position (Some bytes) ended' [] in
+    subst P (sym same) (record {
+      lines = [];
+      split = refl;
+      gives = λ more. refl;
+      whole = λ unsaid. All-nil IsEndedLine;
+      told = told;
+    })
 
 -- lines passed in turn are lines passed
-passes-joined : (a b c : Place) (first second third : List ℕ) (given more : List (ℕ × List ℕ))
-    → Passes a first b second given → Passes b second c third more
-    → Passes a first c third (given ++ more)
-passes-joined a b c first second third given more one two = record {
+passes-joined : (a b c : Position) (first second third : List ℕ) (x y z : Bool)
+    (given more : List (ℕ × List ℕ))
+    → Passes a first x b second y given → Passes b second y c third z more
+    → Passes a first x c third z (given ++ more)
+passes-joined a b c first second third x y z given more one two = record {
   lines = one.lines ++ two.lines;
   split = one.split ∙ ap (λ ls. one.lines ++ ls) two.split
       ∙ sym (append_assoc one.lines two.lines (lines_of third));
@@ -43,19 +60,22 @@ passes-joined a b c first second third given more one two = record {
       ∙ one.gives (two.lines ++ ls) ∙ ap (with_lines given) (two.gives ls)
       ∙ ap (λ (l : List (ℕ × List ℕ)). record { lines = l; ending = rest.ending })
       (sym (append_assoc given more rest.lines));
+  whole = λ unsaid. All-append IsEndedLine one.lines two.lines (one.whole (two.told unsaid))
+      (two.whole unsaid);
+  told = λ unsaid. one.told (two.told unsaid);
 }
 
-pub passes-more : (a b c : Place) (first second third : Option (List ℕ))
+pub passes-more : (a b c : Position) (first second third : Option (List ℕ)) (x y z : Bool)
     (given more : List (ℕ × List ℕ))
-    → PassesKnown a first b second given → PassesKnown b second c third more
-    → PassesKnown a first c third (given ++ more)
-passes-more a b c None None None given more one two = tt
-passes-more a b c None None (Some third) given more one two = absurd two
-passes-more a b c None (Some second) third given more one two = absurd one
-passes-more a b c (Some first) None third given more one two = absurd one
-passes-more a b c (Some first) (Some second) None given more one two = absurd two
-passes-more a b c (Some first) (Some second) (Some third) given more one two =
-    passes-joined a b c first second third given more one two
+    → PassesKnown a first x b second y given → PassesKnown b second y c third z more
+    → PassesKnown a first x c third z (given ++ more)
+passes-more a b c None None None x y z given more one two = tt
+passes-more a b c None None (Some third) x y z given more one two = absurd two
+passes-more a b c None (Some second) third x y z given more one two = absurd one
+passes-more a b c (Some first) None third x y z given more one two = absurd one
+passes-more a b c (Some first) (Some second) None x y z given more one two = absurd two
+passes-more a b c (Some first) (Some second) (Some third) x y z given more one two =
+    passes-joined a b c first second third x y z given more one two
 
 -- ---- one line
 
@@ -75,69 +95,87 @@ given-line false number content text old line result line-is text-is result-is r
     (sym (result-is ∙ ap (option_map Ok) line-is))
 
 -- the line that is due is passed
-one-passes : (old new : Reading) (before after line : List ℕ) (end behind : ℕ)
+one-passes : (old new : Reader) (before after line : List ℕ) (ended ended' : Bool) (end behind : ℕ)
     (result : Option (Result Line ReadStop)) → GivesLine old new end behind result
     → lines_of before ≡ line ∷ lines_of after → text_of_line line ≡ take end old.held
-    → length line ≡ behind → line_stop old.place line ≡ None
-    → Passes old.place before new.place after (given_there result new.text)
-one-passes old new before after line end behind result given first text-is size-is none =
+    → length line ≡ behind → line_stop old.position line ≡ None
+    → (ended' ≡ false → IsEndedLine line × (ended ≡ false))
+    → Passes old.position before ended new.position after ended' (given_there result new.text)
+one-passes old new before after line ended ended' end behind result given first text-is size-is none
+    whole =
     let text = take end old.held in
-    let content = content_at old.place text in
-    let P : Place → Type 0 =
-    λ p. Passes old.place before p after (given_there result new.text) in
-    subst P (sym (ap (λ r. r.place) given.2.1)) (record {
+    let content = content_at old.position text in
+    let P : Position → Type 0 =
+    λ p. Passes old.position before ended p after ended' (given_there result new.text) in
+    subst P (sym (ap (λ r. r.position) given.2.1)) (record {
       lines = line ∷ [];
       split = first;
       gives = λ more.
-          contents-line old.place (line ∷ more) more line text behind refl text-is size-is none
-          ∙ given-line (is_skipped content) (number_at old.place) content new.text old.text
+          contents-line old.position (line ∷ more) more line text behind refl text-is size-is none
+          ∙ given-line (is_skipped content) (number_at old.position) content new.text old.text
           given.0 result given.2.0 (ap (λ r. r.text) given.2.1) given.1
-          (contents_from (place_behind old.place behind) more);
+          (contents_from (position_behind old.position behind) more);
+      whole = λ unsaid. All-cons IsEndedLine line [] (whole unsaid).0 (All-nil IsEndedLine);
+      told = λ unsaid. (whole unsaid).1;
     })
 
 -- the same of bytes in hand and those left, where the source tells them
-passes-given : (old new : Reading) (left : Option (List ℕ)) (line : List ℕ) (end behind : ℕ)
-    (result : Option (Result Line ReadStop)) → GivesLine old new end behind result
+passes-given : (old new : Reader) (left : Option (List ℕ)) (line : List ℕ) (ended ended' : Bool)
+    (end behind : ℕ) (result : Option (Result Line ReadStop)) → GivesLine old new end behind result
     → ((rest : List ℕ) → left ≡ Some rest
     → lines_of (old.held ++ rest) ≡ line ∷ lines_of (drop behind old.held ++ rest))
     → text_of_line line ≡ take end old.held → length line ≡ behind
-    → line_stop old.place line ≡ None
-    → PassesTo old new left left (given_there result new.text)
-passes-given old new None line end behind result given first text-is size-is none = tt
-passes-given old new (Some rest) line end behind result given first text-is size-is none =
-    one-passes old new (old.held ++ rest) (new.held ++ rest) line end behind result given
+    → line_stop old.position line ≡ None
+    → (ended' ≡ false → IsEndedLine line × (ended ≡ false))
+    → PassesTo old new left left ended ended' (given_there result new.text)
+passes-given old new None line ended ended' end behind result given first text-is size-is none whole
+    =
+    tt
+passes-given old new (Some rest) line ended ended' end behind result given first text-is size-is
+    none
+    whole =
+    one-passes old new (old.held ++ rest) (new.held ++ rest) line ended ended' end behind result
+    given
     (first rest refl
     ∙ ap (λ h. line ∷ lines_of (h ++ rest)) (sym (ap (λ r. r.held) given.2.1)))
-    text-is size-is none
+    text-is size-is none whole
 
 -- nothing is passed where the answer is a stop, or the end
-passes-stays : (old new : Reading) (left : Option (List ℕ))
+pub passes-stays : (old new : Reader) (left : Option (List ℕ)) (ended ended' : Bool)
     (result : Option (Result Line ReadStop)) (answer : Result Line ReadStop)
     → given_there (Some answer) new.text ≡ [] → (result ≡ Some answer) × (new ≡ old)
-    → PassesTo old new left left (given_there result new.text)
-passes-stays old new left result answer nothing is =
-    let P : Reading → Type 0 = λ r. PassesTo old r left left [] in
-    let Q : List (ℕ × List ℕ) → Type 0 = λ given. PassesTo old new left left given in
-    subst Q (sym (ap (λ (r : Option (Result Line ReadStop)). given_there r new.text) is.0 ∙ nothing))
-    (subst P (sym is.1) (passes-none old.place (stream_of old left) (stream_of old left) refl))
+    → (ended' ≡ false → ended ≡ false)
+    → PassesTo old new left left ended ended' (given_there result new.text)
+passes-stays old new left ended ended' result answer nothing is told =
+    let P : Reader → Type 0 = λ r. PassesTo old r left left ended ended' [] in
+    let Q : List (ℕ × List ℕ) → Type 0 =
+    λ given. PassesTo old new left left ended ended' given in
+    subst Q
+    (sym (ap (λ (r : Option (Result Line ReadStop)). given_there r new.text) is.0 ∙ nothing))
+    (subst P (sym is.1)
+    (passes-none old.position (stream_of old left) (stream_of old left) ended ended' refl told))
 
 -- a line ended in hand
-pub Ended-passes : (mid new : Reading) (left : Option (List ℕ)) (at : ℕ)
+pub Ended-passes : (mid new : Reader) (left : Option (List ℕ)) (ended ended' : Bool) (at : ℕ)
     (result : Option (Result Line ReadStop))
     → EndsAt mid.held at × (at < length mid.held) × (at ≤ 1024) → EndsLine mid new at result
-    → PassesTo mid new left left (given_there result new.text)
-Ended-passes mid new left at result ends answer =
-    match_bool (leb 67108864 (mid.place.bytes + at))
-    ((result ≡ Some (Err (InputTooLong (number_at mid.place)))) × (new ≡ mid))
+    → (ended' ≡ false → ended ≡ false)
+    → PassesTo mid new left left ended ended' (given_there result new.text)
+Ended-passes mid new left ended ended' at result ends answer told =
+    match_bool (leb 67108864 (mid.position.bytes + at))
+    (Stops mid new (InputTooLong (number_at mid.position)) result)
     (GivesLine mid new at (at + 1) result)
-    (PassesTo mid new left left (given_there result new.text)) answer
-    (λ past stopped. passes-stays mid new left result
-    (Err (InputTooLong (number_at mid.place))) refl stopped)
-    (λ inside given. passes-given mid new left (take at mid.held ++ 10 ∷ []) at (at + 1) result given
+    (PassesTo mid new left left ended ended' (given_there result new.text)) answer
+    (λ past stopped. passes-stays mid new left ended ended' result
+    (Err (InputTooLong (number_at mid.position))) refl stopped told)
+    (λ inside given. passes-given mid new left (take at mid.held ++ 10 ∷ []) ended ended' at (at +
+    1)
+    result given
     (λ rest told. (first_line-ended mid.held rest at ends.0).lines)
     (text_of_line-ended (take at mid.held) ends.0.0) (length-ended mid.held at ends.1)
-    (stop-inside mid.place mid.held at ends.0 ends.1 ends.2
-    (leb-false 67108864 (mid.place.bytes + at) inside)))
+    (stop-inside mid.position mid.held at ends.0 ends.1 ends.2
+    (leb-false 67108864 (mid.position.bytes + at) inside))
+    (λ unsaid. ((take at mid.held, ends.0.0, refl), told unsaid)))
 
 -- what is in hand at the end of the input is its last line
 last-first : (held : List ℕ) (left : Option (List ℕ)) → IsAtEnd left → HasNoLineFeed held
@@ -151,33 +189,37 @@ last-first held left end none some rest told =
     ∙ append-nil (drop (length held) held) ∙ drop_all (length held) held (omega arith) in
     ap lines_of whole ∙ lines_of-open held none some ∙ ap (λ l. held ∷ lines_of l) (sym gone)
 
--- the input ended behind the bytes in hand
-pub Open-passes : (mid new : Reading) (left : Option (List ℕ))
+-- the input ended behind the bytes in hand, and the end was told
+pub Open-passes : (mid new : Reader) (left : Option (List ℕ)) (ended ended' : Bool)
     (result : Option (Result Line ReadStop)) → IsPartial mid.held → IsAtEnd left
-    → mid.place.bytes + length mid.held ≤ 67108864 → EndsInput mid new result
-    → PassesTo mid new left left (given_there result new.text)
-Open-passes mid new left result partial end inside answer =
+    → mid.position.bytes + length mid.held ≤ 67108864 → EndsInput mid new result → ended' ≡ true
+    → PassesTo mid new left left ended ended' (given_there result new.text)
+Open-passes mid new left ended ended' result partial end inside answer told =
     let size = length mid.held in
     match_bool (eqb size 0)
-    ((result ≡ Some (Ok (End (number_at mid.place)))) × (new ≡ mid))
+    ((result ≡ Some (Ok (End (number_at mid.position)))) × (new ≡ mid))
     (GivesLine mid new size size result)
-    (PassesTo mid new left left (given_there result new.text)) answer
+    (PassesTo mid new left left ended ended' (given_there result new.text)) answer
     (λ none ended_there.
-    passes-stays mid new left result (Ok (End (number_at mid.place))) refl ended_there)
-    (λ some given. passes-given mid new left mid.held size size result given
+    passes-stays mid new left ended ended' result (Ok (End (number_at mid.position))) refl
+    ended_there (λ unsaid. absurd (false≢true (sym unsaid ∙ told))))
+    (λ some given. passes-given mid new left mid.held ended ended' size size result given
     (last-first mid.held left end partial.0 (grind (arith, nat_tests)))
     (text_of_line-open mid.held partial.0 ∙ sym (take_all size mid.held (omega arith))) refl
-    (stop-none mid.place mid.held
-    (omega (arith, ap length (text_of_line-open mid.held partial.0), partial.1)) inside))
+    (stop-none mid.position mid.held
+    (omega (arith, ap length (text_of_line-open mid.held partial.0), partial.1)) inside)
+    (λ unsaid. absurd (false≢true (sym unsaid ∙ told))))
 
 -- the same from the bytes in hand before the wait for them
-pub passes-before : (entry mid new : Reading) (left left' : Option (List ℕ))
-    (given : List (ℕ × List ℕ)) → entry.place ≡ mid.place
-    → stream_of entry left ≡ stream_of mid left' → PassesTo mid new left' left' given
-    → PassesTo entry new left left' given
-passes-before entry mid new left left' given place same passes =
-    let P : Place → Type 0 =
-    λ p. PassesKnown p (stream_of mid left') new.place (stream_of new left') given in
+pub passes-before : (entry mid new : Reader) (left left' : Option (List ℕ)) (ended ended' : Bool)
+    (given : List (ℕ × List ℕ)) → mid.position ≡ entry.position
+    → stream_of entry left ≡ stream_of mid left' → PassesTo mid new left' left' ended ended' given
+    → PassesTo entry new left left' ended ended' given
+passes-before entry mid new left left' ended ended' given position same passes =
+    let P : Position → Type 0 =
+    λ p. PassesKnown p (stream_of mid left') ended new.position (stream_of new left') ended' given
+    in
     let Q : Option (List ℕ) → Type 0 =
-    λ known. PassesKnown entry.place known new.place (stream_of new left') given in
-    subst Q (sym same) (subst P (sym place) passes)
+    λ known. PassesKnown entry.position known ended new.position (stream_of new left') ended' given
+    in
+    subst Q (sym same) (subst P position passes)

@@ -1,15 +1,18 @@
 -- Pieces of bytes: what moving one to the front leaves, where the first LF of a list stands, and
 -- what a read adds to a list.
-use Rattle.std.proofs.Common.{◌≡◌, ◌≢◌, ℕ, ◌+◌, ◌-◌, ◌<◌, ◌≤◌, min, List, [], ◌∷◌, ◌++◌, length, take, drop, slice_index, get_or, Option, Some, ap, sym, ◌∙◌, subst, arith, length-drop}
+use Rattle.std.proofs.Common.{◌≡◌, ◌≢◌, ℕ, ◌+◌, ◌-◌, ◌<◌, ◌≤◌, min, List, [], ◌∷◌, ◌++◌, length}
+use Rattle.std.proofs.Common.{take, drop, slice_index, get_or, Option, Some, ap, sym, ◌∙◌, subst}
+use Rattle.std.proofs.Common.{arith, length-drop}
 use Rattle.std.specs.List.{copy_within}
 use Rattle.std.proofs.Math.Seq.{take-add}
-use Rattle.std.proofs.lemmas.List.{get_or-drop, take_at, take-append-drop, take-take, length-take-le, drop_all, drop_more, drop-drop}
+use Rattle.std.proofs.lemmas.List.{get_or-drop, take_at, take-append-drop, take-take}
+use Rattle.std.proofs.lemmas.List.{length-take-le, drop_all, drop_more, drop-drop}
 use Rattle.std.proofs.lemmas.List.Elements.{All-append, All-take}
 use Rattle.std.proofs.lemmas.Slice.{between_is}
 use Rattle.port_core.specs.declared.ports.Got.{Got}
 use Rattle.port_core.specs.declared.ports.Got.TheVariants.{Bytes}
 use Rattle.port_core.specs.Lines.{HasNoLineFeed}
-use Rattle.port_core.specs.Window.{part, EndsAt, IsOverlong, ReadsBehind, Fills}
+use Rattle.port_core.specs.Buffers.{part, EndsAt, IsOverlong, ReadsBehind, Fills}
 
 -- what is moved to the front stands there
 pub take-moved : (bytes : List ℕ) (from to : ℕ) → from ≤ to → to ≤ length bytes
@@ -30,7 +33,8 @@ no_line_feed-joined bytes seen front rest =
     (All-append (λ b. b ≢ 10) (take seen bytes) (drop seen bytes) front rest)
 
 -- an LF with none before it is the first
-EndsAt-first : (bytes : List ℕ) (place : ℕ) → place < length bytes → HasNoLineFeed (take place bytes)
+EndsAt-first : (bytes : List ℕ) (place : ℕ) → place < length bytes
+    → HasNoLineFeed (take place bytes)
     → get_or bytes place 0 ≡ 10 → EndsAt bytes place
 EndsAt-first bytes place below none found =
     let rest : drop place bytes ≡ 10 ∷ drop (place + 1) bytes =
@@ -71,14 +75,14 @@ IsOverlong-open held bytes is none long =
 -- ---- what a read adds
 
 -- the bytes that a read put behind those in hand are added to them
-pub Fills-behind : (left left' : Option (List ℕ)) (got : Got) (n count end : ℕ)
-    (old before new whole : List ℕ) → got ≡ Bytes n → take count before ≡ old → end ≤ length new
-    → ReadsBehind left left' got count end before new → whole ≡ new
-    → Fills left left' got old (take (count + n) whole)
-Fills-behind left left' got n count end old before new whole is kept inside reads same =
-    let P : Got → Type 0 = λ g. ReadsBehind left left' g count end before new
-    → Fills left left' g old (take (count + n) new) in
-    let Q : List ℕ → Type 0 = λ bytes. Fills left left' got old (take (count + n) bytes) in
+pub Fills-behind : (left left' : Option (List ℕ)) (fact : List ℕ → Type 0) (got : Got)
+    (n count end : ℕ) (old before new whole : List ℕ) → got ≡ Bytes n → take count before ≡ old
+    → end ≤ length new → ReadsBehind left left' fact got count end before new → whole ≡ new
+    → Fills left left' fact got old (take (count + n) whole)
+Fills-behind left left' fact got n count end old before new whole is kept inside reads same =
+    let P : Got → Type 0 = λ g. ReadsBehind left left' fact g count end before new
+    → Fills left left' fact g old (take (count + n) new) in
+    let Q : List ℕ → Type 0 = λ bytes. Fills left left' fact got old (take (count + n) bytes) in
     subst Q (sym same) (subst P (sym is) (λ r.
     let room : n ≤ length (drop count new) = omega (arith, length-drop count new, r.0) in (
       take n (drop count new),
@@ -87,6 +91,7 @@ Fills-behind left left' got n count end old before new whole is kept inside read
       length-take-le n (drop count new) room,
       r.2,
       r.3,
+      r.4,
     ))
     reads)
 

@@ -1,6 +1,6 @@
 -- std's readers and writers as devices: what becomes of the bytes of the reader or writer itself,
 -- where those are known.
-use Rattle.std.specs.Prelude.{◌≡◌, ℕ, List, take, Option}
+use Rattle.std.specs.Prelude.{◌≡◌, ℕ, Bool, List, take, Option}
 use Rattle.std.specs.Io.KnownBytes.{Appends, Consumes, IsAtEnd, Keeps}
 use Rattle.port_core.specs.declared.ports.Got.{Got}
 use Rattle.port_core.specs.declared.ports.Got.TheVariants.{Bytes}
@@ -19,6 +19,10 @@ reader_of source = source.input
 -- the errors that it answered so far, which stay at the last value of a u64
 abbrev pub read_faults : {I : Type 0} → StdSource I → ℕ
 read_faults source = source.faults
+
+-- whether a read of it gave no byte so far
+abbrev pub has_ended : {I : Type 0} → StdSource I → Bool
+has_ended source = source.ended
 
 -- the writer of a sink over std
 abbrev pub writer_of : {O : Type 0} → StdSink O → O

@@ -3,7 +3,7 @@
 pub mod Ports
 pub mod Lines
 pub mod Contents
-pub mod Reading
+pub mod Readers
 pub mod Memory
 pub mod Adapters
-pub mod Window
+pub mod Buffers

@@ -1,6 +1,7 @@
 -- The lines of an input, as every text tool cuts it: a line ends at its LF, which belongs to it, or
 -- at the end of the input.
-use Rattle.std.specs.Prelude.{◌≡◌, ◌≢◌, ℕ, ◌<◌, ◌⊎◌, List, [], ◌∷◌, ◌++◌, length, All, if◌then◌else◌, ◌==◌}
+use Rattle.std.specs.Prelude.{◌≡◌, ◌≢◌, ℕ, ◌<◌, ◌⊎◌, List, [], ◌∷◌, ◌++◌, length, All}
+use Rattle.std.specs.Prelude.{if◌then◌else◌, ◌==◌}
 use Rattle.std.specs.List.{concat}
 
 -- the byte that ends a line
@@ -39,6 +40,10 @@ IsEndedLine line = (text : List ℕ) × HasNoLineFeed text × (line ≡ text ++ 
 -- a line that the end of the input cut off: a text that is not empty, and no LF
 abbrev pub IsOpenLine : List ℕ → Type 0
 IsOpenLine line = HasNoLineFeed line × (0 < length line)
+
+-- each of these lines ended
+abbrev pub AreEndedLines : List (List ℕ) → Type 0
+AreEndedLines lines = All IsEndedLine lines
 
 -- each line ended, and the last one may be open
 abbrev pub AreLines : List (List ℕ) → Type 0

@@ -1,6 +1,7 @@
 -- Devices over memory: a source that hands on a list of bytes and a sink of a given room, both in
 -- pieces of at most a given size, with chosen calls that fail.
-use Rattle.std.specs.Prelude.{ℕ, ◌-◌, ◌==◌, ◌||◌, Bool, nat_le, min, List, ◌++◌, length, take, drop, if◌then◌else◌}
+use Rattle.std.specs.Prelude.{◌≡◌, ℕ, ◌-◌, ◌≤◌, ◌==◌, ◌||◌, Bool, nat_le, min, List, ◌++◌, length}
+use Rattle.std.specs.Prelude.{take, drop, if◌then◌else◌}
 use Rattle.std.specs.List.{list_any}
 use Rattle.port_core.specs.declared.ports.Got.{Got}
 use Rattle.port_core.specs.declared.ports.Got.TheVariants.{Bytes}
@@ -11,13 +12,14 @@ use Rattle.port_core.specs.declared.ports.Put.TheVariants as put
 use Rattle.port_core.specs.Ports.{next_count}
 
 -- a source over memory: the bytes left, the most that one call hands on, the numbers of the calls
--- that fail, the calls so far and their faults
+-- that fail, the calls so far and their faults, and whether one gave no byte
 pub record Supply : Type 0 where
   pub left : List ℕ
   pub piece : ℕ
   pub fail : List ℕ
   pub calls : ℕ
   pub faults : ℕ
+  pub ended : Bool
 
 -- a sink over memory: the bytes it holds, the most that it can hold, the most that one call takes,
 -- the numbers of the calls that fail, the calls so far and their faults
@@ -51,7 +53,13 @@ supply_after supply size =
     else record supply {
       left = drop (bytes_read supply size) supply.left;
       calls = next_count supply.calls;
+      ended = supply.ended || bytes_read supply size == 0;
     }
+
+-- a read gave the next bytes, no more than one call hands on, and counts as a call
+abbrev pub HandsOut : Supply → List ℕ → Supply → Type 0
+HandsOut old bytes new = (old.left ≡ bytes ++ new.left) × (length bytes ≤ old.piece)
+    × (new.calls ≡ next_count old.calls)
 
 -- how many bytes of a piece of this size a write takes
 abbrev pub bytes_taken : Store → ℕ → ℕ

@@ -2,11 +2,12 @@
 //! the other.
 //!
 //! A device is seen as the bytes that it tells, where it tells them, and a count of faults. What a
-//! call promises is in `specs/Ports.antt`; what a line is, in `specs/Lines.antt`; which lines count,
-//! in `specs/Contents.antt`; what a reader of lines answers, in `specs/Reading.antt`.
+//! call promises is in `specs/Ports.antt`; what a line is, in `specs/Lines.antt`; which lines
+//! count, in `specs/Contents.antt`; what a reader of lines answers, in `specs/Reader.antt`.
 #![tactic(auto)]
 
 mod answers;
+mod buffer;
 mod content;
 mod last_line;
 mod laws;
@@ -18,7 +19,6 @@ mod ports;
 mod std_ports;
 #[cfg(test)]
 mod tests;
-mod window;
 mod writing;
 
 pub use answers::{INPUT_LIMIT, LINE_LIMIT, Line, ReadStop, WriteFault};

@@ -3,28 +3,36 @@
 //!
 //!     source  ── read ──>  bytes in hand  ── line by line ──>  content last given
 //!
-//! The reader reads only while no answer is in hand, so it never waits for more input than its line.
-//! A fault loses nothing: what was read stays in hand. A line costs a look at each of its bytes, and
-//! a copy of its content where it is given.
+//! The reader reads only while no answer is in hand, so it never waits for more input than its
+//! line. A fault loses nothing: what was read stays in hand. A line costs a look at each of its
+//! bytes, and a copy of its content where it is given.
 
-ghost use Rattle.std.specs.Prelude.{◌≡◌, ◌+◌, ◌-◌, ◌<◌, ◌≤◌, [], IfOk, Ok, length, option_map, take};
+ghost use Rattle.std.specs.Prelude.{◌≡◌, ◌+◌, ◌-◌, ◌<◌, ◌≤◌, [], IfOk, Ok, length, option_map};
+ghost use Rattle.std.specs.Prelude.{take};
 ghost use Rattle.port_core.specs.Contents.{input_limit, number_at, start};
-ghost use Rattle.port_core.specs.Reading.{AnswersStop, CountsNext, CountsLine, EndsInput, EndsLine, HasAnswer, KeepsContent, KeepsText, NextGives, KeepsAnswer, LeavesBehind, LeavesReading, LineGives, LineKeepsText, LineMovesOn, MovesOn, PassesLine, PassesTo, StaysStopped, TakesInput, bytes_taken, contents_to_come, given_by, given_there};
+ghost use Rattle.port_core.specs.Readers.{AnswersStop, CountsNext, CountsLine, EndsInput, EndsLine};
+ghost use Rattle.port_core.specs.Readers.{EndsWait, HasAnswer, IsWithin, KeepsContent, KeepsText};
+ghost use Rattle.port_core.specs.Readers.{NextGives, KeepsAnswer, LeavesBehind, LeavesReader};
+ghost use Rattle.port_core.specs.Readers.{LineGives, LineKeepsText, LineMovesOn, LineStopsReading};
+ghost use Rattle.port_core.specs.Readers.{MovesOn, PassesLine, PassesTo, StaysStopped};
+ghost use Rattle.port_core.specs.Readers.{StopsAtAnswer, TakesInput, Waits, bytes_taken};
+ghost use Rattle.port_core.specs.Readers.{contents_to_come, given_by, given_there, most_held};
+ghost use Rattle.port_core.specs.Buffers.{CountsDue, EndTold, StopsReading};
 
 use crate::answers::{INPUT_LIMIT, LINE_LIMIT, Line, ReadStop};
+use crate::buffer::{Buffer, Due, await_line};
 use crate::content::{content_of, is_skipped};
 use crate::last_line::LastLine;
 use crate::ports::Source;
-use crate::window::{Due, Window, await_line};
 use league_core::OutOfMemory;
 use std::alloc::Global;
 use std::marker::Model;
 
-/// Gives the lines of one input that count, without comments and empty lines. Its room is taken once,
-/// at the start.
+/// Gives the lines of one input that count, without comments and empty lines. Its room is taken
+/// once, at the start.
 #[derive(Drop)]
 pub struct LineReader {
-    held: Window,
+    held: Buffer,
     text: LastLine,
     // The lines and the bytes that were passed.
     lines: u64,
@@ -34,14 +42,14 @@ pub struct LineReader {
 impl Model for LineReader {
     ghost use Rattle.std.specs.Prelude.{◌+◌, ◌≤◌, length};
     ghost use Rattle.port_core.specs.Contents.{input_limit};
-    ghost use Rattle.port_core.specs.Reading.{Reading};
+    ghost use Rattle.port_core.specs.Readers.{Reader};
 
-    ghost Value = { Reading };
+    ghost Value = { Reader };
 
     ghost view = { λ reader. record {
       held = reader.held;
       text = reader.text;
-      place = record { lines = reader.lines; bytes = reader.bytes };
+      position = record { lines = reader.lines; bytes = reader.bytes };
     } };
 
     ghost invariant = { λ reader. (reader.lines ≤ reader.bytes) × (reader.bytes ≤ input_limit)
@@ -52,10 +60,10 @@ impl LineReader {
     /// A reader that has given nothing.
     pub fn new(alloc: Global) -> Result<LineReader, OutOfMemory>
         ensures { IfOk result (λ reader.
-            reader ≡ record { held = []; text = []; place = start }) }
+            reader ≡ record { held = []; text = []; position = start }) }
     {
         Ok(LineReader {
-            held: Window::new(alloc)?,
+            held: Buffer::new(alloc)?,
             text: LastLine::new(alloc)?,
             lines: 0,
             bytes: 0,
@@ -69,25 +77,34 @@ impl LineReader {
         self.text.bytes()
     }
 
+    /// The number of the line passed last, given or not; 0 before the first. The line that is due,
+    /// or the input's end, has the number after it.
+    pub fn number(&self) -> u64
+        ensures { result ≡ self.now.position.lines }
+    {
+        self.lines
+    }
+
     /// Gives the next content. After a fault a later call reads on; after `LineTooLong` and
     /// `InputTooLong` it answers the same for good.
     pub fn next<S: Source>(&mut self, source: &mut S) -> Result<Line, ReadStop>
         // Where the source tells its bytes: what was still to come, and what is.
         ensures gives { NextGives (contents_to_come self.old (S.left source.old))
             (contents_to_come self.new (S.left source.new)) self.new.text result }
-        ensures leaves { LeavesReading self.new (S.left source.new) result }
+        ensures leaves { LeavesReader self.new (S.left source.new) result }
 
         // Which lines of the input were passed, whole, and that they gave this and nothing else.
         ensures passes { PassesTo self.old self.new (S.left source.old) (S.left source.new)
-            (given_by result self.new.text) }
+            (S.ended source.old) (S.ended source.new) (given_by result self.new.text) }
         ensures moves { MovesOn self.old self.new result }
         ensures kept { KeepsText self.old self.new result }
 
         // Each byte taken is kept or passed, and at most one past the input's limit is taken. None
-        // is while an answer is in hand.
+        // is while an answer is in hand, and none behind the read that completes one.
         ensures takes { TakesInput self.old self.new (S.left source.old) (S.left source.new) }
         ensures within { bytes_taken self.new ≤ input_limit + 1 }
         ensures ready { HasAnswer self.old → source.new ≡ source.old }
+        ensures last { StopsAtAnswer S.left S.reads self.old self.new source.old source.new result }
 
         // A fault only where the source counted one, and a stop for good.
         ensures cause { CountsNext (S.faults source.old) (S.faults source.new) result }
@@ -105,20 +122,45 @@ impl LineReader {
         ensures gives { LineGives (contents_to_come self.old (S.left source.old))
             (contents_to_come self.new (S.left source.new)) self.new.text result }
         ensures passes { PassesTo self.old self.new (S.left source.old) (S.left source.new)
-            (given_there result self.new.text) }
+            (S.ended source.old) (S.ended source.new) (given_there result self.new.text) }
         ensures leaves { LeavesBehind self.old self.new (S.left source.new) result }
         ensures moves { LineMovesOn self.old self.new result }
         ensures kept { LineKeepsText self.old self.new result }
-        ensures passed { self.new.place.bytes ≤ input_limit }
+        ensures passed { self.new.position.bytes ≤ input_limit }
         ensures within { bytes_taken self.new ≤ input_limit + 1 }
         ensures takes { TakesInput self.old self.new (S.left source.old) (S.left source.new) }
         ensures ready { HasAnswer self.old → source.new ≡ source.old }
+        ensures last { LineStopsReading S.left S.reads self.old self.new source.old source.new
+            result }
         ensures keeps { KeepsAnswer self.old self.new result }
         ensures cause { CountsLine (S.faults source.old) (S.faults source.new) result }
         ensures stopped { AnswersStop self.old self.new result }
     {
+        let due = self.await_due(source);
+        self.end_wait(due)
+    }
+
+    // Waits for the end of the line that is due.
+    fn await_due<S: Source>(&mut self, source: &mut S) -> Due
+        ensures waits { Waits self.old self.new (S.left source.old) (S.left source.new) result }
+        ensures ready { HasAnswer self.old → source.new ≡ source.old }
+        ensures last { StopsReading S.left S.reads (most_held self.old) self.old.held self.new.held
+            source.old source.new result }
+        ensures end { EndTold (S.ended source.old) (S.ended source.new) result }
+        ensures cause { CountsDue (S.faults source.old) (S.faults source.new) result }
+    {
         let most = self.most();
-        match await_line(&mut self.held, most, source) {
+        await_line(&mut self.held, most, source)
+    }
+
+    // What comes of the line that is due, behind the wait for it.
+    fn end_wait(&mut self, due: Due) -> Option<Result<Line, ReadStop>>
+        requires { IsWithin self.old due }
+        ensures answer { EndsWait self.old self.new due result }
+        ensures kept { LineKeepsText self.old self.new result }
+        ensures count { bytes_taken self.new ≡ bytes_taken self.old }
+    {
+        match due {
             Due::Ended(place) => self.end_line(place),
             Due::Open => self.end_input(),
             Due::Failed => Some(Err(ReadStop::ReadFault)),
@@ -135,7 +177,8 @@ impl LineReader {
 
     // The most bytes that may be in hand: one past the input's limit shows that it is passed.
     fn most(&self) -> usize
-        ensures value { self.now.place.bytes + result ≡ input_limit + 1 }
+        ensures value { result ≡ most_held self.now }
+        ensures sum { self.now.position.bytes + result ≡ input_limit + 1 }
         ensures some { 0 < result }
         ensures within { length self.now.held ≤ result }
     {
@@ -175,7 +218,7 @@ impl LineReader {
         requires order { end ≤ behind }
         requires some { 0 < behind }
         requires within { behind ≤ length self.old.held }
-        requires room { self.old.place.bytes + behind ≤ INPUT_LIMIT }
+        requires room { self.old.position.bytes + behind ≤ INPUT_LIMIT }
         ensures { PassesLine self.old self.new end behind result }
     {
         let given = self.keep(end);

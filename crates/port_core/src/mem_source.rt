@@ -1,8 +1,8 @@
 //! A source over memory, for tests and for callers that have their input whole.
 
-ghost use Rattle.std.specs.Prelude.{◌≡◌, ◌<◌, Some, length};
-ghost use Rattle.port_core.specs.Ports.{CountsRead, Reads};
-ghost use Rattle.port_core.specs.Memory.{supply_after, supply_answer};
+ghost use Rattle.std.specs.Prelude.{◌≡◌, ◌<◌, Some, false, length};
+ghost use Rattle.port_core.specs.Ports.{CountsRead, HoldsOfRead, Reads, TellsEnd};
+ghost use Rattle.port_core.specs.Memory.{HandsOut, supply_after, supply_answer};
 
 use crate::pieces::copy_to_front;
 use crate::ports::{Got, Source};
@@ -17,6 +17,7 @@ pub struct MemSource {
     fail: Vec<u64>,
     calls: u64,
     faults: u64,
+    ended: bool,
 }
 
 impl Model for MemSource {
@@ -31,6 +32,7 @@ impl Model for MemSource {
       fail = s.fail.items;
       calls = s.calls;
       faults = s.faults;
+      ended = s.ended;
     } };
 
     ghost invariant = { λ s. (s.at ≤ vec_len s.bytes) × (0 < s.piece) };
@@ -47,6 +49,7 @@ impl MemSource {
           fail = fail.items;
           calls = 0;
           faults = 0;
+          ended = false;
         } }
     {
         MemSource {
@@ -56,6 +59,7 @@ impl MemSource {
             fail,
             calls: 0,
             faults: 0,
+            ended: false,
         }
     }
 }
@@ -65,10 +69,16 @@ impl Source for MemSource {
 
     ghost faults = { λ source. source.faults };
 
+    ghost reads = { λ old bytes new. HandsOut old bytes new };
+
+    ghost ended = { λ source. source.ended };
+
     fn read(&mut self, into: &mut [u8]) -> Got
         requires { 0 < length into.old }
         ensures bytes { Reads (Some self.old.left) (Some self.new.left) result into.new }
         ensures cause { CountsRead self.old.faults self.new.faults result }
+        ensures step { HoldsOfRead (λ bytes. HandsOut self.old bytes self.new) result into.new }
+        ensures end { TellsEnd self.old.ended self.new.ended result }
         ensures answer { result ≡ supply_answer self.old (length into.old) }
         ensures after { self.new ≡ supply_after self.old (length into.old) }
     {
@@ -81,6 +91,7 @@ impl Source for MemSource {
         let count = self.piece.min(into.len()).min(rest.len());
         copy_to_front(into, &rest[..count]);
         self.at += count;
+        self.ended = self.ended || count == 0;
         Got::Bytes(count)
     }
 }

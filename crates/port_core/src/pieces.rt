@@ -3,7 +3,7 @@
 
 ghost use Rattle.std.specs.Prelude.{◌≡◌, ◌-◌, ◌<◌, ◌≤◌, IfNone, IfSome, length, slice_index, take};
 ghost use Rattle.port_core.specs.Lines.{HasNoLineFeed, line_feed};
-ghost use Rattle.port_core.specs.Window.{part};
+ghost use Rattle.port_core.specs.Buffers.{part};
 
 /// Puts `text` at the front.
 pub fn copy_to_front(into: &mut [u8], text: &[u8])

@@ -1,8 +1,9 @@
 //! What a run reads from and writes to. Each call may fail, and a count of faults rises when it
 //! does.
 
-ghost use Rattle.std.specs.Prelude.{ℕ, ◌<◌, List, Option, length};
-ghost use Rattle.port_core.specs.Ports.{CountsRead, CountsWrite, Reads, Writes};
+ghost use Rattle.std.specs.Prelude.{ℕ, ◌<◌, Bool, true, List, Option, length, ⊤};
+ghost use Rattle.port_core.specs.Ports.{CountsRead, CountsWrite, HoldsOfRead, Reads, TellsEnd};
+ghost use Rattle.port_core.specs.Ports.{Writes};
 
 /// What a read answers: so many bytes, none only at the end, or that it failed.
 #[derive(Debug, Clone, Copy, PartialEq, Eq)]
@@ -25,11 +26,19 @@ pub trait Source {
 
     ghost faults: { Self → ℕ };
 
+    // A read of the source in the first state gave these bytes, and left the second.
+    ghost reads: { Self → List ℕ → Self → Type 0 } = { λ _ _ _. ⊤ };
+
+    // Whether a read told the end, by giving no byte.
+    ghost ended: { Self → Bool } = { λ _. true };
+
     /// Puts the next bytes at the front of `into`. A read that fails loses no byte.
     fn read(&mut self, into: &mut [u8]) -> Got
         requires { 0 < length into.old }
         ensures bytes { Reads (left self.old) (left self.new) result into.new }
-        ensures cause { CountsRead (faults self.old) (faults self.new) result };
+        ensures cause { CountsRead (faults self.old) (faults self.new) result }
+        ensures step { HoldsOfRead (λ bytes. reads self.old bytes self.new) result into.new }
+        ensures end { TellsEnd (ended self.old) (ended self.new) result };
 }
 
 /// Takes bytes, piece by piece.

@@ -1,8 +1,11 @@
 //! std's readers and writers as sources and sinks. They tell no bytes, and count each error.
 
-ghost use Rattle.std.specs.Prelude.{◌≡◌, ◌<◌, None, length};
-ghost use Rattle.port_core.specs.Adapters.{HandsOn, PassesOn, read_faults, reader_of, write_faults, writer_of};
-ghost use Rattle.port_core.specs.Ports.{CountsRead, CountsWrite, Reads, Writes};
+ghost use Rattle.std.specs.Prelude.{◌≡◌, ◌<◌, None, false, length};
+ghost use Rattle.std.specs.Io.KnownBytes.{Consumes};
+ghost use Rattle.port_core.specs.Adapters.{HandsOn, PassesOn, has_ended, read_faults, reader_of};
+ghost use Rattle.port_core.specs.Adapters.{write_faults, writer_of};
+ghost use Rattle.port_core.specs.Ports.{CountsRead, CountsWrite, HoldsOfRead, Reads, TellsEnd};
+ghost use Rattle.port_core.specs.Ports.{Writes};
 
 use crate::ports::{Got, Put, Sink, Source};
 use std::io::{Read, Write};
@@ -12,15 +15,21 @@ use std::io::{Read, Write};
 pub struct StdSource<I: Read> {
     input: I,
     faults: u64,
+    ended: bool,
 }
 
 impl<I: Read> StdSource<I> {
-    /// A source with no faults so far.
+    /// A source with no faults so far, whose end was not told.
     pub fn new(input: I) -> StdSource<I>
         ensures reader { reader_of result ≡ input }
         ensures faults { read_faults result ≡ 0 }
+        ensures end { has_ended result ≡ false }
     {
-        StdSource { input, faults: 0 }
+        StdSource {
+            input,
+            faults: 0,
+            ended: false,
+        }
     }
 }
 
@@ -29,15 +38,26 @@ impl<I: Read> Source for StdSource<I> {
 
     ghost faults = { read_faults };
 
+    ghost reads = { λ old bytes new.
+        Consumes (I.remaining (reader_of old)) (I.remaining (reader_of new)) bytes };
+
+    ghost ended = { has_ended };
+
     fn read(&mut self, into: &mut [u8]) -> Got
         requires { 0 < length into.old }
         ensures bytes { Reads None None result into.new }
         ensures cause { CountsRead (read_faults self.old) (read_faults self.new) result }
+        ensures step { HoldsOfRead (λ bytes. Consumes (I.remaining (reader_of self.old))
+            (I.remaining (reader_of self.new)) bytes) result into.new }
+        ensures end { TellsEnd (has_ended self.old) (has_ended self.new) result }
         ensures reader { HandsOn (I.remaining (reader_of self.old))
             (I.remaining (reader_of self.new)) result into.new }
     {
         match self.input.read(into) {
-            Ok(count) => Got::Bytes(count),
+            Ok(count) => {
+                self.ended = self.ended || count == 0;
+                Got::Bytes(count)
+            }
             Err(_) => {
                 self.faults = self.faults.saturating_add(1);
                 Got::Failed

@@ -1,6 +1,6 @@
 //! Lines and rows over devices in pieces, with faults, and at the limits. What is wanted is written
-//! out by hand: a content as its bytes, its number and `|`, the end as `.` and its number, a fault as
-//! `!`, a line that is too long as `>` and its number, an input that is too long as `>>` and the
+//! out by hand: a content as its bytes, its number and `|`, the end as `.` and its number, a fault
+//! as `!`, a line that is too long as `>` and its number, an input that is too long as `>>` and the
 //! number.
 
 mod limits;

@@ -1,6 +1,6 @@
 //! Writing a row: it is offered to the sink until all of it is taken.
 
-ghost use Rattle.std.specs.Prelude.{◌≡◌, ◌<◌, ◌≤◌, OnErr, OnOk, length};
+ghost use Rattle.std.specs.Prelude.{◌≡◌, ◌<◌, OnErr, OnOk, length};
 ghost use Rattle.std.specs.Io.KnownBytes.{append_known};
 ghost use Rattle.port_core.specs.Ports.{AppendsFront, Rose};
 
@@ -13,7 +13,7 @@ pub fn put_line<K: Sink>(sink: &mut K, line: &[u8]) -> Result<(), WriteFault>
     ensures ok { OnOk result (K.holds sink.new ≡ append_known (K.holds sink.old) line.now) }
     ensures err { OnErr result (AppendsFront (K.holds sink.old) (K.holds sink.new) line.now) }
     ensures cause { OnErr result (Rose (K.faults sink.old) (K.faults sink.new)) }
-    ensures counts { K.faults sink.old ≤ K.faults sink.new }
+    ensures counts { OnOk result (K.faults sink.new ≡ K.faults sink.old) }
 {
     let mut done = 0;
     'offers: while done < line.len() {

@@ -1,7 +1,7 @@
 //! Which lines come, in which pieces, and after which faults.
 
 use super::{answers, memory};
-use crate::{Line, LineReader, ReadStop, StdSource};
+use crate::{LineReader, StdSource};
 use std::test::Fail;
 
 #[test]
@@ -51,18 +51,6 @@ fn a_fault_at_any_call_loses_nothing(rt: HostRuntime) -> Result<(), Fail> {
         let out = answers(alloc, &mut source)?;
         assert_eq!(rt; out.as_slice(), wanted, "call {call} fails");
     }
-    Ok(())
-}
-
-// The second call would fail, and no call is needed after the first.
-#[test]
-fn an_answer_waits_for_no_more_than_its_line(rt: HostRuntime) -> Result<(), Fail> {
-    let mut source = memory(rt.alloc(), b"a\nb\nc", 4, &[2])?;
-    let mut reader = LineReader::new(rt.alloc())?;
-    assert_eq!(rt; reader.next(&mut source), Ok(Line::Text { number: 1 }));
-    assert_eq!(rt; reader.next(&mut source), Ok(Line::Text { number: 2 }));
-    assert_eq!(rt; reader.next(&mut source), Err(ReadStop::ReadFault));
-    assert_eq!(rt; reader.text(), b"b".as_slice());
     Ok(())
 }
 

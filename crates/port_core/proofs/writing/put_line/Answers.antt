@@ -1,4 +1,4 @@
-use Rattle.std.proofs.Common.{arith}
+use Rattle.std.proofs.Common.{◌∙◌}
 use Rattle.std.proofs.lemmas.List.{take_rest}
 use Rattle.port_core.proofs.RowLemmas.{Writes-more, AppendsFront-take}
 use Rattle.port_core.proofs.writing.put_line.Goals as goal
@@ -8,7 +8,7 @@ offers-preserved g c =
     let more =
     Writes-more _ _ _ c.args.line.now _ c.offers.done c.in-Took.count c.offers.invariant.0
     c.offers.invariant.1 (take_rest c.args.line.now c.offers.done) c.in-Took.ensures.bytes in
-    (more.0, more.1, omega (arith, c.offers.invariant.2, c.in-Took.ensures.cause))
+    (more.0, more.1, c.in-Took.ensures.cause ∙ c.offers.invariant.2)
 
 pub returns-in-Failed-clause-err : goal.returns-in-Failed-clause-err
 returns-in-Failed-clause-err g c =

@@ -7,7 +7,7 @@ abbrev pub invariant-offers : goal.invariant-offers
 invariant-offers g l =
     (l.done ≤ length l.line)
     × (g.K.Sink.holds l.sink ≡ append_known (g.K.Sink.holds l.fn.sink) (take l.done l.line))
-    × (g.K.Sink.faults l.fn.sink ≤ g.K.Sink.faults l.sink)
+    × (g.K.Sink.faults l.sink ≡ g.K.Sink.faults l.fn.sink)
 
 abbrev pub decreases-offers : goal.decreases-offers
 decreases-offers g l = length l.line - l.done

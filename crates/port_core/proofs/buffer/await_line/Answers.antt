@@ -1,6 +1,6 @@
 use Rattle.std.proofs.Common.{◌<◌, length, arith, ap}
 use Rattle.port_core.proofs.PieceLemmas.{IsOverlong-ended, IsOverlong-open}
-use Rattle.port_core.proofs.window.await_line.Goals as goal
+use Rattle.port_core.proofs.buffer.await_line.Goals as goal
 
 pub returns-else-place-le-LINE_LIMIT-clause-due : goal.returns-else-place-le-LINE_LIMIT-clause-due
 returns-else-place-le-LINE_LIMIT-clause-due g c =

@@ -1,13 +1,14 @@
 -- What the parts of the reader of lines promise each other: bytes in hand, filled from a source
 -- until a line is whole.
-use Rattle.std.specs.Prelude.{◌≡◌, ℕ, ◌+◌, ◌<◌, ◌≤◌, ◌⊎◌, List, ◌∷◌, ◌++◌, length, take, drop, Contains, Option}
+use Rattle.std.specs.Prelude.{◌≡◌, ℕ, ◌+◌, ◌<◌, ◌≤◌, ◌⊎◌, Bool, true, false, List, ◌∷◌, ◌++◌}
+use Rattle.std.specs.Prelude.{length, take, drop, Contains, Option}
 use Rattle.std.specs.Io.KnownBytes.{prepend_known, IsAtEnd}
 use Rattle.port_core.specs.declared.ports.Got.{Got}
 use Rattle.port_core.specs.declared.ports.Got.TheVariants.{Bytes}
 use Rattle.port_core.specs.declared.ports.Got.TheVariants as got
-use Rattle.port_core.specs.declared.window.Due.{Due}
-use Rattle.port_core.specs.declared.window.Due.TheVariants.{Ended, Open, Stuck, Full}
-use Rattle.port_core.specs.declared.window.Due.TheVariants as due
+use Rattle.port_core.specs.declared.buffer.Due.{Due}
+use Rattle.port_core.specs.declared.buffer.Due.TheVariants.{Ended, Open, Stuck, Full}
+use Rattle.port_core.specs.declared.buffer.Due.TheVariants as due
 use Rattle.port_core.specs.Ports.{Rose}
 use Rattle.port_core.specs.Lines.{HasNoLineFeed, line_feed, line_limit}
 
@@ -16,20 +17,23 @@ abbrev pub part : ℕ → ℕ → List ℕ → List ℕ
 part from to bytes = drop from (take to bytes)
 
 -- a read behind the first bytes of a list and before a place: those stay, and the next bytes of the
--- source stand behind them
-abbrev pub ReadsBehind :
-    Option (List ℕ) → Option (List ℕ) → Got → ℕ → ℕ → List ℕ → List ℕ → Type 0
-ReadsBehind left left' (Bytes n) to end old new =
+-- source, of which this fact holds, stand behind them
+abbrev pub ReadsBehind : Option (List ℕ) → Option (List ℕ) → (List ℕ → Type 0) → Got → ℕ → ℕ
+    → List ℕ → List ℕ → Type 0
+ReadsBehind left left' fact (Bytes n) to end old new =
     (to + n ≤ end) × (take to new ≡ take to old)
     × (left ≡ prepend_known (take n (drop to new)) left') × (n ≡ 0 → IsAtEnd left')
-ReadsBehind left left' got.Failed to end old new = (take to new ≡ take to old) × (left ≡ left')
+    × fact (take n (drop to new))
+ReadsBehind left left' fact got.Failed to end old new =
+    (take to new ≡ take to old) × (left ≡ left')
 
 -- what one read adds to the bytes in hand, and what it takes from the source
-abbrev pub Fills : Option (List ℕ) → Option (List ℕ) → Got → List ℕ → List ℕ → Type 0
-Fills left left' (Bytes n) old new =
+abbrev pub Fills : Option (List ℕ) → Option (List ℕ) → (List ℕ → Type 0) → Got → List ℕ → List ℕ
+    → Type 0
+Fills left left' fact (Bytes n) old new =
     (bytes : List ℕ) × (new ≡ old ++ bytes) × (length bytes ≡ n)
-    × (left ≡ prepend_known bytes left') × (n ≡ 0 → IsAtEnd left')
-Fills left left' got.Failed old new = (new ≡ old) × (left ≡ left')
+    × (left ≡ prepend_known bytes left') × (n ≡ 0 → IsAtEnd left') × fact bytes
+Fills left left' fact got.Failed old new = (new ≡ old) × (left ≡ left')
 
 -- the first LF among these bytes stands at this place
 abbrev pub EndsAt : List ℕ → ℕ → Type 0
@@ -63,7 +67,33 @@ abbrev pub Takes : List ℕ → List ℕ → Option (List ℕ) → Option (List 
 Takes held held' left left' =
     (bytes : List ℕ) × (held' ≡ held ++ bytes) × (left ≡ prepend_known bytes left')
 
--- waiting for a line fails only where the source's count rose, and that count never falls
+-- what was in hand at the last read of a wait: no whole line, not too much for one, and fewer bytes
+-- than the most; the bytes that the read gave stand behind it
+pub record LastFill {S : Type 0} (left : S → Option (List ℕ)) (reads : S → List ℕ → S → Type 0)
+    (most : ℕ) (held held' : List ℕ) (before after : S) : Type 0 where
+  pub seen : List ℕ
+  pub last : List ℕ
+  pub source : S
+  pub partial : IsPartial seen
+  pub room : length seen < most
+  pub takes : Takes held seen (left before) (left source)
+  pub read : reads source last after
+  pub stream : left source ≡ prepend_known last (left after)
+  pub whole : held' ≡ seen ++ last
+
+-- a wait that does not fail reads nothing, or stops at the read that ends it
+abbrev pub StopsReading : {S : Type 0} → (S → Option (List ℕ)) → (S → List ℕ → S → Type 0)
+    → ℕ → List ℕ → List ℕ → S → S → Due → Type 0
+StopsReading left reads most held held' before after due.Failed = Unit {0}
+StopsReading left reads most held held' before after _ =
+    ((after ≡ before) × (held' ≡ held)) ⊎ LastFill left reads most held held' before after
+
+-- the end of the input is told where the wait met it, and stays told
+abbrev pub EndTold : Bool → Bool → Due → Type 0
+EndTold before now Open = now ≡ true
+EndTold before now _ = now ≡ false → before ≡ false
+
+-- waiting for a line fails only where the source's count rose, and else leaves that count
 abbrev pub CountsDue : ℕ → ℕ → Due → Type 0
 CountsDue before now due.Failed = Rose before now
-CountsDue before now _ = before ≤ now
+CountsDue before now _ = now ≡ before

@@ -1,8 +1,8 @@
 use Rattle.std.proofs.Common.{◌≡◌, ◌-◌, ◌∙◌, ap, take, length, arith}
 use Rattle.std.proofs.lemmas.List.{take_at}
-use Rattle.port_core.specs.Window.{part}
+use Rattle.port_core.specs.Buffers.{part}
 use Rattle.port_core.proofs.PieceLemmas.{Fills-behind}
-use Rattle.port_core.proofs.window.Window.fill.Goals as goal
+use Rattle.port_core.proofs.buffer.Buffer.fill.Goals as goal
 
 -- what was in hand stands at the front, and the read put its bytes behind it
 pub returns-in-Bytes-clause-bytes : goal.returns-in-Bytes-clause-bytes
@@ -16,6 +16,6 @@ returns-in-Bytes-clause-bytes g c =
     ∙ c.move_to_front.ensures
     ∙ ap (part c.self.inside.from c.self.inside.to) c.deref_mut.ensures.value
     ∙ c.self.view_is in
-    Fills-behind _ _ _ c.in-Bytes.count count c.min.result _ _ _ _ c.in-Bytes.is kept
+    Fills-behind _ _ _ _ c.in-Bytes.count count c.min.result _ _ _ _ c.in-Bytes.is kept
     (omega (arith, filled, c.min.ensures, c.self.invariant.2))
     c.read_behind-got.ensures.bytes (take_at _ _ _ filled)

@@ -2,7 +2,7 @@ use Rattle.std.proofs.Common.{subst}
 use Rattle.std.proofs.lemmas.List.{take_rest}
 use Rattle.port_core.specs.Lines.{HasNoLineFeed}
 use Rattle.port_core.proofs.PieceLemmas.{EndsAt-later, no_line_feed-joined}
-use Rattle.port_core.proofs.window.line_end.Goals as goal
+use Rattle.port_core.proofs.buffer.line_end.Goals as goal
 
 pub returns-in-Some : goal.returns-in-Some
 returns-in-Some c =

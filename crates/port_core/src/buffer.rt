@@ -1,14 +1,15 @@
 //! The bytes that were read and not yet given, and the wait for the end of a line.
 //!
-//! They stand in a room of fixed size, so no call takes memory. What is in hand of a line is moved to
-//! the front once, before the first read for it, and each byte is looked at once however many reads
-//! the line takes.
+//! They stand in a room of fixed size, so no call takes memory. What is in hand of a line is moved
+//! to the front once, before the first read for it, and each byte is looked at once however many
+//! reads the line takes.
 
 ghost use Rattle.std.specs.Prelude.{◌≡◌, ◌+◌, ◌<◌, ◌≤◌, [], IfOk, MatchOption, drop, length, take};
 ghost use Rattle.std.specs.Io.KnownBytes.{prepend_known};
-ghost use Rattle.port_core.specs.Ports.{CountsRead};
+ghost use Rattle.port_core.specs.Ports.{CountsRead, TellsEnd};
 ghost use Rattle.port_core.specs.Lines.{HasNoLineFeed};
-ghost use Rattle.port_core.specs.Window.{CountsDue, EndsAt, Fills, IsDue, IsReady, ReadsBehind, Takes};
+ghost use Rattle.port_core.specs.Buffers.{CountsDue, EndTold, EndsAt, Fills, IsDue, IsReady};
+ghost use Rattle.port_core.specs.Buffers.{ReadsBehind, StopsReading, Takes};
 
 use crate::answers::LINE_LIMIT;
 use crate::pieces::{find_line_feed, move_to_front};
@@ -33,16 +34,16 @@ pub enum Due {
 
 /// The bytes in hand.
 #[derive(Drop)]
-pub struct Window {
+pub struct Buffer {
     bytes: Vec<u8>,
     from: usize,
     to: usize,
 }
 
-impl Model for Window {
+impl Model for Buffer {
     ghost use Rattle.std.specs.Prelude.{ℕ, List, ◌≡◌, ◌≤◌, vec_len};
-    ghost use Rattle.port_core.specs.Window.{part};
-    ghost use Rattle.port_core.specs.declared.window.TheConstants.{ROOM};
+    ghost use Rattle.port_core.specs.Buffers.{part};
+    ghost use Rattle.port_core.specs.declared.buffer.TheConstants.{ROOM};
 
     ghost Value = { List ℕ };
 
@@ -51,12 +52,12 @@ impl Model for Window {
     ghost invariant = { λ w. (w.from ≤ w.to) × (w.to ≤ ROOM) × (vec_len w.bytes ≡ ROOM) };
 }
 
-impl Window {
+impl Buffer {
     /// Nothing in hand, with the room for all that may be.
-    pub fn new(alloc: Global) -> Result<Window, OutOfMemory>
+    pub fn new(alloc: Global) -> Result<Buffer, OutOfMemory>
         ensures { IfOk result (λ window. window ≡ []) }
     {
-        Ok(Window {
+        Ok(Buffer {
             bytes: vec![in alloc; 0u8; ROOM]?,
             from: 0,
             to: 0,
@@ -83,9 +84,11 @@ impl Window {
     pub fn fill<S: Source>(&mut self, source: &mut S, most: usize) -> Got
         requires short { length self.old ≤ LINE_LIMIT }
         requires some { length self.old < most }
-        ensures bytes { Fills (S.left source.old) (S.left source.new) result self.old self.new }
+        ensures bytes { Fills (S.left source.old) (S.left source.new)
+            (λ bytes. S.reads source.old bytes source.new) result self.old self.new }
         ensures within { length self.new ≤ most }
         ensures cause { CountsRead (S.faults source.old) (S.faults source.new) result }
+        ensures end { TellsEnd (S.ended source.old) (S.ended source.new) result }
     {
         let count = self.to - self.from;
         move_to_front(&mut self.bytes, self.from, self.to);
@@ -102,9 +105,10 @@ impl Window {
 fn read_behind<S: Source>(source: &mut S, bytes: &mut [u8], to: usize, end: usize) -> Got
     requires some { to < end }
     requires within { end ≤ length bytes.old }
-    ensures bytes { ReadsBehind (S.left source.old) (S.left source.new) result to end
-        bytes.old bytes.new }
+    ensures bytes { ReadsBehind (S.left source.old) (S.left source.new)
+        (λ bytes. S.reads source.old bytes source.new) result to end bytes.old bytes.new }
     ensures cause { CountsRead (S.faults source.old) (S.faults source.new) result }
+    ensures end { TellsEnd (S.ended source.old) (S.ended source.new) result }
 {
     source.read(&mut bytes[to..end])
 }
@@ -122,14 +126,16 @@ pub fn line_end(bytes: &[u8], seen: usize) -> Option<usize>
     }
 }
 
-/// Reads until the line that is due is whole, is too long, or cannot go on. No more than `most` bytes
-/// come in hand.
-pub fn await_line<S: Source>(held: &mut Window, most: usize, source: &mut S) -> Due
+/// Reads until the line that is due is whole, is too long, or cannot go on. No more than `most`
+/// bytes come in hand.
+pub fn await_line<S: Source>(held: &mut Buffer, most: usize, source: &mut S) -> Due
     ensures stream { prepend_known held.old (S.left source.old)
         ≡ prepend_known held.new (S.left source.new) }
     ensures due { IsDue most held.new (S.left source.new) result }
     ensures within { length held.old ≤ most → length held.new ≤ most }
     ensures takes { Takes held.old held.new (S.left source.old) (S.left source.new) }
+    ensures last { StopsReading S.left S.reads most held.old held.new source.old source.new result }
+    ensures end { EndTold (S.ended source.old) (S.ended source.new) result }
     ensures cause { CountsDue (S.faults source.old) (S.faults source.new) result }
     ensures ready { IsReady held.old → (source.new ≡ source.old) × (held.new ≡ held.old) }
     ensures full { most ≤ length held.old → (source.new ≡ source.old) × (held.new ≡ held.old) }
