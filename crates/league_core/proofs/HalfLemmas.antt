@@ -1,7 +1,10 @@
 -- The halves of a zone: which options and which finishes a test leaves in them.
-use Rattle.std.proofs.Common.{◌≡◌, ℕ, suc, ◌≤◌, Bool, true, false, not, ◌&&◌, ◌||◌, ◌==◌, nat_le, nat_lt, List, [], ◌∷◌, length, filter, Option, Some, None, refl, ap, ◌∙◌, inl, inr, arith}
+use Rattle.std.proofs.Common.{◌≡◌, ℕ, suc, ◌≤◌, Bool, true, false, not, ◌&&◌, ◌||◌, ◌==◌, nat_le}
+use Rattle.std.proofs.Common.{nat_lt, List, [], ◌∷◌, length, filter, Option, Some, None, refl, ap}
+use Rattle.std.proofs.Common.{◌∙◌, inl, inr, arith}
 use Rattle.std.specs.List.{list_all}
-use Rattle.std.proofs.lemmas.Bool.{false≢true, and_parts, and_from, or_left, or_right, eq-eqb, ne_eqb, le-leb, cases_eq, cases_Bool}
+use Rattle.std.proofs.lemmas.Bool.{false≢true, and_parts, and_from, or_left, or_right, eq-eqb}
+use Rattle.std.proofs.lemmas.Bool.{ne_eqb, le-leb, cases_eq, cases_Bool}
 use Rattle.std.proofs.lemmas.List.Elements.{filter_agree}
 use Rattle.std.proofs.lemmas.List.Folds.{list_all-append}
 use Rattle.league_core.specs.declared.sheet.Sheet.{Sheet}
@@ -12,7 +15,8 @@ use Rattle.league_core.specs.declared.zone.Test.TheVariants.{Home, Draw, HomeMos
 use Rattle.league_core.specs.declared.zone.Literal.{Literal}
 use Rattle.league_core.specs.Results.{Results}
 use Rattle.league_core.specs.Zones.{passes, is_on, is_of_score, is_of_rival, is_as_said, with_test}
-use Rattle.league_core.specs.Options.{score_of, endings, has_score, meets_literal, meets, options_of, options_from, options_in, has_option, has_finish}
+use Rattle.league_core.specs.Options.{score_of, endings, has_score, meets_literal, meets}
+use Rattle.league_core.specs.Options.{options_of, options_from, options_in, has_option, has_finish}
 use Rattle.league_core.specs.Trees.{Tree, open_leaf, lent_leaf, refuted_leaf, branch, NodesMeet}
 use Rattle.league_core.specs.Splits.{have_both_finish, is_proper, IsProperNode}
 use Rattle.league_core.proofs.OptionLemmas.{has_score-options_of}
@@ -22,25 +26,36 @@ and_true true = refl
 and_true false = refl
 
 -- what all of a zone pass and the new literal passes, the half passes
-pub list_all-with : (p : Literal → Bool) (zone : List Literal) (test : Test) (holds : Bool) → list_all p (with_test zone test holds) ≡ (list_all p zone && p (record { test = test; yes = holds }))
+pub list_all-with : (p : Literal → Bool) (zone : List Literal) (test : Test) (holds : Bool)
+    → list_all p (with_test zone test holds) ≡
+    (list_all p zone && p (record { test = test; yes = holds }))
 list_all-with p zone test holds =
     list_all-append p zone (record { test = test; yes = holds } ∷ [])
     ∙ ap (λ b. list_all p zone && b) (and_true (p (record { test = test; yes = holds })))
 
 -- a literal on another fixture takes no option away
-pub options_of-off : (limit : ℕ) (zone : List Literal) (test : Test) (holds : Bool) (fixture : ℕ) (played : Option Score) → is_on fixture test ≡ false → options_of limit (with_test zone test holds) fixture played ≡ options_of limit zone fixture played
+pub options_of-off : (limit : ℕ) (zone : List Literal) (test : Test) (holds : Bool) (fixture : ℕ)
+    (played : Option Score) → is_on fixture test ≡ false
+    → options_of limit (with_test zone test holds) fixture played
+    ≡ options_of limit zone fixture played
 options_of-off limit zone test holds fixture played off =
     filter_agree (meets (with_test zone test holds) fixture) (meets zone fixture) (λ score.
     list_all-with (meets_literal fixture score) zone test holds
-    ∙ ap (λ b. meets zone fixture score && b) (or_left (not (is_on fixture test)) (is_as_said holds (passes test score)) (ap not off))
+    ∙ ap (λ b. meets zone fixture score && b)
+    (or_left (not (is_on fixture test)) (is_as_said holds (passes test score)) (ap not off))
     ∙ and_true (meets zone fixture score)) (endings limit played)
 
 -- a test on none of the fixtures from one on leaves all their options
-pub options_from-off : (limit : ℕ) (zone : List Literal) (test : Test) (holds : Bool) (season : List (Option Score)) (fixture : ℕ) → ((i : ℕ) → fixture ≤ i → is_on i test ≡ false) → options_from limit (with_test zone test holds) fixture season ≡ options_from limit zone fixture season
+pub options_from-off : (limit : ℕ) (zone : List Literal) (test : Test) (holds : Bool)
+    (season : List (Option Score)) (fixture : ℕ) → ((i : ℕ) → fixture ≤ i → is_on i test ≡ false)
+    → options_from limit (with_test zone test holds) fixture season
+    ≡ options_from limit zone fixture season
 options_from-off limit zone test holds [] fixture off = refl
 options_from-off limit zone test holds (played ∷ season) fixture off =
-    ap (λ here. here ∷ options_from limit (with_test zone test holds) (suc fixture) season) (options_of-off limit zone test holds fixture played (off fixture (omega arith)))
-    ∙ ap (λ more. options_of limit zone fixture played ∷ more) (options_from-off limit zone test holds season (suc fixture) (λ i later. off i (omega arith)))
+    ap (λ here. here ∷ options_from limit (with_test zone test holds) (suc fixture) season)
+    (options_of-off limit zone test holds fixture played (off fixture (omega arith)))
+    ∙ ap (λ more. options_of limit zone fixture played ∷ more)
+    (options_from-off limit zone test holds season (suc fixture) (λ i later. off i (omega arith)))
 
 no_fixture : (test : Test) (rival i : ℕ) → is_of_rival rival test ≡ true → is_on i test ≡ false
 no_fixture (Home fixture) rival i of_rival = absurd (false≢true of_rival)
@@ -50,136 +65,92 @@ no_fixture (AwayMost fixture most) rival i of_rival = absurd (false≢true of_ri
 no_fixture (Rival club) rival i of_rival = refl
 
 -- a test of a rival leaves all options, so it leaves a finish exactly where there was one
-pub options_kept : (sheet : Sheet) (season : Results) (zone : List Literal) (test : Test) (holds : Bool) (rival : ℕ) → is_of_rival rival test ≡ true → options_in sheet season (with_test zone test holds) ≡ options_in sheet season zone
+pub options_kept : (sheet : Sheet) (season : Results) (zone : List Literal) (test : Test)
+    (holds : Bool) (rival : ℕ) → is_of_rival rival test ≡ true
+    → options_in sheet season (with_test zone test holds) ≡ options_in sheet season zone
 options_kept sheet season zone test holds rival of_rival =
-    options_from-off sheet.goal_limit zone test holds season.scores 0 (λ i from. no_fixture test rival i of_rival)
+    options_from-off sheet.goal_limit zone test holds season.scores 0
+    (λ i from. no_fixture test rival i of_rival)
 
-pub rival_has_finish : (sheet : Sheet) (season : Results) (zone : List Literal) (test : Test) (holds : Bool) (rival : ℕ) → is_of_rival rival test ≡ true → has_finish sheet season (with_test zone test holds) ≡ has_finish sheet season zone
+pub rival_has_finish : (sheet : Sheet) (season : Results) (zone : List Literal) (test : Test)
+    (holds : Bool) (rival : ℕ) → is_of_rival rival test ≡ true
+    → has_finish sheet season (with_test zone test holds) ≡ has_finish sheet season zone
 unfolding has_finish
 rival_has_finish sheet season zone test holds rival of_rival =
     ap (list_all has_option) (options_kept sheet season zone test holds rival of_rival)
 
--- of options that are left, some pass a test or some do not
-some_passes : (kept taken left test : Score → Bool) → ((x : Score) → taken x ≡ (kept x && test x)) → ((x : Score) → left x ≡ (kept x && not (test x))) → (xs : List Score) → has_option (filter kept xs) ≡ true → (has_option (filter taken xs) || has_option (filter left xs)) ≡ true
-some_passes kept taken left test is_taken is_left [] some = absurd (false≢true some)
-some_passes kept taken left test is_taken is_left (x ∷ xs) some =
-    elim (cases_Bool (kept x)) as (λ _. (has_option (filter taken (x ∷ xs)) || has_option (filter left (x ∷ xs))) ≡ true) [
-      | inl keeps ↦
-          elim (cases_Bool (test x)) as (λ _. (has_option (filter taken (x ∷ xs)) || has_option (filter left (x ∷ xs))) ≡ true) [
-            | inl passed ↦
-                let takes : taken x ≡ true = is_taken x ∙ and_from (kept x) (test x) keeps passed in
-                or_left (has_option (filter taken (x ∷ xs))) (has_option (filter left (x ∷ xs))) (rw takes refl)
-            | inr failed ↦
-                let leaves : left x ≡ true = is_left x ∙ and_from (kept x) (not (test x)) keeps (ap not failed) in
-                or_right (has_option (filter taken (x ∷ xs))) (has_option (filter left (x ∷ xs))) (rw leaves refl)
-          ]
-      | inr drops ↦
-          let takes : taken x ≡ false = is_taken x ∙ ap (λ b. b && test x) drops in
-          let leaves : left x ≡ false = is_left x ∙ ap (λ b. b && not (test x)) drops in
-          rw (takes, leaves) (some_passes kept taken left test is_taken is_left xs (rw drops at some))
-    ]
-
--- a test on a fixture leaves it an option in one half at least
-options_of-on : (limit : ℕ) (zone : List Literal) (test : Test) (fixture : ℕ) (played : Option Score) → is_on fixture test ≡ true → has_option (options_of limit zone fixture played) ≡ true → (has_option (options_of limit (with_test zone test true) fixture played) || has_option (options_of limit (with_test zone test false) fixture played)) ≡ true
-options_of-on limit zone test fixture played on some =
-    some_passes (meets zone fixture) (meets (with_test zone test true) fixture) (meets (with_test zone test false) fixture) (passes test)
-    (λ score. list_all-with (meets_literal fixture score) zone test true ∙ ap (λ b. meets zone fixture score && (not b || passes test score)) on)
-    (λ score. list_all-with (meets_literal fixture score) zone test false ∙ ap (λ b. meets zone fixture score && (not b || not (passes test score))) on)
-    (endings limit played) some
-
--- a test on one fixture leaves all fixtures an option in one half at least
-one_half : (limit : ℕ) (zone : List Literal) (test : Test) (tested : ℕ) → ((i : ℕ) → is_on i test ≡ (tested == i)) → (season : List (Option Score)) (fixture : ℕ) → list_all has_option (options_from limit zone fixture season) ≡ true → (list_all has_option (options_from limit (with_test zone test true) fixture season) || list_all has_option (options_from limit (with_test zone test false) fixture season)) ≡ true
-one_half limit zone test tested at [] fixture some = refl
-one_half limit zone test tested at (played ∷ season) fixture some =
-    let here = λ (holds : Bool). has_option (options_of limit (with_test zone test holds) fixture played) in
-    let more = λ (holds : Bool). list_all has_option (options_from limit (with_test zone test holds) (suc fixture) season) in
-    let parts = and_parts (has_option (options_of limit zone fixture played)) (list_all has_option (options_from limit zone (suc fixture) season)) some in
-    elim (cases_eq tested fixture) as (λ _. ((here true && more true) || (here false && more false)) ≡ true) [
-      | inl same ↦
-          let later : (i : ℕ) → suc fixture ≤ i → is_on i test ≡ false = λ i behind. at i ∙ ne_eqb tested i (λ e. absurd (omega arith)) in
-          let stays = λ (holds : Bool). ap (list_all has_option) (options_from-off limit zone test holds season (suc fixture) later) ∙ parts.1 in
-          on_first (here true) (here false) (more true) (more false)
-          (options_of-on limit zone test fixture played (at fixture ∙ eq-eqb tested fixture same) parts.0) (stays true) (stays false)
-      | inr other ↦
-          let off : is_on fixture test ≡ false = at fixture ∙ ne_eqb tested fixture other in
-          let stays = λ (holds : Bool). ap has_option (options_of-off limit zone test holds fixture played off) ∙ parts.0 in
-          on_rest (here true) (here false) (more true) (more false) (stays true) (stays false)
-          (one_half limit zone test tested at season (suc fixture) parts.1)
-    ]
-  where
-    on_first : (a b c d : Bool) → (a || b) ≡ true → c ≡ true → d ≡ true → ((a && c) || (b && d)) ≡ true
-    on_first true b true d some first second = refl
-    on_first true b false d some first second = absurd (false≢true first)
-    on_first false true c true some first second = or_right (false && c) true refl
-    on_first false true c false some first second = absurd (false≢true second)
-    on_first false false c d some first second = absurd (false≢true some)
-
-    on_rest : (a b c d : Bool) → a ≡ true → b ≡ true → (c || d) ≡ true → ((a && c) || (b && d)) ≡ true
-    on_rest true true c d first second some = some
-    on_rest true false c d first second some = absurd (false≢true second)
-    on_rest false b c d first second some = absurd (false≢true first)
-
--- where a zone has a finish, one of its halves by the score of a fixture has one
-pub score_has_finish : (sheet : Sheet) (season : Results) (zone : List Literal) (test : Test) → is_of_score test ≡ true → has_finish sheet season zone ≡ true → (has_finish sheet season (with_test zone test true) || has_finish sheet season (with_test zone test false)) ≡ true
-unfolding has_finish
-score_has_finish sheet season zone (Home fixture) of_score some =
-    one_half sheet.goal_limit zone (Home fixture) fixture (λ i. refl) season.scores 0 some
-score_has_finish sheet season zone (Draw fixture) of_score some =
-    one_half sheet.goal_limit zone (Draw fixture) fixture (λ i. refl) season.scores 0 some
-score_has_finish sheet season zone (HomeMost fixture most) of_score some =
-    one_half sheet.goal_limit zone (HomeMost fixture most) fixture (λ i. refl) season.scores 0 some
-score_has_finish sheet season zone (AwayMost fixture most) of_score some =
-    one_half sheet.goal_limit zone (AwayMost fixture most) fixture (λ i. refl) season.scores 0 some
-score_has_finish sheet season zone (Rival club) of_score some = absurd (false≢true of_score)
-
 -- each half of a proper split of a zone with a finish has one
-scores_have_finish : (sheet : Sheet) (season : Results) (zone : List Literal) (test : Test) (named : Bool) (holds : Bool) → (named && have_both_finish sheet season zone test) ≡ true → has_finish sheet season (with_test zone test holds) ≡ true
+scores_have_finish : (sheet : Sheet) (season : Results) (zone : List Literal) (test : Test)
+    (named : Bool) (holds : Bool) → (named && have_both_finish sheet season zone test) ≡ true
+    → has_finish sheet season (with_test zone test holds) ≡ true
 scores_have_finish sheet season zone test named holds proper =
-    by_half holds (and_parts (has_finish sheet season (with_test zone test true)) (has_finish sheet season (with_test zone test false)) (and_parts named (have_both_finish sheet season zone test) proper).1)
+    by_half holds
+    (and_parts (has_finish sheet season (with_test zone test true))
+    (has_finish sheet season (with_test zone test false))
+    (and_parts named (have_both_finish sheet season zone test) proper).1)
   where
-    by_half : (b : Bool) → (has_finish sheet season (with_test zone test true) ≡ true) × (has_finish sheet season (with_test zone test false) ≡ true) → has_finish sheet season (with_test zone test b) ≡ true
+    by_half : (b : Bool) → (has_finish sheet season (with_test zone test true) ≡ true)
+        × (has_finish sheet season (with_test zone test false) ≡ true)
+        → has_finish sheet season (with_test zone test b) ≡ true
     by_half true both = both.0
     by_half false both = both.1
 
-pub half_has_finish : (sheet : Sheet) (season : Results) (question : Question) (zone : List Literal) (test : Test) (holds : Bool) → has_finish sheet season zone ≡ true → is_proper sheet season question zone test ≡ true → has_finish sheet season (with_test zone test holds) ≡ true
+pub half_has_finish : (sheet : Sheet) (season : Results) (question : Question)
+    (zone : List Literal) (test : Test) (holds : Bool) → has_finish sheet season zone ≡ true
+    → is_proper sheet season question zone test ≡ true
+    → has_finish sheet season (with_test zone test holds) ≡ true
 half_has_finish sheet season question zone (Home fixture) holds some proper =
-    scores_have_finish sheet season zone (Home fixture) (nat_lt fixture (length sheet.fixtures)) holds proper
+    scores_have_finish sheet season zone (Home fixture)
+    (nat_lt fixture (length sheet.fixtures)) holds proper
 half_has_finish sheet season question zone (Draw fixture) holds some proper =
-    scores_have_finish sheet season zone (Draw fixture) (nat_lt fixture (length sheet.fixtures)) holds proper
+    scores_have_finish sheet season zone (Draw fixture)
+    (nat_lt fixture (length sheet.fixtures)) holds proper
 half_has_finish sheet season question zone (HomeMost fixture most) holds some proper =
-    scores_have_finish sheet season zone (HomeMost fixture most) (nat_lt fixture (length sheet.fixtures)) holds proper
+    scores_have_finish sheet season zone (HomeMost fixture most)
+    (nat_lt fixture (length sheet.fixtures)) holds proper
 half_has_finish sheet season question zone (AwayMost fixture most) holds some proper =
-    scores_have_finish sheet season zone (AwayMost fixture most) (nat_lt fixture (length sheet.fixtures)) holds proper
+    scores_have_finish sheet season zone (AwayMost fixture most)
+    (nat_lt fixture (length sheet.fixtures)) holds proper
 half_has_finish sheet season question zone (Rival club) holds some proper =
     rival_has_finish sheet season zone (Rival club) holds club (eq-eqb club club refl) ∙ some
 
 -- so where all splits are proper, each node's zone has a finish
-pub nodes_have_finish : (sheet : Sheet) (season : Results) (question : Question) (tree : Tree) (zone : List Literal) → has_finish sheet season zone ≡ true → NodesMeet (IsProperNode sheet season question) zone tree → NodesMeet (λ z node. has_finish sheet season z ≡ true) zone tree
+pub nodes_have_finish : (sheet : Sheet) (season : Results) (question : Question) (tree : Tree)
+    (zone : List Literal) → has_finish sheet season zone ≡ true
+    → NodesMeet (IsProperNode sheet season question) zone tree
+    → NodesMeet (λ z node. has_finish sheet season z ≡ true) zone tree
 nodes_have_finish sheet season question open_leaf zone some proper = some
 nodes_have_finish sheet season question (lent_leaf number) zone some proper = some
 nodes_have_finish sheet season question (refuted_leaf reason fresh) zone some proper = some
 nodes_have_finish sheet season question (branch test fresh yes_half no_half) zone some proper = (
   some,
-  nodes_have_finish sheet season question yes_half (with_test zone test true) (half_has_finish sheet season question zone test true some proper.0) proper.1,
-  nodes_have_finish sheet season question no_half (with_test zone test false) (half_has_finish sheet season question zone test false some proper.0) proper.2,
+  nodes_have_finish sheet season question yes_half (with_test zone test true)
+      (half_has_finish sheet season question zone test true some proper.0) proper.1,
+  nodes_have_finish sheet season question no_half (with_test zone test false)
+      (half_has_finish sheet season question zone test false some proper.0) proper.2,
 )
 
 -- a list with some option has one
-some_option : (options : List Score) (score : Score) → has_score options score ≡ true → has_option options ≡ true
+some_option : (options : List Score) (score : Score) → has_score options score ≡ true
+    → has_option options ≡ true
 some_option [] score is = absurd (false≢true is)
 some_option (first ∷ options) score is = refl
 
 -- without a literal each fixture has an end
-has_endings : (limit : ℕ) (season : List (Option Score)) (fixture : ℕ) → list_all has_option (options_from limit [] fixture season) ≡ true
+has_endings : (limit : ℕ) (season : List (Option Score)) (fixture : ℕ)
+    → list_all has_option (options_from limit [] fixture season) ≡ true
 has_endings limit [] fixture = refl
 has_endings limit (Some score ∷ season) fixture = has_endings limit season (suc fixture)
 has_endings limit (None ∷ season) fixture =
-    and_from (has_option (options_of limit [] fixture None)) (list_all has_option (options_from limit [] (suc fixture) season))
-    (some_option (options_of limit [] fixture None) (score_of 0 0) (has_score-options_of limit [] fixture None (score_of 0 0) ∙ within))
+    and_from (has_option (options_of limit [] fixture None))
+    (list_all has_option (options_from limit [] (suc fixture) season))
+    (some_option (options_of limit [] fixture None) (score_of 0 0)
+    (has_score-options_of limit [] fixture None (score_of 0 0) ∙ within))
     (has_endings limit season (suc fixture))
   where
     within : (nat_le 0 limit && nat_le 0 limit) ≡ true
-    within = and_from (nat_le 0 limit) (nat_le 0 limit) (le-leb 0 limit (omega arith)) (le-leb 0 limit (omega arith))
+    within = and_from (nat_le 0 limit) (nat_le 0 limit) (le-leb 0 limit (omega arith))
+        (le-leb 0 limit (omega arith))
 
 -- a season has a finish
 pub root_has_finish : (sheet : Sheet) (season : Results) → has_finish sheet season [] ≡ true

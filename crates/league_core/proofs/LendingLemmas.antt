@@ -1,15 +1,19 @@
--- Leaves that are lent: how many there are and where they stand, when nothing is left to do, and the
+-- Leaves that are lent: how many there are and where they stand, when nothing is left to do, and
+-- the
 -- tree with each of them open again.
-use Rattle.std.proofs.Common.{◌≡◌, ℕ, ◌+◌, ◌≤◌, Bool, true, false, ◌&&◌, ◌||◌, ◌==◌, nat_lt, cond, List, [], ◌∷◌, ◌++◌, length, refl, sym, ap, ◌∙◌, arith, length-append}
+use Rattle.std.proofs.Common.{◌≡◌, ℕ, ◌+◌, ◌≤◌, Bool, true, false, ◌&&◌, ◌||◌, ◌==◌, nat_lt, cond}
+use Rattle.std.proofs.Common.{List, [], ◌∷◌, ◌++◌, length, refl, sym, ap, ◌∙◌, arith, length-append}
 use Rattle.std.proofs.lemmas.Bool.{true≢false, false≢true, and_parts, or_parts, eq-eqb}
 use Rattle.std.proofs.lemmas.Bool.Decides.{nat_tests}
 use Rattle.league_core.specs.declared.zone.Literal.{Literal}
 use Rattle.league_core.specs.Zones.{with_test}
-use Rattle.league_core.specs.Trees.{Tree, open_leaf, lent_leaf, refuted_leaf, branch, zones_from, node_count, new_count, has_open, is_refuted}
+use Rattle.league_core.specs.Trees.{Tree, open_leaf, lent_leaf, refuted_leaf, branch, zones_from}
+use Rattle.league_core.specs.Trees.{node_count, new_count, has_open, is_refuted}
 use Rattle.league_core.specs.Lending.{lent_count, times_lent, lent_zones, all_opened}
 
 -- a number is lent as often as it has zones
-pub length-lent_zones : (number : ℕ) (tree : Tree) (zone : List Literal) → length (lent_zones number zone tree) ≡ times_lent number tree
+pub length-lent_zones : (number : ℕ) (tree : Tree) (zone : List Literal)
+    → length (lent_zones number zone tree) ≡ times_lent number tree
 length-lent_zones number open_leaf zone = refl
 length-lent_zones number (lent_leaf other) zone = at_leaf (other == number)
   where
@@ -18,10 +22,18 @@ length-lent_zones number (lent_leaf other) zone = at_leaf (other == number)
     at_leaf false = refl
 length-lent_zones number (refuted_leaf reason fresh) zone = refl
 length-lent_zones number (branch test fresh yes_half no_half) zone =
-    omega (arith, length-append (lent_zones number (with_test zone test true) yes_half) (lent_zones number (with_test zone test false) no_half), length-lent_zones number yes_half (with_test zone test true), length-lent_zones number no_half (with_test zone test false))
+    omega (
+      arith,
+      length-append (lent_zones number (with_test zone test true) yes_half)
+          (lent_zones number (with_test zone test false) no_half),
+      length-lent_zones number yes_half
+          (with_test zone test true),
+      length-lent_zones number no_half (with_test zone test false),
+    )
 
 -- a number that is not lent has no zone
-pub lent_zones_absent : (number : ℕ) (tree : Tree) (zone : List Literal) → times_lent number tree ≡ 0 → lent_zones number zone tree ≡ []
+pub lent_zones_absent : (number : ℕ) (tree : Tree) (zone : List Literal)
+    → times_lent number tree ≡ 0 → lent_zones number zone tree ≡ []
 lent_zones_absent number tree zone absent =
     none (lent_zones number zone tree) (length-lent_zones number tree zone ∙ absent)
   where
@@ -42,9 +54,11 @@ times_lent-le number (branch test fresh yes_half no_half) =
     omega (arith, times_lent-le number yes_half, times_lent-le number no_half)
 
 -- where no number is lent no leaf is
-pub lent_count-none : (tree : Tree) → ((number : ℕ) → times_lent number tree ≡ 0) → lent_count tree ≡ 0
+pub lent_count-none : (tree : Tree) → ((number : ℕ) → times_lent number tree ≡ 0)
+    → lent_count tree ≡ 0
 lent_count-none open_leaf none = refl
-lent_count-none (lent_leaf other) none = absurd (at_leaf (other == other) (eq-eqb other other refl) (none other))
+lent_count-none (lent_leaf other) none = absurd
+    (at_leaf (other == other) (eq-eqb other other refl) (none other))
   where
     at_leaf : (b : Bool) → b ≡ true → cond {A = ℕ} b 1 0 ≡ 0 → ⊥
     at_leaf true same absent = omega arith
@@ -56,16 +70,22 @@ lent_count-none (branch test fresh yes_half no_half) none =
     omega arith
 
 -- a tree in which nothing waits and nothing is lent is refuted
-pub settled_is_refuted : (tree : Tree) → has_open tree ≡ false → lent_count tree ≡ 0 → is_refuted tree ≡ true
+pub settled_is_refuted : (tree : Tree) → has_open tree ≡ false → lent_count tree ≡ 0
+    → is_refuted tree ≡ true
 settled_is_refuted open_leaf closed none = absurd (true≢false closed)
 settled_is_refuted (lent_leaf number) closed none = absurd (omega arith)
 settled_is_refuted (refuted_leaf reason fresh) closed none = refl
 settled_is_refuted (branch test fresh yes_half no_half) closed none =
     let parts = or_parts (has_open yes_half) (has_open no_half) closed in
-    rw (settled_is_refuted yes_half parts.0 (omega arith), settled_is_refuted no_half parts.1 (omega arith)) refl
+    rw (
+      settled_is_refuted yes_half parts.0 (omega arith),
+      settled_is_refuted no_half parts.1
+          (omega arith),
+    ) refl
 
 -- a refuted tree is such a tree
-pub refuted_is_settled : (tree : Tree) → is_refuted tree ≡ true → (has_open tree ≡ false) × (lent_count tree ≡ 0)
+pub refuted_is_settled : (tree : Tree) → is_refuted tree ≡ true → (has_open tree ≡ false)
+    × (lent_count tree ≡ 0)
 refuted_is_settled open_leaf refuted = absurd (false≢true refuted)
 refuted_is_settled (lent_leaf number) refuted = absurd (false≢true refuted)
 refuted_is_settled (refuted_leaf reason fresh) refuted = (refl, refl)
@@ -87,7 +107,8 @@ times_lent-all_opened number (refuted_leaf reason fresh) = refl
 times_lent-all_opened number (branch test fresh yes_half no_half) =
     omega (arith, times_lent-all_opened number yes_half, times_lent-all_opened number no_half)
 
-pub lent_zones-all_opened : (number : ℕ) (tree : Tree) (zone : List Literal) → lent_zones number zone (all_opened tree) ≡ []
+pub lent_zones-all_opened : (number : ℕ) (tree : Tree) (zone : List Literal)
+    → lent_zones number zone (all_opened tree) ≡ []
 lent_zones-all_opened number tree zone =
     lent_zones_absent number (all_opened tree) zone (times_lent-all_opened number tree)
 
@@ -110,13 +131,16 @@ new_count-all_opened (refuted_leaf reason fresh) = refl
 new_count-all_opened (branch test fresh yes_half no_half) =
     omega (arith, new_count-all_opened yes_half, new_count-all_opened no_half)
 
-pub zones_from-all_opened : (tree : Tree) (zone : List Literal) → zones_from zone (all_opened tree) ≡ zones_from zone tree
+pub zones_from-all_opened : (tree : Tree) (zone : List Literal)
+    → zones_from zone (all_opened tree) ≡ zones_from zone tree
 zones_from-all_opened open_leaf zone = refl
 zones_from-all_opened (lent_leaf number) zone = refl
 zones_from-all_opened (refuted_leaf reason fresh) zone = refl
 zones_from-all_opened (branch test fresh yes_half no_half) zone =
-    ap (λ zones. zones ++ zones_from (with_test zone test false) (all_opened no_half)) (zones_from-all_opened yes_half (with_test zone test true))
-    ∙ ap (λ zones. zones_from (with_test zone test true) yes_half ++ zones) (zones_from-all_opened no_half (with_test zone test false))
+    ap (λ zones. zones ++ zones_from (with_test zone test false) (all_opened no_half))
+    (zones_from-all_opened yes_half (with_test zone test true))
+    ∙ ap (λ zones. zones_from (with_test zone test true) yes_half ++ zones)
+    (zones_from-all_opened no_half (with_test zone test false))
 
 -- it is refuted exactly where it was, and its leaves are open where they were open or lent
 pub is_refuted-all_opened : (tree : Tree) → is_refuted (all_opened tree) ≡ is_refuted tree
@@ -127,15 +151,19 @@ is_refuted-all_opened (branch test fresh yes_half no_half) =
     ap (λ b. b && is_refuted (all_opened no_half)) (is_refuted-all_opened yes_half)
     ∙ ap (λ b. is_refuted yes_half && b) (is_refuted-all_opened no_half)
 
-pub has_open-all_opened : (tree : Tree) → has_open (all_opened tree) ≡ (has_open tree || nat_lt 0 (lent_count tree))
+pub has_open-all_opened : (tree : Tree)
+    → has_open (all_opened tree) ≡ (has_open tree || nat_lt 0 (lent_count tree))
 has_open-all_opened open_leaf = refl
 has_open-all_opened (lent_leaf number) = refl
 has_open-all_opened (refuted_leaf reason fresh) = refl
 has_open-all_opened (branch test fresh yes_half no_half) =
     ap (λ b. b || has_open (all_opened no_half)) (has_open-all_opened yes_half)
-    ∙ ap (λ b. (has_open yes_half || nat_lt 0 (lent_count yes_half)) || b) (has_open-all_opened no_half)
-    ∙ joined (has_open yes_half) (has_open no_half) (nat_lt 0 (lent_count yes_half)) (nat_lt 0 (lent_count no_half))
-    ∙ ap (λ b. (has_open yes_half || has_open no_half) || b) (sym (some_of_sum (lent_count yes_half) (lent_count no_half)))
+    ∙ ap (λ b. (has_open yes_half || nat_lt 0 (lent_count yes_half)) || b)
+    (has_open-all_opened no_half)
+    ∙ joined (has_open yes_half) (has_open no_half) (nat_lt 0 (lent_count yes_half))
+    (nat_lt 0 (lent_count no_half))
+    ∙ ap (λ b. (has_open yes_half || has_open no_half) || b)
+    (sym (some_of_sum (lent_count yes_half) (lent_count no_half)))
   where
     joined : (a b p q : Bool) → ((a || p) || (b || q)) ≡ ((a || b) || (p || q))
     joined true b p q = refl

@@ -36,5 +36,6 @@ pub mod PutLemmas
 pub mod NodeFactLemmas
 pub mod TreeListLemmas
 pub mod HalfLemmas
+pub mod ScoreHalfLemmas
 pub mod SumLemmas
 pub mod PairLemmas

@@ -1,12 +1,15 @@
--- What holds of lent leaves by the definitions alone, and of a tree that is put in their place: each
+-- What holds of lent leaves by the definitions alone, and of a tree that is put in their place:
+-- each
 -- statement is the contract of a function of src/lending_laws.rt that does nothing. The lending of
 -- an open leaf is the same read backwards: the tree before is the tree after, with an open leaf put
 -- in place of the number.
-use Rattle.std.specs.Prelude.{◌≡◌, ◌≢◌, ◌↔◌, ◌≤◌, ◌+◌, ◌*◌, ℕ, Bool, false, ◌&&◌, ◌||◌, nat_lt, IsTrue, List, [], length, All}
+use Rattle.std.specs.Prelude.{◌≡◌, ◌≢◌, ◌↔◌, ◌≤◌, ◌+◌, ◌*◌, ℕ, Bool, false, ◌&&◌, ◌||◌, nat_lt}
+use Rattle.std.specs.Prelude.{IsTrue, List, [], length, All}
 use Rattle.league_core.specs.declared.zone.Literal.{Literal}
 use Rattle.league_core.specs.declared.tree.TreeNode.{TreeNode}
 use Rattle.league_core.specs.declared.tree.TreeNode.TheVariants.{Open, Lent}
-use Rattle.league_core.specs.Trees.{Tree, open_leaf, zones_from, node_count, NodesMeet, new_count, has_open, is_refuted}
+use Rattle.league_core.specs.Trees.{Tree, open_leaf, zones_from, node_count, NodesMeet, new_count}
+use Rattle.league_core.specs.Trees.{has_open, is_refuted}
 use Rattle.league_core.specs.Leaves.{is_leaf}
 use Rattle.league_core.specs.Lending.{lent_count, times_lent, lent_zones, put, all_opened}
 

@@ -1,6 +1,8 @@
--- Which splits a tree may have: proper ones, the order in which they are due, and those that are one
+-- Which splits a tree may have: proper ones, the order in which they are due, and those that are
+-- one
 -- unit of work; and what has to hold at the leaves that are refuted.
-use Rattle.std.specs.Prelude.{◌≡◌, ℕ, Bool, true, false, not, ◌&&◌, ◌==◌, nat_lt, IsTrue, List, length}
+use Rattle.std.specs.Prelude.{◌≡◌, ℕ, Bool, true, false, not, ◌&&◌, ◌==◌, nat_lt, IsTrue, List}
+use Rattle.std.specs.Prelude.{length}
 use Rattle.std.specs.List.{list_all}
 use Rattle.league_core.specs.declared.sheet.Sheet.{Sheet}
 use Rattle.league_core.specs.declared.question.Question.{Question}
@@ -56,7 +58,8 @@ are_all_marked sheet question zone = list_all (is_marked zone) (rivals_of sheet 
 abbrev pub are_outcomes_fixed : Sheet → Results → List Literal → Bool
 are_outcomes_fixed sheet season zone = list_all has_one_outcome (options_in sheet season zone)
 
--- said of a proper split, the order in which a zone is split: by rivals first, by outcomes where all
+-- said of a proper split, the order in which a zone is split: by rivals first, by outcomes where
+-- all
 -- rivals are marked, by goals where all outcomes are fixed too
 abbrev pub is_due : Sheet → Results → Question → List Literal → Test → Bool
 is_due sheet season question zone (Home fixture) =
@@ -76,7 +79,8 @@ IsNoExample sheet season question finish =
 
 -- a split that is one unit of work: the zone has a finish, the split is proper and due, no reason
 -- holds in the zone, and the proposed finish is no example with any lots
-pub record IsFairSplit (sheet : Sheet) (season : Results) (question : Question) (zone : List Literal) (test : Test) : Type 0 where
+pub record IsFairSplit (sheet : Sheet) (season : Results) (question : Question)
+    (zone : List Literal) (test : Test) : Type 0 where
   pub some : IsTrue (has_finish sheet season zone)
   pub proper : IsTrue (is_proper sheet season question zone test)
   pub due : IsTrue (is_due sheet season question zone test)

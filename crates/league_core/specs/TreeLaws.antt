@@ -1,11 +1,14 @@
 -- What holds of trees by the definitions alone, of their nodes, their leaves and their lists: each
 -- statement is the contract of a function of src/tree_laws.rt that does nothing.
-use Rattle.std.specs.Prelude.{◌≡◌, ◌↔◌, ◌≤◌, ◌+◌, ◌*◌, ℕ, Bool, IsTrue, List, length, map, filter, All, Some, None}
+use Rattle.std.specs.Prelude.{◌≡◌, ◌↔◌, ◌≤◌, ◌+◌, ◌*◌, ℕ, Bool, IsTrue, List, length, map, filter}
+use Rattle.std.specs.Prelude.{All, Some, None}
 use Rattle.std.specs.List.{list_any, list_all}
 use Rattle.league_core.specs.declared.zone.Literal.{Literal}
 use Rattle.league_core.specs.declared.tree.TreeNode.{TreeNode}
-use Rattle.league_core.specs.Trees.{Tree, zones_from, preorder, node_count, NodesMeet, new_count, has_open, is_refuted}
-use Rattle.league_core.specs.Leaves.{Leaf, leaves_from, is_open_leaf, is_lent_under, is_refuted_leaf}
+use Rattle.league_core.specs.Trees.{Tree, zones_from, preorder, node_count, NodesMeet, new_count}
+use Rattle.league_core.specs.Trees.{has_open, is_refuted}
+use Rattle.league_core.specs.Leaves.{Leaf, leaves_from, is_open_leaf, is_lent_under}
+use Rattle.league_core.specs.Leaves.{is_refuted_leaf}
 use Rattle.league_core.specs.Lending.{lent_zones}
 use Rattle.league_core.specs.TreeLists.{tree_of}
 

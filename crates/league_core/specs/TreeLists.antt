@@ -52,7 +52,8 @@ in_front tree None = None
 in_front tree (Some trees) = Some (tree ∷ trees)
 
 -- a tree's nodes in front of a list are read as the tree in front of what is read there
-pub trees_of-preorder : (tree : Tree) (rest : List TreeNode) → trees_of (preorder tree ++ rest) ≡ in_front tree (trees_of rest)
+pub trees_of-preorder : (tree : Tree) (rest : List TreeNode)
+    → trees_of (preorder tree ++ rest) ≡ in_front tree (trees_of rest)
 trees_of-preorder open_leaf rest = leaf (trees_of rest)
   where
     leaf : (read : Option (List Tree)) → with_node Open read ≡ in_front open_leaf read
@@ -60,21 +61,27 @@ trees_of-preorder open_leaf rest = leaf (trees_of rest)
     leaf (Some trees) = refl
 trees_of-preorder (lent_leaf number) rest = leaf (trees_of rest)
   where
-    leaf : (read : Option (List Tree)) → with_node (Lent number) read ≡ in_front (lent_leaf number) read
+    leaf : (read : Option (List Tree))
+        → with_node (Lent number) read ≡ in_front (lent_leaf number) read
     leaf None = refl
     leaf (Some trees) = refl
 trees_of-preorder (refuted_leaf reason fresh) rest = leaf (trees_of rest)
   where
-    leaf : (read : Option (List Tree)) → with_node (Refuted reason fresh) read ≡ in_front (refuted_leaf reason fresh) read
+    leaf : (read : Option (List Tree))
+        → with_node (Refuted reason fresh) read ≡ in_front (refuted_leaf reason fresh) read
     leaf None = refl
     leaf (Some trees) = refl
 trees_of-preorder (branch test fresh yes_half no_half) rest =
-    ap (λ nodes. with_node (Split test fresh) (trees_of nodes)) (append_assoc (preorder yes_half) (preorder no_half) rest)
+    ap (λ nodes. with_node (Split test fresh) (trees_of nodes))
+    (append_assoc (preorder yes_half) (preorder no_half) rest)
     ∙ ap (with_node (Split test fresh)) (trees_of-preorder yes_half (preorder no_half ++ rest))
-    ∙ ap (λ read. with_node (Split test fresh) (in_front yes_half read)) (trees_of-preorder no_half rest)
+    ∙ ap (λ read. with_node (Split test fresh) (in_front yes_half read))
+    (trees_of-preorder no_half rest)
     ∙ joined (trees_of rest)
   where
-    joined : (read : Option (List Tree)) → with_node (Split test fresh) (in_front yes_half (in_front no_half read)) ≡ in_front (branch test fresh yes_half no_half) read
+    joined : (read : Option (List Tree))
+        → with_node (Split test fresh) (in_front yes_half (in_front no_half read)) ≡ in_front
+        (branch test fresh yes_half no_half) read
     joined None = refl
     joined (Some trees) = refl
 
@@ -86,4 +93,5 @@ tree_of-preorder tree =
 -- a tree is stored as its list
 abbrev pub coded_tree : Coded Tree
 coded_tree =
-    code_by (List TreeNode) (coded_list node.the_row.coded) preorder (λ nodes. tree_or_leaf (tree_of nodes)) (λ tree. ap tree_or_leaf (tree_of-preorder tree))
+    code_by (List TreeNode) (coded_list node.the_row.coded) preorder
+    (λ nodes. tree_or_leaf (tree_of nodes)) (λ tree. ap tree_or_leaf (tree_of-preorder tree))

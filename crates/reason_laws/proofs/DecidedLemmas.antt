@@ -1,11 +1,16 @@
--- A zone in which each fixture has one option decides itself: where neither the window nor the criteria
--- are a reason, its finish is an example with lots that favour the claim.
-use Rattle.std.proofs.Common.{◌≡◌, ◌≢◌, ℕ, ◌+◌, ◌-◌, ◌<◌, ◌≤◌, ℤ, ◌≤ℤ◌, Bool, true, false, not, ◌&&◌, ◌||◌, ◌==◌, cond, nat_lt, List, [], ◌∷◌, length, filter, count_by, Ordering, Less, Equal, Greater, is_lt, nat_cmp, refl, sym, ap, ◌∙◌, arith}
+-- A zone in which each fixture has one option decides itself: where neither the window nor the
+-- criteria are a reason, its finish is an example with lots that favour the claim.
+use Rattle.std.proofs.Common.{◌≡◌, ◌≢◌, ℕ, ◌+◌, ◌-◌, ◌<◌, ◌≤◌, ℤ, ◌≤ℤ◌, Bool, true, false, not}
+use Rattle.std.proofs.Common.{◌&&◌, ◌||◌, ◌==◌, cond, nat_lt, List, [], ◌∷◌, length, filter}
+use Rattle.std.proofs.Common.{count_by, Ordering, Less, Equal, Greater, is_lt, nat_cmp, refl, sym}
+use Rattle.std.proofs.Common.{ap, ◌∙◌, arith}
 use Rattle.std.specs.Prelude.{int_lt, int_le}
 use Rattle.std.specs.List.{list_all, list_any}
 use Rattle.std.specs.Ordering.{ordering_then}
 use Rattle.std.proofs.lemmas.Int.{ints}
-use Rattle.std.proofs.lemmas.Bool.{false≢true, true≢false, and_parts, and_from, or_parts, or_right, eqb-true, eqb-false, leb-false, le-leb, lt-leb, lt-ltb, ltb-true, false_from_ne_true, not_from_false}
+use Rattle.std.proofs.lemmas.Bool.{false≢true, true≢false, and_parts, and_from, or_parts, or_right}
+use Rattle.std.proofs.lemmas.Bool.{eqb-true, eqb-false, leb-false, le-leb, lt-leb, lt-ltb, ltb-true}
+use Rattle.std.proofs.lemmas.Bool.{false_from_ne_true, not_from_false}
 use Rattle.std.proofs.lemmas.Bool.Decides.{Decides-int_eq}
 use Rattle.league_core.specs.declared.sheet.Sheet.{Sheet}
 use Rattle.league_core.specs.declared.season.Score.{Score}
@@ -21,10 +26,13 @@ use Rattle.league_core.specs.Ranking.{are_lots, lot_of, ranks_before, place_of, 
 use Rattle.league_core.specs.Questions.{is_on_side, is_in_window, holds_at, IsExample}
 use Rattle.league_core.specs.LotsFor.{order_without_lots, lots_for_claim, IsFavoured}
 use Rattle.league_core.specs.Zones.{rivals_of, marked_before, marked_after}
-use Rattle.league_core.specs.Options.{options_in, has_option, has_one_score, has_finish, is_single, IsInBox}
+use Rattle.league_core.specs.Options.{options_in, has_option, has_one_score, has_finish, is_single}
+use Rattle.league_core.specs.Options.{IsInBox}
 use Rattle.league_core.specs.PointRanges.{points_range, least_points_of, most_points_of}
 use Rattle.league_core.specs.SureOrder.{is_above, is_below, sure_order}
-use Rattle.league_core.specs.Reasons.{has_reason, too_many, refutes_by_window, refutes_by_tie, is_surely_above, is_surely_below, are_too_many_sure, is_surely_wrong}
+use Rattle.league_core.specs.Reasons.{has_reason, too_many, refutes_by_window, refutes_by_tie}
+use Rattle.league_core.specs.Reasons.{is_surely_above, is_surely_below, are_too_many_sure}
+use Rattle.league_core.specs.Reasons.{is_surely_wrong}
 use Rattle.league_core.proofs.OrderingLemmas.{is_lt-nat_cmp}
 use Rattle.league_core.proofs.ClubLemmas.{all_in_range}
 use Rattle.league_core.proofs.OthersLemmas.{length-others_of}
@@ -39,7 +47,8 @@ use Rattle.reason_laws.proofs.SureOrderLemmas.{points_fixed}
 use Rattle.reason_laws.proofs.SingleLemmas.{single_fixed, order_is}
 
 -- who comes before a club that is drawn first comes before it without the lots
-first_less : (order : Ordering) (i j : ℕ) → j ≡ 0 → is_lt (ordering_then order (nat_cmp i j)) ≡ true → order ≡ Less
+first_less : (order : Ordering) (i j : ℕ) → j ≡ 0
+    → is_lt (ordering_then order (nat_cmp i j)) ≡ true → order ≡ Less
 first_less Less i j first before = refl
 first_less Greater i j first before = absurd (false≢true before)
 first_less Equal i j first before =
@@ -47,40 +56,61 @@ first_less Equal i j first before =
     absurd (omega arith)
 
 -- who does not come before a club that is drawn later comes behind it without the lots
-last_greater : (order : Ordering) (i j : ℕ) → i < j → is_lt (ordering_then order (nat_cmp i j)) ≡ false → order ≡ Greater
+last_greater : (order : Ordering) (i j : ℕ) → i < j
+    → is_lt (ordering_then order (nat_cmp i j)) ≡ false → order ≡ Greater
 last_greater Less i j last behind = absurd (true≢false behind)
 last_greater Greater i j last behind = refl
 last_greater Equal i j last behind =
     absurd (true≢false (sym (is_lt-nat_cmp i j ∙ lt-ltb i j last) ∙ behind))
 
 -- in a single zone a rival before the club is surely above it, where the club is drawn first
-before_is_above : (sheet : Sheet) (season : Results) (zone : List Literal) (finish : Results) (lots : List ℕ) (rival club : ℕ) → is_single sheet season zone ≡ true → IsInBox sheet season zone finish → lot_of lots club ≡ 0 → ranks_before sheet finish lots rival club ≡ true → is_above (sure_order sheet season zone rival club) ≡ true
+before_is_above : (sheet : Sheet) (season : Results) (zone : List Literal) (finish : Results)
+    (lots : List ℕ) (rival club : ℕ) → is_single sheet season zone ≡ true
+    → IsInBox sheet season zone finish → lot_of lots club ≡ 0
+    → ranks_before sheet finish lots rival club ≡ true
+    → is_above (sure_order sheet season zone rival club) ≡ true
 before_is_above sheet season zone finish lots rival club single box first before =
-    let less = first_less (order_without_lots sheet finish rival club) (lot_of lots rival) (lot_of lots club) first (sym (ap is_lt (order_of-lots sheet finish lots rival club)) ∙ before) in
+    let less = first_less (order_without_lots sheet finish rival club) (lot_of lots rival) (lot_of
+    lots club) first (sym (ap is_lt (order_of-lots sheet finish lots rival club)) ∙ before) in
     ap is_above (order_is sheet season zone finish rival club single box ∙ ap sure_of less)
 
 -- and one that is not before it is surely below it, where it is drawn earlier
-behind_is_below : (sheet : Sheet) (season : Results) (zone : List Literal) (finish : Results) (lots : List ℕ) (rival club : ℕ) → is_single sheet season zone ≡ true → IsInBox sheet season zone finish → lot_of lots rival < lot_of lots club → ranks_before sheet finish lots rival club ≡ false → is_below (sure_order sheet season zone rival club) ≡ true
+behind_is_below : (sheet : Sheet) (season : Results) (zone : List Literal) (finish : Results)
+    (lots : List ℕ) (rival club : ℕ) → is_single sheet season zone ≡ true
+    → IsInBox sheet season zone finish → lot_of lots rival < lot_of lots club
+    → ranks_before sheet finish lots rival club ≡ false
+    → is_below (sure_order sheet season zone rival club) ≡ true
 behind_is_below sheet season zone finish lots rival club single box earlier behind =
-    let greater = last_greater (order_without_lots sheet finish rival club) (lot_of lots rival) (lot_of lots club) earlier (sym (ap is_lt (order_of-lots sheet finish lots rival club)) ∙ behind) in
+    let greater = last_greater (order_without_lots sheet finish rival club) (lot_of lots
+    rival) (lot_of lots club) earlier
+    (sym (ap is_lt (order_of-lots sheet finish lots rival club)) ∙ behind) in
     ap is_below (order_is sheet season zone finish rival club single box ∙ ap sure_of greater)
 
 -- those that pass a test which the club does not are no more than its rivals that pass a weaker one
-count_by-rivals : (before front : ℕ → Bool) (club : ℕ) (clubs : List ℕ) → before club ≡ false → ((other : ℕ) → before other ≡ true → front other ≡ true) → count_by before clubs ≤ count_by front (filter (λ other. not (other == club)) clubs)
+count_by-rivals : (before front : ℕ → Bool) (club : ℕ) (clubs : List ℕ) → before club ≡ false
+    → ((other : ℕ) → before other ≡ true → front other ≡ true)
+    → count_by before clubs ≤ count_by front (filter (λ other. not (other == club)) clubs)
 count_by-rivals before front club [] itself gives = omega arith
 count_by-rivals before front club (other ∷ clubs) itself gives =
     let rest = count_by-rivals before front club clubs itself gives in
     let here = count_by-cons before other clubs in
     by_test (other == club) (before other) refl refl rest here
   where
-    by_test : (own passes : Bool) → (other == club) ≡ own → before other ≡ passes → count_by before clubs ≤ count_by front (filter (λ x. not (x == club)) clubs) → count_by before (other ∷ clubs) ≡ cond {A = ℕ} (before other) 1 0 + count_by before clubs → count_by before (other ∷ clubs) ≤ count_by front (cond (not own) (other ∷ filter (λ x. not (x == club)) clubs) (filter (λ x. not (x == club)) clubs))
+    by_test : (own passes : Bool) → (other == club) ≡ own → before other ≡ passes
+        → count_by before clubs ≤ count_by front (filter (λ x. not (x == club)) clubs)
+        → count_by before (other ∷ clubs) ≡ cond {A = ℕ} (before other) 1 0 + count_by before clubs
+        → count_by before (other ∷ clubs) ≤ count_by front
+        (cond (not own) (other ∷ filter (λ x. not (x == club)) clubs)
+        (filter (λ x. not (x == club)) clubs))
     by_test true passes same b rest here =
-        let none : cond {A = ℕ} (before other) 1 0 ≡ 0 = ap (λ t. cond {A = ℕ} t 1 0) (ap before (eqb-true other club same) ∙ itself) in
+        let none : cond {A = ℕ} (before other) 1 0 ≡ 0 = ap (λ t. cond {A = ℕ} t 1 0) (ap before
+        (eqb-true other club same) ∙ itself) in
         omega arith
     by_test false true same b rest here =
         let counted = count_by-other front club other clubs in
         let one : cond {A = ℕ} (before other) 1 0 ≡ 1 = ap (λ t. cond {A = ℕ} t 1 0) b in
-        let other_one : cond {A = ℕ} (front other) 1 0 ≡ 1 = ap (λ t. cond {A = ℕ} t 1 0) (gives other b) in
+        let other_one : cond {A = ℕ} (front other) 1 0 ≡ 1 = ap (λ t. cond
+        {A = ℕ} t 1 0) (gives other b) in
         omega arith
     by_test false false same b rest here =
         let counted = count_by-other front club other clubs in
@@ -88,13 +118,28 @@ count_by-rivals before front club (other ∷ clubs) itself gives =
         omega arith
 
 -- where each rival is before or behind, the rivals are no more than both together
-count_by-both : (known before back : ℕ → Bool) (club : ℕ) (clubs : List ℕ) → list_all known clubs ≡ true → ((other : ℕ) → known other ≡ true → other ≢ club → before other ≡ false → back other ≡ true) → length (filter (λ other. not (other == club)) clubs) ≤ count_by before (filter (λ other. not (other == club)) clubs) + count_by back (filter (λ other. not (other == club)) clubs)
+count_by-both : (known before back : ℕ → Bool) (club : ℕ) (clubs : List ℕ)
+    → list_all known clubs ≡ true
+    → ((other : ℕ) → known other ≡ true → other ≢ club → before other ≡ false → back other ≡ true)
+    → length (filter (λ other. not (other == club)) clubs) ≤ count_by before
+    (filter (λ other. not (other == club)) clubs) + count_by back
+    (filter (λ other. not (other == club)) clubs)
 count_by-both known before back club [] all covers = omega arith
 count_by-both known before back club (other ∷ clubs) all covers =
     let parts = and_parts (known other) (list_all known clubs) all in
-    by_test (other == club) (before other) refl refl parts.0 (count_by-both known before back club clubs parts.1 covers)
+    by_test (other == club) (before other) refl refl parts.0
+    (count_by-both known before back club clubs parts.1 covers)
   where
-    by_test : (own passes : Bool) → (other == club) ≡ own → before other ≡ passes → known other ≡ true → length (filter (λ x. not (x == club)) clubs) ≤ count_by before (filter (λ x. not (x == club)) clubs) + count_by back (filter (λ x. not (x == club)) clubs) → length (cond (not own) (other ∷ filter (λ x. not (x == club)) clubs) (filter (λ x. not (x == club)) clubs)) ≤ count_by before (cond (not own) (other ∷ filter (λ x. not (x == club)) clubs) (filter (λ x. not (x == club)) clubs)) + count_by back (cond (not own) (other ∷ filter (λ x. not (x == club)) clubs) (filter (λ x. not (x == club)) clubs))
+    by_test : (own passes : Bool) → (other == club) ≡ own → before other ≡ passes
+        → known other ≡ true
+        → length (filter (λ x. not (x == club)) clubs) ≤ count_by before
+        (filter (λ x. not (x == club)) clubs) + count_by back (filter (λ x. not (x == club)) clubs)
+        → length (cond (not own) (other ∷ filter (λ x. not (x == club)) clubs)
+        (filter (λ x. not (x == club)) clubs)) ≤ count_by before
+        (cond (not own) (other ∷ filter (λ x. not (x == club)) clubs)
+        (filter (λ x. not (x == club)) clubs)) + count_by back
+        (cond (not own) (other ∷ filter (λ x. not (x == club)) clubs)
+        (filter (λ x. not (x == club)) clubs))
     by_test true passes same b is rest = rest
     by_test false true same b is rest =
         let ahead = count_by-other before club other clubs in
@@ -104,31 +149,56 @@ count_by-both known before back club (other ∷ clubs) all covers =
     by_test false false same b is rest =
         let ahead = count_by-other before club other clubs in
         let behind = count_by-other back club other clubs in
-        let one : cond {A = ℕ} (back other) 1 0 ≡ 1 = ap (λ t. cond {A = ℕ} t 1 0) (covers other is (eqb-false other club same) b) in
+        let one : cond {A = ℕ} (back other) 1 0 ≡ 1 = ap (λ t. cond {A = ℕ} t 1 0) (covers other is
+        (eqb-false other club same) b) in
         omega arith
 
 -- with too few rivals surely on the other side, lots that favour the claim put the club on its own
-side_is : (sheet : Sheet) (season : Results) (question : Question) (zone : List Literal) (finish : Results) (lots : List ℕ) (claim : Claim) → question.club < length sheet.clubs → is_single sheet season zone ≡ true → IsInBox sheet season zone finish → IsFavoured claim (length sheet.clubs) lots question.club → too_many sheet question (λ rival. marked_before zone rival || is_surely_above sheet season question zone rival) (λ rival. marked_after zone rival || is_surely_below sheet season question zone rival) claim ≡ false → is_on_side (is_inside sheet finish lots question.club question.line) claim ≡ true
+side_is : (sheet : Sheet) (season : Results) (question : Question) (zone : List Literal)
+    (finish : Results) (lots : List ℕ) (claim : Claim) → question.club < length sheet.clubs
+    → is_single sheet season zone ≡ true → IsInBox sheet season zone finish
+    → IsFavoured claim (length sheet.clubs) lots question.club
+    → too_many sheet question
+    (λ rival. marked_before zone rival || is_surely_above sheet season question zone rival)
+    (λ rival. marked_after zone rival || is_surely_below sheet season question zone rival) claim
+    ≡ false → is_on_side (is_inside sheet finish lots question.club question.line) claim ≡ true
 side_is sheet season question zone finish lots Inside club_in single box favoured few =
-    let front = λ (rival : ℕ). marked_before zone rival || is_surely_above sheet season question zone rival in
+    let front = λ (rival : ℕ). marked_before zone rival
+    || is_surely_above sheet season question zone rival in
     let before = λ (rival : ℕ). ranks_before sheet finish lots rival question.club in
-    let fewer : count_by front (rivals_of sheet question.club) < question.line = leb-false question.line (count_by front (rivals_of sheet question.club)) few in
-    let counted = count_by-rivals before front question.club (clubs_of sheet) (ranks_before-itself sheet finish lots question.club)
-    (λ rival ahead. or_right (marked_before zone rival) (is_surely_above sheet season question zone rival) (before_is_above sheet season zone finish lots rival question.club single box favoured ahead)) in
+    let fewer : count_by front (rivals_of sheet question.club) < question.line = leb-false
+    question.line (count_by front (rivals_of sheet question.club)) few in
+    let counted = count_by-rivals before front question.club (clubs_of sheet)
+    (ranks_before-itself sheet finish lots question.club)
+    (λ rival ahead. or_right (marked_before zone rival)
+    (is_surely_above sheet season question zone rival)
+    (before_is_above sheet season zone finish lots rival question.club single box favoured
+    ahead)) in
     le-leb (place_of sheet finish lots question.club) question.line (omega arith)
 side_is sheet season question zone finish lots Outside club_in single box favoured few =
-    let back = λ (rival : ℕ). marked_after zone rival || is_surely_below sheet season question zone rival in
+    let back = λ (rival : ℕ). marked_after zone rival
+    || is_surely_below sheet season question zone rival in
     let before = λ (rival : ℕ). ranks_before sheet finish lots rival question.club in
-    let fewer : count_by back (rivals_of sheet question.club) < length sheet.clubs - question.line = leb-false (length sheet.clubs - question.line) (count_by back (rivals_of sheet question.club)) few in
-    let both = count_by-both (λ rival. nat_lt rival (length sheet.clubs)) before back question.club (clubs_of sheet)
-    (all_in_range (λ rival. nat_lt rival (length sheet.clubs)) 0 (length sheet.clubs) (λ rival _ high. lt-ltb rival (length sheet.clubs) (omega arith)))
-    (λ rival known different behind. or_right (marked_after zone rival) (is_surely_below sheet season question zone rival) (behind_is_below sheet season zone finish lots rival question.club single box (favoured rival (ltb-true rival (length sheet.clubs) known) different) behind)) in
+    let fewer : count_by back (rivals_of sheet question.club) < length sheet.clubs -
+    question.line = leb-false (length sheet.clubs - question.line)
+    (count_by back (rivals_of sheet question.club)) few in
+    let both = count_by-both (λ rival. nat_lt rival (length sheet.clubs)) before back question.club
+    (clubs_of sheet)
+    (all_in_range (λ rival. nat_lt rival (length sheet.clubs)) 0 (length sheet.clubs)
+    (λ rival _ high. lt-ltb rival (length sheet.clubs) (omega arith)))
+    (λ rival known different behind. or_right (marked_after zone rival)
+    (is_surely_below sheet season question zone rival)
+    (behind_is_below sheet season zone finish lots rival question.club single box
+    (favoured rival (ltb-true rival (length sheet.clubs) known) different) behind)) in
     let ahead = count_by-front before before question.club (clubs_of sheet) (λ rival is. is) in
-    let rivals : length (rivals_of sheet question.club) + 1 ≡ length sheet.clubs = length-others_of (length sheet.clubs) question.club club_in in
-    not_from_false (is_inside sheet finish lots question.club question.line) (lt-leb (place_of sheet finish lots question.club) question.line (omega arith))
+    let rivals : length (rivals_of sheet question.club) + 1 ≡ length sheet.clubs = length-others_of
+    (length sheet.clubs) question.club club_in in
+    not_from_false (is_inside sheet finish lots question.club question.line)
+    (lt-leb (place_of sheet finish lots question.club) question.line (omega arith))
 
 -- a single zone has a finish
-single_has_finish : (sheet : Sheet) (season : Results) (zone : List Literal) → is_single sheet season zone ≡ true → has_finish sheet season zone ≡ true
+single_has_finish : (sheet : Sheet) (season : Results) (zone : List Literal)
+    → is_single sheet season zone ≡ true → has_finish sheet season zone ≡ true
 unfolding is_single has_finish
 single_has_finish sheet season zone single =
     list_all-weaker has_one_score has_option (options_in sheet season zone) some single
@@ -142,16 +212,22 @@ other_fails : (a b : Bool) → a ≡ true → ((a && b) ≡ true → ⊥) → b 
 other_fails a b is fails = false_from_ne_true b (λ holds. fails (and_from a b is holds))
 
 -- where the window is no reason, the points at the zone's finish are in it
-in_window : (sheet : Sheet) (season : Results) (question : Question) (zone : List Literal) (finish : Results) → is_single sheet season zone ≡ true → IsInBox sheet season zone finish → refutes_by_window sheet season question zone ≡ false → is_in_window question (points_of sheet finish question.club) ≡ true
+in_window : (sheet : Sheet) (season : Results) (question : Question) (zone : List Literal)
+    (finish : Results) → is_single sheet season zone ≡ true → IsInBox sheet season zone finish
+    → refutes_by_window sheet season question zone ≡ false
+    → is_in_window question (points_of sheet finish question.club) ≡ true
 unfolding least_points_of most_points_of
 in_window sheet season question zone finish single box fails =
     let range = points_range sheet season (options_in sheet season zone) (question.club ∷ []) in
     let bounds = points_in_box sheet season zone finish (question.club ∷ []) box in
-    let one = (Decides-int_eq range.least range.greatest).0 (points_fixed sheet season zone question.club (single_fixed sheet season zone single)) in
-    let sides = or_parts (int_lt range.greatest question.low) (int_lt question.high range.least) fails in
+    let one = (Decides-int_eq range.least range.greatest).0
+    (points_fixed sheet season zone question.club (single_fixed sheet season zone single)) in
+    let sides = or_parts (int_lt range.greatest question.low) (int_lt question.high
+    range.least) fails in
     let low = not_under range.greatest question.low sides.0 in
     let high = not_under question.high range.least sides.1 in
-    and_from (int_le question.low (points_of sheet finish question.club)) (int_le (points_of sheet finish question.club) question.high)
+    and_from (int_le question.low (points_of sheet finish question.club))
+    (int_le (points_of sheet finish question.club) question.high)
     (at_most question.low (points_of sheet finish question.club) (omega (arith, ints)))
     (at_most (points_of sheet finish question.club) question.high (omega (arith, ints)))
   where
@@ -162,14 +238,26 @@ in_window sheet season question zone finish single box fails =
     at_most a b h = grind (arith, ints)
 
 -- so the question holds there
-pub single_holds : (sheet : Sheet) (season : Results) (question : Question) (zone : List Literal) (finish : Results) (lots : List ℕ) → question.club < length sheet.clubs → is_single sheet season zone ≡ true → (has_reason sheet season question zone Window ≡ true → ⊥) → (has_reason sheet season question zone Tie ≡ true → ⊥) → IsInBox sheet season zone finish → IsFavoured question.claim (length sheet.clubs) lots question.club → holds_at sheet question finish lots ≡ true
+pub single_holds : (sheet : Sheet) (season : Results) (question : Question) (zone : List Literal)
+    (finish : Results) (lots : List ℕ) → question.club < length sheet.clubs
+    → is_single sheet season zone ≡ true
+    → (has_reason sheet season question zone Window ≡ true → ⊥)
+    → (has_reason sheet season question zone Tie ≡ true → ⊥) → IsInBox sheet season zone finish
+    → IsFavoured question.claim (length sheet.clubs) lots question.club
+    → holds_at sheet question finish lots ≡ true
 unfolding has_reason
 single_holds sheet season question zone finish lots club_in single no_window no_tie box favoured =
     let some = single_has_finish sheet season zone single in
-    let window = other_fails (has_finish sheet season zone) (refutes_by_window sheet season question zone) some no_window in
-    let tie = other_fails (has_finish sheet season zone) (refutes_by_tie sheet season question zone) some no_tie in
-    let few = other_half (are_outcomes_fixed sheet season zone) (are_too_many_sure sheet season question zone) (list_any (is_surely_wrong sheet season question zone) (rivals_of sheet question.club)) (single_fixed sheet season zone single) tie in
-    and_from (is_in_window question (points_of sheet finish question.club)) (is_on_side (is_inside sheet finish lots question.club question.line) question.claim)
+    let window = other_fails (has_finish sheet season zone) (refutes_by_window sheet season
+    question zone) some no_window in
+    let tie = other_fails (has_finish sheet season zone) (refutes_by_tie sheet season question
+    zone) some no_tie in
+    let few = other_half (are_outcomes_fixed sheet season zone) (are_too_many_sure sheet season
+    question zone)
+    (list_any (is_surely_wrong sheet season question zone) (rivals_of sheet question.club))
+    (single_fixed sheet season zone single) tie in
+    and_from (is_in_window question (points_of sheet finish question.club))
+    (is_on_side (is_inside sheet finish lots question.club question.line) question.claim)
     (in_window sheet season question zone finish single box window)
     (side_is sheet season question zone finish lots question.claim club_in single box favoured few)
   where
@@ -178,14 +266,33 @@ single_holds sheet season question zone finish lots club_in single no_window no_
     other_half false b c is fails = absurd (false≢true is)
 
 -- and the finish is an example
-pub single_decided : (sheet : Sheet) (season : Results) (question : Question) (zone : List Literal) (finish : Results) (lots : List ℕ) → question.club < length sheet.clubs → is_single sheet season zone ≡ true → (has_reason sheet season question zone Window ≡ true → ⊥) → (has_reason sheet season question zone Tie ≡ true → ⊥) → IsInBox sheet season zone finish → are_lots (length sheet.clubs) lots ≡ true → IsFavoured question.claim (length sheet.clubs) lots question.club → IsExample sheet season question finish lots
-single_decided sheet season question zone finish lots club_in single no_window no_tie box drawn favoured = record {
-  is_finish = box_is_finish sheet season zone finish box;
-  is_drawn = drawn;
-  holds = single_holds sheet season question zone finish lots club_in single no_window no_tie box favoured;
-}
+pub single_decided : (sheet : Sheet) (season : Results) (question : Question) (zone : List Literal)
+    (finish : Results) (lots : List ℕ) → question.club < length sheet.clubs
+    → is_single sheet season zone ≡ true
+    → (has_reason sheet season question zone Window ≡ true → ⊥)
+    → (has_reason sheet season question zone Tie ≡ true → ⊥) → IsInBox sheet season zone finish
+    → are_lots (length sheet.clubs) lots ≡ true
+    → IsFavoured question.claim (length sheet.clubs) lots question.club
+    → IsExample sheet season question finish lots
+single_decided sheet season question zone finish lots club_in single no_window no_tie box drawn
+    favoured = record {
+      is_finish = box_is_finish sheet season zone finish box;
+      is_drawn = drawn;
+      holds = single_holds sheet season question zone finish lots club_in single no_window no_tie
+          box
+          favoured;
+    }
 
-pub single_decided_by_two : (sheet : Sheet) (season : Results) (question : Question) (zone : List Literal) (finish : Results) → question.club < length sheet.clubs → is_single sheet season zone ≡ true → (has_reason sheet season question zone Window ≡ true → ⊥) → (has_reason sheet season question zone Tie ≡ true → ⊥) → IsInBox sheet season zone finish → IsExample sheet season question finish (lots_for_claim (length sheet.clubs) question.club question.claim)
+pub single_decided_by_two : (sheet : Sheet) (season : Results) (question : Question)
+    (zone : List Literal) (finish : Results) → question.club < length sheet.clubs
+    → is_single sheet season zone ≡ true
+    → (has_reason sheet season question zone Window ≡ true → ⊥)
+    → (has_reason sheet season question zone Tie ≡ true → ⊥) → IsInBox sheet season zone finish
+    → IsExample sheet season question finish
+    (lots_for_claim (length sheet.clubs) question.club question.claim)
 single_decided_by_two sheet season question zone finish club_in single no_window no_tie box =
-    single_decided sheet season question zone finish (lots_for_claim (length sheet.clubs) question.club question.claim) club_in single no_window no_tie box
-    (lots_for_claim-are_lots (length sheet.clubs) question.club question.claim club_in) (lots_for_claim-favoured (length sheet.clubs) question.club question.claim)
+    single_decided sheet season question zone finish
+    (lots_for_claim (length sheet.clubs) question.club question.claim) club_in single no_window
+    no_tie box
+    (lots_for_claim-are_lots (length sheet.clubs) question.club question.claim club_in)
+    (lots_for_claim-favoured (length sheet.clubs) question.club question.claim)

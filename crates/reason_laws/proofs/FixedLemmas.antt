@@ -1,6 +1,7 @@
--- Where the options of each fixture are alike, a sum has one value: points where they have one outcome,
--- every sum where each fixture has one option.
-use Rattle.std.proofs.Common.{◌≡◌, ℕ, ℤ, pos, ◌+ℤ◌, Bool, true, false, ◌&&◌, ◌||◌, ◌==◌, cond, nat_lt, List, [], ◌∷◌, refl, sym, ap, ◌∙◌, subst, inl, inr, arith}
+-- Where the options of each fixture are alike, a sum has one value: points where they have one
+-- outcome, every sum where each fixture has one option.
+use Rattle.std.proofs.Common.{◌≡◌, ℕ, ℤ, pos, ◌+ℤ◌, Bool, true, false, ◌&&◌, ◌||◌, ◌==◌, cond}
+use Rattle.std.proofs.Common.{nat_lt, List, [], ◌∷◌, refl, sym, ap, ◌∙◌, subst, inl, inr, arith}
 use Rattle.std.specs.List.{list_all}
 use Rattle.std.proofs.lemmas.Int.{ints}
 use Rattle.std.proofs.lemmas.Bool.{false≢true, and_parts, or_cases}
@@ -9,7 +10,8 @@ use Rattle.league_core.specs.declared.sheet.Fixture.{Fixture}
 use Rattle.league_core.specs.declared.season.Score.{Score}
 use Rattle.league_core.specs.Finishes.{same_score}
 use Rattle.league_core.specs.Sums.{match_points, worth_to}
-use Rattle.league_core.specs.Options.{has_score, is_home_win, is_draw, is_away_win, same_outcome, has_one_score, has_one_outcome}
+use Rattle.league_core.specs.Options.{has_score, is_home_win, is_draw, is_away_win, same_outcome}
+use Rattle.league_core.specs.Options.{has_one_score, has_one_outcome}
 use Rattle.league_core.specs.PointRanges.{range_of, range_from, points_together}
 use Rattle.league_core.proofs.OptionLemmas.{same_score-true}
 use Rattle.reason_laws.proofs.MemberLemmas.{list_all-weaker}
@@ -21,7 +23,8 @@ AreAlike value options =
     (score other : Score) → has_score options score ≡ true → has_score options other ≡ true
     → value score ≡ value other
 
-range_of-alike : (value : Score → ℤ) (options : List Score) → AreAlike value options → (range_of value options).least ≡ (range_of value options).greatest
+range_of-alike : (value : Score → ℤ) (options : List Score) → AreAlike value options
+    → (range_of value options).least ≡ (range_of value options).greatest
 range_of-alike value [] alike = refl
 range_of-alike value (first ∷ options) alike =
     let low = least_reached value (first ∷ options) refl in
@@ -29,7 +32,11 @@ range_of-alike value (first ∷ options) alike =
     sym low.2 ∙ alike low.0 high.0 low.1 high.1 ∙ high.2
 
 -- so a sum over fixtures whose options pass such a test has one value
-pub range_from-alike : (value : Fixture → Score → ℤ) (test : List Score → Bool) (matches : List Fixture) (options : List (List Score)) → ((match : Fixture) (scores : List Score) → test scores ≡ true → AreAlike (value match) scores) → list_all test options ≡ true → (range_from value matches options).least ≡ (range_from value matches options).greatest
+pub range_from-alike : (value : Fixture → Score → ℤ) (test : List Score → Bool)
+    (matches : List Fixture) (options : List (List Score))
+    → ((match : Fixture) (scores : List Score) → test scores ≡ true
+    → AreAlike (value match) scores) → list_all test options ≡ true
+    → (range_from value matches options).least ≡ (range_from value matches options).greatest
 range_from-alike value test [] options alike all = refl
 range_from-alike value test (match ∷ matches) [] alike all = refl
 range_from-alike value test (match ∷ matches) (scores ∷ options) alike all =
@@ -39,35 +46,48 @@ range_from-alike value test (match ∷ matches) (scores ∷ options) alike all =
     omega (arith, ints)
 
 -- what each other option has in common with the first, all options have
-pub all_alike : {A : Type 0} (value : Score → A) (test : Score → Score → Bool) (first : Score) (options : List Score) → ((other : Score) → test first other ≡ true → value first ≡ value other) → list_all (test first) options ≡ true → (score : Score) → has_score (first ∷ options) score ≡ true → value first ≡ value score
+pub all_alike : {A : Type 0} (value : Score → A) (test : Score → Score → Bool) (first : Score)
+    (options : List Score)
+    → ((other : Score) → test first other ≡ true → value first ≡ value other)
+    → list_all (test first) options ≡ true → (score : Score)
+    → has_score (first ∷ options) score ≡ true → value first ≡ value score
 all_alike value test first options alike all score is =
-    elim (or_cases (same_score score first) (has_score options score) is) as (λ _. value first ≡ value score) [
+    elim (or_cases (same_score score first) (has_score options score) is) as (λ _. value first
+    ≡ value score) [
       | inl same ↦ ap value (sym (same_score-true score first same))
       | inr later ↦ among options all later
     ]
   where
-    among : (others : List Score) → list_all (test first) others ≡ true → has_score others score ≡ true → value first ≡ value score
+    among : (others : List Score) → list_all (test first) others ≡ true
+        → has_score others score ≡ true → value first ≡ value score
     among [] every later = absurd (false≢true later)
     among (other ∷ others) every later =
         let parts = and_parts (test first other) (list_all (test first) others) every in
-        elim (or_cases (same_score score other) (has_score others score) later) as (λ _. value first ≡ value score) [
+        elim (or_cases (same_score score other)
+        (has_score others score) later) as (λ _. value first ≡ value score) [
           | inl same ↦ alike other parts.0 ∙ ap value (sym (same_score-true score other same))
           | inr further ↦ among others parts.1 further
         ]
 
 -- one option has one value
-pub scores_alike : (value : Score → ℤ) (options : List Score) → has_one_score options ≡ true → AreAlike value options
+pub scores_alike : (value : Score → ℤ) (options : List Score) → has_one_score options ≡ true
+    → AreAlike value options
 scores_alike value [] one score other is is_other = absurd (false≢true one)
 scores_alike value (first ∷ options) one score other is is_other =
-    let each = all_alike value same_score first options (λ third same. ap value (same_score-true first third same)) one in
+    let each = all_alike value same_score first options (λ third same. ap value
+    (same_score-true first third same)) one in
     sym (each score is) ∙ each other is_other
 
--- a side that scored more has three points and the other none; sides that scored as many have one each
-points_of_win : (more fewer : ℕ) (away other : Bool) → nat_lt fewer more ≡ true → (match_points more fewer away ≡ pos 3) × (match_points fewer more other ≡ pos 0)
+-- a side that scored more has three points and the other none; sides that scored as many have one
+-- each
+points_of_win : (more fewer : ℕ) (away other : Bool) → nat_lt fewer more ≡ true
+    → (match_points more fewer away ≡ pos 3) × (match_points fewer more other ≡ pos 0)
 points_of_win more fewer away other win = (grind (arith, nat_tests), grind (arith, nat_tests))
 
-points_of_draw : (goals other_goals : ℕ) (away other : Bool) → (goals == other_goals) ≡ true → (match_points goals other_goals away ≡ pos 1) × (match_points other_goals goals other ≡ pos 1)
-points_of_draw goals other_goals away other draw = (grind (arith, nat_tests), grind (arith, nat_tests))
+points_of_draw : (goals other_goals : ℕ) (away other : Bool) → (goals == other_goals) ≡ true
+    → (match_points goals other_goals away ≡ pos 1) × (match_points other_goals goals other ≡ pos 1)
+points_of_draw goals other_goals away other draw =
+    (grind (arith, nat_tests), grind (arith, nat_tests))
 
 -- the points of a match are those of its outcome
 abbrev SamePoints : Score → Score → Type 0
@@ -77,19 +97,22 @@ SamePoints score other =
 
 points_by_outcome : (score other : Score) → same_outcome score other ≡ true → SamePoints score other
 points_by_outcome score other same =
-    elim (or_cases ((is_home_win score && is_home_win other) || (is_draw score && is_draw other)) (is_away_win score && is_away_win other) same) as (λ _. SamePoints score other) [
-      | inl home_or_draw ↦ elim (or_cases (is_home_win score && is_home_win other) (is_draw score && is_draw other) home_or_draw) as (λ _. SamePoints score other) [
-        | inl home ↦
-            let both = and_parts (is_home_win score) (is_home_win other) home in
-            let mine = points_of_win score.home score.away false true both.0 in
-            let theirs = points_of_win other.home other.away false true both.1 in
-            (mine.0 ∙ sym theirs.0, mine.1 ∙ sym theirs.1)
-        | inr draw ↦
-            let both = and_parts (is_draw score) (is_draw other) draw in
-            let mine = points_of_draw score.home score.away false true both.0 in
-            let theirs = points_of_draw other.home other.away false true both.1 in
-            (mine.0 ∙ sym theirs.0, mine.1 ∙ sym theirs.1)
-      ]
+    elim (or_cases ((is_home_win score && is_home_win other) || (is_draw score && is_draw other))
+    (is_away_win score && is_away_win other) same) as (λ _. SamePoints score other) [
+      | inl home_or_draw ↦
+          elim (or_cases (is_home_win score && is_home_win other)
+          (is_draw score && is_draw other) home_or_draw) as (λ _. SamePoints score other) [
+            | inl home ↦
+                let both = and_parts (is_home_win score) (is_home_win other) home in
+                let mine = points_of_win score.home score.away false true both.0 in
+                let theirs = points_of_win other.home other.away false true both.1 in
+                (mine.0 ∙ sym theirs.0, mine.1 ∙ sym theirs.1)
+            | inr draw ↦
+                let both = and_parts (is_draw score) (is_draw other) draw in
+                let mine = points_of_draw score.home score.away false true both.0 in
+                let theirs = points_of_draw other.home other.away false true both.1 in
+                (mine.0 ∙ sym theirs.0, mine.1 ∙ sym theirs.1)
+          ]
       | inr away ↦
           let both = and_parts (is_away_win score) (is_away_win other) away in
           let mine = points_of_win score.away score.home true false both.0 in
@@ -97,29 +120,39 @@ points_by_outcome score other same =
           (mine.1 ∙ sym theirs.1, mine.0 ∙ sym theirs.0)
     ]
 
-worth_by_outcome : (club : ℕ) (match : Fixture) (score other : Score) → SamePoints score other → worth_to match_points club match score ≡ worth_to match_points club match other
+worth_by_outcome : (club : ℕ) (match : Fixture) (score other : Score) → SamePoints score other
+    → worth_to match_points club match score ≡ worth_to match_points club match other
 worth_by_outcome club match score other same =
-    ap (λ (n : ℤ). cond (match.home == club) n (cond (match.away == club) (match_points score.away score.home true) (pos 0))) same.0
-    ∙ ap (λ (n : ℤ). cond (match.home == club) (match_points other.home other.away false) (cond (match.away == club) n (pos 0))) same.1
+    ap (λ (n : ℤ). cond (match.home == club) n
+    (cond (match.away == club) (match_points score.away score.home true) (pos 0))) same.0
+    ∙ ap (λ (n : ℤ). cond (match.home == club) (match_points other.home other.away false)
+    (cond (match.away == club) n (pos 0))) same.1
 
 -- one outcome gives a club one number of points
-pub points_alike : (club : ℕ) (match : Fixture) (options : List Score) → has_one_outcome options ≡ true → AreAlike (points_together (club ∷ []) match) options
+pub points_alike : (club : ℕ) (match : Fixture) (options : List Score)
+    → has_one_outcome options ≡ true → AreAlike (points_together (club ∷ []) match) options
 points_alike club match [] one score other is is_other = absurd (false≢true is)
 points_alike club match (first ∷ options) one score other is is_other =
     let value = points_together (club ∷ []) match in
     let each = all_alike value same_outcome first options
-    (λ third same. ap (λ (n : ℤ). n +ℤ pos 0) (worth_by_outcome club match first third (points_by_outcome first third same))) one in
+    (λ third same. ap (λ (n : ℤ). n +ℤ pos 0)
+    (worth_by_outcome club match first third (points_by_outcome first third same))) one in
     sym (each score is) ∙ each other is_other
 
 -- a score has its own outcome
 same_outcome-itself : (score other : Score) → score ≡ other → same_outcome score other ≡ true
-same_outcome-itself score other same = subst (λ (x : Score). same_outcome score x ≡ true) same (one_of score.home score.away)
+same_outcome-itself score other same = subst (λ (x : Score). same_outcome score x ≡ true) same
+    (one_of score.home score.away)
   where
-    one_of : (m n : ℕ) → ((nat_lt n m && nat_lt n m) || ((m == n) && (m == n)) || (nat_lt m n && nat_lt m n)) ≡ true
+    one_of : (m n : ℕ)
+        → ((nat_lt n m && nat_lt n m) || ((m == n) && (m == n)) || (nat_lt m n && nat_lt m n))
+        ≡ true
     one_of m n = grind (arith, nat_tests)
 
 -- one option has one outcome
-pub one_score-outcome : (options : List Score) → has_one_score options ≡ true → has_one_outcome options ≡ true
+pub one_score-outcome : (options : List Score) → has_one_score options ≡ true
+    → has_one_outcome options ≡ true
 one_score-outcome [] one = refl
 one_score-outcome (first ∷ options) one =
-    list_all-weaker (same_score first) (same_outcome first) options (λ other same. same_outcome-itself first other (same_score-true first other same)) one
+    list_all-weaker (same_score first) (same_outcome first) options
+    (λ other same. same_outcome-itself first other (same_score-true first other same)) one

@@ -1,5 +1,6 @@
--- Members of a zone and finishes in its box, the sure order of its clubs, why a reason leaves no member
--- an example, why a zone with one finish decides itself; then halves, trees, weights, worked zones.
+-- Members of a zone and finishes in its box, the sure order of its clubs, why a reason leaves no
+-- member an example, why a zone with one finish decides itself; then halves, trees, weights, worked
+-- zones.
 pub mod MemberLemmas
 pub mod FixedLemmas
 pub mod BoxLemmas

@@ -1,6 +1,9 @@
--- How many rivals a zone leaves unmarked: a test of a score marks none, a proper one of a rival one.
-use Rattle.std.proofs.Common.{◌≡◌, ℕ, ◌+◌, ◌<◌, Bool, true, false, not, ◌&&◌, ◌||◌, ◌==◌, nat_lt, List, [], length, refl, sym, ap, ◌∙◌, inl, inr, arith}
-use Rattle.std.proofs.lemmas.Bool.{false≢true, and_parts, not-true, eq-eqb, ne_eqb, cases_eq, ltb-true}
+-- How many rivals a zone leaves unmarked: a test of a score marks none, a proper one of a rival
+-- one.
+use Rattle.std.proofs.Common.{◌≡◌, ℕ, ◌+◌, ◌<◌, Bool, true, false, not, ◌&&◌, ◌||◌, ◌==◌, nat_lt}
+use Rattle.std.proofs.Common.{List, [], length, refl, sym, ap, ◌∙◌, inl, inr, arith}
+use Rattle.std.proofs.lemmas.Bool.{false≢true, and_parts, not-true, eq-eqb, ne_eqb, cases_eq}
+use Rattle.std.proofs.lemmas.Bool.{ltb-true}
 use Rattle.std.proofs.lemmas.List.Sums.{length-filter}
 use Rattle.league_core.specs.declared.sheet.Sheet.{Sheet}
 use Rattle.league_core.specs.declared.question.Question.{Question}
@@ -9,12 +12,14 @@ use Rattle.league_core.specs.declared.zone.Test.TheVariants.{Home, Draw, HomeMos
 use Rattle.league_core.specs.declared.zone.Literal.{Literal}
 use Rattle.league_core.specs.Results.{Results}
 use Rattle.league_core.specs.Sheets.{clubs_of}
-use Rattle.league_core.specs.Zones.{is_of_score, is_of_rival, marked_before, marked_after, is_marked, rivals_of, with_test}
+use Rattle.league_core.specs.Zones.{is_of_score, is_of_rival, marked_before, marked_after}
+use Rattle.league_core.specs.Zones.{is_marked, rivals_of, with_test}
 use Rattle.league_core.specs.Splits.{is_proper}
 use Rattle.league_core.proofs.OthersLemmas.{length-others_of}
 use Rattle.reason_laws.specs.Weights.{unmarked_in}
 use Rattle.reason_laws.proofs.SplitLemmas.{before_in_half, after_in_half, before_kept, after_kept}
-use Rattle.reason_laws.proofs.CountLemmas.{count_by-parts, count_by-filter, count_by-agree, count_by-one, filter-all}
+use Rattle.reason_laws.proofs.CountLemmas.{count_by-parts, count_by-filter, count_by-agree}
+use Rattle.reason_laws.proofs.CountLemmas.{count_by-one, filter-all}
 
 no_rival : (test : Test) (rival : ℕ) → is_of_score test ≡ true → is_of_rival rival test ≡ false
 no_rival (Home fixture) rival of_score = refl
@@ -23,15 +28,25 @@ no_rival (HomeMost fixture most) rival of_score = refl
 no_rival (AwayMost fixture most) rival of_score = refl
 no_rival (Rival club) rival of_score = absurd (false≢true of_score)
 
-pub marks_kept : (zone : List Literal) (test : Test) (holds : Bool) (rival : ℕ) → is_of_score test ≡ true → (marked_before (with_test zone test holds) rival ≡ marked_before zone rival) × (marked_after (with_test zone test holds) rival ≡ marked_after zone rival)
-marks_kept zone test holds rival of_score =
-    (before_kept zone test holds rival (no_rival test rival of_score), after_kept zone test holds rival (no_rival test rival of_score))
+pub marks_kept : (zone : List Literal) (test : Test) (holds : Bool) (rival : ℕ)
+    → is_of_score test ≡ true
+    → (marked_before (with_test zone test holds) rival ≡ marked_before zone rival)
+    × (marked_after (with_test zone test holds) rival ≡ marked_after zone rival)
+marks_kept zone test holds rival of_score = (
+  before_kept zone test holds rival
+      (no_rival test rival of_score),
+  after_kept zone test holds rival
+      (no_rival test rival of_score),
+)
 
 -- a half marks what the zone marks, and the rival of its test
-marked_in_half : (zone : List Literal) (test : Test) (holds : Bool) (rival : ℕ) → is_marked (with_test zone test holds) rival ≡ (is_marked zone rival || is_of_rival rival test)
+marked_in_half : (zone : List Literal) (test : Test) (holds : Bool) (rival : ℕ)
+    → is_marked (with_test zone test holds) rival ≡ (is_marked zone rival || is_of_rival rival test)
 marked_in_half zone test holds rival =
-    ap (λ b. b || marked_after (with_test zone test holds) rival) (before_in_half zone test holds rival)
-    ∙ ap (λ b. (marked_before zone rival || (is_of_rival rival test && holds)) || b) (after_in_half zone test holds rival)
+    ap (λ b. b || marked_after (with_test zone test holds) rival)
+    (before_in_half zone test holds rival)
+    ∙ ap (λ b. (marked_before zone rival || (is_of_rival rival test && holds)) || b)
+    (after_in_half zone test holds rival)
     ∙ together (marked_before zone rival) (marked_after zone rival) (is_of_rival rival test) holds
   where
     together : (b a r h : Bool) → ((b || (r && h)) || (a || (r && not h))) ≡ ((b || a) || r)
@@ -44,14 +59,21 @@ marked_in_half zone test holds rival =
     together false false false h = refl
 
 -- a proper split by a rival marks one more of the rivals
-one_marked : (sheet : Sheet) (question : Question) (zone : List Literal) (club : ℕ) (holds : Bool) → nat_lt club (length sheet.clubs) ≡ true → (club == question.club) ≡ false → is_marked zone club ≡ false → unmarked_in sheet question (with_test zone (Rival club) holds) + 1 ≡ unmarked_in sheet question zone
+one_marked : (sheet : Sheet) (question : Question) (zone : List Literal) (club : ℕ) (holds : Bool)
+    → nat_lt club (length sheet.clubs) ≡ true → (club == question.club) ≡ false
+    → is_marked zone club ≡ false
+    → unmarked_in sheet question (with_test zone (Rival club) holds) + 1
+    ≡ unmarked_in sheet question zone
 one_marked sheet question zone club holds named other unmarked =
     let counted = λ (rival : ℕ). not (is_marked zone rival) in
     let taken = λ (rival : ℕ). counted rival && (club == rival) in
     let left = λ (rival : ℕ). not (is_marked (with_test zone (Rival club) holds) rival) in
-    let parts = count_by-parts counted taken left (λ rival. club == rival) (λ rival. refl) (λ rival. ap not (marked_in_half zone (Rival club) holds rival) ∙ neither (is_marked zone rival) (club == rival)) (rivals_of sheet question.club) in
+    let parts = count_by-parts counted taken left (λ rival. club == rival) (λ rival.
+    refl) (λ rival. ap not (marked_in_half zone (Rival club) holds rival)
+    ∙ neither (is_marked zone rival) (club == rival)) (rivals_of sheet question.club) in
     let one = count_by-filter (λ (rival : ℕ). not (rival == question.club)) taken (clubs_of sheet)
-    ∙ count_by-agree (λ rival. not (rival == question.club) && taken rival) (λ rival. rival == club) alone (clubs_of sheet)
+    ∙ count_by-agree (λ rival. not (rival == question.club) && taken rival)
+    (λ rival. rival == club) alone (clubs_of sheet)
     ∙ count_by-one (length sheet.clubs) club (ltb-true club (length sheet.clubs) named) in
     omega (arith, parts, one)
   where
@@ -59,16 +81,22 @@ one_marked sheet question zone club holds named other unmarked =
     neither true b = refl
     neither false b = refl
 
-    alone : (rival : ℕ) → (not (rival == question.club) && (not (is_marked zone rival) && (club == rival))) ≡ (rival == club)
+    alone : (rival : ℕ)
+        → (not (rival == question.club) && (not (is_marked zone rival) && (club == rival))) ≡
+        (rival == club)
     alone rival =
-        elim (cases_eq rival club) as (λ _. (not (rival == question.club) && (not (is_marked zone rival) && (club == rival))) ≡ (rival == club)) [
+        elim (cases_eq rival club) as (λ _.
+        (not (rival == question.club) && (not (is_marked zone rival) && (club == rival))) ≡
+        (rival == club)) [
           | inl same ↦
-              ap (λ b. not b && (not (is_marked zone rival) && (club == rival))) (ap (λ n. n == question.club) same ∙ other)
+              ap (λ b. not b && (not (is_marked zone rival) && (club == rival)))
+              (ap (λ n. n == question.club) same ∙ other)
               ∙ ap (λ b. not b && (club == rival)) (ap (is_marked zone) same ∙ unmarked)
               ∙ eq-eqb club rival (sym same)
               ∙ sym (eq-eqb rival club same)
           | inr apart ↦
-              ap (λ b. not (rival == question.club) && (not (is_marked zone rival) && b)) (ne_eqb club rival (λ e. apart (sym e)))
+              ap (λ b. not (rival == question.club) && (not (is_marked zone rival) && b))
+              (ne_eqb club rival (λ e. apart (sym e)))
               ∙ none (not (rival == question.club)) (not (is_marked zone rival))
               ∙ sym (ne_eqb rival club apart)
         ]
@@ -78,28 +106,41 @@ one_marked sheet question zone club holds named other unmarked =
         none true false = refl
         none false b = refl
 
-pub one_rival_marked : (sheet : Sheet) (season : Results) (question : Question) (zone : List Literal) (test : Test) (holds : Bool) (rival : ℕ) → is_of_rival rival test ≡ true → is_proper sheet season question zone test ≡ true → unmarked_in sheet question (with_test zone test holds) + 1 ≡ unmarked_in sheet question zone
-one_rival_marked sheet season question zone (Home fixture) holds rival of_rival proper = absurd (false≢true of_rival)
-one_rival_marked sheet season question zone (Draw fixture) holds rival of_rival proper = absurd (false≢true of_rival)
+pub one_rival_marked : (sheet : Sheet) (season : Results) (question : Question)
+    (zone : List Literal) (test : Test) (holds : Bool) (rival : ℕ) → is_of_rival rival test ≡ true
+    → is_proper sheet season question zone test ≡ true
+    → unmarked_in sheet question (with_test zone test holds) + 1 ≡ unmarked_in sheet question zone
+one_rival_marked sheet season question zone (Home fixture) holds rival of_rival proper = absurd
+    (false≢true of_rival)
+one_rival_marked sheet season question zone (Draw fixture) holds rival of_rival proper = absurd
+    (false≢true of_rival)
 one_rival_marked sheet season question zone (HomeMost fixture most) holds rival of_rival proper =
     absurd (false≢true of_rival)
 one_rival_marked sheet season question zone (AwayMost fixture most) holds rival of_rival proper =
     absurd (false≢true of_rival)
 one_rival_marked sheet season question zone (Rival club) holds rival of_rival proper =
-    let parts = and_parts (nat_lt club (length sheet.clubs) && not (club == question.club)) (not (is_marked zone club)) proper in
-    let named = and_parts (nat_lt club (length sheet.clubs)) (not (club == question.club)) parts.0 in
-    one_marked sheet question zone club holds named.0 (not-true (club == question.club) named.1) (not-true (is_marked zone club) parts.1)
+    let parts = and_parts (nat_lt club (length sheet.clubs) && not (club == question.club))
+    (not (is_marked zone club)) proper in
+    let named = and_parts (nat_lt club (length sheet.clubs))
+    (not (club == question.club)) parts.0 in
+    one_marked sheet question zone club holds named.0 (not-true (club == question.club) named.1)
+    (not-true (is_marked zone club) parts.1)
 
 -- a test of a score leaves the number of unmarked rivals
-pub unmarked_kept : (sheet : Sheet) (question : Question) (zone : List Literal) (test : Test) (holds : Bool) → is_of_score test ≡ true → unmarked_in sheet question (with_test zone test holds) ≡ unmarked_in sheet question zone
+pub unmarked_kept : (sheet : Sheet) (question : Question) (zone : List Literal) (test : Test)
+    (holds : Bool) → is_of_score test ≡ true
+    → unmarked_in sheet question (with_test zone test holds) ≡ unmarked_in sheet question zone
 unmarked_kept sheet question zone test holds of_score =
-    count_by-agree (λ rival. not (is_marked (with_test zone test holds) rival)) (λ rival. not (is_marked zone rival))
+    count_by-agree (λ rival. not (is_marked (with_test zone test holds) rival))
+    (λ rival. not (is_marked zone rival))
     (λ rival. let kept = marks_kept zone test holds rival of_score in
     ap (λ b. not (b || marked_after (with_test zone test holds) rival)) kept.0
     ∙ ap (λ b. not (marked_before zone rival || b)) kept.1) (rivals_of sheet question.club)
 
 -- without a literal no rival is marked
-pub root_unmarked : (sheet : Sheet) (question : Question) → question.club < length sheet.clubs → unmarked_in sheet question [] + 1 ≡ length sheet.clubs
+pub root_unmarked : (sheet : Sheet) (question : Question) → question.club < length sheet.clubs
+    → unmarked_in sheet question [] + 1 ≡ length sheet.clubs
 root_unmarked sheet question club_in =
-    let all = sym (length-filter (λ (rival : ℕ). true) (rivals_of sheet question.club)) ∙ ap length (filter-all (rivals_of sheet question.club)) in
+    let all = sym (length-filter (λ (rival : ℕ). true) (rivals_of sheet question.club))
+    ∙ ap length (filter-all (rivals_of sheet question.club)) in
     omega (arith, all, length-others_of (length sheet.clubs) question.club club_in)

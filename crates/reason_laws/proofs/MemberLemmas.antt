@@ -1,13 +1,16 @@
--- Members of a zone: their scores are options there, their sums lie in the ranges, and their order is
--- as the zone's marks say.
-use Rattle.std.proofs.Common.{◌≡◌, ℕ, suc, ◌+◌, ℤ, pos, ◌+ℤ◌, ◌-ℤ◌, ◌*ℤ◌, ◌≤ℤ◌, ◌<ℤ◌, Bool, true, false, not, ◌&&◌, cond, List, [], ◌∷◌, length, get_or, slice_index, Option, Some, None, refl, sym, ap, ◌∙◌, inl, inr, arith}
+-- Members of a zone: their scores are options there, their sums lie in the ranges, and their order
+-- is as the zone's marks say.
+use Rattle.std.proofs.Common.{◌≡◌, ℕ, suc, ◌+◌, ℤ, pos, ◌+ℤ◌, ◌-ℤ◌, ◌*ℤ◌, ◌≤ℤ◌, ◌<ℤ◌, Bool, true}
+use Rattle.std.proofs.Common.{false, not, ◌&&◌, cond, List, [], ◌∷◌, length, get_or, slice_index}
+use Rattle.std.proofs.Common.{Option, Some, None, refl, sym, ap, ◌∙◌, inl, inr, arith}
 use Rattle.std.specs.List.{list_all}
 use Rattle.std.specs.Prelude.{int_lt}
 use Rattle.std.specs.Ordering.{int_cmp, is_lt, ordering_then}
 use Rattle.std.specs.declared.cmp.Ordering.{Ordering}
 use Rattle.std.specs.declared.cmp.Ordering.TheVariants.{Less, Equal, Greater}
 use Rattle.std.proofs.lemmas.Int.{ints, by_lt_z}
-use Rattle.std.proofs.lemmas.Bool.{false≢true, true≢false, and_parts, and_from, or_left, or_right, or_cases, cases_Bool, eqb-true}
+use Rattle.std.proofs.lemmas.Bool.{false≢true, true≢false, and_parts, and_from, or_left, or_right}
+use Rattle.std.proofs.lemmas.Bool.{or_cases, cases_Bool, eqb-true}
 use Rattle.league_core.specs.declared.sheet.Sheet.{Sheet}
 use Rattle.league_core.specs.declared.sheet.Fixture.{Fixture}
 use Rattle.league_core.specs.declared.season.Score.{Score}
@@ -18,115 +21,173 @@ use Rattle.league_core.specs.Results.{Results}
 use Rattle.league_core.specs.Finishes.{may_end, may_all_end}
 use Rattle.league_core.specs.Sums.{sum_over, worth_to, match_points, sum_of, points_of}
 use Rattle.league_core.specs.Ranking.{ranks_before}
-use Rattle.league_core.specs.Zones.{passes, is_on, is_of_rival, has_passed, is_test_true, is_as_said, is_literal_true, are_literals_true, IsMember, marked_before, marked_after}
-use Rattle.league_core.specs.Options.{meets_literal, meets, options_of, options_from, options_in, takes_option, take_options, IsInBox}
-use Rattle.league_core.specs.PointRanges.{range_from, total_of, points_together, least_points_of, most_points_of}
+use Rattle.league_core.specs.Zones.{passes, is_on, is_of_rival, has_passed, is_test_true}
+use Rattle.league_core.specs.Zones.{is_as_said, is_literal_true, are_literals_true, IsMember}
+use Rattle.league_core.specs.Zones.{marked_before, marked_after}
+use Rattle.league_core.specs.Options.{meets_literal, meets, options_of, options_from, options_in}
+use Rattle.league_core.specs.Options.{takes_option, take_options, IsInBox}
+use Rattle.league_core.specs.PointRanges.{range_from, total_of, points_together, least_points_of}
+use Rattle.league_core.specs.PointRanges.{most_points_of}
 use Rattle.league_core.proofs.OptionLemmas.{has_score-options_of}
 use Rattle.league_core.proofs.PointRangeLemmas.{range_bounds}
 
 -- a test of a fixture is true exactly where the fixture's score passes
-test_at : (sheet : Sheet) (club : ℕ) (finish : Results) (lots : List ℕ) (test : Test) (fixture : ℕ) (score : Score) → is_on fixture test ≡ true → get_or finish.scores fixture None ≡ Some score → is_test_true sheet club finish lots test ≡ passes test score
+test_at : (sheet : Sheet) (club : ℕ) (finish : Results) (lots : List ℕ) (test : Test) (fixture : ℕ)
+    (score : Score) → is_on fixture test ≡ true → get_or finish.scores fixture None ≡ Some score
+    → is_test_true sheet club finish lots test ≡ passes test score
 test_at sheet club finish lots (Home f) fixture score on at =
     ap (has_passed (Home f)) (ap (λ n. get_or finish.scores n None) (eqb-true f fixture on) ∙ at)
 test_at sheet club finish lots (Draw f) fixture score on at =
     ap (has_passed (Draw f)) (ap (λ n. get_or finish.scores n None) (eqb-true f fixture on) ∙ at)
 test_at sheet club finish lots (HomeMost f most) fixture score on at =
-    ap (has_passed (HomeMost f most)) (ap (λ n. get_or finish.scores n None) (eqb-true f fixture on) ∙ at)
+    ap (has_passed (HomeMost f most))
+    (ap (λ n. get_or finish.scores n None) (eqb-true f fixture on) ∙ at)
 test_at sheet club finish lots (AwayMost f most) fixture score on at =
-    ap (has_passed (AwayMost f most)) (ap (λ n. get_or finish.scores n None) (eqb-true f fixture on) ∙ at)
+    ap (has_passed (AwayMost f most))
+    (ap (λ n. get_or finish.scores n None) (eqb-true f fixture on) ∙ at)
 test_at sheet club finish lots (Rival rival) fixture score on at = absurd (false≢true on)
 
 -- the score of a fixture meets a literal that is true
-meets_true : (sheet : Sheet) (club : ℕ) (finish : Results) (lots : List ℕ) (fixture : ℕ) (score : Score) (literal : Literal) → get_or finish.scores fixture None ≡ Some score → is_literal_true sheet club finish lots literal ≡ true → meets_literal fixture score literal ≡ true
+meets_true : (sheet : Sheet) (club : ℕ) (finish : Results) (lots : List ℕ) (fixture : ℕ)
+    (score : Score) (literal : Literal) → get_or finish.scores fixture None ≡ Some score
+    → is_literal_true sheet club finish lots literal ≡ true
+    → meets_literal fixture score literal ≡ true
 meets_true sheet club finish lots fixture score literal at holds =
-    elim (cases_Bool (is_on fixture literal.test)) as (λ _. meets_literal fixture score literal ≡ true) [
-      | inl on ↦ or_right (not (is_on fixture literal.test)) (is_as_said literal.yes (passes literal.test score)) (ap (is_as_said literal.yes) (sym (test_at sheet club finish lots literal.test fixture score on at)) ∙ holds)
-      | inr off ↦ or_left (not (is_on fixture literal.test)) (is_as_said literal.yes (passes literal.test score)) (ap not off)
+    elim (cases_Bool (is_on fixture literal.test)) as (λ _. meets_literal fixture score literal
+    ≡ true) [
+      | inl on ↦ or_right (not (is_on fixture literal.test))
+          (is_as_said literal.yes (passes literal.test score))
+          (ap (is_as_said literal.yes)
+          (sym (test_at sheet club finish lots literal.test fixture score on at)) ∙ holds)
+      | inr off ↦ or_left (not (is_on fixture literal.test))
+          (is_as_said literal.yes (passes literal.test score)) (ap not off)
     ]
 
 -- what all of a list pass, they pass where each that passes the one test passes the other
-pub list_all-weaker : {X : Type 0} (p q : X → Bool) (xs : List X) → ((x : X) → p x ≡ true → q x ≡ true) → list_all p xs ≡ true → list_all q xs ≡ true
+pub list_all-weaker : {X : Type 0} (p q : X → Bool) (xs : List X)
+    → ((x : X) → p x ≡ true → q x ≡ true) → list_all p xs ≡ true → list_all q xs ≡ true
 list_all-weaker p q [] weaker all = refl
 list_all-weaker p q (x ∷ xs) weaker all =
     let parts = and_parts (p x) (list_all p xs) all in
     and_from (q x) (list_all q xs) (weaker x parts.0) (list_all-weaker p q xs weaker parts.1)
 
-member_takes_one : (sheet : Sheet) (club : ℕ) (finish : Results) (lots : List ℕ) (limit : ℕ) (zone : List Literal) (fixture : ℕ) (played ended : Option Score) → are_literals_true sheet club finish lots zone ≡ true → get_or finish.scores fixture None ≡ ended → may_end limit played ended ≡ true → takes_option (options_of limit zone fixture played) ended ≡ true
-member_takes_one sheet club finish lots limit zone fixture None None literals at may = absurd (false≢true may)
-member_takes_one sheet club finish lots limit zone fixture (Some score) None literals at may = absurd (false≢true may)
+member_takes_one : (sheet : Sheet) (club : ℕ) (finish : Results) (lots : List ℕ) (limit : ℕ)
+    (zone : List Literal) (fixture : ℕ) (played ended : Option Score)
+    → are_literals_true sheet club finish lots zone ≡ true
+    → get_or finish.scores fixture None ≡ ended → may_end limit played ended ≡ true
+    → takes_option (options_of limit zone fixture played) ended ≡ true
+member_takes_one sheet club finish lots limit zone fixture None None literals at may = absurd
+    (false≢true may)
+member_takes_one sheet club finish lots limit zone fixture
+    (Some score) None literals at may = absurd (false≢true may)
 member_takes_one sheet club finish lots limit zone fixture played (Some score) literals at may =
     has_score-options_of limit zone fixture played score
     ∙ and_from (meets zone fixture score) (may_end limit played (Some score))
-    (list_all-weaker (is_literal_true sheet club finish lots) (meets_literal fixture score) zone (λ literal. meets_true sheet club finish lots fixture score literal at) literals)
+    (list_all-weaker (is_literal_true sheet club finish lots) (meets_literal fixture score) zone
+    (λ literal. meets_true sheet club finish lots fixture score literal at) literals)
     may
 
-member_takes : (sheet : Sheet) (club : ℕ) (finish : Results) (lots : List ℕ) (limit : ℕ) (zone : List Literal) (fixture : ℕ) (season scores : List (Option Score)) → are_literals_true sheet club finish lots zone ≡ true → ((k : ℕ) → get_or finish.scores (fixture + k) None ≡ get_or scores k None) → may_all_end limit season scores ≡ true → take_options (options_from limit zone fixture season) scores ≡ true
+member_takes : (sheet : Sheet) (club : ℕ) (finish : Results) (lots : List ℕ) (limit : ℕ)
+    (zone : List Literal) (fixture : ℕ) (season scores : List (Option Score))
+    → are_literals_true sheet club finish lots zone ≡ true
+    → ((k : ℕ) → get_or finish.scores (fixture + k) None ≡ get_or scores k None)
+    → may_all_end limit season scores ≡ true
+    → take_options (options_from limit zone fixture season) scores ≡ true
 member_takes sheet club finish lots limit zone fixture [] [] literals at may = refl
-member_takes sheet club finish lots limit zone fixture [] (ended ∷ scores) literals at may = absurd (false≢true may)
-member_takes sheet club finish lots limit zone fixture (played ∷ season) [] literals at may = absurd (false≢true may)
-member_takes sheet club finish lots limit zone fixture (played ∷ season) (ended ∷ scores) literals at may =
+member_takes sheet club finish lots limit zone fixture [] (ended ∷ scores) literals at may = absurd
+    (false≢true may)
+member_takes sheet club finish lots limit zone fixture (played ∷ season)
+    [] literals at may = absurd (false≢true may)
+member_takes sheet club finish lots limit zone fixture (played ∷ season)
+    (ended ∷ scores) literals at may =
     let parts = and_parts (may_end limit played ended) (may_all_end limit season scores) may in
     let same : fixture ≡ fixture + 0 = omega arith in
-    and_from (takes_option (options_of limit zone fixture played) ended) (take_options (options_from limit zone (suc fixture) season) scores)
-    (member_takes_one sheet club finish lots limit zone fixture played ended literals (ap (λ n. get_or finish.scores n None) same ∙ at 0) parts.0)
-    (member_takes sheet club finish lots limit zone (suc fixture) season scores literals (λ k. ap (λ n. get_or finish.scores n None) (next k) ∙ at (suc k)) parts.1)
+    and_from (takes_option (options_of limit zone fixture played) ended)
+    (take_options (options_from limit zone (suc fixture) season) scores)
+    (member_takes_one sheet club finish lots limit zone fixture played ended literals
+    (ap (λ n. get_or finish.scores n None) same ∙ at 0) parts.0)
+    (member_takes sheet club finish lots limit zone (suc fixture) season scores literals
+    (λ k. ap (λ n. get_or finish.scores n None) (next k) ∙ at (suc k)) parts.1)
   where
     next : (k : ℕ) → suc fixture + k ≡ fixture + suc k
     next k = omega arith
 
 -- a member of a zone is in its box
-pub member_in_box : (sheet : Sheet) (season : Results) (club : ℕ) (zone : List Literal) (finish : Results) (lots : List ℕ) → IsMember sheet season club zone finish lots → IsInBox sheet season zone finish
+pub member_in_box : (sheet : Sheet) (season : Results) (club : ℕ) (zone : List Literal)
+    (finish : Results) (lots : List ℕ) → IsMember sheet season club zone finish lots
+    → IsInBox sheet season zone finish
 member_in_box sheet season club zone finish lots member = record {
   deductions = member.is_finish.deductions;
-  scores = member_takes sheet club finish lots sheet.goal_limit zone 0 season.scores finish.scores member.literals (λ k. ap (λ n. get_or finish.scores n None) (from k)) member.is_finish.scores;
+  scores = member_takes sheet club finish lots sheet.goal_limit zone 0 season.scores finish.scores
+      member.literals (λ k. ap (λ n. get_or finish.scores n None) (from k)) member.is_finish.scores;
 }
   where
     from : (k : ℕ) → 0 + k ≡ k
     from k = omega arith
 
 -- a sum of a finish in the box lies in its range
-pub sum_in_range : (value : Fixture → Score → ℤ) (matches : List Fixture) (options : List (List Score)) (scores : List (Option Score)) → take_options options scores ≡ true → ((range_from value matches options).least ≤ℤ sum_over value matches scores) × (sum_over value matches scores ≤ℤ (range_from value matches options).greatest)
+pub sum_in_range : (value : Fixture → Score → ℤ) (matches : List Fixture)
+    (options : List (List Score)) (scores : List (Option Score))
+    → take_options options scores ≡ true
+    → ((range_from value matches options).least ≤ℤ sum_over value matches scores)
+    × (sum_over value matches scores ≤ℤ (range_from value matches options).greatest)
 sum_in_range value [] options scores takes = (omega (arith, ints), omega (arith, ints))
 sum_in_range value (match ∷ matches) [] [] takes = (omega (arith, ints), omega (arith, ints))
 sum_in_range value (match ∷ matches) [] (ended ∷ scores) takes = absurd (false≢true takes)
 sum_in_range value (match ∷ matches) (options ∷ more) [] takes = absurd (false≢true takes)
-sum_in_range value (match ∷ matches) (options ∷ more) (None ∷ scores) takes = absurd (false≢true takes)
+sum_in_range value (match ∷ matches) (options ∷ more) (None ∷ scores) takes = absurd
+    (false≢true takes)
 sum_in_range value (match ∷ matches) (options ∷ more) (Some score ∷ scores) takes =
     let parts = and_parts (takes_option options (Some score)) (take_options more scores) takes in
     let here = range_bounds (value match) options score parts.0 in
     let rest = sum_in_range value matches more scores parts.1 in
     (omega (arith, ints), omega (arith, ints))
 
-sum_over-zero : (matches : List Fixture) (scores : List (Option Score)) → sum_over (λ match score. pos 0) matches scores ≡ pos 0
+sum_over-zero : (matches : List Fixture) (scores : List (Option Score))
+    → sum_over (λ match score. pos 0) matches scores ≡ pos 0
 sum_over-zero [] scores = refl
 sum_over-zero (match ∷ matches) [] = refl
 sum_over-zero (match ∷ matches) (None ∷ scores) = omega (arith, ints, sum_over-zero matches scores)
-sum_over-zero (match ∷ matches) (Some score ∷ scores) = omega (arith, ints, sum_over-zero matches scores)
+sum_over-zero (match ∷ matches) (Some score ∷ scores) = omega
+    (arith, ints, sum_over-zero matches scores)
 
-sum_over-sum : (value other : Fixture → Score → ℤ) (matches : List Fixture) (scores : List (Option Score)) → sum_over (λ match score. value match score +ℤ other match score) matches scores ≡ sum_over value matches scores +ℤ sum_over other matches scores
+sum_over-sum : (value other : Fixture → Score → ℤ) (matches : List Fixture)
+    (scores : List (Option Score))
+    → sum_over (λ match score. value match score +ℤ other match score) matches scores
+    ≡ sum_over value matches scores +ℤ sum_over other matches scores
 sum_over-sum value other [] scores = refl
 sum_over-sum value other (match ∷ matches) [] = refl
-sum_over-sum value other (match ∷ matches) (None ∷ scores) = omega (arith, ints, sum_over-sum value other matches scores)
-sum_over-sum value other (match ∷ matches) (Some score ∷ scores) = omega (arith, ints, sum_over-sum value other matches scores)
+sum_over-sum value other (match ∷ matches) (None ∷ scores) = omega
+    (arith, ints, sum_over-sum value other matches scores)
+sum_over-sum value other (match ∷ matches) (Some score ∷ scores) = omega
+    (arith, ints, sum_over-sum value other matches scores)
 
 -- the clubs of a set together have the points that matches give them together
-total_of-sums : (clubs : List ℕ) (matches : List Fixture) (scores : List (Option Score)) → total_of (λ club. sum_over (worth_to match_points club) matches scores) clubs ≡ sum_over (points_together clubs) matches scores
+total_of-sums : (clubs : List ℕ) (matches : List Fixture) (scores : List (Option Score))
+    → total_of (λ club. sum_over (worth_to match_points club) matches scores) clubs ≡ sum_over
+    (points_together clubs) matches scores
 total_of-sums [] matches scores = sym (sum_over-zero matches scores)
 total_of-sums (club ∷ clubs) matches scores =
-    ap (λ n. sum_over (worth_to match_points club) matches scores +ℤ n) (total_of-sums clubs matches scores)
+    ap (λ n. sum_over (worth_to match_points club) matches scores +ℤ n)
+    (total_of-sums clubs matches scores)
     ∙ sym (sum_over-sum (worth_to match_points club) (points_together clubs) matches scores)
 
-total_of-less : (value off : ℕ → ℤ) (clubs : List ℕ) → total_of (λ club. value club -ℤ off club) clubs ≡ total_of value clubs -ℤ total_of off clubs
+total_of-less : (value off : ℕ → ℤ) (clubs : List ℕ)
+    → total_of (λ club. value club -ℤ off club) clubs ≡ total_of value clubs -ℤ total_of off clubs
 total_of-less value off [] = refl
 total_of-less value off (club ∷ clubs) = omega (arith, ints, total_of-less value off clubs)
 
 -- the points of a set at a finish in the box lie between its least and its most points there
-pub points_in_box : (sheet : Sheet) (season : Results) (zone : List Literal) (finish : Results) (clubs : List ℕ) → IsInBox sheet season zone finish → (least_points_of sheet season zone clubs ≤ℤ total_of (points_of sheet finish) clubs) × (total_of (points_of sheet finish) clubs ≤ℤ most_points_of sheet season zone clubs)
+pub points_in_box : (sheet : Sheet) (season : Results) (zone : List Literal) (finish : Results)
+    (clubs : List ℕ) → IsInBox sheet season zone finish
+    → (least_points_of sheet season zone clubs ≤ℤ total_of (points_of sheet finish) clubs)
+    × (total_of (points_of sheet finish) clubs ≤ℤ most_points_of sheet season zone clubs)
 unfolding least_points_of most_points_of
 points_in_box sheet season zone finish clubs box =
     let won = λ (club : ℕ). sum_of match_points sheet finish club in
     let off = λ (club : ℕ). pos (slice_index finish.deductions club) in
-    let bounds = sum_in_range (points_together clubs) sheet.fixtures (options_in sheet season zone) finish.scores box.scores in
+    let bounds = sum_in_range (points_together clubs) sheet.fixtures
+    (options_in sheet season zone) finish.scores box.scores in
     let total = total_of-less won off clubs in
     let sums = total_of-sums clubs sheet.fixtures finish.scores in
     let same = ap (λ ds. total_of (λ club. pos (slice_index ds club)) clubs) box.deductions in
@@ -137,7 +198,9 @@ one_more : (n : ℕ) (points : ℤ) → pos (suc n) *ℤ points ≡ points +ℤ 
 one_more n points = omega (arith, ints)
 
 -- where each of some clubs has at most so many points, or at least, so have they together
-pub total_at_most : (value : ℕ → ℤ) (most : ℤ) (test : ℕ → Bool) (clubs : List ℕ) → ((club : ℕ) → test club ≡ true → value club ≤ℤ most) → list_all test clubs ≡ true → total_of value clubs ≤ℤ (pos (length clubs) *ℤ most)
+pub total_at_most : (value : ℕ → ℤ) (most : ℤ) (test : ℕ → Bool) (clubs : List ℕ)
+    → ((club : ℕ) → test club ≡ true → value club ≤ℤ most) → list_all test clubs ≡ true
+    → total_of value clubs ≤ℤ (pos (length clubs) *ℤ most)
 total_at_most value most test [] each all = omega (arith, ints)
 total_at_most value most test (club ∷ clubs) each all =
     let parts = and_parts (test club) (list_all test clubs) all in
@@ -145,7 +208,9 @@ total_at_most value most test (club ∷ clubs) each all =
     let rest = total_at_most value most test clubs each parts.1 in
     omega (arith, ints, one_more (length clubs) most)
 
-pub total_at_least : (value : ℕ → ℤ) (least : ℤ) (test : ℕ → Bool) (clubs : List ℕ) → ((club : ℕ) → test club ≡ true → least ≤ℤ value club) → list_all test clubs ≡ true → (pos (length clubs) *ℤ least) ≤ℤ total_of value clubs
+pub total_at_least : (value : ℕ → ℤ) (least : ℤ) (test : ℕ → Bool) (clubs : List ℕ)
+    → ((club : ℕ) → test club ≡ true → least ≤ℤ value club) → list_all test clubs ≡ true
+    → (pos (length clubs) *ℤ least) ≤ℤ total_of value clubs
 total_at_least value least test [] each all = omega (arith, ints)
 total_at_least value least test (club ∷ clubs) each all =
     let parts = and_parts (test club) (list_all test clubs) all in
@@ -175,24 +240,32 @@ behind_is x y below =
 -- who ranks before another has as many points or more, and who does not has as many or fewer
 lead_says : (x y : ℤ) (rest : Ordering) → is_lt (ordering_then (int_cmp y x) rest) ≡ true → y ≤ℤ x
 lead_says x y rest before =
-    by_lt_z x y (λ below. absurd (false≢true (sym (ap (λ o. is_lt (ordering_then o rest)) (behind_is x y below)) ∙ before)))
+    by_lt_z x y (λ below. absurd
+    (false≢true (sym (ap (λ o. is_lt (ordering_then o rest)) (behind_is x y below)) ∙ before)))
     (λ at_least. at_least)
 
 trail_says : (x y : ℤ) (rest : Ordering) → is_lt (ordering_then (int_cmp y x) rest) ≡ false → x ≤ℤ y
 trail_says x y rest not_before =
-    by_lt_z y x (λ above. absurd (true≢false (sym (ap (λ o. is_lt (ordering_then o rest)) (ahead_is x y above)) ∙ not_before)))
+    by_lt_z y x (λ above. absurd
+    (true≢false (sym (ap (λ o. is_lt (ordering_then o rest)) (ahead_is x y above)) ∙ not_before)))
     (λ at_most. at_most)
 
-pub points_before : (sheet : Sheet) (finish : Results) (lots : List ℕ) (club other : ℕ) → ranks_before sheet finish lots club other ≡ true → points_of sheet finish other ≤ℤ points_of sheet finish club
+pub points_before : (sheet : Sheet) (finish : Results) (lots : List ℕ) (club other : ℕ)
+    → ranks_before sheet finish lots club other ≡ true
+    → points_of sheet finish other ≤ℤ points_of sheet finish club
 points_before sheet finish lots club other before =
     lead_says (points_of sheet finish club) (points_of sheet finish other) _ before
 
-pub points_not_before : (sheet : Sheet) (finish : Results) (lots : List ℕ) (club other : ℕ) → ranks_before sheet finish lots club other ≡ false → points_of sheet finish club ≤ℤ points_of sheet finish other
+pub points_not_before : (sheet : Sheet) (finish : Results) (lots : List ℕ) (club other : ℕ)
+    → ranks_before sheet finish lots club other ≡ false
+    → points_of sheet finish club ≤ℤ points_of sheet finish other
 points_not_before sheet finish lots club other not_before =
     trail_says (points_of sheet finish club) (points_of sheet finish other) _ not_before
 
 -- the test of a rival is whether it ranks before the club
-rival_at : (sheet : Sheet) (club : ℕ) (finish : Results) (lots : List ℕ) (rival : ℕ) (test : Test) → is_of_rival rival test ≡ true → is_test_true sheet club finish lots test ≡ ranks_before sheet finish lots rival club
+rival_at : (sheet : Sheet) (club : ℕ) (finish : Results) (lots : List ℕ) (rival : ℕ) (test : Test)
+    → is_of_rival rival test ≡ true
+    → is_test_true sheet club finish lots test ≡ ranks_before sheet finish lots rival club
 rival_at sheet club finish lots rival (Home f) is = absurd (false≢true is)
 rival_at sheet club finish lots rival (Draw f) is = absurd (false≢true is)
 rival_at sheet club finish lots rival (HomeMost f most) is = absurd (false≢true is)
@@ -201,11 +274,15 @@ rival_at sheet club finish lots rival (Rival other) is =
     ap (λ n. ranks_before sheet finish lots n club) (eqb-true other rival is)
 
 -- a rival that is marked before the club ranks before it, and one that is marked after does not
-pub before_is : (sheet : Sheet) (club : ℕ) (finish : Results) (lots : List ℕ) (zone : List Literal) (rival : ℕ) → are_literals_true sheet club finish lots zone ≡ true → marked_before zone rival ≡ true → ranks_before sheet finish lots rival club ≡ true
+pub before_is : (sheet : Sheet) (club : ℕ) (finish : Results) (lots : List ℕ) (zone : List Literal)
+    (rival : ℕ) → are_literals_true sheet club finish lots zone ≡ true
+    → marked_before zone rival ≡ true → ranks_before sheet finish lots rival club ≡ true
 before_is sheet club finish lots [] rival literals marked = absurd (false≢true marked)
 before_is sheet club finish lots (literal ∷ zone) rival literals marked =
-    let holds = and_parts (is_literal_true sheet club finish lots literal) (are_literals_true sheet club finish lots zone) literals in
-    elim (or_cases (is_of_rival rival literal.test && literal.yes) (marked_before zone rival) marked) as (λ _. ranks_before sheet finish lots rival club ≡ true) [
+    let holds = and_parts (is_literal_true sheet club finish lots literal) (are_literals_true sheet
+    club finish lots zone) literals in
+    elim (or_cases (is_of_rival rival literal.test && literal.yes)
+    (marked_before zone rival) marked) as (λ _. ranks_before sheet finish lots rival club ≡ true) [
       | inl here ↦
           let parts = and_parts (is_of_rival rival literal.test) literal.yes here in
           sym (rival_at sheet club finish lots rival literal.test parts.0)
@@ -214,11 +291,15 @@ before_is sheet club finish lots (literal ∷ zone) rival literals marked =
       | inr later ↦ before_is sheet club finish lots zone rival holds.1 later
     ]
 
-pub after_is : (sheet : Sheet) (club : ℕ) (finish : Results) (lots : List ℕ) (zone : List Literal) (rival : ℕ) → are_literals_true sheet club finish lots zone ≡ true → marked_after zone rival ≡ true → ranks_before sheet finish lots rival club ≡ false
+pub after_is : (sheet : Sheet) (club : ℕ) (finish : Results) (lots : List ℕ) (zone : List Literal)
+    (rival : ℕ) → are_literals_true sheet club finish lots zone ≡ true
+    → marked_after zone rival ≡ true → ranks_before sheet finish lots rival club ≡ false
 after_is sheet club finish lots [] rival literals marked = absurd (false≢true marked)
 after_is sheet club finish lots (literal ∷ zone) rival literals marked =
-    let holds = and_parts (is_literal_true sheet club finish lots literal) (are_literals_true sheet club finish lots zone) literals in
-    elim (or_cases (is_of_rival rival literal.test && not literal.yes) (marked_after zone rival) marked) as (λ _. ranks_before sheet finish lots rival club ≡ false) [
+    let holds = and_parts (is_literal_true sheet club finish lots literal) (are_literals_true sheet
+    club finish lots zone) literals in
+    elim (or_cases (is_of_rival rival literal.test && not literal.yes)
+    (marked_after zone rival) marked) as (λ _. ranks_before sheet finish lots rival club ≡ false) [
       | inl here ↦
           let parts = and_parts (is_of_rival rival literal.test) (not literal.yes) here in
           sym (rival_at sheet club finish lots rival literal.test parts.0)
@@ -226,7 +307,8 @@ after_is sheet club finish lots (literal ∷ zone) rival literals marked =
       | inr later ↦ after_is sheet club finish lots zone rival holds.1 later
     ]
   where
-    said_no : (yes_said passed : Bool) → not yes_said ≡ true → is_as_said yes_said passed ≡ true → passed ≡ false
+    said_no : (yes_said passed : Bool) → not yes_said ≡ true → is_as_said yes_said passed ≡ true
+        → passed ≡ false
     said_no true passed negated holds = absurd (false≢true negated)
     said_no false true negated holds = absurd (false≢true holds)
     said_no false false negated holds = refl

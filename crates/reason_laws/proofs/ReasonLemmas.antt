@@ -1,6 +1,8 @@
--- Reasons are sound: where one holds, the question holds at no member of the zone. Here are the counts
--- of marked rivals, the window and both cuts.
-use Rattle.std.proofs.Common.{◌≡◌, ℕ, suc, ◌+◌, ◌-◌, ◌<◌, ◌≤◌, ℤ, ◌≤ℤ◌, ◌<ℤ◌, Bool, true, false, not, ◌&&◌, ◌==◌, cond, nat_le, List, [], ◌∷◌, length, filter, count_by, refl, sym, ap, ◌∙◌, inl, inr, arith}
+-- Reasons are sound: where one holds, the question holds at no member of the zone. Here are the
+-- counts of marked rivals, the window and both cuts.
+use Rattle.std.proofs.Common.{◌≡◌, ℕ, suc, ◌+◌, ◌-◌, ◌<◌, ◌≤◌, ℤ, ◌≤ℤ◌, ◌<ℤ◌, Bool, true, false}
+use Rattle.std.proofs.Common.{not, ◌&&◌, ◌==◌, cond, nat_le, List, [], ◌∷◌, length, filter}
+use Rattle.std.proofs.Common.{count_by, refl, sym, ap, ◌∙◌, inl, inr, arith}
 use Rattle.std.specs.Prelude.{int_lt, int_le}
 use Rattle.std.specs.List.{list_all}
 use Rattle.std.proofs.lemmas.Int.{ints, clamps}
@@ -20,13 +22,17 @@ use Rattle.league_core.specs.Ranking.{ranks_before, place_of, is_inside}
 use Rattle.league_core.specs.Questions.{is_on_side, is_in_window, holds_at}
 use Rattle.league_core.specs.Zones.{rivals_of, marked_before, marked_after, IsMember}
 use Rattle.league_core.specs.PointRanges.{least_points_of, most_points_of, own_most, own_least}
-use Rattle.league_core.specs.Reasons.{too_many, refutes_by_count, refutes_by_window, has_member, times, refutes_by_floor, refutes_by_ceiling}
+use Rattle.league_core.specs.Reasons.{too_many, refutes_by_count, refutes_by_window, has_member}
+use Rattle.league_core.specs.Reasons.{times, refutes_by_floor, refutes_by_ceiling}
 use Rattle.league_core.proofs.ClubLemmas.{range_has}
 use Rattle.league_core.proofs.RankingLemmas.{ranks_before-itself}
-use Rattle.reason_laws.proofs.MemberLemmas.{member_in_box, points_in_box, total_at_most, total_at_least, points_before, points_not_before, before_is, after_is}
+use Rattle.reason_laws.proofs.MemberLemmas.{member_in_box, points_in_box, total_at_most}
+use Rattle.reason_laws.proofs.MemberLemmas.{total_at_least, points_before, points_not_before}
+use Rattle.reason_laws.proofs.MemberLemmas.{before_is, after_is}
 
 -- the first of a list counts where it passes
-pub count_by-cons : (test : ℕ → Bool) (club : ℕ) (clubs : List ℕ) → count_by test (club ∷ clubs) ≡ cond {A = ℕ} (test club) 1 0 + count_by test clubs
+pub count_by-cons : (test : ℕ → Bool) (club : ℕ) (clubs : List ℕ)
+    → count_by test (club ∷ clubs) ≡ cond {A = ℕ} (test club) 1 0 + count_by test clubs
 count_by-cons test club clubs = sum_by-cons (λ (x : ℕ). cond (test x) 1 0) club clubs
 
 -- all clubs of a list but one
@@ -34,23 +40,35 @@ abbrev pub others_in : ℕ → List ℕ → List ℕ
 others_in club clubs = filter (λ other. not (other == club)) clubs
 
 -- a club that is not the one counts among the others where it passes
-pub count_by-other : (test : ℕ → Bool) (club other : ℕ) (clubs : List ℕ) → count_by test (cond (not false) (other ∷ others_in club clubs) (others_in club clubs)) ≡ cond {A = ℕ} (test other) 1 0 + count_by test (others_in club clubs)
+pub count_by-other : (test : ℕ → Bool) (club other : ℕ) (clubs : List ℕ)
+    → count_by test (cond (not false) (other ∷ others_in club clubs) (others_in club clubs)) ≡ cond
+    {A = ℕ} (test other) 1 0 + count_by test (others_in club clubs)
 count_by-other test club other clubs = count_by-cons test other (others_in club clubs)
 
--- of some clubs but one, those that pass are no more than those of all that pass another test with them
-pub count_by-front : (front before : ℕ → Bool) (club : ℕ) (clubs : List ℕ) → ((other : ℕ) → front other ≡ true → before other ≡ true) → count_by front (filter (λ other. not (other == club)) clubs) ≤ count_by before clubs
+-- of some clubs but one, those that pass are no more than those of all that pass another test with
+-- them
+pub count_by-front : (front before : ℕ → Bool) (club : ℕ) (clubs : List ℕ)
+    → ((other : ℕ) → front other ≡ true → before other ≡ true)
+    → count_by front (filter (λ other. not (other == club)) clubs) ≤ count_by before clubs
 count_by-front front before club [] gives = omega arith
 count_by-front front before club (other ∷ clubs) gives =
     let rest = count_by-front front before club clubs gives in
     let here = count_by-cons before other clubs in
     by_test (other == club) (front other) (before other) refl refl rest here
   where
-    by_test : (own passes_front passes_before : Bool) → front other ≡ passes_front → before other ≡ passes_before → count_by front (filter (λ x. not (x == club)) clubs) ≤ count_by before clubs → count_by before (other ∷ clubs) ≡ cond {A = ℕ} (before other) 1 0 + count_by before clubs → count_by front (cond (not own) (other ∷ filter (λ x. not (x == club)) clubs) (filter (λ x. not (x == club)) clubs)) ≤ count_by before (other ∷ clubs)
+    by_test : (own passes_front passes_before : Bool) → front other ≡ passes_front
+        → before other ≡ passes_before
+        → count_by front (filter (λ x. not (x == club)) clubs) ≤ count_by before clubs
+        → count_by before (other ∷ clubs) ≡ cond {A = ℕ} (before other) 1 0 + count_by before clubs
+        → count_by front
+        (cond (not own) (other ∷ filter (λ x. not (x == club)) clubs)
+        (filter (λ x. not (x == club)) clubs)) ≤ count_by before (other ∷ clubs)
     by_test true passes_front passes_before f b rest here = omega arith
     by_test false true passes_before f b rest here =
         let counted = count_by-other front club other clubs in
         let one : cond {A = ℕ} (front other) 1 0 ≡ 1 = ap (λ t. cond {A = ℕ} t 1 0) f in
-        let other_one : cond {A = ℕ} (before other) 1 0 ≡ 1 = ap (λ t. cond {A = ℕ} t 1 0) (gives other f) in
+        let other_one : cond {A = ℕ} (before other) 1 0 ≡ 1 = ap (λ t. cond
+        {A = ℕ} t 1 0) (gives other f) in
         omega arith
     by_test false false passes_before f b rest here =
         let counted = count_by-other front club other clubs in
@@ -58,7 +76,11 @@ count_by-front front before club (other ∷ clubs) gives =
         omega arith
 
 -- the clubs behind, those before, and the club itself are no more than all
-count_by-three : (back before : ℕ → Bool) (club : ℕ) (clubs : List ℕ) → ((other : ℕ) → back other ≡ true → before other ≡ false) → before club ≡ false → count_by back (filter (λ other. not (other == club)) clubs) + count_by before clubs + count_by (λ other. other == club) clubs ≤ length clubs
+count_by-three : (back before : ℕ → Bool) (club : ℕ) (clubs : List ℕ)
+    → ((other : ℕ) → back other ≡ true → before other ≡ false) → before club ≡ false
+    → count_by back
+    (filter (λ other. not (other == club)) clubs) + count_by before clubs + count_by
+    (λ other. other == club) clubs ≤ length clubs
 count_by-three back before club [] apart itself = omega arith
 count_by-three back before club (other ∷ clubs) apart itself =
     let rest = count_by-three back before club clubs apart itself in
@@ -73,15 +95,26 @@ count_by-three back before club (other ∷ clubs) apart itself =
         at_most_one true = omega arith
         at_most_one false = omega arith
 
-    by_test : (is_own passes : Bool) → (other == club) ≡ is_own → back other ≡ passes → count_by back (filter (λ x. not (x == club)) clubs) + count_by before clubs + count_by (λ x. x == club) clubs ≤ length clubs → count_by before (other ∷ clubs) ≡ cond {A = ℕ} (before other) 1 0 + count_by before clubs → count_by (λ x. x == club) (other ∷ clubs) ≡ cond {A = ℕ} (other == club) 1 0 + count_by (λ x. x == club) clubs → count_by back (cond (not is_own) (other ∷ filter (λ x. not (x == club)) clubs) (filter (λ x. not (x == club)) clubs)) + count_by before (other ∷ clubs) + count_by (λ x. x == club) (other ∷ clubs) ≤ suc (length clubs)
+    by_test : (is_own passes : Bool) → (other == club) ≡ is_own → back other ≡ passes
+        → count_by back (filter (λ x. not (x == club)) clubs) + count_by before clubs + count_by
+        (λ x. x == club) clubs ≤ length clubs
+        → count_by before (other ∷ clubs) ≡ cond {A = ℕ} (before other) 1 0 + count_by before clubs
+        → count_by (λ x. x == club) (other ∷ clubs) ≡ cond {A = ℕ} (other == club) 1 0 + count_by
+        (λ x. x == club) clubs
+        → count_by back
+        (cond (not is_own) (other ∷ filter (λ x. not (x == club)) clubs)
+        (filter (λ x. not (x == club)) clubs)) + count_by before (other ∷ clubs) + count_by
+        (λ x. x == club) (other ∷ clubs) ≤ suc (length clubs)
     by_test true passes same b rest ahead own =
         let one : cond {A = ℕ} (other == club) 1 0 ≡ 1 = ap (λ t. cond {A = ℕ} t 1 0) same in
-        let none : cond {A = ℕ} (before other) 1 0 ≡ 0 = ap (λ t. cond {A = ℕ} t 1 0) (ap before (eqb-true other club same) ∙ itself) in
+        let none : cond {A = ℕ} (before other) 1 0 ≡ 0 = ap (λ t. cond {A = ℕ} t 1 0) (ap before
+        (eqb-true other club same) ∙ itself) in
         omega arith
     by_test false true same b rest ahead own =
         let counted = count_by-other back club other clubs in
         let one : cond {A = ℕ} (back other) 1 0 ≡ 1 = ap (λ t. cond {A = ℕ} t 1 0) b in
-        let none : cond {A = ℕ} (before other) 1 0 ≡ 0 = ap (λ t. cond {A = ℕ} t 1 0) (apart other b) in
+        let none : cond {A = ℕ} (before other) 1 0 ≡ 0 = ap (λ t. cond
+        {A = ℕ} t 1 0) (apart other b) in
         let not_own : cond {A = ℕ} (other == club) 1 0 ≡ 0 = ap (λ t. cond {A = ℕ} t 1 0) same in
         omega arith
     by_test false false same b rest ahead own =
@@ -91,28 +124,44 @@ count_by-three back before club (other ∷ clubs) apart itself =
         omega (arith, some_before)
 
 -- a club that a list has is counted there
-count_by-own : (club : ℕ) (clubs : List ℕ) → has_club clubs club ≡ true → 1 ≤ count_by (λ other. other == club) clubs
+count_by-own : (club : ℕ) (clubs : List ℕ) → has_club clubs club ≡ true
+    → 1 ≤ count_by (λ other. other == club) clubs
 count_by-own club [] has = absurd (false≢true has)
 count_by-own club (other ∷ clubs) has =
     let counted = count_by-cons (λ x. x == club) other clubs in
-    elim (or_cases (other == club) (has_club clubs club) has) as (λ _. 1 ≤ count_by (λ x. x == club) (other ∷ clubs)) [
-      | inl here ↦ let one : cond {A = ℕ} (other == club) 1 0 ≡ 1 = ap (λ t. cond {A = ℕ} t 1 0) here in omega arith
+    elim (or_cases (other == club) (has_club clubs club) has) as (λ _. 1 ≤ count_by
+    (λ x. x == club) (other ∷ clubs)) [
+      | inl here ↦
+          let one : cond {A = ℕ} (other == club) 1 0 ≡ 1 = ap (λ t. cond
+          {A = ℕ} t 1 0) here in omega arith
       | inr later ↦ let rest = count_by-own club clubs later in omega arith
     ]
 
 -- with too many rivals before the club its place is not inside the line, with too many behind it is
-pub too_many_says : (sheet : Sheet) (question : Question) (finish : Results) (lots : List ℕ) (front back : ℕ → Bool) (claim : Claim) → question.club < length sheet.clubs → ((other : ℕ) → front other ≡ true → ranks_before sheet finish lots other question.club ≡ true) → ((other : ℕ) → back other ≡ true → ranks_before sheet finish lots other question.club ≡ false) → too_many sheet question front back claim ≡ true → is_on_side (is_inside sheet finish lots question.club question.line) claim ≡ false
+pub too_many_says : (sheet : Sheet) (question : Question) (finish : Results) (lots : List ℕ)
+    (front back : ℕ → Bool) (claim : Claim) → question.club < length sheet.clubs
+    → ((other : ℕ) → front other ≡ true
+    → ranks_before sheet finish lots other question.club ≡ true)
+    → ((other : ℕ) → back other ≡ true
+    → ranks_before sheet finish lots other question.club ≡ false)
+    → too_many sheet question front back claim ≡ true
+    → is_on_side (is_inside sheet finish lots question.club question.line) claim ≡ false
 too_many_says sheet question finish lots front back Inside club_in ahead behind many =
     let before = λ (other : ℕ). ranks_before sheet finish lots other question.club in
-    let enough : question.line ≤ count_by front (rivals_of sheet question.club) = leb-true question.line (count_by front (rivals_of sheet question.club)) many in
+    let enough : question.line ≤ count_by front
+    (rivals_of sheet question.club) = leb-true question.line
+    (count_by front (rivals_of sheet question.club)) many in
     let fewer = count_by-front front before question.club (clubs_of sheet) ahead in
     lt-leb (place_of sheet finish lots question.club) question.line (omega arith)
 too_many_says sheet question finish lots front back Outside club_in ahead behind many =
     let before = λ (other : ℕ). ranks_before sheet finish lots other question.club in
-    let enough : length sheet.clubs - question.line ≤ count_by back (rivals_of sheet question.club) = leb-true (length sheet.clubs - question.line) (count_by back (rivals_of sheet question.club)) many in
+    let enough : length sheet.clubs - question.line ≤ count_by back
+    (rivals_of sheet question.club) = leb-true (length sheet.clubs - question.line)
+    (count_by back (rivals_of sheet question.club)) many in
     let itself = ranks_before-itself sheet finish lots question.club in
     let three = count_by-three back before question.club (clubs_of sheet) behind itself in
-    let own = count_by-own question.club (clubs_of sheet) (range_has (length sheet.clubs) question.club club_in) in
+    let own = count_by-own question.club (clubs_of sheet)
+    (range_has (length sheet.clubs) question.club club_in) in
     let all = length-range_with_len 0 (length sheet.clubs) in
     ap not (inside (place_of sheet finish lots question.club) question.line (omega arith))
   where
@@ -120,11 +169,21 @@ too_many_says sheet question finish lots front back Outside club_in ahead behind
     inside m n h = grind (arith, nat_tests)
 
 -- a question holds only in its window and on its side
-pub holds_parts : (sheet : Sheet) (question : Question) (finish : Results) (lots : List ℕ) → holds_at sheet question finish lots ≡ true → (question.low ≤ℤ points_of sheet finish question.club) × (points_of sheet finish question.club ≤ℤ question.high) × (is_on_side (is_inside sheet finish lots question.club question.line) question.claim ≡ true)
+pub holds_parts : (sheet : Sheet) (question : Question) (finish : Results) (lots : List ℕ)
+    → holds_at sheet question finish lots ≡ true
+    → (question.low ≤ℤ points_of sheet finish question.club)
+    × (points_of sheet finish question.club ≤ℤ question.high)
+    × (is_on_side (is_inside sheet finish lots question.club question.line) question.claim ≡ true)
 holds_parts sheet question finish lots holds =
-    let parts = and_parts (is_in_window question (points_of sheet finish question.club)) (is_on_side (is_inside sheet finish lots question.club question.line) question.claim) holds in
-    let window = and_parts (int_le question.low (points_of sheet finish question.club)) (int_le (points_of sheet finish question.club) question.high) parts.0 in
-    (at_most question.low (points_of sheet finish question.club) window.0, at_most (points_of sheet finish question.club) question.high window.1, parts.1)
+    let parts = and_parts (is_in_window question (points_of sheet finish question.club))
+    (is_on_side (is_inside sheet finish lots question.club question.line) question.claim) holds in
+    let window = and_parts (int_le question.low (points_of sheet finish question.club))
+    (int_le (points_of sheet finish question.club) question.high) parts.0 in (
+      at_most question.low (points_of sheet finish question.club) window.0,
+      at_most
+          (points_of sheet finish question.club) question.high window.1,
+      parts.1,
+    )
   where
     at_most : (a b : ℤ) → int_le a b ≡ true → a ≤ℤ b
     at_most a b h = grind (arith, ints)
@@ -133,55 +192,99 @@ under : (a b : ℤ) → int_lt a b ≡ true → a <ℤ b
 under a b h = grind (arith, ints)
 
 -- no member of a zone that marks too many rivals
-pub count_says : (sheet : Sheet) (season : Results) (question : Question) (zone : List Literal) (finish : Results) (lots : List ℕ) → question.club < length sheet.clubs → IsMember sheet season question.club zone finish lots → refutes_by_count sheet question zone ≡ true → holds_at sheet question finish lots ≡ true → ⊥
+pub count_says : (sheet : Sheet) (season : Results) (question : Question) (zone : List Literal)
+    (finish : Results) (lots : List ℕ) → question.club < length sheet.clubs
+    → IsMember sheet season question.club zone finish lots
+    → refutes_by_count sheet question zone ≡ true → holds_at sheet question finish lots ≡ true → ⊥
 count_says sheet season question zone finish lots club_in member reason holds =
     let parts = holds_parts sheet question finish lots holds in
-    let off = too_many_says sheet question finish lots (marked_before zone) (marked_after zone) question.claim club_in (λ other. before_is sheet question.club finish lots zone other member.literals) (λ other. after_is sheet question.club finish lots zone other member.literals) reason in
+    let off = too_many_says sheet question finish lots (marked_before zone) (marked_after
+    zone) question.claim club_in
+    (λ other. before_is sheet question.club finish lots zone other member.literals)
+    (λ other. after_is sheet question.club finish lots zone other member.literals) reason in
     false≢true (sym off ∙ parts.2)
 
 -- the club's own points at a member of the zone
-own_points : (sheet : Sheet) (season : Results) (club : ℕ) (zone : List Literal) (finish : Results) (lots : List ℕ) → IsMember sheet season club zone finish lots → (least_points_of sheet season zone (club ∷ []) ≤ℤ points_of sheet finish club) × (points_of sheet finish club ≤ℤ most_points_of sheet season zone (club ∷ []))
+own_points : (sheet : Sheet) (season : Results) (club : ℕ) (zone : List Literal) (finish : Results)
+    (lots : List ℕ) → IsMember sheet season club zone finish lots
+    → (least_points_of sheet season zone (club ∷ []) ≤ℤ points_of sheet finish club)
+    × (points_of sheet finish club ≤ℤ most_points_of sheet season zone (club ∷ []))
 own_points sheet season club zone finish lots member =
-    let bounds = points_in_box sheet season zone finish (club ∷ []) (member_in_box sheet season club zone finish lots member) in
+    let bounds = points_in_box sheet season zone finish (club ∷
+    []) (member_in_box sheet season club zone finish lots member) in
     (omega (arith, ints), omega (arith, ints))
 
-pub window_says : (sheet : Sheet) (season : Results) (question : Question) (zone : List Literal) (finish : Results) (lots : List ℕ) → IsMember sheet season question.club zone finish lots → refutes_by_window sheet season question zone ≡ true → holds_at sheet question finish lots ≡ true → ⊥
+pub window_says : (sheet : Sheet) (season : Results) (question : Question) (zone : List Literal)
+    (finish : Results) (lots : List ℕ) → IsMember sheet season question.club zone finish lots
+    → refutes_by_window sheet season question zone ≡ true
+    → holds_at sheet question finish lots ≡ true → ⊥
 window_says sheet season question zone finish lots member reason holds =
     let parts = holds_parts sheet question finish lots holds in
     let own = own_points sheet season question.club zone finish lots member in
-    elim (or_cases (int_lt (most_points_of sheet season zone (question.club ∷ [])) question.low) (int_lt question.high (least_points_of sheet season zone (question.club ∷ []))) reason) as (λ _. ⊥) [
-      | inl low ↦ let h = under (most_points_of sheet season zone (question.club ∷ [])) question.low low in omega (arith, ints)
-      | inr high ↦ let h = under question.high (least_points_of sheet season zone (question.club ∷ [])) high in omega (arith, ints)
+    elim (or_cases (int_lt (most_points_of sheet season zone (question.club ∷ [])) question.low)
+    (int_lt question.high (least_points_of sheet season zone (question.club ∷ [])))
+    reason) as (λ _. ⊥) [
+      | inl low ↦ let h = under (most_points_of sheet season zone (question.club ∷ []))
+          question.low low in omega (arith, ints)
+      | inr high ↦ let h = under question.high
+          (least_points_of sheet season zone (question.club ∷ [])) high in omega (arith, ints)
     ]
 
 -- rivals marked after the club have at most its points, and at most what it can have in the window
-pub floor_says : (sheet : Sheet) (season : Results) (question : Question) (zone : List Literal) (clubs : List ℕ) (finish : Results) (lots : List ℕ) → IsMember sheet season question.club zone finish lots → refutes_by_floor sheet season question zone clubs ≡ true → holds_at sheet question finish lots ≡ true → ⊥
+pub floor_says : (sheet : Sheet) (season : Results) (question : Question) (zone : List Literal)
+    (clubs : List ℕ) (finish : Results) (lots : List ℕ)
+    → IsMember sheet season question.club zone finish lots
+    → refutes_by_floor sheet season question zone clubs ≡ true
+    → holds_at sheet question finish lots ≡ true → ⊥
 floor_says sheet season question zone clubs finish lots member reason holds =
     let parts = holds_parts sheet question finish lots holds in
     let own = own_points sheet season question.club zone finish lots member in
     let box = member_in_box sheet season question.club zone finish lots member in
-    let halves = and_parts (has_member clubs && list_all (marked_after zone) clubs) (int_lt (times clubs (own_most sheet season question zone)) (least_points_of sheet season zone clubs)) reason in
+    let halves = and_parts (has_member clubs && list_all (marked_after zone) clubs)
+    (int_lt (times clubs (own_most sheet season question zone))
+    (least_points_of sheet season zone clubs)) reason in
     let marks = and_parts (has_member clubs) (list_all (marked_after zone) clubs) halves.0 in
-    let more = under (times clubs (own_most sheet season question zone)) (least_points_of sheet season zone clubs) halves.1 in
-    let below : points_of sheet finish question.club ≤ℤ own_most sheet season question zone = omega (arith, ints, clamps) in
-    let each : (club : ℕ) → marked_after zone club ≡ true → points_of sheet finish club ≤ℤ own_most sheet season question zone =
-    λ club marked. let h = points_not_before sheet finish lots club question.club (after_is sheet question.club finish lots zone club member.literals marked) in omega (arith, ints) in
-    let together = total_at_most (points_of sheet finish) (own_most sheet season question zone) (marked_after zone) clubs each marks.1 in
+    let more = under (times clubs (own_most sheet season question zone))
+    (least_points_of sheet season zone clubs) halves.1 in
+    let below : points_of sheet finish question.club ≤ℤ own_most sheet season question zone = omega
+    (arith, ints, clamps) in
+    let each : (club :
+    ℕ) → marked_after zone club ≡ true
+    → points_of sheet finish club ≤ℤ own_most sheet season question zone =
+    λ club marked. let h = points_not_before sheet finish lots club question.club
+    (after_is sheet question.club finish lots zone club member.literals marked) in omega
+    (arith, ints) in
+    let together = total_at_most (points_of sheet finish) (own_most sheet season question
+    zone) (marked_after zone) clubs each marks.1 in
     let bounds = points_in_box sheet season zone finish clubs box in
     omega (arith, ints)
 
--- rivals marked before the club have at least its points, and at least what it can have in the window
-pub ceiling_says : (sheet : Sheet) (season : Results) (question : Question) (zone : List Literal) (clubs : List ℕ) (finish : Results) (lots : List ℕ) → IsMember sheet season question.club zone finish lots → refutes_by_ceiling sheet season question zone clubs ≡ true → holds_at sheet question finish lots ≡ true → ⊥
+-- rivals marked before the club have at least its points, and at least what it can have in the
+-- window
+pub ceiling_says : (sheet : Sheet) (season : Results) (question : Question) (zone : List Literal)
+    (clubs : List ℕ) (finish : Results) (lots : List ℕ)
+    → IsMember sheet season question.club zone finish lots
+    → refutes_by_ceiling sheet season question zone clubs ≡ true
+    → holds_at sheet question finish lots ≡ true → ⊥
 ceiling_says sheet season question zone clubs finish lots member reason holds =
     let parts = holds_parts sheet question finish lots holds in
     let own = own_points sheet season question.club zone finish lots member in
     let box = member_in_box sheet season question.club zone finish lots member in
-    let halves = and_parts (has_member clubs && list_all (marked_before zone) clubs) (int_lt (most_points_of sheet season zone clubs) (times clubs (own_least sheet season question zone))) reason in
+    let halves = and_parts (has_member clubs && list_all (marked_before zone) clubs)
+    (int_lt (most_points_of sheet season zone clubs)
+    (times clubs (own_least sheet season question zone))) reason in
     let marks = and_parts (has_member clubs) (list_all (marked_before zone) clubs) halves.0 in
-    let fewer = under (most_points_of sheet season zone clubs) (times clubs (own_least sheet season question zone)) halves.1 in
-    let above : own_least sheet season question zone ≤ℤ points_of sheet finish question.club = omega (arith, ints, clamps) in
-    let each : (club : ℕ) → marked_before zone club ≡ true → own_least sheet season question zone ≤ℤ points_of sheet finish club =
-    λ club marked. let h = points_before sheet finish lots club question.club (before_is sheet question.club finish lots zone club member.literals marked) in omega (arith, ints) in
-    let together = total_at_least (points_of sheet finish) (own_least sheet season question zone) (marked_before zone) clubs each marks.1 in
+    let fewer = under (most_points_of sheet season zone clubs) (times clubs
+    (own_least sheet season question zone)) halves.1 in
+    let above : own_least sheet season question zone ≤ℤ points_of sheet finish question.club =
+    omega (arith, ints, clamps) in
+    let each : (club :
+    ℕ) → marked_before zone club ≡ true
+    → own_least sheet season question zone ≤ℤ points_of sheet finish club =
+    λ club marked. let h = points_before sheet finish lots club question.club
+    (before_is sheet question.club finish lots zone club member.literals marked) in omega
+    (arith, ints) in
+    let together = total_at_least (points_of sheet finish) (own_least sheet season question
+    zone) (marked_before zone) clubs each marks.1 in
     let bounds = points_in_box sheet season zone finish clubs box in
     omega (arith, ints)

@@ -1,9 +1,11 @@
 -- The halves of a split and the leaves of a tree: which members they have, and what follows for the
 -- root.
-use Rattle.std.proofs.Common.{◌≡◌, ℕ, Bool, true, false, not, ◌&&◌, ◌||◌, ◌==◌, nat_lt, List, [], ◌∷◌, length, refl, sym, ap, ◌∙◌, inl, inr}
+use Rattle.std.proofs.Common.{◌≡◌, ℕ, Bool, true, false, not, ◌&&◌, ◌||◌, ◌==◌, nat_lt, List, []}
+use Rattle.std.proofs.Common.{◌∷◌, length, refl, sym, ap, ◌∙◌, inl, inr}
 use Rattle.std.specs.Prelude.{◌⊎◌, ◌↔◌}
 use Rattle.std.specs.List.{list_any}
-use Rattle.std.proofs.lemmas.Bool.{true≢false, and_parts, and_from, or_left, or_right, not-true, cases_Bool}
+use Rattle.std.proofs.lemmas.Bool.{true≢false, and_parts, and_from, or_left, or_right, not-true}
+use Rattle.std.proofs.lemmas.Bool.{cases_Bool}
 use Rattle.std.proofs.lemmas.List.Folds.{list_any-append}
 use Rattle.league_core.specs.declared.sheet.Sheet.{Sheet}
 use Rattle.league_core.specs.declared.question.Question.{Question}
@@ -12,59 +14,95 @@ use Rattle.league_core.specs.declared.zone.Test.TheVariants.{Home, Draw, HomeMos
 use Rattle.league_core.specs.declared.zone.Literal.{Literal}
 use Rattle.league_core.specs.Results.{Results}
 use Rattle.league_core.specs.Verdicts.{HasNoExample}
-use Rattle.league_core.specs.Zones.{is_of_rival, is_test_true, is_as_said, is_literal_true, are_literals_true, IsMember, marked_before, marked_after, is_marked, with_test, is_test_of, is_zone_of, IsZoneFor}
-use Rattle.league_core.specs.Trees.{Tree, open_leaf, lent_leaf, refuted_leaf, branch, zones_from, zones_of, NodesMeet, IsCover, IsCoverOf}
+use Rattle.league_core.specs.Zones.{is_of_rival, is_test_true, is_as_said, is_literal_true}
+use Rattle.league_core.specs.Zones.{are_literals_true, IsMember, marked_before, marked_after}
+use Rattle.league_core.specs.Zones.{is_marked, with_test, is_test_of, is_zone_of, IsZoneFor}
+use Rattle.league_core.specs.Trees.{Tree, open_leaf, lent_leaf, refuted_leaf, branch, zones_from}
+use Rattle.league_core.specs.Trees.{zones_of, NodesMeet, IsCover, IsCoverOf}
 use Rattle.league_core.specs.Splits.{have_both_finish, is_proper, IsProperNode}
 use Rattle.league_core.proofs.HalfLemmas.{list_all-with}
 use Rattle.reason_laws.specs.Splits.{HoldsNowhereIn, HoldsAtNoLeaf}
 
 -- a half is the zone's literals and what it says of the test
-pub true_in_half : (sheet : Sheet) (club : ℕ) (finish : Results) (lots : List ℕ) (zone : List Literal) (test : Test) (holds : Bool) → are_literals_true sheet club finish lots (with_test zone test holds) ≡ (are_literals_true sheet club finish lots zone && is_as_said holds (is_test_true sheet club finish lots test))
+pub true_in_half : (sheet : Sheet) (club : ℕ) (finish : Results) (lots : List ℕ)
+    (zone : List Literal) (test : Test) (holds : Bool)
+    → are_literals_true sheet club finish lots (with_test zone test holds) ≡
+    (are_literals_true sheet club finish lots zone
+    && is_as_said holds (is_test_true sheet club finish lots test))
 true_in_half sheet club finish lots zone test holds =
     list_all-with (is_literal_true sheet club finish lots) zone test holds
 
 -- a member of the zone is one of the half that says of the test what is so
-into_half : (sheet : Sheet) (season : Results) (club : ℕ) (zone : List Literal) (test : Test) (holds : Bool) (finish : Results) (lots : List ℕ) → IsMember sheet season club zone finish lots → is_as_said holds (is_test_true sheet club finish lots test) ≡ true → IsMember sheet season club (with_test zone test holds) finish lots
+into_half : (sheet : Sheet) (season : Results) (club : ℕ) (zone : List Literal) (test : Test)
+    (holds : Bool) (finish : Results) (lots : List ℕ) → IsMember sheet season club zone finish lots
+    → is_as_said holds (is_test_true sheet club finish lots test) ≡ true
+    → IsMember sheet season club (with_test zone test holds) finish lots
 into_half sheet season club zone test holds finish lots member said = record {
   is_finish = member.is_finish;
   is_drawn = member.is_drawn;
   literals =
       true_in_half sheet club finish lots zone test holds
-      ∙ and_from (are_literals_true sheet club finish lots zone) (is_as_said holds (is_test_true sheet club finish lots test)) member.literals said;
+      ∙ and_from (are_literals_true sheet club finish lots zone)
+      (is_as_said holds (is_test_true sheet club finish lots test)) member.literals said;
 }
 
 -- a member of a half is one of the zone
-out_of_half : (sheet : Sheet) (season : Results) (club : ℕ) (zone : List Literal) (test : Test) (holds : Bool) (finish : Results) (lots : List ℕ) → IsMember sheet season club (with_test zone test holds) finish lots → IsMember sheet season club zone finish lots × (is_as_said holds (is_test_true sheet club finish lots test) ≡ true)
+out_of_half : (sheet : Sheet) (season : Results) (club : ℕ) (zone : List Literal) (test : Test)
+    (holds : Bool) (finish : Results) (lots : List ℕ)
+    → IsMember sheet season club (with_test zone test holds) finish lots
+    → IsMember sheet season club zone finish lots
+    × (is_as_said holds (is_test_true sheet club finish lots test) ≡ true)
 out_of_half sheet season club zone test holds finish lots member =
-    let parts = and_parts (are_literals_true sheet club finish lots zone) (is_as_said holds (is_test_true sheet club finish lots test)) (sym (true_in_half sheet club finish lots zone test holds) ∙ member.literals) in
-    (record { is_finish = member.is_finish; is_drawn = member.is_drawn; literals = parts.0 }, parts.1)
+    let parts = and_parts (are_literals_true sheet club finish lots zone) (is_as_said holds
+    (is_test_true sheet club finish lots test))
+    (sym (true_in_half sheet club finish lots zone test holds) ∙ member.literals) in (
+      record { is_finish = member.is_finish; is_drawn = member.is_drawn; literals = parts.0 },
+      parts.1,
+    )
 
 -- each member of a zone is one of a half
-pub either_half : (sheet : Sheet) (season : Results) (club : ℕ) (zone : List Literal) (test : Test) (finish : Results) (lots : List ℕ) → IsMember sheet season club zone finish lots → IsMember sheet season club (with_test zone test true) finish lots ⊎ IsMember sheet season club (with_test zone test false) finish lots
+pub either_half : (sheet : Sheet) (season : Results) (club : ℕ) (zone : List Literal) (test : Test)
+    (finish : Results) (lots : List ℕ) → IsMember sheet season club zone finish lots
+    → IsMember sheet season club (with_test zone test true) finish lots
+    ⊎ IsMember sheet season club (with_test zone test false) finish lots
 either_half sheet season club zone test finish lots member =
-    elim (cases_Bool (is_test_true sheet club finish lots test)) as (λ _. IsMember sheet season club (with_test zone test true) finish lots ⊎ IsMember sheet season club (with_test zone test false) finish lots) [
+    elim (cases_Bool
+    (is_test_true sheet club finish lots test)) as (λ _. IsMember sheet season club
+    (with_test zone test true) finish lots
+    ⊎ IsMember sheet season club (with_test zone test false) finish lots) [
       | inl holds ↦ inl (into_half sheet season club zone test true finish lots member holds)
-      | inr fails ↦ inr (into_half sheet season club zone test false finish lots member (ap not fails))
+      | inr fails ↦ inr
+          (into_half sheet season club zone test false finish lots member (ap not fails))
     ]
 
 -- the members of the halves are those of the zone
-pub halves_cover : (sheet : Sheet) (season : Results) (club : ℕ) (zone : List Literal) (test : Test) (finish : Results) (lots : List ℕ) → IsMember sheet season club zone finish lots ↔ (IsMember sheet season club (with_test zone test true) finish lots ⊎ IsMember sheet season club (with_test zone test false) finish lots)
+pub halves_cover : (sheet : Sheet) (season : Results) (club : ℕ) (zone : List Literal)
+    (test : Test) (finish : Results) (lots : List ℕ) → IsMember sheet season club zone finish lots
+    ↔ (IsMember sheet season club (with_test zone test true) finish lots
+    ⊎ IsMember sheet season club (with_test zone test false) finish lots)
 halves_cover sheet season club zone test finish lots =
     (either_half sheet season club zone test finish lots, back)
   where
-    back : IsMember sheet season club (with_test zone test true) finish lots ⊎ IsMember sheet season club (with_test zone test false) finish lots → IsMember sheet season club zone finish lots
+    back : IsMember sheet season club (with_test zone test true) finish lots
+        ⊎ IsMember sheet season club (with_test zone test false) finish lots
+        → IsMember sheet season club zone finish lots
     back (inl member) = (out_of_half sheet season club zone test true finish lots member).0
     back (inr member) = (out_of_half sheet season club zone test false finish lots member).0
 
 -- no member of one half is one of the other
-pub halves_apart : (sheet : Sheet) (season : Results) (club : ℕ) (zone : List Literal) (test : Test) (finish : Results) (lots : List ℕ) → IsMember sheet season club (with_test zone test true) finish lots → IsMember sheet season club (with_test zone test false) finish lots → ⊥
+pub halves_apart : (sheet : Sheet) (season : Results) (club : ℕ) (zone : List Literal)
+    (test : Test) (finish : Results) (lots : List ℕ)
+    → IsMember sheet season club (with_test zone test true) finish lots
+    → IsMember sheet season club (with_test zone test false) finish lots → ⊥
 halves_apart sheet season club zone test finish lots member other =
     let is = (out_of_half sheet season club zone test true finish lots member).1 in
     let is_not = (out_of_half sheet season club zone test false finish lots other).1 in
     true≢false (sym is ∙ not-true (is_test_true sheet club finish lots test) is_not)
 
 -- where a zone's literals are true, so are those of one of the leaves below it
-pub leaves_from : (sheet : Sheet) (club : ℕ) (finish : Results) (lots : List ℕ) (tree : Tree) (zone : List Literal) → are_literals_true sheet club finish lots zone ≡ true → list_any (are_literals_true sheet club finish lots) (zones_from zone tree) ≡ true
+pub leaves_from : (sheet : Sheet) (club : ℕ) (finish : Results) (lots : List ℕ) (tree : Tree)
+    (zone : List Literal) → are_literals_true sheet club finish lots zone ≡ true
+    → list_any (are_literals_true sheet club finish lots) (zones_from zone tree) ≡ true
 leaves_from sheet club finish lots open_leaf zone holds =
     or_left (are_literals_true sheet club finish lots zone) false holds
 leaves_from sheet club finish lots (lent_leaf number) zone holds =
@@ -77,42 +115,56 @@ leaves_from sheet club finish lots (branch test fresh yes_half no_half) zone hol
     let no_zones = zones_from (with_test zone test false) no_half in
     let passed = is_test_true sheet club finish lots test in
     list_any-append within yes_zones no_zones
-    ∙ elim (cases_Bool passed) as (λ _. (list_any within yes_zones || list_any within no_zones) ≡ true) [
+    ∙ elim (cases_Bool passed) as (λ _. (list_any within yes_zones || list_any within no_zones)
+    ≡ true) [
       | inl passes ↦
           or_left (list_any within yes_zones) (list_any within no_zones)
           (leaves_from sheet club finish lots yes_half (with_test zone test true)
-          (true_in_half sheet club finish lots zone test true ∙ and_from (within zone) passed holds passes))
+          (true_in_half sheet club finish lots zone test true
+          ∙ and_from (within zone) passed holds passes))
       | inr fails ↦
           or_right (list_any within yes_zones) (list_any within no_zones)
           (leaves_from sheet club finish lots no_half (with_test zone test false)
-          (true_in_half sheet club finish lots zone test false ∙ and_from (within zone) (not passed) holds (ap not fails)))
+          (true_in_half sheet club finish lots zone test false
+          ∙ and_from (within zone) (not passed) holds (ap not fails)))
     ]
 
-pub leaves_cover : (sheet : Sheet) (season : Results) (question : Question) (tree : Tree) → IsCover sheet season question (zones_of tree)
+pub leaves_cover : (sheet : Sheet) (season : Results) (question : Question) (tree : Tree)
+    → IsCover sheet season question (zones_of tree)
 leaves_cover sheet season question tree finish lots is_finish is_drawn =
     leaves_from sheet question.club finish lots tree [] refl
 
-pub leaves_cover_zone : (sheet : Sheet) (season : Results) (club : ℕ) (zone : List Literal) (tree : Tree) → IsCoverOf sheet season club zone (zones_from zone tree)
+pub leaves_cover_zone : (sheet : Sheet) (season : Results) (club : ℕ) (zone : List Literal)
+    (tree : Tree) → IsCoverOf sheet season club zone (zones_from zone tree)
 leaves_cover_zone sheet season club zone tree finish lots member =
     leaves_from sheet club finish lots tree zone member.literals
 
 -- where the question holds in no leaf's zone, it holds nowhere in the zone of the root
-pub leaves_decide : (sheet : Sheet) (season : Results) (question : Question) (tree : Tree) (zone : List Literal) → NodesMeet (HoldsAtNoLeaf sheet season question) zone tree → HoldsNowhereIn sheet season question zone
+pub leaves_decide : (sheet : Sheet) (season : Results) (question : Question) (tree : Tree)
+    (zone : List Literal) → NodesMeet (HoldsAtNoLeaf sheet season question) zone tree
+    → HoldsNowhereIn sheet season question zone
 leaves_decide sheet season question open_leaf zone facts = facts
 leaves_decide sheet season question (lent_leaf number) zone facts = facts
 leaves_decide sheet season question (refuted_leaf reason fresh) zone facts = facts
 leaves_decide sheet season question (branch test fresh yes_half no_half) zone facts =
-    λ finish lots member holds. elim (either_half sheet season question.club zone test finish lots member) as (λ _. ⊥) [
-      | inl within ↦ leaves_decide sheet season question yes_half (with_test zone test true) facts.1 finish lots within holds
-      | inr within ↦ leaves_decide sheet season question no_half (with_test zone test false) facts.2 finish lots within holds
+    λ finish lots member holds.
+    elim (either_half sheet season question.club zone test finish lots member) as (λ _. ⊥) [
+      | inl within ↦ leaves_decide sheet season question yes_half
+          (with_test zone test true) facts.1 finish lots within holds
+      | inr within ↦ leaves_decide sheet season question no_half
+          (with_test zone test false) facts.2 finish lots within holds
     ]
 
 -- a question that holds nowhere in the zone without a literal has no example
-pub none_at_root : (sheet : Sheet) (season : Results) (question : Question) → HoldsNowhereIn sheet season question [] → HasNoExample sheet season question
+pub none_at_root : (sheet : Sheet) (season : Results) (question : Question)
+    → HoldsNowhereIn sheet season question [] → HasNoExample sheet season question
 none_at_root sheet season question nowhere finish lots example =
-    nowhere finish lots (record { is_finish = example.is_finish; is_drawn = example.is_drawn; literals = refl }) example.holds
+    nowhere finish lots
+    (record { is_finish = example.is_finish; is_drawn = example.is_drawn; literals = refl })
+    example.holds
 
-pub leaves_show : (sheet : Sheet) (season : Results) (question : Question) (tree : Tree) → NodesMeet (HoldsAtNoLeaf sheet season question) [] tree → HasNoExample sheet season question
+pub leaves_show : (sheet : Sheet) (season : Results) (question : Question) (tree : Tree)
+    → NodesMeet (HoldsAtNoLeaf sheet season question) [] tree → HasNoExample sheet season question
 leaves_show sheet season question tree facts =
     none_at_root sheet season question (leaves_decide sheet season question tree [] facts)
 
@@ -121,68 +173,104 @@ or_false true = refl
 or_false false = refl
 
 -- a half has the marks of the zone and that of its test
-pub before_in_half : (zone : List Literal) (test : Test) (holds : Bool) (rival : ℕ) → marked_before (with_test zone test holds) rival ≡ (marked_before zone rival || (is_of_rival rival test && holds))
+pub before_in_half : (zone : List Literal) (test : Test) (holds : Bool) (rival : ℕ)
+    → marked_before (with_test zone test holds) rival ≡
+    (marked_before zone rival || (is_of_rival rival test && holds))
 before_in_half zone test holds rival =
-    list_any-append (λ (literal : Literal). is_of_rival rival literal.test && literal.yes) zone (record { test = test; yes = holds } ∷ [])
+    list_any-append (λ (literal : Literal). is_of_rival rival literal.test && literal.yes) zone
+    (record { test = test; yes = holds } ∷ [])
     ∙ ap (λ b. marked_before zone rival || b) (or_false (is_of_rival rival test && holds))
 
-pub after_in_half : (zone : List Literal) (test : Test) (holds : Bool) (rival : ℕ) → marked_after (with_test zone test holds) rival ≡ (marked_after zone rival || (is_of_rival rival test && not holds))
+pub after_in_half : (zone : List Literal) (test : Test) (holds : Bool) (rival : ℕ)
+    → marked_after (with_test zone test holds) rival ≡
+    (marked_after zone rival || (is_of_rival rival test && not holds))
 after_in_half zone test holds rival =
-    list_any-append (λ (literal : Literal). is_of_rival rival literal.test && not literal.yes) zone (record { test = test; yes = holds } ∷ [])
+    list_any-append (λ (literal : Literal). is_of_rival rival literal.test && not literal.yes) zone
+    (record { test = test; yes = holds } ∷ [])
     ∙ ap (λ b. marked_after zone rival || b) (or_false (is_of_rival rival test && not holds))
 
 -- a test that is not of the rival leaves its marks
-pub before_kept : (zone : List Literal) (test : Test) (holds : Bool) (rival : ℕ) → is_of_rival rival test ≡ false → marked_before (with_test zone test holds) rival ≡ marked_before zone rival
+pub before_kept : (zone : List Literal) (test : Test) (holds : Bool) (rival : ℕ)
+    → is_of_rival rival test ≡ false
+    → marked_before (with_test zone test holds) rival ≡ marked_before zone rival
 before_kept zone test holds rival other =
     before_in_half zone test holds rival
     ∙ ap (λ b. marked_before zone rival || (b && holds)) other
     ∙ or_false (marked_before zone rival)
 
-pub after_kept : (zone : List Literal) (test : Test) (holds : Bool) (rival : ℕ) → is_of_rival rival test ≡ false → marked_after (with_test zone test holds) rival ≡ marked_after zone rival
+pub after_kept : (zone : List Literal) (test : Test) (holds : Bool) (rival : ℕ)
+    → is_of_rival rival test ≡ false
+    → marked_after (with_test zone test holds) rival ≡ marked_after zone rival
 after_kept zone test holds rival other =
     after_in_half zone test holds rival
     ∙ ap (λ b. marked_after zone rival || (b && not holds)) other
     ∙ or_false (marked_after zone rival)
 
 -- a proper split tests a fixture or a club of the sheet, and not the question's own club
-pub proper_names : (sheet : Sheet) (season : Results) (question : Question) (zone : List Literal) (test : Test) → is_proper sheet season question zone test ≡ true → (is_test_of sheet test ≡ true) × (is_of_rival question.club test ≡ false)
-proper_names sheet season question zone (Home fixture) proper =
-    ((and_parts (nat_lt fixture (length sheet.fixtures)) (have_both_finish sheet season zone (Home fixture)) proper).0, refl)
-proper_names sheet season question zone (Draw fixture) proper =
-    ((and_parts (nat_lt fixture (length sheet.fixtures)) (have_both_finish sheet season zone (Draw fixture)) proper).0, refl)
-proper_names sheet season question zone (HomeMost fixture most) proper =
-    ((and_parts (nat_lt fixture (length sheet.fixtures)) (have_both_finish sheet season zone (HomeMost fixture most)) proper).0, refl)
-proper_names sheet season question zone (AwayMost fixture most) proper =
-    ((and_parts (nat_lt fixture (length sheet.fixtures)) (have_both_finish sheet season zone (AwayMost fixture most)) proper).0, refl)
+pub proper_names : (sheet : Sheet) (season : Results) (question : Question) (zone : List Literal)
+    (test : Test) → is_proper sheet season question zone test ≡ true
+    → (is_test_of sheet test ≡ true) × (is_of_rival question.club test ≡ false)
+proper_names sheet season question zone (Home fixture) proper = (
+  (and_parts (nat_lt fixture (length sheet.fixtures))
+      (have_both_finish sheet season zone (Home fixture)) proper).0,
+  refl,
+)
+proper_names sheet season question zone (Draw fixture) proper = (
+  (and_parts (nat_lt fixture (length sheet.fixtures))
+      (have_both_finish sheet season zone (Draw fixture)) proper).0,
+  refl,
+)
+proper_names sheet season question zone (HomeMost fixture most) proper = (
+  (and_parts (nat_lt fixture (length sheet.fixtures))
+      (have_both_finish sheet season zone (HomeMost fixture most)) proper).0,
+  refl,
+)
+proper_names sheet season question zone (AwayMost fixture most) proper = (
+  (and_parts (nat_lt fixture (length sheet.fixtures))
+      (have_both_finish sheet season zone (AwayMost fixture most)) proper).0,
+  refl,
+)
 proper_names sheet season question zone (Rival club) proper =
-    let named = (and_parts (nat_lt club (length sheet.clubs) && not (club == question.club)) (not (is_marked zone club)) proper).0 in
+    let named = (and_parts (nat_lt club (length sheet.clubs) && not (club == question.club))
+    (not (is_marked zone club)) proper).0 in
     let parts = and_parts (nat_lt club (length sheet.clubs)) (not (club == question.club)) named in
     (parts.0, not-true (club == question.club) parts.1)
 
 -- so each half of a zone for the question is one too
-zone_for_half : (sheet : Sheet) (question : Question) (zone : List Literal) (test : Test) (holds : Bool) → IsZoneFor sheet question zone → is_test_of sheet test ≡ true → is_of_rival question.club test ≡ false → IsZoneFor sheet question (with_test zone test holds)
+zone_for_half : (sheet : Sheet) (question : Question) (zone : List Literal) (test : Test)
+    (holds : Bool) → IsZoneFor sheet question zone → is_test_of sheet test ≡ true
+    → is_of_rival question.club test ≡ false → IsZoneFor sheet question (with_test zone test holds)
 zone_for_half sheet question zone test holds zone_for of_sheet other = record {
   of_sheet =
       list_all-with (λ literal. is_test_of sheet literal.test) zone test holds
       ∙ and_from (is_zone_of sheet zone) (is_test_of sheet test) zone_for.of_sheet of_sheet;
   of_rivals =
-      ap (λ b. not (b || marked_after (with_test zone test holds) question.club)) (before_kept zone test holds question.club other)
-      ∙ ap (λ b. not (marked_before zone question.club || b)) (after_kept zone test holds question.club other)
+      ap (λ b. not (b || marked_after (with_test zone test holds) question.club))
+      (before_kept zone test holds question.club other)
+      ∙ ap (λ b. not (marked_before zone question.club || b))
+      (after_kept zone test holds question.club other)
       ∙ zone_for.of_rivals;
 }
 
-pub zones_for : (sheet : Sheet) (season : Results) (question : Question) (tree : Tree) (zone : List Literal) → IsZoneFor sheet question zone → NodesMeet (IsProperNode sheet season question) zone tree → NodesMeet (λ z node. IsZoneFor sheet question z) zone tree
+pub zones_for : (sheet : Sheet) (season : Results) (question : Question) (tree : Tree)
+    (zone : List Literal) → IsZoneFor sheet question zone
+    → NodesMeet (IsProperNode sheet season question) zone tree
+    → NodesMeet (λ z node. IsZoneFor sheet question z) zone tree
 zones_for sheet season question open_leaf zone zone_for proper = zone_for
 zones_for sheet season question (lent_leaf number) zone zone_for proper = zone_for
 zones_for sheet season question (refuted_leaf reason fresh) zone zone_for proper = zone_for
 zones_for sheet season question (branch test fresh yes_half no_half) zone zone_for proper =
     let names = proper_names sheet season question zone test proper.0 in (
       zone_for,
-      zones_for sheet season question yes_half (with_test zone test true) (zone_for_half sheet question zone test true zone_for names.0 names.1) proper.1,
-      zones_for sheet season question no_half (with_test zone test false) (zone_for_half sheet question zone test false zone_for names.0 names.1) proper.2,
+      zones_for sheet season question yes_half (with_test zone test true)
+          (zone_for_half sheet question zone test true zone_for names.0 names.1) proper.1,
+      zones_for sheet season question no_half (with_test zone test false)
+          (zone_for_half sheet question zone test false zone_for names.0 names.1) proper.2,
     )
 
 -- the zone without a literal is one for any question
-pub proper_trees : (sheet : Sheet) (season : Results) (question : Question) (tree : Tree) → NodesMeet (IsProperNode sheet season question) [] tree → NodesMeet (λ z node. IsZoneFor sheet question z) [] tree
+pub proper_trees : (sheet : Sheet) (season : Results) (question : Question) (tree : Tree)
+    → NodesMeet (IsProperNode sheet season question) [] tree
+    → NodesMeet (λ z node. IsZoneFor sheet question z) [] tree
 proper_trees sheet season question tree proper =
     zones_for sheet season question tree [] (record { of_sheet = refl; of_rivals = refl }) proper

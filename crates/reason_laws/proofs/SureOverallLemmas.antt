@@ -1,6 +1,7 @@
 -- What is sure within a group is how two clubs stand there at each finish, for either order of the
 -- criteria: the two sums over all matches may come before the head-to-head.
-use Rattle.std.proofs.Common.{◌≡◌, ℕ, Bool, true, false, ◌||◌, List, length, filter, Ordering, Equal, refl, sym, ◌∙◌, subst}
+use Rattle.std.proofs.Common.{◌≡◌, ℕ, Bool, true, false, ◌||◌, List, length, Ordering}
+use Rattle.std.proofs.Common.{refl, sym, ◌∙◌, subst}
 use Rattle.league_core.specs.declared.sheet.Sheet.{Sheet}
 use Rattle.league_core.specs.declared.sheet.Order.{Order}
 use Rattle.league_core.specs.declared.sheet.Order.TheVariants.{HeadFirst, OverallFirst}
@@ -9,11 +10,17 @@ use Rattle.league_core.specs.declared.sure.Sure.{Sure}
 use Rattle.league_core.specs.declared.sure.Sure.TheVariants.{Unknown}
 use Rattle.league_core.specs.Results.{Results}
 use Rattle.league_core.specs.Sums.{goal_difference, goals}
-use Rattle.league_core.specs.Ahead.{lead_in, first_sums_of, by_first_sums, are_level_overall, level_overall, standing_by}
+use Rattle.league_core.specs.Ahead.{lead_in, first_sums_of, by_first_sums, are_level_overall}
+use Rattle.league_core.specs.Ahead.{level_overall, standing_by}
 use Rattle.league_core.specs.Options.{take_options}
-use Rattle.league_core.specs.SureOrder.{first_sum_ranges, by_first_sum_ranges, is_surely_level_overall, is_surely_apart_overall, are_all_sure_overall, surely_level_overall, sure_in, sure_by}
+use Rattle.league_core.specs.SureOrder.{first_sum_ranges, by_first_sum_ranges}
+use Rattle.league_core.specs.SureOrder.{is_surely_level_overall, is_surely_apart_overall}
+use Rattle.league_core.specs.SureOrder.{are_all_sure_overall, surely_level_overall, sure_in}
+use Rattle.league_core.specs.SureOrder.{sure_by}
 use Rattle.league_core.proofs.StandingLemmas.{level_overall-tied}
-use Rattle.reason_laws.proofs.SureLemmas.{Agrees, AreInRanges, then_agrees, ranges_agree, apart_differ, over_in_range, in_or_out, filter_where, within_agrees}
+use Rattle.reason_laws.proofs.SureLemmas.{Agrees, AreInRanges, then_agrees, ranges_agree}
+use Rattle.reason_laws.proofs.SureLemmas.{apart_differ, over_in_range, in_or_out, filter_where}
+use Rattle.reason_laws.proofs.SureLemmas.{within_agrees}
 
 -- a club's difference and goals over all matches are in their ranges
 first_sums_in_ranges : (sheet : Sheet) (options : List (List Score)) (finish : Results) (club : ℕ)
@@ -72,7 +79,8 @@ by_agrees OverallFirst sheet options finish group rival club takes =
       | false ↦ Unknown
       | true ↦ sure_in sheet options level rival club
     ] in
-    let beyond : Ordering = lead_in sheet finish (level_overall sheet finish group rival) rival club in
+    let beyond : Ordering = lead_in sheet finish (level_overall sheet finish group
+    rival) rival club in
     then_agrees (by_first_sum_ranges sheet options rival club) next
     (by_first_sums sheet finish rival club) beyond
     (first_sums_agree sheet options finish rival club takes)

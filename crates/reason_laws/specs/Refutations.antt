@@ -58,8 +58,8 @@ is_unsettled_at sheet question finish lots leaf =
     not (is_refuted_leaf leaf.node)
     && are_literals_true sheet question.club finish lots leaf.zone
 
--- where the reasons of the refuted leaves hold, each member of the root's zone at which the question
--- holds lies in the zone of a leaf that is open or lent
+-- where the reasons of the refuted leaves hold, each member of the root's zone at which the
+-- question holds lies in the zone of a leaf that is open or lent
 abbrev pub ExamplesAreInUnsettledLeaves : Type 0
 ExamplesAreInUnsettledLeaves =
     (sheet : Sheet) (season : Results) (question : Question) (zone : List Literal) (tree : Tree)

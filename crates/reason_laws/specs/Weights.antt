@@ -1,7 +1,8 @@
 -- The weight of a zone: how much there is to decide in it at most. Each proper split divides it,
 -- which bounds the nodes of a tree. Each statement is the contract of a function of src/splits.rt
 -- that does nothing.
-use Rattle.std.specs.Prelude.{◌≡◌, ◌≤◌, ◌<◌, ℕ, ◌+◌, ◌*◌, ◌^◌, Bool, true, false, not, IsTrue, List, [], ◌∷◌, length, count_by}
+use Rattle.std.specs.Prelude.{◌≡◌, ◌≤◌, ◌<◌, ℕ, ◌+◌, ◌*◌, ◌^◌, Bool, true, false, not, IsTrue, List}
+use Rattle.std.specs.Prelude.{[], ◌∷◌, length, count_by}
 use Rattle.league_core.specs.declared.sheet.Sheet.{Sheet}
 use Rattle.league_core.specs.declared.season.Score.{Score}
 use Rattle.league_core.specs.declared.question.Question.{Question}
@@ -10,7 +11,8 @@ use Rattle.league_core.specs.declared.zone.Literal.{Literal}
 use Rattle.league_core.specs.Results.{Results}
 use Rattle.league_core.specs.Seasons.{IsSeasonOf}
 use Rattle.league_core.specs.FinishList.{ways_to_finish}
-use Rattle.league_core.specs.Zones.{is_of_score, is_of_rival, marked_before, marked_after, is_marked, rivals_of, with_test}
+use Rattle.league_core.specs.Zones.{is_of_score, is_of_rival, marked_before, marked_after}
+use Rattle.league_core.specs.Zones.{is_marked, rivals_of, with_test}
 use Rattle.league_core.specs.Options.{options_in, has_finish}
 use Rattle.league_core.specs.Trees.{Tree, preorder, NodesMeet, is_spent}
 use Rattle.league_core.specs.Splits.{is_proper, IsProperNode}

@@ -1,5 +1,6 @@
 use Rattle.std.proofs.Common.{IsTrue}
-use Rattle.league_core.proofs.NodeFactLemmas.{NodesMeet-put, NodesMeet-lend, NodesMeet-lent, NodesMeet-all_opened}
+use Rattle.league_core.proofs.NodeFactLemmas.{NodesMeet-put, NodesMeet-lend, NodesMeet-lent}
+use Rattle.league_core.proofs.NodeFactLemmas.{NodesMeet-all_opened}
 use Rattle.league_core.proofs.lending_laws.loans_keep_facts.Goals as goal
 
 pub returns-clause-put : goal.returns-clause-put

@@ -1,5 +1,6 @@
 use Rattle.std.proofs.Common.{IsTrue}
-use Rattle.league_core.proofs.TreeLemmas.{zones-leaves_from, lent_zones-leaves_from, has_open-leaves_from, is_refuted-leaves_from, leaves_meet}
+use Rattle.league_core.proofs.TreeLemmas.{zones-leaves_from, lent_zones-leaves_from}
+use Rattle.league_core.proofs.TreeLemmas.{has_open-leaves_from, is_refuted-leaves_from, leaves_meet}
 use Rattle.league_core.proofs.tree_laws.leaves_tell_the_tree.Goals as goal
 
 pub returns-clause-zones : goal.returns-clause-zones

@@ -1,4 +1,6 @@
-use Rattle.league_core.proofs.HalfLemmas.{root_has_finish, score_has_finish, rival_has_finish, half_has_finish, nodes_have_finish}
+use Rattle.league_core.proofs.HalfLemmas.{root_has_finish, rival_has_finish, half_has_finish}
+use Rattle.league_core.proofs.HalfLemmas.{nodes_have_finish}
+use Rattle.league_core.proofs.ScoreHalfLemmas.{score_has_finish}
 use Rattle.league_core.proofs.tree_laws.splits_leave_finishes.Goals as goal
 
 pub returns-clause-root : goal.returns-clause-root

@@ -5,4 +5,5 @@ pub returns-clause-season : goal.returns-clause-season
 returns-clause-season c = leaves_show
 
 pub returns-clause-zone : goal.returns-clause-zone
-returns-clause-zone c = λ sheet season question zone tree. leaves_decide sheet season question tree zone
+returns-clause-zone c =
+    λ sheet season question zone tree. leaves_decide sheet season question tree zone

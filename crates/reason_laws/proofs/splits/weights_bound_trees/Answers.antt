@@ -6,7 +6,8 @@ pub returns-clause-root : goal.returns-clause-root
 returns-clause-root c = root_finishes
 
 pub returns-clause-zone : goal.returns-clause-zone
-returns-clause-zone c = λ sheet season question zone tree. nodes_below sheet season question tree zone
+returns-clause-zone c =
+    λ sheet season question zone tree. nodes_below sheet season question tree zone
 
 pub returns-clause-season : goal.returns-clause-season
 returns-clause-season c = nodes_below_finishes
