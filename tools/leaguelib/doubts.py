@@ -125,7 +125,7 @@ def feed_doubts(sheet: Sheet, entries: list[Entry],
     season = Season()
     is_wide_told = is_for_table
     for entry in entries:
-        yield from _event_doubts(sheet, season, entry)
+        yield from _event_doubts(season, entry)
         if entry.kind == "ask" and sheet.lines and not is_wide_told:
             if season.has_too_many_finishes(sheet):
                 is_wide_told = True
@@ -159,7 +159,7 @@ def _goal_doubts(sheet: Sheet, entries: list[Entry]) -> Iterator[Doubt]:
             yield Doubt(entry.line, f"{max(entry.score)} goals: is that the score?")
 
 
-def _event_doubts(sheet: Sheet, season: Season, entry: Entry) -> Iterator[Doubt]:
+def _event_doubts(season: Season, entry: Entry) -> Iterator[Doubt]:
     """An event that changes nothing, and a deduction that may have been meant on top of another."""
     if entry.kind == "fix" and season.scores.get(entry.fixture) == entry.score:
         yield Doubt(entry.line, f"fixture {entry.fixture} has this score already: the correction "

@@ -118,6 +118,6 @@ def deduct_repairs(fields: list[str], sheet: Sheet) -> Iterator[Candidate]:
         yield Candidate(". ".join(reasons), [line_text("deduct", other, points)])
 
 
-def ask_repairs(fields: list[str]) -> Iterator[Candidate]:
+def ask_repairs() -> Iterator[Candidate]:
     """What a refused `ask` was meant to be."""
     yield Candidate("`ask` stands alone: each ask answers for every line and club", ["ask"])

@@ -6,6 +6,7 @@ other, as `cat` joins them; `-` is standard input.
 from __future__ import annotations
 
 import argparse
+
 from . import common
 from .cleaning import KINDS
 from .doubts import feed_doubts, sheet_doubts

@@ -1,7 +1,8 @@
 """Takes results as they come, and has each `ask` answered at once. Lines are as in `league feed`:
 `Germany 5-1 Scotland`, `correct ..`, `annul ..`, `deduct ..`, `ask`, or lines of the feed. Each is
-tested first: what futmax would refuse is not sent, and the session goes on. What is sent is kept in
-the log, which is a feed. Behind each answer stands a line `# end of answer N, after E events`.
+tested first: what futmax would refuse is not sent, and the session goes on. Events, and asks with
+an answer, are kept in the log, which is a feed. Behind each answer stands a line
+`# end of answer N, after E events`.
 """
 
 from __future__ import annotations
@@ -121,15 +122,19 @@ class Live:
             common.say(f"league: {note}")
         if line is None:
             return
-        _keep(self.log, line)
-        self.book.enter(line)
         if line.split(",")[0] == "ask":
             self._answer()
-        elif not self.session.send(line):
+            return
+        _keep(self.log, line)
+        self.book.enter(line)
+        if not self.session.send(line):
             self._tell_restart("futmax had ended")
 
     def _answer(self) -> None:
-        """Has an ask answered, once more where the program ended without a fault row."""
+        """Has an ask answered, once more where the program ended without a fault row.
+
+        An ask that has an answer is kept in the log.
+        """
         self.answers += 1
         for _ in range(2):
             try:
@@ -143,9 +148,10 @@ class Live:
                 if ended.fault:
                     break
                 continue
+            _keep(self.log, "ask")
             self._write(b"".join(lines))
             return
-        common.say("league: this ask has no answer. The log is kept, and the session goes on")
+        common.say("league: this ask has no answer, and is not kept. The session goes on")
         self._write(b"")
 
     def _write(self, answer: bytes) -> None:

@@ -47,7 +47,7 @@ def advise(record: Record, refused: Refused, reader: InputReader) -> Advice:
 def _first_that_fits(cleaned: Cleaned, record: Record, reader: InputReader,
                      depth: int) -> Advice | None:
     """The first candidate whose lines are taken, also behind another candidate."""
-    for candidate in candidates(cleaned.fields, record, reader):
+    for candidate in candidates(cleaned.fields, reader):
         reasons = cleaned.reasons + ([candidate.reason] if candidate.reason else [])
         if not candidate.lines:
             return Advice(_sentence(reasons), [], not candidate.is_told_alone)
@@ -62,7 +62,7 @@ def _first_that_fits(cleaned: Cleaned, record: Record, reader: InputReader,
     return None
 
 
-def candidates(fields: list[str], record: Record, reader: InputReader) -> Iterator[Candidate]:
+def candidates(fields: list[str], reader: InputReader) -> Iterator[Candidate]:
     """What the record was meant to be, likeliest first."""
     if not fields:
         return
@@ -86,7 +86,7 @@ def candidates(fields: list[str], record: Record, reader: InputReader) -> Iterat
         if kind in makers:
             yield from makers[kind](fields, sheet)
         elif kind == "season":
-            yield from repairs.season_repairs(fields)
+            yield from repairs.season_repairs()
         return
     if kind in ("result", "fix"):
         yield from feed_repairs.score_repairs(fields, sheet, feed.season)
@@ -95,7 +95,7 @@ def candidates(fields: list[str], record: Record, reader: InputReader) -> Iterat
     elif kind == "deduct":
         yield from feed_repairs.deduct_repairs(fields, sheet)
     elif kind == "ask":
-        yield from feed_repairs.ask_repairs(fields)
+        yield from feed_repairs.ask_repairs()
 
 
 def _comment(fields: list[str]) -> Iterator[Candidate]:

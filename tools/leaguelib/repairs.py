@@ -204,7 +204,7 @@ def line_repairs(fields: list[str], sheet: Sheet) -> Iterator[Candidate]:
                         "be left out")
 
 
-def season_repairs(fields: list[str]) -> Iterator[Candidate]:
+def season_repairs() -> Iterator[Candidate]:
     """What a refused `season` record was meant to be."""
     yield Candidate("`season` stands alone: the year goes into the league's name", ["season"])
 
