@@ -1,10 +1,14 @@
--- Boxes: cells that have the options of a zone, fixture by fixture, and what a literal leaves of them.
-use Rattle.std.proofs.Common.{◌≡◌, ℕ, zero, suc, ◌+◌, ◌<◌, ◌≤◌, ◌≢◌, ◌⊎◌, Bool, true, false, not, ◌&&◌, ◌||◌, ◌==◌, List, [], ◌∷◌, ◌++◌, length, get_or, set, Option, Some, None, refl, sym, ap, ◌∙◌, inl, inr, arith}
+-- Boxes: cells that have the options of a zone, fixture by fixture, and what a literal leaves of
+-- them.
+use Rattle.std.proofs.Common.{◌≡◌, ℕ, zero, suc, ◌+◌, ◌<◌, ◌≤◌, ◌≢◌, ◌⊎◌, Bool, true, false, not}
+use Rattle.std.proofs.Common.{◌&&◌, ◌||◌, ◌==◌, List, [], ◌∷◌, ◌++◌, length, get_or, set, Option}
+use Rattle.std.proofs.Common.{Some, None, refl, sym, ap, ◌∙◌, inl, inr, arith}
 use Rattle.std.specs.Bool.{MatchBool}
 use Rattle.std.specs.List.{All, AllWithin, HoldsAt, list_all}
 use Rattle.std.proofs.lemmas.Bool.{false≢true, cases_eq, eq-eqb, ne_eqb, and_from, or_cases}
 use Rattle.std.proofs.lemmas.Bool.Decides.{same_from_decides}
-use Rattle.std.proofs.lemmas.List.{length-set, get_or-set_same, get_or-set_other, get_or_append_left, get_or_push, length_push}
+use Rattle.std.proofs.lemmas.List.{length-set, get_or-set_same, get_or-set_other}
+use Rattle.std.proofs.lemmas.List.{get_or_append_left, get_or_push, length_push}
 use Rattle.league_core.specs.declared.sheet.Sheet.{Sheet}
 use Rattle.league_core.specs.declared.season.Score.{Score}
 use Rattle.league_core.specs.declared.zone.Literal.{Literal}
@@ -15,232 +19,342 @@ use Rattle.std.proofs.lemmas.List.Folds.{list_any-append}
 use Rattle.std.proofs.lemmas.List.Sums.{AllPass-from_list_all}
 use Rattle.league_core.specs.declared.zone.Test.{Test}
 use Rattle.league_core.specs.declared.zone.Test.TheVariants.{Home, Draw, HomeMost, AwayMost, Rival}
-use Rattle.league_core.specs.Zones.{is_on, is_of_rival, passes, is_as_said, marked_before, marked_after, is_test_of, is_zone_of}
-use Rattle.league_core.specs.Options.{meets_literal, options_of, options_from, options_in, has_score, has_option, has_one_score, has_finish, is_single}
-use Rattle.league_core.proofs.OptionLemmas.{same_score-true, same_score-itself, has_score-first, has_score-options_of, has_score-with, length-options_from, get_or-options_from, all_options, each_option}
+use Rattle.league_core.specs.Zones.{is_on, is_of_rival, passes, is_as_said, marked_before}
+use Rattle.league_core.specs.Zones.{marked_after, is_test_of, is_zone_of}
+use Rattle.league_core.specs.Options.{meets_literal, options_of, options_from, options_in}
+use Rattle.league_core.specs.Options.{has_score, has_option, has_one_score, has_finish, is_single}
+use Rattle.league_core.proofs.OptionLemmas.{same_score-true, same_score-itself, has_score-first}
+use Rattle.league_core.proofs.OptionLemmas.{has_score-options_of, has_score-with}
+use Rattle.league_core.proofs.OptionLemmas.{length-options_from, get_or-options_from, all_options}
+use Rattle.league_core.proofs.OptionLemmas.{each_option}
 use Rattle.score_box.specs.declared.cell.Cell.{Cell}
 use Rattle.score_box.specs.Cells.{allows, IsCellOf, IsEmptyCell, HasOneScore}
 use Rattle.score_box.specs.Boxes.{AreCellsOf, TakesLiteral, IsTestBelow}
 
 -- the options of a fixture by its number in the sheet
-pub options_at : (limit : ℕ) (zone : List Literal) (scores : List (Option Score)) (k : ℕ) → k < length scores → get_or (options_from limit zone 0 scores) k [] ≡ options_of limit zone k (get_or scores k None)
+pub options_at : (limit : ℕ) (zone : List Literal) (scores : List (Option Score)) (k : ℕ)
+    → k < length scores
+    → get_or (options_from limit zone 0 scores) k [] ≡ options_of limit zone k
+    (get_or scores k None)
 options_at limit zone scores k within =
     let same : 0 + k ≡ k = omega arith in
     get_or-options_from limit zone 0 scores k within
     ∙ ap (λ f. options_of limit zone f (get_or scores k None)) same
 
 -- one literal more at the options of a fixture
-options_at-with : (limit : ℕ) (zone : List Literal) (literal : Literal) (scores : List (Option Score)) (k : ℕ) (score : Score) → k < length scores → has_score (get_or (options_from limit (zone ++ literal ∷ []) 0 scores) k []) score ≡ (has_score (get_or (options_from limit zone 0 scores) k []) score && meets_literal k score literal)
+options_at-with : (limit : ℕ) (zone : List Literal) (literal : Literal)
+    (scores : List (Option Score)) (k : ℕ) (score : Score) → k < length scores
+    → has_score (get_or (options_from limit (zone ++ literal ∷ []) 0 scores) k []) score ≡
+    (has_score (get_or (options_from limit zone 0 scores) k []) score
+    && meets_literal k score literal)
 options_at-with limit zone literal scores k score within =
-    ap (λ options. has_score options score) (options_at limit (zone ++ literal ∷ []) scores k within)
+    ap (λ options. has_score options score)
+    (options_at limit (zone ++ literal ∷ []) scores k within)
     ∙ has_score-with limit zone literal k (get_or scores k None) score
-    ∙ ap (λ options. has_score options score && meets_literal k score literal) (sym (options_at limit zone scores k within))
+    ∙ ap (λ options. has_score options score && meets_literal k score literal)
+    (sym (options_at limit zone scores k within))
 
 and_true : (b : Bool) → (b && true) ≡ b
 and_true true = refl
 and_true false = refl
 
 -- a literal of another fixture, or of a rival, takes nothing away
-meets-other : (k : ℕ) (score : Score) (literal : Literal) → is_on k literal.test ≡ false → meets_literal k score literal ≡ true
-meets-other k score literal off = ap (λ b. not b || is_as_said literal.yes (passes literal.test score)) off
+meets-other : (k : ℕ) (score : Score) (literal : Literal) → is_on k literal.test ≡ false
+    → meets_literal k score literal ≡ true
+meets-other k score literal off = ap
+    (λ b. not b || is_as_said literal.yes (passes literal.test score)) off
 
-meets-own : (k : ℕ) (score : Score) (literal : Literal) → is_on k literal.test ≡ true → meets_literal k score literal ≡ is_as_said literal.yes (passes literal.test score)
-meets-own k score literal on = ap (λ b. not b || is_as_said literal.yes (passes literal.test score)) on
+meets-own : (k : ℕ) (score : Score) (literal : Literal) → is_on k literal.test ≡ true
+    → meets_literal k score literal ≡ is_as_said literal.yes (passes literal.test score)
+meets-own k score literal on = ap
+    (λ b. not b || is_as_said literal.yes (passes literal.test score)) on
 
 -- where no fixture is tested, each cell stays
-pub takes_mark : (cells : List Cell) (literal : Literal) → ((number : ℕ) → is_on number literal.test ≡ false) → TakesLiteral cells cells literal
+pub takes_mark : (cells : List Cell) (literal : Literal)
+    → ((number : ℕ) → is_on number literal.test ≡ false) → TakesLiteral cells cells literal
 takes_mark cells literal off limit zone scores are = record {
-  many = are.many ∙ length-options_from limit zone 0 scores ∙ sym (length-options_from limit (zone ++ literal ∷ []) 0 scores);
+  many = are.many ∙ length-options_from limit zone 0 scores
+      ∙ sym (length-options_from limit (zone ++ literal ∷ []) 0 scores);
   each = λ k d within score.
-      let inside : k < length scores = omega (arith, are.many, length-options_from limit zone 0 scores) in
+      let inside : k < length scores = omega (
+        arith,
+        are.many,
+        length-options_from limit zone 0
+            scores,
+      ) in
       are.each k d within score
       ∙ sym (and_true (has_score (get_or (options_from limit zone 0 scores) k []) score))
-      ∙ ap (λ b. has_score (get_or (options_from limit zone 0 scores) k []) score && b) (sym (meets-other k score literal (off k)))
+      ∙ ap (λ b. has_score (get_or (options_from limit zone 0 scores) k []) score && b)
+      (sym (meets-other k score literal (off k)))
       ∙ sym (options_at-with limit zone literal scores k score inside);
 }
 
 -- where a fixture is tested, its cell is cut, and each other stays
-pub takes_cut : (cells : List Cell) (fixture : ℕ) (cell : Cell) (literal : Literal) → fixture < length cells → ((number : ℕ) → is_on number literal.test ≡ (fixture == number)) → ((d : Cell) (score : Score) → allows cell score ≡ (allows (get_or cells fixture d) score && is_as_said literal.yes (passes literal.test score))) → TakesLiteral cells (set cells fixture cell) literal
+pub takes_cut : (cells : List Cell) (fixture : ℕ) (cell : Cell) (literal : Literal)
+    → fixture < length cells → ((number : ℕ) → is_on number literal.test ≡ (fixture == number))
+    → ((d : Cell) (score : Score)
+    → allows cell score ≡
+    (allows (get_or cells fixture d) score && is_as_said literal.yes (passes literal.test score)))
+    → TakesLiteral cells (set cells fixture cell) literal
 takes_cut cells fixture cell literal in_range on cut limit zone scores are = record {
-  many = length-set cells fixture cell ∙ are.many ∙ length-options_from limit zone 0 scores ∙ sym (length-options_from limit (zone ++ literal ∷ []) 0 scores);
+  many = length-set cells fixture cell ∙ are.many ∙ length-options_from limit zone 0 scores
+      ∙ sym (length-options_from limit (zone ++ literal ∷ []) 0 scores);
   each = λ k d within score.
       let below : k < length cells = omega (arith, length-set cells fixture cell) in
-      let inside : k < length scores = omega (arith, are.many, length-options_from limit zone 0 scores) in
+      let inside : k < length scores = omega (
+        arith,
+        are.many,
+        length-options_from limit zone 0
+            scores,
+      ) in
       at k d score below (cases_eq k fixture)
       ∙ sym (options_at-with limit zone literal scores k score inside);
 }
   where
-    at : (k : ℕ) (d : Cell) (score : Score) → k < length cells → (k ≡ fixture) ⊎ (k ≢ fixture) → allows (get_or (set cells fixture cell) k d) score ≡ (has_score (get_or (options_from limit zone 0 scores) k []) score && meets_literal k score literal)
+    at : (k : ℕ) (d : Cell) (score : Score) → k < length cells → (k ≡ fixture) ⊎ (k ≢ fixture)
+        → allows (get_or (set cells fixture cell) k d) score ≡
+        (has_score (get_or (options_from limit zone 0 scores) k []) score
+        && meets_literal k score literal)
     at k d score below (inl same) =
         ap (λ n. allows (get_or (set cells fixture cell) n d) score) same
         ∙ ap (λ c. allows c score) (get_or-set_same cells fixture cell d in_range)
         ∙ cut d score
-        ∙ ap (λ n. allows (get_or cells n d) score && is_as_said literal.yes (passes literal.test score)) (sym same)
-        ∙ ap (λ b. b && is_as_said literal.yes (passes literal.test score)) (are.each k d below score)
-        ∙ ap (λ b. has_score (get_or (options_from limit zone 0 scores) k []) score && b) (sym (meets-own k score literal (on k ∙ eq-eqb fixture k (sym same))))
+        ∙ ap (λ n. allows (get_or cells n d) score
+        && is_as_said literal.yes (passes literal.test score)) (sym same)
+        ∙ ap (λ b. b && is_as_said literal.yes (passes literal.test score))
+        (are.each k d below score)
+        ∙ ap (λ b. has_score (get_or (options_from limit zone 0 scores) k []) score && b)
+        (sym (meets-own k score literal (on k ∙ eq-eqb fixture k (sym same))))
     at k d score below (inr other) =
         ap (λ c. allows c score) (get_or-set_other cells fixture k cell d other)
         ∙ are.each k d below score
         ∙ sym (and_true (has_score (get_or (options_from limit zone 0 scores) k []) score))
-        ∙ ap (λ b. has_score (get_or (options_from limit zone 0 scores) k []) score && b) (sym (meets-other k score literal (on k ∙ ne_eqb fixture k (λ e. other (sym e)))))
+        ∙ ap (λ b. has_score (get_or (options_from limit zone 0 scores) k []) score && b)
+        (sym (meets-other k score literal (on k ∙ ne_eqb fixture k (λ e. other (sym e)))))
 
 -- the cells so far have the options of their fixtures
 abbrev pub HaveOptions : List Cell → List (List Score) → Type 0
-HaveOptions cells options = (k : ℕ) (d : Cell) → k < length cells → IsCellOf (get_or cells k d) (get_or options k [])
+HaveOptions cells options = (k : ℕ) (d : Cell) → k < length cells
+    → IsCellOf (get_or cells k d) (get_or options k [])
 
 -- one cell more
-pub options_push : (cells : List Cell) (cell : Cell) (options : List (List Score)) → HaveOptions cells options → IsCellOf cell (get_or options (length cells) []) → HaveOptions (cells ++ cell ∷ []) options
+pub options_push : (cells : List Cell) (cell : Cell) (options : List (List Score))
+    → HaveOptions cells options → IsCellOf cell (get_or options (length cells) [])
+    → HaveOptions (cells ++ cell ∷ []) options
 options_push cells cell options have is k d within = at (cases_eq k (length cells))
   where
-    at : (k ≡ length cells) ⊎ (k ≢ length cells) → IsCellOf (get_or (cells ++ cell ∷ []) k d) (get_or options k [])
+    at : (k ≡ length cells) ⊎ (k ≢ length cells)
+        → IsCellOf (get_or (cells ++ cell ∷ []) k d) (get_or options k [])
     at (inl last) = λ score.
         ap (λ c. allows c score) (get_or_push cells cell d k (sym last))
         ∙ is score
         ∙ ap (λ n. has_score (get_or options n []) score) (sym last)
     at (inr before) =
         let below : k < length cells = omega (arith, length_push cells cell) in
-        λ score. ap (λ c. allows c score) (get_or_append_left cells (cell ∷ []) d k below) ∙ have k d below score
+        λ score. ap (λ c. allows c score) (get_or_append_left cells (cell ∷ []) d k below)
+        ∙ have k d below score
 
 -- a cell that has what its fixture may end with has its options where no literal is asked for
-pub first_options : (limit : ℕ) (scores : List (Option Score)) (k : ℕ) (cell : Cell) → k < length scores → ((score : Score) → allows cell score ≡ may_end limit (get_or scores k None) (Some score)) → IsCellOf cell (get_or (options_from limit [] 0 scores) k [])
+pub first_options : (limit : ℕ) (scores : List (Option Score)) (k : ℕ) (cell : Cell)
+    → k < length scores
+    → ((score : Score) → allows cell score ≡ may_end limit (get_or scores k None) (Some score))
+    → IsCellOf cell (get_or (options_from limit [] 0 scores) k [])
 first_options limit scores k cell within may score =
     may score
     ∙ sym (has_score-options_of limit [] k (get_or scores k None) score)
     ∙ ap (λ options. has_score options score) (sym (options_at limit [] scores k within))
 
 -- a cell is not empty exactly where its fixture has an option
-option_of_cell : (cell : Cell) (options : List Score) → IsCellOf cell options → ¬ IsEmptyCell cell → has_option options ≡ true
+option_of_cell : (cell : Cell) (options : List Score) → IsCellOf cell options → ¬ IsEmptyCell cell
+    → has_option options ≡ true
 option_of_cell cell [] is some = absurd (some is)
 option_of_cell cell (score ∷ options) is some = refl
 
-cell_of_option : (cell : Cell) (options : List Score) → IsCellOf cell options → has_option options ≡ true → ¬ IsEmptyCell cell
+cell_of_option : (cell : Cell) (options : List Score) → IsCellOf cell options
+    → has_option options ≡ true → ¬ IsEmptyCell cell
 cell_of_option cell [] is some none = false≢true some
 cell_of_option cell (score ∷ options) is some none =
     false≢true (sym (none score) ∙ is score ∙ has_score-first score options)
 
 -- a cell has one score alone exactly where its fixture has one option
-one_of_cell : (cell : Cell) (options : List Score) → IsCellOf cell options → HasOneScore cell → has_one_score options ≡ true
+one_of_cell : (cell : Cell) (options : List Score) → IsCellOf cell options → HasOneScore cell
+    → has_one_score options ≡ true
 one_of_cell cell [] is one = absurd (false≢true (sym (is one.0) ∙ one.1))
 one_of_cell cell (first ∷ options) is one =
     all_options (same_score first) options
     (λ other later.
     let first_is = one.2 first (is first ∙ has_score-first first options) in
-    let other_is = one.2 other (is other ∙ or_later (same_score other first) (has_score options other) later) in
+    let other_is = one.2 other
+    (is other ∙ or_later (same_score other first) (has_score options other) later) in
     same_score-itself first other (sym first_is ∙ other_is))
   where
     or_later : (a b : Bool) → b ≡ true → (a || b) ≡ true
     or_later true b h = refl
     or_later false b h = h
 
-cell_of_one : (cell : Cell) (options : List Score) → IsCellOf cell options → has_one_score options ≡ true → HasOneScore cell
+cell_of_one : (cell : Cell) (options : List Score) → IsCellOf cell options
+    → has_one_score options ≡ true → HasOneScore cell
 cell_of_one cell [] is one = absurd (false≢true one)
-cell_of_one cell (first ∷ options) is one =
-    (first, is first ∙ has_score-first first options, λ other allowed. only other (or_cases _ _ (sym (is other) ∙ allowed)))
+cell_of_one cell (first ∷ options) is one = (
+  first,
+  is first
+      ∙ has_score-first first options,
+  λ other allowed. only other
+      (or_cases _ _ (sym (is other) ∙ allowed)),
+)
   where
-    only : (other : Score) → (same_score other first ≡ true) ⊎ (has_score options other ≡ true) → first ≡ other
+    only : (other : Score) → (same_score other first ≡ true) ⊎ (has_score options other ≡ true)
+        → first ≡ other
     only other (inl same) = sym (same_score-true other first same)
-    only other (inr later) = same_score-true first other (each_option (same_score first) options one other later)
+    only other (inr later) = same_score-true first other
+        (each_option (same_score first) options one other later)
 
 -- the cells and options of all fixtures but the first
-tail_of : (cell : Cell) (cells : List Cell) (o : List Score) (options : List (List Score)) → AreCellsOf (cell ∷ cells) (o ∷ options) → AreCellsOf cells options
+tail_of : (cell : Cell) (cells : List Cell) (o : List Score) (options : List (List Score))
+    → AreCellsOf (cell ∷ cells) (o ∷ options) → AreCellsOf cells options
 tail_of cell cells o options are = record {
   many = let e = are.many in omega arith;
   each = λ k d within. are.each (suc k) d (omega arith);
 }
 
 -- what holds of each cell, and what of each list of options, where the one gives the other
-all_of_cells : (Fact : Cell → Type 0) (test : List Score → Bool) → ((cell : Cell) (options : List Score) → IsCellOf cell options → Fact cell → test options ≡ true) → (cells : List Cell) (options : List (List Score)) → AreCellsOf cells options → All Fact cells → list_all test options ≡ true
+all_of_cells : (Fact : Cell → Type 0) (test : List Score → Bool)
+    → ((cell : Cell) (options : List Score) → IsCellOf cell options → Fact cell
+    → test options ≡ true) → (cells : List Cell) (options : List (List Score))
+    → AreCellsOf cells options → All Fact cells → list_all test options ≡ true
 all_of_cells Fact test gives [] [] are all = refl
 all_of_cells Fact test gives [] (o ∷ options) are all = let e = are.many in absurd (omega arith)
 all_of_cells Fact test gives (cell ∷ cells) [] are all = refl
 all_of_cells Fact test gives (cell ∷ cells) (o ∷ options) are all =
     and_from (test o) (list_all test options)
     (gives cell o (are.each 0 cell (omega arith)) (all 0 cell (omega arith)))
-    (all_of_cells Fact test gives cells options (tail_of cell cells o options are) (λ k d within. all (suc k) d (omega arith)))
+    (all_of_cells Fact test gives cells options (tail_of cell cells o options are)
+    (λ k d within. all (suc k) d (omega arith)))
 
-cells_of_all : (Fact : Cell → Type 0) (test : List Score → Bool) → ((cell : Cell) (options : List Score) → IsCellOf cell options → test options ≡ true → Fact cell) → (cells : List Cell) (options : List (List Score)) → AreCellsOf cells options → list_all test options ≡ true → All Fact cells
+cells_of_all : (Fact : Cell → Type 0) (test : List Score → Bool)
+    → ((cell : Cell) (options : List Score) → IsCellOf cell options → test options ≡ true
+    → Fact cell) → (cells : List Cell) (options : List (List Score)) → AreCellsOf cells options
+    → list_all test options ≡ true → All Fact cells
 cells_of_all Fact test gives cells options are all k d within =
     gives (get_or cells k d) (get_or options k []) (are.each k d within)
     (all_at test options k (let e = are.many in omega arith) all)
   where
-    all_at : (test : List Score → Bool) (options : List (List Score)) (k : ℕ) → k < length options → list_all test options ≡ true → test (get_or options k []) ≡ true
+    all_at : (test : List Score → Bool) (options : List (List Score)) (k : ℕ) → k < length options
+        → list_all test options ≡ true → test (get_or options k []) ≡ true
     all_at test [] k within all = absurd (omega arith)
     all_at test (o ∷ options) zero within all = first (test o) (list_all test options) all
       where
         first : (a b : Bool) → (a && b) ≡ true → a ≡ true
         first true b h = refl
         first false b h = h
-    all_at test (o ∷ options) (suc k) within all = all_at test options k (omega arith) (second (test o) (list_all test options) all)
+    all_at test (o ∷ options) (suc k) within all = all_at test options k (omega arith)
+        (second (test o) (list_all test options) all)
       where
         second : (a b : Bool) → (a && b) ≡ true → b ≡ true
         second true b h = h
         second false b h = absurd (false≢true h)
 
 -- no cell is empty exactly where the zone has a finish
-pub has_finish-is : (sheet : Sheet) (season : Results) (zone : List Literal) (cells : List Cell) (r : Bool) → AreCellsOf cells (options_in sheet season zone) → (r ≡ true → All (λ cell. ¬ IsEmptyCell cell) cells) → (All (λ cell. ¬ IsEmptyCell cell) cells → r ≡ true) → r ≡ has_finish sheet season zone
+pub has_finish-is : (sheet : Sheet) (season : Results) (zone : List Literal) (cells : List Cell)
+    (r : Bool) → AreCellsOf cells (options_in sheet season zone)
+    → (r ≡ true → All (λ cell. ¬ IsEmptyCell cell) cells)
+    → (All (λ cell. ¬ IsEmptyCell cell) cells → r ≡ true) → r ≡ has_finish sheet season zone
 unfolding has_finish
 has_finish-is sheet season zone cells r are gives from =
-    same_from_decides {P = All (λ cell. ¬ IsEmptyCell cell) cells} r (list_all has_option (options_in sheet season zone)) (gives, from) (
-      cells_of_all (λ cell. ¬ IsEmptyCell cell) has_option cell_of_option cells (options_in sheet season zone) are,
-      all_of_cells (λ cell. ¬ IsEmptyCell cell) has_option option_of_cell cells (options_in sheet season zone) are,
+    same_from_decides {P = All (λ cell. ¬ IsEmptyCell cell) cells} r
+    (list_all has_option (options_in sheet season zone)) (gives, from) (
+      cells_of_all (λ cell. ¬ IsEmptyCell cell) has_option cell_of_option cells
+          (options_in sheet season zone) are,
+      all_of_cells (λ cell. ¬ IsEmptyCell cell) has_option option_of_cell cells
+          (options_in sheet season zone) are,
     )
 
 -- each cell has one score exactly where the zone is single
-pub is_single-is : (sheet : Sheet) (season : Results) (zone : List Literal) (cells : List Cell) (r : Bool) → AreCellsOf cells (options_in sheet season zone) → (r ≡ true → All HasOneScore cells) → (All HasOneScore cells → r ≡ true) → r ≡ is_single sheet season zone
+pub is_single-is : (sheet : Sheet) (season : Results) (zone : List Literal) (cells : List Cell)
+    (r : Bool) → AreCellsOf cells (options_in sheet season zone)
+    → (r ≡ true → All HasOneScore cells) → (All HasOneScore cells → r ≡ true)
+    → r ≡ is_single sheet season zone
 unfolding is_single
 is_single-is sheet season zone cells r are gives from =
-    same_from_decides {P = All HasOneScore cells} r (list_all has_one_score (options_in sheet season zone)) (gives, from) (
+    same_from_decides {P = All HasOneScore cells} r
+    (list_all has_one_score (options_in sheet season zone)) (gives, from) (
       cells_of_all HasOneScore has_one_score cell_of_one cells (options_in sheet season zone) are,
       all_of_cells HasOneScore has_one_score one_of_cell cells (options_in sheet season zone) are,
     )
 
 -- in a zone that has a finish no cell is empty
-pub some_in_each : (sheet : Sheet) (season : Results) (zone : List Literal) (cells : List Cell) → AreCellsOf cells (options_in sheet season zone) → has_finish sheet season zone ≡ true → All (λ cell. ¬ IsEmptyCell cell) cells
+pub some_in_each : (sheet : Sheet) (season : Results) (zone : List Literal) (cells : List Cell)
+    → AreCellsOf cells (options_in sheet season zone) → has_finish sheet season zone ≡ true
+    → All (λ cell. ¬ IsEmptyCell cell) cells
 unfolding has_finish
 some_in_each sheet season zone cells are finish =
-    cells_of_all (λ cell. ¬ IsEmptyCell cell) has_option cell_of_option cells (options_in sheet season zone) are finish
+    cells_of_all (λ cell. ¬ IsEmptyCell cell) has_option cell_of_option cells
+    (options_in sheet season zone) are finish
 
 -- as many cells as the season has fixtures
-pub cells_of_season : (sheet : Sheet) (season : Results) (zone : List Literal) (cells : List Cell) → AreCellsOf cells (options_in sheet season zone) → length cells ≡ length season.scores
+pub cells_of_season : (sheet : Sheet) (season : Results) (zone : List Literal) (cells : List Cell)
+    → AreCellsOf cells (options_in sheet season zone) → length cells ≡ length season.scores
 cells_of_season sheet season zone cells are =
     are.many ∙ length-options_from sheet.goal_limit zone 0 season.scores
 
 -- what a walk over the cells answers: each passes, or one fails
-pub all_decided : (r : Bool) (Yes No : Cell → Type 0) (cells : List Cell) → ((cell : Cell) → Yes cell → No cell → ⊥) → MatchBool r (AllWithin Yes cells 0 (length cells)) ((k : ℕ) × (k < length cells) × HoldsAt No cells k) → (r ≡ true → All Yes cells) × (All Yes cells → r ≡ true)
+pub all_decided : (r : Bool) (Yes No : Cell → Type 0) (cells : List Cell)
+    → ((cell : Cell) → Yes cell → No cell → ⊥)
+    → MatchBool r (AllWithin Yes cells 0 (length cells))
+    ((k : ℕ) × (k < length cells) × HoldsAt No cells k) → (r ≡ true → All Yes cells)
+    × (All Yes cells → r ≡ true)
 all_decided true Yes No cells apart all = (λ _ k d within. all k d (omega arith) within, λ _. refl)
 all_decided false Yes No cells apart one = (
   λ e. absurd (false≢true e),
   λ all. absurd (by_cell cells one.0 one.1 (λ d. all one.0 d one.1) one.2),
 )
   where
-    by_cell : (cells : List Cell) (k : ℕ) → k < length cells → ((d : Cell) → Yes (get_or cells k d)) → ((d : Cell) → No (get_or cells k d)) → ⊥
+    by_cell : (cells : List Cell) (k : ℕ) → k < length cells
+        → ((d : Cell) → Yes (get_or cells k d)) → ((d : Cell) → No (get_or cells k d)) → ⊥
     by_cell [] k within yes_at no_at = omega arith
-    by_cell (cell ∷ cells) k within yes_at no_at = apart (get_or (cell ∷ cells) k cell) (yes_at cell) (no_at cell)
+    by_cell (cell ∷ cells) k within yes_at no_at = apart (get_or (cell ∷ cells) k cell)
+        (yes_at cell) (no_at cell)
 
 or_none : (b : Bool) → (b || false) ≡ b
 or_none true = refl
 or_none false = refl
 
 -- the marks of a zone with one literal more
-pub marked_before-push : (zone : List Literal) (literal : Literal) (club : ℕ) → marked_before (zone ++ literal ∷ []) club ≡ (marked_before zone club || (is_of_rival club literal.test && literal.yes))
+pub marked_before-push : (zone : List Literal) (literal : Literal) (club : ℕ)
+    → marked_before (zone ++ literal ∷ []) club ≡
+    (marked_before zone club || (is_of_rival club literal.test && literal.yes))
 marked_before-push zone literal club =
     list_any-append (λ (l : Literal). is_of_rival club l.test && l.yes) zone (literal ∷ [])
-    ∙ ap (λ b. marked_before zone club || b) (or_none (is_of_rival club literal.test && literal.yes))
+    ∙ ap (λ b. marked_before zone club || b)
+    (or_none (is_of_rival club literal.test && literal.yes))
 
-pub marked_after-push : (zone : List Literal) (literal : Literal) (club : ℕ) → marked_after (zone ++ literal ∷ []) club ≡ (marked_after zone club || (is_of_rival club literal.test && not literal.yes))
+pub marked_after-push : (zone : List Literal) (literal : Literal) (club : ℕ)
+    → marked_after (zone ++ literal ∷ []) club ≡
+    (marked_after zone club || (is_of_rival club literal.test && not literal.yes))
 marked_after-push zone literal club =
     list_any-append (λ (l : Literal). is_of_rival club l.test && not l.yes) zone (literal ∷ [])
-    ∙ ap (λ b. marked_after zone club || b) (or_none (is_of_rival club literal.test && not literal.yes))
+    ∙ ap (λ b. marked_after zone club || b)
+    (or_none (is_of_rival club literal.test && not literal.yes))
 
 -- a test of the sheet is of one of its fixtures or clubs
-test_below : (sheet : Sheet) (fixtures : ℕ) (test : Test) → length sheet.fixtures ≡ fixtures → length sheet.clubs ≤ 32 → is_test_of sheet test ≡ true → IsTestBelow fixtures 32 test
-test_below sheet fixtures (Home fixture) many few is = let h = ltb-true fixture (length sheet.fixtures) is in omega arith
-test_below sheet fixtures (Draw fixture) many few is = let h = ltb-true fixture (length sheet.fixtures) is in omega arith
-test_below sheet fixtures (HomeMost fixture most) many few is = let h = ltb-true fixture (length sheet.fixtures) is in omega arith
-test_below sheet fixtures (AwayMost fixture most) many few is = let h = ltb-true fixture (length sheet.fixtures) is in omega arith
-test_below sheet fixtures (Rival club) many few is = let h = ltb-true club (length sheet.clubs) is in omega arith
+test_below : (sheet : Sheet) (fixtures : ℕ) (test : Test) → length sheet.fixtures ≡ fixtures
+    → length sheet.clubs ≤ 32 → is_test_of sheet test ≡ true → IsTestBelow fixtures 32 test
+test_below sheet fixtures
+    (Home fixture) many few is = let h = ltb-true fixture (length sheet.fixtures) is in omega arith
+test_below sheet fixtures
+    (Draw fixture) many few is = let h = ltb-true fixture (length sheet.fixtures) is in omega arith
+test_below sheet fixtures
+    (HomeMost fixture most) many few is =
+    let h = ltb-true fixture (length sheet.fixtures) is in omega arith
+test_below sheet fixtures
+    (AwayMost fixture most) many few is =
+    let h = ltb-true fixture (length sheet.fixtures) is in omega arith
+test_below sheet fixtures
+    (Rival club) many few is = let h = ltb-true club (length sheet.clubs) is in omega arith
 
-pub tests_below : (sheet : Sheet) (fixtures : ℕ) (zone : List Literal) → length sheet.fixtures ≡ fixtures → length sheet.clubs ≤ 32 → is_zone_of sheet zone ≡ true → All (λ literal. IsTestBelow fixtures 32 literal.test) zone
+pub tests_below : (sheet : Sheet) (fixtures : ℕ) (zone : List Literal)
+    → length sheet.fixtures ≡ fixtures → length sheet.clubs ≤ 32 → is_zone_of sheet zone ≡ true
+    → All (λ literal. IsTestBelow fixtures 32 literal.test) zone
 tests_below sheet fixtures zone many few is k d within =
     test_below sheet fixtures (get_or zone k d).test many few
     (AllPass-from_list_all (λ (l : Literal). is_test_of sheet l.test) zone is k d within)

@@ -1,7 +1,11 @@
 -- The points of a fixture by the outcomes that its cell has left, and of all fixtures together.
-use Rattle.std.proofs.Common.{◌≡◌, ◌≢◌, ◌⊎◌, ℕ, ◌+◌, ◌<◌, ◌≤◌, min, max, ℤ, pos, ◌+ℤ◌, ◌-ℤ◌, ◌≤ℤ◌, slice_index, Bool, true, false, ◌||◌, ◌==◌, nat_lt, cond, List, [], length, get_or, drop, Option, Some, None, is_some, refl, sym, ap, ◌∙◌, inl, inr, arith}
+use Rattle.std.proofs.Common.{◌≡◌, ◌≢◌, ◌⊎◌, ℕ, ◌+◌, ◌<◌, ◌≤◌, min, max, ℤ, pos, ◌+ℤ◌, ◌-ℤ◌, ◌≤ℤ◌}
+use Rattle.std.proofs.Common.{slice_index, Bool, true, false, ◌||◌, ◌==◌, nat_lt, cond, List, []}
+use Rattle.std.proofs.Common.{length, get_or, drop, Option, Some, None, is_some, refl, sym, ap, ◌∙◌}
+use Rattle.std.proofs.Common.{inl, inr, arith}
 use Rattle.std.proofs.lemmas.Int.{ints}
-use Rattle.std.proofs.lemmas.Bool.{false≢true, ltb-true, eqb-true, le-ltb, ne_eqb, eq-eqb, cases_lt, false_from_ne_true}
+use Rattle.std.proofs.lemmas.Bool.{false≢true, ltb-true, eqb-true, le-ltb, ne_eqb, eq-eqb, cases_lt}
+use Rattle.std.proofs.lemmas.Bool.{false_from_ne_true}
 use Rattle.std.proofs.lemmas.Bool.Decides.{nat_tests}
 use Rattle.league_core.specs.declared.sheet.Fixture.{Fixture}
 use Rattle.league_core.specs.declared.season.Score.{Score}
@@ -11,37 +15,46 @@ use Rattle.league_core.specs.declared.sheet.Sheet.{Sheet}
 use Rattle.league_core.specs.declared.zone.Literal.{Literal}
 use Rattle.league_core.specs.Results.{Results}
 use Rattle.league_core.specs.Options.{options_in, is_home_win, is_draw, is_away_win}
-use Rattle.league_core.specs.PointRanges.{added, range_from, points_of_sides, points_together, total_of, least_points_of, most_points_of}
-use Rattle.league_core.proofs.PointRangeLemmas.{Reaches, least-is, greatest-is, range_of-same, range_from-more, points_together-sides}
+use Rattle.league_core.specs.PointRanges.{added, range_from, points_of_sides, points_together}
+use Rattle.league_core.specs.PointRanges.{total_of, least_points_of, most_points_of}
+use Rattle.league_core.proofs.PointRangeLemmas.{Reaches, least-is, greatest-is, range_of-same}
+use Rattle.league_core.proofs.PointRangeLemmas.{range_from-more, points_together-sides}
 use Rattle.score_box.specs.declared.cell.Cell.{Cell}
 use Rattle.score_box.specs.declared.cell.goals.Goals.{Goals}
 use Rattle.score_box.specs.Cells.{allows, IsCellOf, IsEmptyCell, IsAllowed}
 use Rattle.score_box.specs.Boxes.{AreCellsOf}
 use Rattle.score_box.specs.declared.points.PointRange.{PointRange}
 use Rattle.score_box.specs.declared.points.outcomes.MatchPoints.{MatchPoints}
-use Rattle.score_box.specs.Points.{won_points, drawn_points, lost_points, least_of_three, most_of_three, IsPointsOf, IsRangeOver}
+use Rattle.score_box.specs.Points.{won_points, drawn_points, lost_points, least_of_three}
+use Rattle.score_box.specs.Points.{most_of_three, IsPointsOf, IsRangeOver}
 use Rattle.score_box.proofs.CellLemmas.{Says, outcome_cases}
 
 -- what a match is worth to its winner, to its loser and after a draw
-win_is : (scored conceded : ℕ) (away : Bool) → conceded < scored → match_points scored conceded away ≡ pos 3
+win_is : (scored conceded : ℕ) (away : Bool) → conceded < scored
+    → match_points scored conceded away ≡ pos 3
 win_is scored conceded away h =
     ap (λ b. cond b (pos 3) (cond (scored == conceded) (pos 1) (pos 0))) (lt_true conceded scored h)
   where
     lt_true : (m n : ℕ) → m < n → nat_lt m n ≡ true
     lt_true m n h = grind (arith, nat_tests)
 
-loss_is : (scored conceded : ℕ) (away : Bool) → scored < conceded → match_points scored conceded away ≡ pos 0
+loss_is : (scored conceded : ℕ) (away : Bool) → scored < conceded
+    → match_points scored conceded away ≡ pos 0
 loss_is scored conceded away h =
-    ap (λ b. cond b (pos 3) (cond (scored == conceded) (pos 1) (pos 0))) (le-ltb conceded scored (omega arith))
+    ap (λ b. cond b (pos 3) (cond (scored == conceded) (pos 1) (pos 0)))
+    (le-ltb conceded scored (omega arith))
     ∙ ap (λ b. cond b (pos 1) (pos 0)) (ne_eqb scored conceded (λ e. absurd (omega arith)))
 
-draw_is : (scored conceded : ℕ) (away : Bool) → scored ≡ conceded → match_points scored conceded away ≡ pos 1
+draw_is : (scored conceded : ℕ) (away : Bool) → scored ≡ conceded
+    → match_points scored conceded away ≡ pos 1
 draw_is scored conceded away e =
-    ap (λ b. cond b (pos 3) (cond (scored == conceded) (pos 1) (pos 0))) (le-ltb conceded scored (omega arith))
+    ap (λ b. cond b (pos 3) (cond (scored == conceded) (pos 1) (pos 0)))
+    (le-ltb conceded scored (omega arith))
     ∙ ap (λ b. cond b (pos 1) (pos 0)) (eq-eqb scored conceded e)
 
 -- the points of the sides that count, by the outcome
-sides : (home away : Bool) (x y : ℤ) (m n : ℕ) → x ≡ pos m → y ≡ pos n → (cond home x (pos 0) +ℤ cond away y (pos 0)) ≡ pos (cond home m 0 + cond away n 0)
+sides : (home away : Bool) (x y : ℤ) (m n : ℕ) → x ≡ pos m → y ≡ pos n
+    → (cond home x (pos 0) +ℤ cond away y (pos 0)) ≡ pos (cond home m 0 + cond away n 0)
 sides true true x y m n e f = omega (arith, ints)
 sides true false x y m n e f = omega (arith, ints)
 sides false true x y m n e f = omega (arith, ints)
@@ -55,21 +68,30 @@ none_right : (b : Bool) (m : ℕ) → cond b 0 0 + m ≡ m
 none_right true m = omega arith
 none_right false m = omega arith
 
-pub points_at_win : (home away : Bool) (score : Score) → is_home_win score ≡ true → points_of_sides home away score ≡ pos (won_points home)
+pub points_at_win : (home away : Bool) (score : Score) → is_home_win score ≡ true
+    → points_of_sides home away score ≡ pos (won_points home)
 points_at_win home away score wins =
     let below : score.away < score.home = ltb-true score.away score.home wins in
-    sides home away (match_points score.home score.away false) (match_points score.away score.home true) 3 0 (win_is score.home score.away false below) (loss_is score.away score.home true below)
+    sides home away (match_points score.home score.away false)
+    (match_points score.away score.home true) 3 0 (win_is score.home score.away false below)
+    (loss_is score.away score.home true below)
     ∙ ap pos (none_left away (won_points home))
 
-pub points_at_draw : (home away : Bool) (score : Score) → is_draw score ≡ true → points_of_sides home away score ≡ pos (drawn_points home away)
+pub points_at_draw : (home away : Bool) (score : Score) → is_draw score ≡ true
+    → points_of_sides home away score ≡ pos (drawn_points home away)
 points_at_draw home away score level =
     let same : score.home ≡ score.away = eqb-true score.home score.away level in
-    sides home away (match_points score.home score.away false) (match_points score.away score.home true) 1 1 (draw_is score.home score.away false same) (draw_is score.away score.home true (sym same))
+    sides home away (match_points score.home score.away false)
+    (match_points score.away score.home true) 1 1 (draw_is score.home score.away false same)
+    (draw_is score.away score.home true (sym same))
 
-pub points_at_loss : (home away : Bool) (score : Score) → is_away_win score ≡ true → points_of_sides home away score ≡ pos (lost_points away)
+pub points_at_loss : (home away : Bool) (score : Score) → is_away_win score ≡ true
+    → points_of_sides home away score ≡ pos (lost_points away)
 points_at_loss home away score loses =
     let below : score.home < score.away = ltb-true score.home score.away loses in
-    sides home away (match_points score.home score.away false) (match_points score.away score.home true) 0 3 (loss_is score.home score.away false below) (win_is score.away score.home true below)
+    sides home away (match_points score.home score.away false)
+    (match_points score.away score.home true) 0 3 (loss_is score.home score.away false below)
+    (win_is score.away score.home true below)
     ∙ ap pos (none_right home (lost_points away))
 
 -- no outcome gives more than three points
@@ -84,14 +106,20 @@ drawn_most false true = omega arith
 drawn_most false false = omega arith
 
 -- each outcome that may come gives at least the least, and at most the most
-least_below : (wins draws losses home away : Bool) → (wins ≡ true → least_of_three wins draws losses home away ≤ won_points home) × (draws ≡ true → least_of_three wins draws losses home away ≤ drawn_points home away) × (losses ≡ true → least_of_three wins draws losses home away ≤ lost_points away)
+least_below : (wins draws losses home away : Bool)
+    → (wins ≡ true → least_of_three wins draws losses home away ≤ won_points home)
+    × (draws ≡ true → least_of_three wins draws losses home away ≤ drawn_points home away)
+    × (losses ≡ true → least_of_three wins draws losses home away ≤ lost_points away)
 least_below wins draws losses home away = (
   λ e. rw e (omega arith),
   λ e. rw e (omega arith),
   λ e. rw e (omega arith),
 )
 
-most_above : (wins draws losses home away : Bool) → (wins ≡ true → won_points home ≤ most_of_three wins draws losses home away) × (draws ≡ true → drawn_points home away ≤ most_of_three wins draws losses home away) × (losses ≡ true → lost_points away ≤ most_of_three wins draws losses home away)
+most_above : (wins draws losses home away : Bool)
+    → (wins ≡ true → won_points home ≤ most_of_three wins draws losses home away)
+    × (draws ≡ true → drawn_points home away ≤ most_of_three wins draws losses home away)
+    × (losses ≡ true → lost_points away ≤ most_of_three wins draws losses home away)
 most_above wins draws losses home away = (
   λ e. rw e (omega arith),
   λ e. rw e (omega arith),
@@ -102,10 +130,13 @@ most_above wins draws losses home away = (
 abbrev IsGiven : Bool → Bool → Bool → Bool → Bool → ℕ → Type 0
 IsGiven wins draws losses home away points =
     ((wins ≡ true) × (points ≡ won_points home))
-    ⊎ (((draws ≡ true) × (points ≡ drawn_points home away)) ⊎ ((losses ≡ true) × (points ≡ lost_points away)))
+    ⊎ (((draws ≡ true) × (points ≡ drawn_points home away))
+    ⊎ ((losses ≡ true) × (points ≡ lost_points away)))
 
 -- where the least is three, or the most is none, each outcome that may come gives just that
-given_at_three : (wins draws losses home away : Bool) → (wins || draws || losses) ≡ true → least_of_three wins draws losses home away ≡ 3 → IsGiven wins draws losses home away (least_of_three wins draws losses home away)
+given_at_three : (wins draws losses home away : Bool) → (wins || draws || losses) ≡ true
+    → least_of_three wins draws losses home away ≡ 3
+    → IsGiven wins draws losses home away (least_of_three wins draws losses home away)
 given_at_three true draws losses home away some three =
     let below = (least_below true draws losses home away).0 refl in
     inl (refl, omega (arith, won_most home))
@@ -117,7 +148,9 @@ given_at_three false false true home away some three =
     inr (inr (refl, omega (arith, won_most away)))
 given_at_three false false false home away some three = absurd (false≢true some)
 
-given_at_none : (wins draws losses home away : Bool) → (wins || draws || losses) ≡ true → most_of_three wins draws losses home away ≡ 0 → IsGiven wins draws losses home away (most_of_three wins draws losses home away)
+given_at_none : (wins draws losses home away : Bool) → (wins || draws || losses) ≡ true
+    → most_of_three wins draws losses home away ≡ 0
+    → IsGiven wins draws losses home away (most_of_three wins draws losses home away)
 given_at_none true draws losses home away some none =
     let above = (most_above true draws losses home away).0 refl in
     inl (refl, omega arith)
@@ -131,69 +164,92 @@ given_at_none false false false home away some none = absurd (false≢true some)
 
 one_of_min : (x y z : ℕ) → (min (min x y) z ≡ x) ⊎ ((min (min x y) z ≡ y) ⊎ (min (min x y) z ≡ z))
 one_of_min x y z =
-    elim (cases_lt z (min x y)) as (λ _. (min (min x y) z ≡ x) ⊎ ((min (min x y) z ≡ y) ⊎ (min (min x y) z ≡ z))) [
+    elim (cases_lt z (min x y)) as (λ _. (min (min x y) z ≡ x)
+    ⊎ ((min (min x y) z ≡ y) ⊎ (min (min x y) z ≡ z))) [
       | inl under ↦ inr (inr (omega arith))
-      | inr over ↦ elim (cases_lt y x) as (λ _. (min (min x y) z ≡ x) ⊎ ((min (min x y) z ≡ y) ⊎ (min (min x y) z ≡ z))) [
-        | inl below ↦ inr (inl (omega arith))
-        | inr above ↦ inl (omega arith)
-      ]
+      | inr over ↦
+          elim (cases_lt y x) as (λ _. (min (min x y) z ≡ x)
+          ⊎ ((min (min x y) z ≡ y) ⊎ (min (min x y) z ≡ z))) [
+            | inl below ↦ inr (inl (omega arith))
+            | inr above ↦ inl (omega arith)
+          ]
     ]
 
 one_of_max : (x y z : ℕ) → (max (max x y) z ≡ x) ⊎ ((max (max x y) z ≡ y) ⊎ (max (max x y) z ≡ z))
 one_of_max x y z =
-    elim (cases_lt (max x y) z) as (λ _. (max (max x y) z ≡ x) ⊎ ((max (max x y) z ≡ y) ⊎ (max (max x y) z ≡ z))) [
+    elim (cases_lt (max x y) z) as (λ _. (max (max x y) z ≡ x)
+    ⊎ ((max (max x y) z ≡ y) ⊎ (max (max x y) z ≡ z))) [
       | inl over ↦ inr (inr (omega arith))
-      | inr under ↦ elim (cases_lt x y) as (λ _. (max (max x y) z ≡ x) ⊎ ((max (max x y) z ≡ y) ⊎ (max (max x y) z ≡ z))) [
-        | inl above ↦ inr (inl (omega arith))
-        | inr below ↦ inl (omega arith)
-      ]
+      | inr under ↦
+          elim (cases_lt x y) as (λ _. (max (max x y) z ≡ x)
+          ⊎ ((max (max x y) z ≡ y) ⊎ (max (max x y) z ≡ z))) [
+            | inl above ↦ inr (inl (omega arith))
+            | inr below ↦ inl (omega arith)
+          ]
     ]
 
 -- a choice that is taken, or the number that stands for no choice
-taken : (b : Bool) (points other number : ℕ) → number ≡ cond b points other → ((b ≡ true) × (number ≡ points)) ⊎ (number ≡ other)
+taken : (b : Bool) (points other number : ℕ) → number ≡ cond b points other
+    → ((b ≡ true) × (number ≡ points)) ⊎ (number ≡ other)
 taken true points other number e = inl (refl, e)
 taken false points other number e = inr e
 
 -- an outcome that may come gives the least, and one gives the most
-least_given : (wins draws losses home away : Bool) → (wins || draws || losses) ≡ true → IsGiven wins draws losses home away (least_of_three wins draws losses home away)
+least_given : (wins draws losses home away : Bool) → (wins || draws || losses) ≡ true
+    → IsGiven wins draws losses home away (least_of_three wins draws losses home away)
 least_given wins draws losses home away some =
-    let Goal : Type 0 = IsGiven wins draws losses home away (least_of_three wins draws losses home away) in
+    let Goal : Type 0 = IsGiven wins draws losses home away (least_of_three wins draws losses home
+    away) in
     let low = least_of_three wins draws losses home away in
     let at_three = given_at_three wins draws losses home away some in
-    elim (one_of_min (cond wins (won_points home) 3) (cond draws (drawn_points home away) 3) (cond losses (lost_points away) 3)) as (λ _. Goal) [
-      | inl first ↦ elim (taken wins (won_points home) 3 low first) as (λ _. Goal) [ inl here ↦ inl here | inr three ↦ at_three three ]
+    elim (one_of_min (cond wins (won_points home) 3) (cond draws (drawn_points home away) 3)
+    (cond losses (lost_points away) 3)) as (λ _. Goal) [
+      | inl first ↦ elim (taken wins (won_points home) 3 low first) as (λ _. Goal)
+          [ inl here ↦ inl here | inr three ↦ at_three three ]
       | inr others ↦ elim others as (λ _. Goal) [
-        | inl second ↦ elim (taken draws (drawn_points home away) 3 low second) as (λ _. Goal) [ inl here ↦ inr (inl here) | inr three ↦ at_three three ]
-        | inr third ↦ elim (taken losses (lost_points away) 3 low third) as (λ _. Goal) [ inl here ↦ inr (inr here) | inr three ↦ at_three three ]
+        | inl second ↦ elim (taken draws (drawn_points home away) 3 low second) as (λ _. Goal)
+            [ inl here ↦ inr (inl here) | inr three ↦ at_three three ]
+        | inr third ↦ elim (taken losses (lost_points away) 3 low third) as (λ _. Goal)
+            [ inl here ↦ inr (inr here) | inr three ↦ at_three three ]
       ]
     ]
 
-most_given : (wins draws losses home away : Bool) → (wins || draws || losses) ≡ true → IsGiven wins draws losses home away (most_of_three wins draws losses home away)
+most_given : (wins draws losses home away : Bool) → (wins || draws || losses) ≡ true
+    → IsGiven wins draws losses home away (most_of_three wins draws losses home away)
 most_given wins draws losses home away some =
-    let Goal : Type 0 = IsGiven wins draws losses home away (most_of_three wins draws losses home away) in
+    let Goal : Type 0 = IsGiven wins draws losses home away (most_of_three wins draws losses home
+    away) in
     let high = most_of_three wins draws losses home away in
     let at_none = given_at_none wins draws losses home away some in
-    elim (one_of_max (cond wins (won_points home) 0) (cond draws (drawn_points home away) 0) (cond losses (lost_points away) 0)) as (λ _. Goal) [
-      | inl first ↦ elim (taken wins (won_points home) 0 high first) as (λ _. Goal) [ inl here ↦ inl here | inr none ↦ at_none none ]
+    elim (one_of_max (cond wins (won_points home) 0) (cond draws (drawn_points home away) 0)
+    (cond losses (lost_points away) 0)) as (λ _. Goal) [
+      | inl first ↦ elim (taken wins (won_points home) 0 high first) as (λ _. Goal)
+          [ inl here ↦ inl here | inr none ↦ at_none none ]
       | inr others ↦ elim others as (λ _. Goal) [
-        | inl second ↦ elim (taken draws (drawn_points home away) 0 high second) as (λ _. Goal) [ inl here ↦ inr (inl here) | inr none ↦ at_none none ]
-        | inr third ↦ elim (taken losses (lost_points away) 0 high third) as (λ _. Goal) [ inl here ↦ inr (inr here) | inr none ↦ at_none none ]
+        | inl second ↦ elim (taken draws (drawn_points home away) 0 high second) as (λ _. Goal)
+            [ inl here ↦ inr (inl here) | inr none ↦ at_none none ]
+        | inr third ↦ elim (taken losses (lost_points away) 0 high third) as (λ _. Goal)
+            [ inl here ↦ inr (inr here) | inr none ↦ at_none none ]
       ]
     ]
 
 -- a score of the cell of an outcome, where the cell has one
-has_outcome : (cell : Cell) (test : Score → Bool) (goals : Option Goals) → Says cell test goals → is_some goals ≡ true → (score : Score) × IsAllowed cell test score
+has_outcome : (cell : Cell) (test : Score → Bool) (goals : Option Goals) → Says cell test goals
+    → is_some goals ≡ true → (score : Score) × IsAllowed cell test score
 has_outcome cell test None says some = absurd (false≢true some)
 has_outcome cell test (Some goals) says some = (says.home_most.0, says.home_most.1)
 
 -- and where a score has the outcome, the cell has one
-some_outcome : (cell : Cell) (test : Score → Bool) (goals : Option Goals) (score : Score) → Says cell test goals → allows cell score ≡ true → test score ≡ true → is_some goals ≡ true
+some_outcome : (cell : Cell) (test : Score → Bool) (goals : Option Goals) (score : Score)
+    → Says cell test goals → allows cell score ≡ true → test score ≡ true → is_some goals ≡ true
 some_outcome cell test None score says allowed passed =
     absurd (says score (record { allowed = allowed; passed = passed }))
 some_outcome cell test (Some goals) score says allowed passed = refl
 
 -- a cell that is not empty has a score of one of the outcomes
-some_of_three : (cell : Cell) (home draws away : Option Goals) → Says cell is_home_win home → Says cell is_draw draws → Says cell is_away_win away → ¬ IsEmptyCell cell → (is_some home || is_some draws || is_some away) ≡ true
+some_of_three : (cell : Cell) (home draws away : Option Goals) → Says cell is_home_win home
+    → Says cell is_draw draws → Says cell is_away_win away → ¬ IsEmptyCell cell
+    → (is_some home || is_some draws || is_some away) ≡ true
 some_of_three cell (Some goals) draws away home_says draws_say away_says some = refl
 some_of_three cell None (Some goals) away home_says draws_say away_says some = refl
 some_of_three cell None None (Some goals) home_says draws_say away_says some = refl
@@ -206,23 +262,46 @@ some_of_three cell None None None home_says draws_say away_says some =
     (λ passed. away_says score (record { allowed = allowed; passed = passed })))))
 
 -- an option that reaches what an outcome gives
-reached : (cell : Cell) (options : List Score) (home draws away : Option Goals) (h a : Bool) (points : ℕ) → IsCellOf cell options → Says cell is_home_win home → Says cell is_draw draws → Says cell is_away_win away → IsGiven (is_some home) (is_some draws) (is_some away) h a points → Reaches (points_of_sides h a) options (pos points)
-reached cell options home draws away h a points is home_says draws_say away_says (inl (some, same)) =
-    let score = has_outcome cell is_home_win home home_says some in
-    (score.0, sym (is score.0) ∙ score.1.allowed, points_at_win h a score.0 score.1.passed ∙ ap pos (sym same))
-reached cell options home draws away h a points is home_says draws_say away_says (inr (inl (some, same))) =
-    let score = has_outcome cell is_draw draws draws_say some in
-    (score.0, sym (is score.0) ∙ score.1.allowed, points_at_draw h a score.0 score.1.passed ∙ ap pos (sym same))
-reached cell options home draws away h a points is home_says draws_say away_says (inr (inr (some, same))) =
-    let score = has_outcome cell is_away_win away away_says some in
-    (score.0, sym (is score.0) ∙ score.1.allowed, points_at_loss h a score.0 score.1.passed ∙ ap pos (sym same))
+reached : (cell : Cell) (options : List Score) (home draws away : Option Goals) (h a : Bool)
+    (points : ℕ) → IsCellOf cell options → Says cell is_home_win home → Says cell is_draw draws
+    → Says cell is_away_win away → IsGiven (is_some home) (is_some draws) (is_some away) h a points
+    → Reaches (points_of_sides h a) options (pos points)
+reached cell options home draws away h a points is home_says draws_say away_says
+    (inl (some, same)) =
+    let score = has_outcome cell is_home_win home home_says some in (
+      score.0,
+      sym (is score.0) ∙ score.1.allowed,
+      points_at_win h a score.0 score.1.passed
+          ∙ ap pos (sym same),
+    )
+reached cell options home draws away h a points is home_says draws_say away_says
+    (inr (inl (some, same))) =
+    let score = has_outcome cell is_draw draws draws_say some in (
+      score.0,
+      sym (is score.0) ∙ score.1.allowed,
+      points_at_draw h a score.0 score.1.passed
+          ∙ ap pos (sym same),
+    )
+reached cell options home draws away h a points is home_says draws_say away_says
+    (inr (inr (some, same))) =
+    let score = has_outcome cell is_away_win away away_says some in (
+      score.0,
+      sym (is score.0) ∙ score.1.allowed,
+      points_at_loss h a score.0 score.1.passed
+          ∙ ap pos (sym same),
+    )
 
-given_most : (wins draws losses home away : Bool) (points : ℕ) → IsGiven wins draws losses home away points → points ≤ 3
+given_most : (wins draws losses home away : Bool) (points : ℕ)
+    → IsGiven wins draws losses home away points → points ≤ 3
 given_most wins draws losses home away points (inl (some, same)) = omega (arith, won_most home)
-given_most wins draws losses home away points (inr (inl (some, same))) = omega (arith, drawn_most home away)
-given_most wins draws losses home away points (inr (inr (some, same))) = omega (arith, won_most away)
+given_most wins draws losses home away points (inr (inl (some, same))) = omega
+    (arith, drawn_most home away)
+given_most wins draws losses home away points (inr (inr (some, same))) = omega
+    (arith, won_most away)
 
-in_order : (wins draws losses home away : Bool) (points : ℕ) → IsGiven wins draws losses home away points → points ≤ most_of_three wins draws losses home away
+in_order : (wins draws losses home away : Bool) (points : ℕ)
+    → IsGiven wins draws losses home away points
+    → points ≤ most_of_three wins draws losses home away
 in_order wins draws losses home away points (inl (some, same)) =
     let above = (most_above wins draws losses home away).0 some in omega arith
 in_order wins draws losses home away points (inr (inl (some, same))) =
@@ -231,8 +310,14 @@ in_order wins draws losses home away points (inr (inr (some, same))) =
     let above = (most_above wins draws losses home away).2 some in omega arith
 
 -- the least and the most of the outcomes that a cell has are those of its options
-pub points_of_outcomes : (cell : Cell) (home draws away : Option Goals) (h a : Bool) (points : MatchPoints) → Says cell is_home_win home → Says cell is_draw draws → Says cell is_away_win away → ¬ IsEmptyCell cell → points.least ≡ least_of_three (is_some home) (is_some draws) (is_some away) h a → points.most ≡ most_of_three (is_some home) (is_some draws) (is_some away) h a → IsPointsOf cell h a points
-points_of_outcomes cell home draws away h a points home_says draws_say away_says not_empty least_is most_is =
+pub points_of_outcomes : (cell : Cell) (home draws away : Option Goals) (h a : Bool)
+    (points : MatchPoints) → Says cell is_home_win home → Says cell is_draw draws
+    → Says cell is_away_win away → ¬ IsEmptyCell cell
+    → points.least ≡ least_of_three (is_some home) (is_some draws) (is_some away) h a
+    → points.most ≡ most_of_three (is_some home) (is_some draws) (is_some away) h a
+    → IsPointsOf cell h a points
+points_of_outcomes cell home draws away h a points home_says draws_say away_says not_empty least_is
+    most_is =
     let wins = is_some home in
     let levels = is_some draws in
     let losses = is_some away in
@@ -244,34 +329,63 @@ points_of_outcomes cell home draws away h a points home_says draws_say away_says
           ap pos least_is
           ∙ least-is (points_of_sides h a) options (pos (least_of_three wins levels losses h a))
           (λ score among. below score (is score ∙ among))
-          (reached cell options home draws away h a (least_of_three wins levels losses h a) is home_says draws_say away_says low);
+          (reached cell options home draws away h a
+          (least_of_three wins levels losses h a) is home_says draws_say away_says low);
       most = λ options is.
           ap pos most_is
           ∙ greatest-is (points_of_sides h a) options (pos (most_of_three wins levels losses h a))
           (λ score among. above score (is score ∙ among))
-          (reached cell options home draws away h a (most_of_three wins levels losses h a) is home_says draws_say away_says high);
-      at_most = omega (arith, given_most wins levels losses h a (most_of_three wins levels losses h a) high);
-      in_order = omega (arith, in_order wins levels losses h a (least_of_three wins levels losses h a) low);
+          (reached cell options home draws away h a
+          (most_of_three wins levels losses h a) is home_says draws_say away_says high);
+      at_most = omega
+          (arith, given_most wins levels losses h a (most_of_three wins levels losses h a) high);
+      in_order = omega
+          (arith, in_order wins levels losses h a (least_of_three wins levels losses h a) low);
     }
   where
-    below : (score : Score) → allows cell score ≡ true → pos (least_of_three (is_some home) (is_some draws) (is_some away) h a) ≤ℤ points_of_sides h a score
+    below : (score : Score) → allows cell score ≡ true
+        → pos (least_of_three (is_some home) (is_some draws) (is_some away) h a) ≤ℤ points_of_sides h
+        a score
     below score allowed =
         let bounds = least_below (is_some home) (is_some draws) (is_some away) h a in
         outcome_cases score
-        (λ passed. let b = bounds.0 (some_outcome cell is_home_win home score home_says allowed passed) in omega (arith, ints, points_at_win h a score passed))
-        (λ passed. let b = bounds.1 (some_outcome cell is_draw draws score draws_say allowed passed) in omega (arith, ints, points_at_draw h a score passed))
-        (λ passed. let b = bounds.2 (some_outcome cell is_away_win away score away_says allowed passed) in omega (arith, ints, points_at_loss h a score passed))
+        (λ passed. let b = bounds.0
+        (some_outcome cell is_home_win home score home_says allowed passed) in omega
+        (arith, ints, points_at_win h a score passed))
+        (λ passed. let b = bounds.1
+        (some_outcome cell is_draw draws score draws_say allowed passed) in omega
+        (arith, ints, points_at_draw h a score passed))
+        (λ passed. let b = bounds.2
+        (some_outcome cell is_away_win away score away_says allowed passed) in omega
+        (arith, ints, points_at_loss h a score passed))
 
-    above : (score : Score) → allows cell score ≡ true → points_of_sides h a score ≤ℤ pos (most_of_three (is_some home) (is_some draws) (is_some away) h a)
+    above : (score : Score) → allows cell score ≡ true
+        → points_of_sides h a score ≤ℤ pos
+        (most_of_three (is_some home) (is_some draws) (is_some away) h a)
     above score allowed =
         let bounds = most_above (is_some home) (is_some draws) (is_some away) h a in
         outcome_cases score
-        (λ passed. let b = bounds.0 (some_outcome cell is_home_win home score home_says allowed passed) in omega (arith, ints, points_at_win h a score passed))
-        (λ passed. let b = bounds.1 (some_outcome cell is_draw draws score draws_say allowed passed) in omega (arith, ints, points_at_draw h a score passed))
-        (λ passed. let b = bounds.2 (some_outcome cell is_away_win away score away_says allowed passed) in omega (arith, ints, points_at_loss h a score passed))
+        (λ passed. let b = bounds.0
+        (some_outcome cell is_home_win home score home_says allowed passed) in omega
+        (arith, ints, points_at_win h a score passed))
+        (λ passed. let b = bounds.1
+        (some_outcome cell is_draw draws score draws_say allowed passed) in omega
+        (arith, ints, points_at_draw h a score passed))
+        (λ passed. let b = bounds.2
+        (some_outcome cell is_away_win away score away_says allowed passed) in omega
+        (arith, ints, points_at_loss h a score passed))
 
 -- one fixture more adds its least and its most to the range of those before it
-pub range_with : (fixtures : List Fixture) (cells : List Cell) (bits : ℕ) (options : List (List Score)) (i : ℕ) (d : Fixture) (e : Cell) (points : MatchPoints) → i < length fixtures → i < length cells → AreCellsOf cells options → (get_or fixtures i d).home ≢ (get_or fixtures i d).away → IsPointsOf (get_or cells i e) (has_club (clubs_below 32 bits) (get_or fixtures i d).home) (has_club (clubs_below 32 bits) (get_or fixtures i d).away) points → range_from (points_together (clubs_below 32 bits)) (drop i fixtures) (drop i options) ≡ added (record { least = pos points.least; greatest = pos points.most }) (range_from (points_together (clubs_below 32 bits)) (drop (i + 1) fixtures) (drop (i + 1) options))
+pub range_with : (fixtures : List Fixture) (cells : List Cell) (bits : ℕ)
+    (options : List (List Score)) (i : ℕ) (d : Fixture) (e : Cell) (points : MatchPoints)
+    → i < length fixtures → i < length cells → AreCellsOf cells options
+    → (get_or fixtures i d).home ≢ (get_or fixtures i d).away
+    → IsPointsOf (get_or cells i e) (has_club (clubs_below 32 bits) (get_or fixtures i d).home)
+    (has_club (clubs_below 32 bits) (get_or fixtures i d).away) points
+    → range_from (points_together (clubs_below 32 bits)) (drop i fixtures) (drop i options) ≡ added
+    (record { least = pos points.least; greatest = pos points.most })
+    (range_from (points_together (clubs_below 32 bits)) (drop (i + 1) fixtures)
+    (drop (i + 1) options))
 range_with fixtures cells bits options i d e points in_fixtures in_cells are apart points_is =
     let clubs = clubs_below 32 bits in
     let match = get_or fixtures i d in
@@ -281,18 +395,28 @@ range_with fixtures cells bits options i d e points in_fixtures in_cells are apa
     let least = points_is.least (get_or options i []) (are.each i e in_cells) in
     let most = points_is.most (get_or options i []) (are.each i e in_cells) in
     range_from-more (points_together clubs) fixtures options i d in_fixtures in_options
-    ∙ ap (λ r. added r (range_from (points_together clubs) (drop (i + 1) fixtures) (drop (i + 1) options)))
-    (range_of-same (points_together clubs match) (points_of_sides home away) (get_or options i []) (λ score. points_together-sides bits match score apart)
+    ∙ ap (λ r. added r
+    (range_from (points_together clubs) (drop (i + 1) fixtures) (drop (i + 1) options)))
+    (range_of-same (points_together clubs match) (points_of_sides home away) (get_or options i [])
+    (λ score. points_together-sides bits match score apart)
     ∙ (λ j. record { least = sym least j; greatest = sym most j }))
 
 -- the points of a set: match points of all fixtures, less what is taken off
-pub least_points-is : (sheet : Sheet) (season : Results) (zone : List Literal) (cells : List Cell) (clubs : List ℕ) (won : PointRange) (off : ℤ) → AreCellsOf cells (options_in sheet season zone) → IsRangeOver sheet.fixtures cells clubs won → off ≡ total_of (λ club. pos (slice_index season.deductions club)) clubs → won.least -ℤ off ≡ least_points_of sheet season zone clubs
+pub least_points-is : (sheet : Sheet) (season : Results) (zone : List Literal) (cells : List Cell)
+    (clubs : List ℕ) (won : PointRange) (off : ℤ) → AreCellsOf cells (options_in sheet season zone)
+    → IsRangeOver sheet.fixtures cells clubs won
+    → off ≡ total_of (λ club. pos (slice_index season.deductions club)) clubs
+    → won.least -ℤ off ≡ least_points_of sheet season zone clubs
 unfolding least_points_of
 least_points-is sheet season zone cells clubs won off are range taken_off =
     let least = range.least (options_in sheet season zone) are in
     omega (arith, ints)
 
-pub most_points-is : (sheet : Sheet) (season : Results) (zone : List Literal) (cells : List Cell) (clubs : List ℕ) (won : PointRange) (off : ℤ) → AreCellsOf cells (options_in sheet season zone) → IsRangeOver sheet.fixtures cells clubs won → off ≡ total_of (λ club. pos (slice_index season.deductions club)) clubs → won.most -ℤ off ≡ most_points_of sheet season zone clubs
+pub most_points-is : (sheet : Sheet) (season : Results) (zone : List Literal) (cells : List Cell)
+    (clubs : List ℕ) (won : PointRange) (off : ℤ) → AreCellsOf cells (options_in sheet season zone)
+    → IsRangeOver sheet.fixtures cells clubs won
+    → off ≡ total_of (λ club. pos (slice_index season.deductions club)) clubs
+    → won.most -ℤ off ≡ most_points_of sheet season zone clubs
 unfolding most_points_of
 most_points-is sheet season zone cells clubs won off are range taken_off =
     let most = range.most (options_in sheet season zone) are in

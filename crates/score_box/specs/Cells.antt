@@ -1,6 +1,8 @@
--- Cells: the scores that are still open for one fixture, kept as a set of outcomes and a range of goals
+-- Cells: the scores that are still open for one fixture, kept as a set of outcomes and a range of
+-- goals
 -- for each side, and seen as the set of those scores.
-use Rattle.std.specs.Prelude.{◌≡◌, ℕ, ◌≤◌, Bool, true, false, ◌&&◌, nat_le, if◌then◌else◌, IsTrue, List}
+use Rattle.std.specs.Prelude.{◌≡◌, ℕ, ◌≤◌, Bool, true, false, ◌&&◌, nat_le, if◌then◌else◌, IsTrue}
+use Rattle.std.specs.Prelude.{List}
 use Rattle.league_core.specs.declared.season.Score.{Score}
 use Rattle.league_core.specs.Options.{is_home_win, is_draw, has_score}
 use Rattle.score_box.specs.declared.cell.Cell.{Cell}

@@ -1,4 +1,6 @@
--- What a cell stands for, then what a box does, then the points that it leaves.
+-- The setting of a box, what a cell stands for, then what a box does, then the points that it
+-- leaves.
+pub mod Settings
 pub mod Cells
 pub mod Boxes
 pub mod Points

@@ -1,7 +1,8 @@
 -- The least and the most points of a box, fixture by fixture and together.
-use Rattle.std.specs.Prelude.{◌≡◌, ℕ, ◌+◌, min, max, pos, ◌≤◌, Bool, if◌then◌else◌, List}
+use Rattle.std.specs.Prelude.{◌≡◌, ℕ, ℤ, ◌+◌, ◌*◌, min, max, pos, ◌≤◌, Bool, if◌then◌else◌, List}
 use Rattle.league_core.specs.declared.sheet.Fixture.{Fixture}
 use Rattle.league_core.specs.declared.season.Score.{Score}
+use Rattle.league_core.specs.Limits.{set_width}
 use Rattle.league_core.specs.PointRanges.{range_of, range_from, points_of_sides, points_together}
 use Rattle.score_box.specs.declared.cell.Cell.{Cell}
 use Rattle.score_box.specs.declared.points.PointRange.{PointRange}
@@ -9,13 +10,19 @@ use Rattle.score_box.specs.declared.points.outcomes.MatchPoints.{MatchPoints}
 use Rattle.score_box.specs.Cells.{IsCellOf}
 use Rattle.score_box.specs.Boxes.{AreCellsOf}
 
--- the points of a home win, a draw and an away win for the sides that count
+-- the most points that can be taken off the clubs of a set: what a byte holds, of each
+abbrev pub most_taken_off : ℤ
+most_taken_off = pos (set_width * 255)
+
+-- the points of a home win for the sides that count: three where the home side does
 abbrev pub won_points : Bool → ℕ
 won_points home = if home then 3 else 0
 
+-- the points of a draw: one for each side that counts
 abbrev pub drawn_points : Bool → Bool → ℕ
 drawn_points home away = (if home then 1 else 0) + (if away then 1 else 0)
 
+-- the points of an away win: three where the away side counts
 abbrev pub lost_points : Bool → ℕ
 lost_points away = if away then 3 else 0
 
@@ -33,12 +40,17 @@ most_of_three wins draws losses home away =
 
 -- the least and the most points that the options of a cell give to the sides that count
 pub record IsPointsOf (cell : Cell) (home away : Bool) (points : MatchPoints) : Type 0 where
-  pub least : (options : List Score) → IsCellOf cell options → pos points.least ≡ (range_of (points_of_sides home away) options).least
-  pub most : (options : List Score) → IsCellOf cell options → pos points.most ≡ (range_of (points_of_sides home away) options).greatest
+  pub least : (options : List Score) → IsCellOf cell options
+      → pos points.least ≡ (range_of (points_of_sides home away) options).least
+  pub most : (options : List Score) → IsCellOf cell options
+      → pos points.most ≡ (range_of (points_of_sides home away) options).greatest
   pub at_most : points.most ≤ 3
   pub in_order : points.least ≤ points.most
 
 -- the least and the most match points of a set of clubs over all fixtures
-pub record IsRangeOver (fixtures : List Fixture) (cells : List Cell) (clubs : List ℕ) (points : PointRange) : Type 0 where
-  pub least : (options : List (List Score)) → AreCellsOf cells options → points.least ≡ (range_from (points_together clubs) fixtures options).least
-  pub most : (options : List (List Score)) → AreCellsOf cells options → points.most ≡ (range_from (points_together clubs) fixtures options).greatest
+pub record IsRangeOver (fixtures : List Fixture) (cells : List Cell) (clubs : List ℕ)
+    (points : PointRange) : Type 0 where
+  pub least : (options : List (List Score)) → AreCellsOf cells options
+      → points.least ≡ (range_from (points_together clubs) fixtures options).least
+  pub most : (options : List (List Score)) → AreCellsOf cells options
+      → points.most ≡ (range_from (points_together clubs) fixtures options).greatest

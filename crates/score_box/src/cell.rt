@@ -12,9 +12,10 @@ mod goals;
 pub use goals::Goals;
 use league_core::{Literal, Score, Test};
 
-/// A set of scores: those whose outcome is kept and whose goals are in the two ranges. Contracts see
+/// A set of scores: those whose outcome is kept and whose goals are in the two ranges. Contracts
+/// see
 /// the set.
-#[derive(Clone, Copy, Debug, PartialEq, Eq)]
+#[derive(Clone, Copy, Debug)]
 pub struct Cell {
     home_win: bool,
     draw: bool,

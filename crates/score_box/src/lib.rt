@@ -1,8 +1,11 @@
 //! The scores that are still open in a zone of a season, and the points that they leave to clubs.
 //!
-//! `Cell` has the open scores of one fixture, `ZoneBox` those of a zone, fixture by fixture, with the
-//! zone's marks. No list of scores is ever made: a cell is a set of outcomes and two ranges of goals.
-//! The meaning is in league_core's `specs/Options.antt` and `specs/PointRanges.antt`, and what a cell
+//! `Cell` has the open scores of one fixture, `ZoneBox` those of a zone, fixture by fixture, with
+//! the
+//! zone's marks. No list of scores is ever made: a cell is a set of outcomes and two ranges of
+//! goals.
+//! The meaning is in league_core's `specs/Options.antt` and `specs/PointRanges.antt`, and what a
+//! cell
 //! and a box stand for in `specs/Cells.antt` and `specs/Boxes.antt` here.
 #![tactic(auto)]
 
@@ -14,5 +17,5 @@ mod tests;
 mod zone_box;
 
 pub use cell::{Cell, Goals};
-pub use points::PointRange;
+pub use points::{MatchPoints, PointRange};
 pub use zone_box::ZoneBox;

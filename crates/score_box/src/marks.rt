@@ -3,6 +3,7 @@
 ghost use Rattle.std.specs.Prelude.{◌≡◌, ℕ, ◌<◌, ◌&&◌, ◌||◌, not, false};
 ghost use Rattle.league_core.specs.Sums.{has_club};
 ghost use Rattle.league_core.specs.ClubSets.{clubs_in};
+ghost use Rattle.league_core.specs.Limits.{set_width};
 ghost use Rattle.league_core.specs.Zones.{is_of_rival};
 ghost use Rattle.score_box.specs.Boxes.{IsSetOf, IsTestBelow};
 
@@ -28,7 +29,7 @@ impl Marks {
 
     /// The marks with those of one literal more.
     pub fn with(self, literal: &Literal) -> Marks
-        requires { (fixtures : ℕ) × IsTestBelow fixtures 32 literal.now.test }
+        requires { (fixtures : ℕ) × IsTestBelow fixtures set_width literal.now.test }
         ensures before { IsSetOf result.before (λ club. has_club (clubs_in self.before) club
             || (is_of_rival club literal.now.test && literal.now.yes)) }
         ensures after { IsSetOf result.after (λ club. has_club (clubs_in self.after) club

@@ -1,18 +1,21 @@
-//! The least and the most points of a set of clubs in a box: each fixture takes the outcome that gives
+//! The least and the most points of a set of clubs in a box: each fixture takes the outcome that
+//! gives
 //! the set least, or most. One walk over the fixtures gives both.
 
-ghost use Rattle.std.specs.Prelude.{◌≡◌, ◌≢◌, ◌≤◌, pos, ◌+ℤ◌, ◌≤ℤ◌, ◌<ℤ◌, length, slice_index, if◌then◌else◌};
+ghost use Rattle.std.specs.Prelude.{◌≡◌, ◌≢◌, ◌≤◌, pos, ◌+ℤ◌, ◌≤ℤ◌, ◌<ℤ◌, length, slice_index};
+ghost use Rattle.std.specs.Prelude.{if◌then◌else◌};
 ghost use Rattle.std.specs.List.{All};
+ghost use Rattle.league_core.specs.Limits.{most_fixtures, most_points, set_width};
 ghost use Rattle.league_core.specs.ClubSets.{clubs_in};
 ghost use Rattle.league_core.specs.PointRanges.{total_of};
 ghost use Rattle.score_box.specs.Cells.{IsEmptyCell};
-ghost use Rattle.score_box.specs.Points.{IsPointsOf, IsRangeOver};
+ghost use Rattle.score_box.specs.Points.{IsPointsOf, IsRangeOver, most_taken_off};
 
 mod outcomes;
 
 use crate::cell::Cell;
 use league_core::{ClubSet, Fixture};
-use outcomes::MatchPoints;
+pub use outcomes::MatchPoints;
 
 /// The least and the most points that a set of clubs can have together.
 #[derive(Clone, Copy, Debug, PartialEq, Eq)]
@@ -39,12 +42,12 @@ impl PointRange {
 /// The match points of a set of clubs over all fixtures, each with its cell.
 pub fn match_points(fixtures: &[Fixture], cells: &[Cell], set: ClubSet) -> PointRange
     requires many { length fixtures.now ≡ length cells.now }
-    requires few { length fixtures.now ≤ 600 }
+    requires few { length fixtures.now ≤ most_fixtures }
     requires apart { All (λ match. match.home ≢ match.away) fixtures.now }
     requires some { All (λ cell. ¬ IsEmptyCell cell) cells.now }
     ensures range { IsRangeOver fixtures.now cells.now (clubs_in set) result }
     ensures within { (pos 0 ≤ℤ result.least) × (result.least ≤ℤ result.most)
-        × (result.most ≤ℤ pos 1800) }
+        × (result.most ≤ℤ most_points) }
 {
     let mut total = PointRange { least: 0, most: 0 };
     for i in 0..fixtures.len() {
@@ -57,10 +60,10 @@ pub fn match_points(fixtures: &[Fixture], cells: &[Cell], set: ClubSet) -> Point
 
 /// The points that are taken off the clubs of a set.
 pub fn deducted(deductions: &[u8], set: ClubSet) -> i32
-    requires { length deductions.now ≤ 32 }
+    requires { length deductions.now ≤ set_width }
     ensures total { result
         ≡ total_of (λ club. pos (slice_index deductions.now club)) (clubs_in set) }
-    ensures within { (pos 0 ≤ℤ result) × (result ≤ℤ pos 8160) }
+    ensures within { (pos 0 ≤ℤ result) × (result ≤ℤ most_taken_off) }
 {
     let mut total = 0;
     for club in 0..deductions.len() {

@@ -1,4 +1,5 @@
-//! Cells and sums against plain lists of scores, over zones that are drawn. The lists are made here by
+//! Cells and sums against plain lists of scores, over zones that are drawn. The lists are made here
+//! by
 //! trying every score, as a reader would on paper.
 
 ghost use Rattle.std.specs.Prelude.{◌≡◌, ◌<◌, IfOk, length};
@@ -8,8 +9,8 @@ ghost use Rattle.league_core.specs.Zones.{is_zone_of, is_test_of};
 
 use crate::zone_box::ZoneBox;
 use league_core::{
-    Club, ClubSet, Event, Fixture, Listing, Literal, Name, OutOfMemory, Score, Season, Sheet, Test,
-    Zone,
+    Club, ClubSet, Event, Fixture, Listing, Literal, Name, Order, OutOfMemory, Score, Season,
+    Sheet, Test, Zone,
 };
 use std::alloc::Global;
 use std::process::Abort;
@@ -96,6 +97,7 @@ fn sheet(alloc: Global) -> Result<Sheet, OutOfMemory>
         lines: Listing::new(alloc),
         goal_limit: 2,
         budget: 1,
+        order: Order::HeadFirst,
     })
 }
 

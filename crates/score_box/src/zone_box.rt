@@ -1,15 +1,19 @@
 //! The box of a zone: what it leaves of each fixture, and the rivals that it marks.
 
-ghost use Rattle.std.specs.Prelude.{◌≡◌, ◌↔◌, ◌<◌, ◌≤ℤ◌, pos, neg_ℤ, IsTrue, IfOk, [], length, slice_index_or};
+ghost use Rattle.std.specs.Prelude.{◌≡◌, ◌↔◌, ◌<◌, ◌≤ℤ◌, pos, neg_ℤ, IsTrue, IfOk, [], length};
+ghost use Rattle.std.specs.Prelude.{slice_index_or};
 ghost use Rattle.std.specs.List.{All};
 ghost use Rattle.league_core.specs.Sheets.{IsWithinLimits};
-ghost use Rattle.league_core.specs.Seasons.{IsSeasonOf};
+ghost use Rattle.league_core.specs.Seasons.{IsLeague, IsSeasonOf};
 ghost use Rattle.league_core.specs.ClubSets.{clubs_in};
+ghost use Rattle.league_core.specs.Limits.{most_points};
 ghost use Rattle.league_core.specs.PointRanges.{least_points_of, most_points_of};
 ghost use Rattle.league_core.specs.Zones.{is_zone_of, marked_before, marked_after};
 ghost use Rattle.league_core.specs.Options.{options_in, has_score, has_finish, is_single};
 ghost use Rattle.score_box.specs.Cells.{IsCellOf, IsEmptyCell, HasOneScore};
-ghost use Rattle.score_box.specs.Boxes.{Contents, IsSetOf};
+ghost use Rattle.score_box.specs.Boxes.{IsSetOf};
+ghost use Rattle.score_box.specs.Settings.{HasFinish};
+ghost use Rattle.score_box.specs.Points.{most_taken_off};
 
 mod build;
 
@@ -20,7 +24,8 @@ use league_core::{ClubSet, OutOfMemory, Score, Season, Sheet, Zone};
 use std::alloc::Global;
 use std::marker::Model;
 
-/// The options of a zone, one cell for each fixture, with the zone's marks. Contracts see the sheet,
+/// The options of a zone, one cell for each fixture, with the zone's marks. Contracts see the
+/// sheet,
 /// the season and the literals that it was made from.
 #[derive(Drop)]
 pub struct ZoneBox<'a> {
@@ -32,9 +37,9 @@ pub struct ZoneBox<'a> {
 }
 
 impl<'a> Model for ZoneBox<'a> {
-    ghost use Rattle.score_box.specs.Boxes.{Contents};
+    ghost use Rattle.score_box.specs.Settings.{Setting};
 
-    ghost Value = { Contents };
+    ghost Value = { Setting };
 
     ghost use Rattle.score_box.specs.Boxes.{IsBoxOf};
 
@@ -57,8 +62,7 @@ impl<'a> ZoneBox<'a> {
         season: &'a Season,
         zone: &'a Zone,
     ) -> Result<ZoneBox<'a>, OutOfMemory>
-        requires limits { IsWithinLimits sheet.now }
-        requires of_sheet { IsSeasonOf sheet.now season.now }
+        requires league { IsLeague sheet.now season.now }
         requires zone { IsTrue (is_zone_of sheet.now zone.now.literals) }
         ensures { IfOk result (λ b. b ≡ record {
           sheet = sheet.now;
@@ -94,7 +98,7 @@ impl<'a> ZoneBox<'a> {
     /// One of the scores that a fixture has left.
     pub fn pick(&self, fixture: u16) -> Score
         requires in_range { fixture < length self.now.season.scores }
-        requires has_finish { IsTrue (has_finish self.now.sheet self.now.season self.now.zone) }
+        requires has_finish { HasFinish self.now }
         ensures { IsTrue (has_score
             (slice_index_or (options_in self.now.sheet self.now.season self.now.zone) fixture [])
             result) }
@@ -105,13 +109,13 @@ impl<'a> ZoneBox<'a> {
     /// The least and the most points that the clubs of a set can have together: match points less
     /// deductions, negative where the deductions exceed them. One walk over the fixtures.
     pub fn points(&self, set: ClubSet) -> PointRange
-        requires { IsTrue (has_finish self.now.sheet self.now.season self.now.zone) }
+        requires { HasFinish self.now }
         ensures least { result.least
             ≡ least_points_of self.now.sheet self.now.season self.now.zone (clubs_in set) }
         ensures most { result.most
             ≡ most_points_of self.now.sheet self.now.season self.now.zone (clubs_in set) }
         ensures in_order { result.least ≤ℤ result.most }
-        ensures within { (neg_ℤ (pos 8160) ≤ℤ result.least) × (result.most ≤ℤ pos 1800) }
+        ensures within { (neg_ℤ most_taken_off ≤ℤ result.least) × (result.most ≤ℤ most_points) }
     {
         let won = points::match_points(self.sheet.fixtures.as_slice(), &self.cells, set);
         let off = points::deducted(self.season.deductions(), set);
@@ -123,20 +127,20 @@ impl<'a> ZoneBox<'a> {
 
     /// The least points that the clubs of a set can have together.
     pub fn low_points(&self, set: ClubSet) -> i32
-        requires { IsTrue (has_finish self.now.sheet self.now.season self.now.zone) }
+        requires { HasFinish self.now }
         ensures least { result
             ≡ least_points_of self.now.sheet self.now.season self.now.zone (clubs_in set) }
-        ensures within { (neg_ℤ (pos 8160) ≤ℤ result) × (result ≤ℤ pos 1800) }
+        ensures within { (neg_ℤ most_taken_off ≤ℤ result) × (result ≤ℤ most_points) }
     {
         self.points(set).least
     }
 
     /// The most points that the clubs of a set can have together.
     pub fn high_points(&self, set: ClubSet) -> i32
-        requires { IsTrue (has_finish self.now.sheet self.now.season self.now.zone) }
+        requires { HasFinish self.now }
         ensures most { result
             ≡ most_points_of self.now.sheet self.now.season self.now.zone (clubs_in set) }
-        ensures within { (neg_ℤ (pos 8160) ≤ℤ result) × (result ≤ℤ pos 1800) }
+        ensures within { (neg_ℤ most_taken_off ≤ℤ result) × (result ≤ℤ most_points) }
     {
         self.points(set).most
     }

@@ -15,7 +15,7 @@ use Rattle.tie_bound.specs.Tables.{AreSums}
 use Rattle.tie_bound.specs.Answers.{record_of, overall_of, by_table, by_overall_table, is_sure_by, answer_at, GoesOn}
 use Rattle.league_core.specs.ClubSets.{clubs_below}
 use Rattle.league_core.proofs.ClubSetLemmas.{clubs_below-filter, clubs_below-filter_range}
-use Rattle.score_box.specs.Boxes.{Contents}
+use Rattle.score_box.specs.Settings.{Setting}
 use Rattle.tie_bound.specs.Boxes.{options_in_box}
 use Rattle.tie_bound.proofs.AnswerLemmas.{sure_then-assoc, sure_then-level, is_level-then, record_of-is, overall_of-is}
 
@@ -51,12 +51,12 @@ within_deeper times sheet options group rival club sure fewer =
 
 -- what is judged so far: each club's answer, and the round to come for those that are level, who are
 -- the group
-pub record IsJudged (box : Contents) (club times : ℕ) (group : List ℕ) (answers : List Sure) : Type 0 where
+pub record IsJudged (box : Setting) (club times : ℕ) (group : List ℕ) (answers : List Sure) : Type 0 where
   pub order : (rival : ℕ) → rival < 24 → sure_order box.sheet box.season box.zone rival club ≡ sure_then (answer_at answers rival) (sure_within times box.sheet (options_in_box box) group rival club)
   pub level : (x : ℕ) → has_club group x ≡ (ltb x (length box.sheet.clubs) && is_level (answer_at answers x))
 
 -- by points the group is that of all clubs on the club's points
-pub judged_by_points : (box : Contents) (club times bits : ℕ) (answers : List Sure) → length box.sheet.clubs ≤ 24 → ((rival : ℕ) → rival < 24 → answer_at answers rival ≡ sure_by_points box.sheet box.season (options_in_box box) rival club) → ((x : ℕ) → has_club (clubs_below 32 bits) x ≡ (ltb x (length box.sheet.clubs) && is_level (answer_at answers x))) → times ≡ length (clubs_below 32 bits) → IsJudged box club times (clubs_below 32 bits) answers
+pub judged_by_points : (box : Setting) (club times bits : ℕ) (answers : List Sure) → length box.sheet.clubs ≤ 24 → ((rival : ℕ) → rival < 24 → answer_at answers rival ≡ sure_by_points box.sheet box.season (options_in_box box) rival club) → ((x : ℕ) → has_club (clubs_below 32 bits) x ≡ (ltb x (length box.sheet.clubs) && is_level (answer_at answers x))) → times ≡ length (clubs_below 32 bits) → IsJudged box club times (clubs_below 32 bits) answers
 unfolding sure_order
 judged_by_points box club times bits answers few by_points level all = record {
   order = λ rival within.
@@ -82,12 +82,12 @@ judged_by_points box club times bits answers few by_points level all = record {
         ∙ ap (λ n. sure_within n box.sheet (options_in_box box) (clubs_below 32 bits) rival club) (sym all)
 
 -- the records of the group taken
-abbrev pub Taken : Contents → ℕ → List ℕ → List Sure → List Sure → Type 0
+abbrev pub Taken : Setting → ℕ → List ℕ → List Sure → List Sure → Type 0
 Taken box club group answers taken =
     (rival : ℕ) → rival < 24 → answer_at taken rival ≡ sure_then (answer_at answers rival) (by_record_ranges box.sheet (options_in_box box) group rival club)
 
 -- a last step after the records
-judged_last : (box : Contents) (club times : ℕ) (group : List ℕ) (answers taken last : List Sure) (next : ℕ → Sure) → IsJudged box club times group answers → Taken box club group answers taken → ((rival : ℕ) → rival < 24 → answer_at last rival ≡ sure_then (answer_at taken rival) (next rival)) → ((rival : ℕ) → sure_within times box.sheet (options_in_box box) group rival club ≡ sure_then (by_record_ranges box.sheet (options_in_box box) group rival club) (next rival)) → (rival : ℕ) → rival < 24 → answer_at last rival ≡ sure_order box.sheet box.season box.zone rival club
+judged_last : (box : Setting) (club times : ℕ) (group : List ℕ) (answers taken last : List Sure) (next : ℕ → Sure) → IsJudged box club times group answers → Taken box club group answers taken → ((rival : ℕ) → rival < 24 → answer_at last rival ≡ sure_then (answer_at taken rival) (next rival)) → ((rival : ℕ) → sure_within times box.sheet (options_in_box box) group rival club ≡ sure_then (by_record_ranges box.sheet (options_in_box box) group rival club) (next rival)) → (rival : ℕ) → rival < 24 → answer_at last rival ≡ sure_order box.sheet box.season box.zone rival club
 judged_last box club times group answers taken last next judged takes lasts round rival within =
     lasts rival within
     ∙ ap (λ a. sure_then a (next rival)) (takes rival within)
@@ -95,18 +95,18 @@ judged_last box club times group answers taken last next judged takes lasts roun
     ∙ ap (sure_then (answer_at answers rival)) (sym (round rival))
     ∙ sym (judged.order rival within)
 
-pub judged_open : (box : Contents) (club times : ℕ) (group : List ℕ) (answers taken last : List Sure) → IsJudged box club (suc times) group answers → Taken box club group answers taken → ((rival : ℕ) → rival < 24 → answer_at last rival ≡ sure_then (answer_at taken rival) Unknown) → are_all_sure box.sheet (options_in_box box) group club ≡ false → (rival : ℕ) → rival < 24 → answer_at last rival ≡ sure_order box.sheet box.season box.zone rival club
+pub judged_open : (box : Setting) (club times : ℕ) (group : List ℕ) (answers taken last : List Sure) → IsJudged box club (suc times) group answers → Taken box club group answers taken → ((rival : ℕ) → rival < 24 → answer_at last rival ≡ sure_then (answer_at taken rival) Unknown) → are_all_sure box.sheet (options_in_box box) group club ≡ false → (rival : ℕ) → rival < 24 → answer_at last rival ≡ sure_order box.sheet box.season box.zone rival club
 judged_open box club times group answers taken last judged takes lasts not_sure =
     judged_last box club (suc times) group answers taken last (λ _. Unknown) judged takes lasts
     (λ rival. within_open times box.sheet (options_in_box box) group rival club not_sure)
 
-pub judged_whole : (box : Contents) (club times : ℕ) (group level : List ℕ) (answers taken last : List Sure) → IsJudged box club (suc times) group answers → Taken box club group answers taken → ((rival : ℕ) → rival < 24 → answer_at last rival ≡ sure_then (answer_at taken rival) (by_overall_ranges box.sheet (options_in_box box) rival club)) → are_all_sure box.sheet (options_in_box box) group club ≡ true → level ≡ filter (is_surely_in box.sheet (options_in_box box) group club) group → length level ≡ length group → (rival : ℕ) → rival < 24 → answer_at last rival ≡ sure_order box.sheet box.season box.zone rival club
+pub judged_whole : (box : Setting) (club times : ℕ) (group level : List ℕ) (answers taken last : List Sure) → IsJudged box club (suc times) group answers → Taken box club group answers taken → ((rival : ℕ) → rival < 24 → answer_at last rival ≡ sure_then (answer_at taken rival) (by_overall_ranges box.sheet (options_in_box box) rival club)) → are_all_sure box.sheet (options_in_box box) group club ≡ true → level ≡ filter (is_surely_in box.sheet (options_in_box box) group club) group → length level ≡ length group → (rival : ℕ) → rival < 24 → answer_at last rival ≡ sure_order box.sheet box.season box.zone rival club
 judged_whole box club times group level answers taken last judged takes lasts sure is whole =
     judged_last box club (suc times) group answers taken last (λ rival. by_overall_ranges box.sheet (options_in_box box) rival club) judged takes lasts
     (λ rival. within_whole times box.sheet (options_in_box box) group rival club sure (ap length (sym is) ∙ whole))
 
 -- the clubs that are level after the records are the smaller group
-pub level_is : (box : Contents) (club times group bits : ℕ) (answers taken : List Sure) → length box.sheet.clubs ≤ 24 → IsJudged box club times (clubs_below 32 group) answers → Taken box club (clubs_below 32 group) answers taken → ((x : ℕ) → has_club (clubs_below 32 bits) x ≡ (ltb x (length box.sheet.clubs) && is_level (answer_at taken x))) → clubs_below 32 bits ≡ filter (is_surely_in box.sheet (options_in_box box) (clubs_below 32 group) club) (clubs_below 32 group)
+pub level_is : (box : Setting) (club times group bits : ℕ) (answers taken : List Sure) → length box.sheet.clubs ≤ 24 → IsJudged box club times (clubs_below 32 group) answers → Taken box club (clubs_below 32 group) answers taken → ((x : ℕ) → has_club (clubs_below 32 bits) x ≡ (ltb x (length box.sheet.clubs) && is_level (answer_at taken x))) → clubs_below 32 bits ≡ filter (is_surely_in box.sheet (options_in_box box) (clubs_below 32 group) club) (clubs_below 32 group)
 level_is box club times group bits answers taken few judged takes level =
     clubs_below-filter 32 bits group (is_surely_in box.sheet (options_in_box box) (clubs_below 32 group) club)
     (λ x. level x ∙ at x (cases_lt x (length box.sheet.clubs)) ∙ ap (λ b. b && is_surely_in box.sheet (options_in_box box) (clubs_below 32 group) club x) (sym (judged.level x)))
@@ -124,7 +124,7 @@ level_is box club times group bits answers taken few judged takes level =
         ap (λ b. b && is_level (answer_at taken x)) (le-ltb x (length box.sheet.clubs) past)
         ∙ sym (ap (λ b. (b && is_level (answer_at answers x)) && is_surely_in box.sheet (options_in_box box) (clubs_below 32 group) club x) (le-ltb x (length box.sheet.clubs) past))
 
-pub judged_deeper : (box : Contents) (club times : ℕ) (group level : List ℕ) (answers taken : List Sure) → IsJudged box club (suc times) group answers → Taken box club group answers taken → are_all_sure box.sheet (options_in_box box) group club ≡ true → level ≡ filter (is_surely_in box.sheet (options_in_box box) group club) group → (length level ≢ length group) → ((x : ℕ) → has_club level x ≡ (ltb x (length box.sheet.clubs) && is_level (answer_at taken x))) → IsJudged box club times level taken
+pub judged_deeper : (box : Setting) (club times : ℕ) (group level : List ℕ) (answers taken : List Sure) → IsJudged box club (suc times) group answers → Taken box club group answers taken → are_all_sure box.sheet (options_in_box box) group club ≡ true → level ≡ filter (is_surely_in box.sheet (options_in_box box) group club) group → (length level ≢ length group) → ((x : ℕ) → has_club level x ≡ (ltb x (length box.sheet.clubs) && is_level (answer_at taken x))) → IsJudged box club times level taken
 judged_deeper box club times group level answers taken judged takes sure is fewer level_of = record {
   order = λ rival within.
       judged.order rival within
@@ -136,7 +136,7 @@ judged_deeper box club times group level answers taken judged takes sure is fewe
 }
 
 -- with no round to come each answer is the last
-pub judged_all : (box : Contents) (club : ℕ) (group : List ℕ) (answers : List Sure) → IsJudged box club 0 group answers → (rival : ℕ) → rival < 24 → answer_at answers rival ≡ sure_order box.sheet box.season box.zone rival club
+pub judged_all : (box : Setting) (club : ℕ) (group : List ℕ) (answers : List Sure) → IsJudged box club 0 group answers → (rival : ℕ) → rival < 24 → answer_at answers rival ≡ sure_order box.sheet box.season box.zone rival club
 judged_all box club group answers judged rival within =
     sym (judged.order rival within ∙ sure_then-level (answer_at answers rival))
 
@@ -146,12 +146,12 @@ by_table-is sheet options group table club rival are =
     ap (λ rs. sure_by_ranges rs (record_of (sums_at table club))) (record_of-is sheet options group table rival are)
     ∙ ap (sure_by_ranges (record_ranges sheet options group rival)) (record_of-is sheet options group table club are)
 
-pub taken_from : (box : Contents) (club : ℕ) (group : List ℕ) (table : List Sums) (answers taken : List Sure) → AreSums (worth_among group) box.sheet.fixtures (options_in_box box) table → length answers ≡ 24 → GoesOn (by_table table club) answers taken → Taken box club group answers taken
+pub taken_from : (box : Setting) (club : ℕ) (group : List ℕ) (table : List Sums) (answers taken : List Sure) → AreSums (worth_among group) box.sheet.fixtures (options_in_box box) table → length answers ≡ 24 → GoesOn (by_table table club) answers taken → Taken box club group answers taken
 taken_from box club group table answers taken are long goes rival within =
     goes rival (omega arith)
     ∙ ap (sure_then (answer_at answers rival)) (by_table-is box.sheet (options_in_box box) group table club rival are)
 
-pub overall_from : (box : Contents) (sheet : Sheet) (club : ℕ) (table : List Sums) (taken last : List Sure) → sheet ≡ box.sheet → AreSums worth_to box.sheet.fixtures (options_in_box box) table → length taken ≡ 24 → GoesOn (by_overall_table sheet table club) taken last → (rival : ℕ) → rival < 24 → answer_at last rival ≡ sure_then (answer_at taken rival) (by_overall_ranges box.sheet (options_in_box box) rival club)
+pub overall_from : (box : Setting) (sheet : Sheet) (club : ℕ) (table : List Sums) (taken last : List Sure) → sheet ≡ box.sheet → AreSums worth_to box.sheet.fixtures (options_in_box box) table → length taken ≡ 24 → GoesOn (by_overall_table sheet table club) taken last → (rival : ℕ) → rival < 24 → answer_at last rival ≡ sure_then (answer_at taken rival) (by_overall_ranges box.sheet (options_in_box box) rival club)
 overall_from box sheet club table taken last same are long goes rival within =
     goes rival (omega arith)
     ∙ ap (λ s. sure_then (answer_at taken rival) (by_overall_table s table club rival)) same
@@ -168,7 +168,7 @@ all_sure-is sheet options group table club are =
         ∙ ap (λ rs. is_level (sure_by_ranges (record_ranges sheet options group other) rs) || is_apart (record_ranges sheet options group other) rs) (record_of-is sheet options group table club are)
 
 -- one round less
-pub one_less : (box : Contents) (club left next : ℕ) (group : List ℕ) (answers : List Sure) → left ≡ suc next → IsJudged box club left group answers → IsJudged box club (suc next) group answers
+pub one_less : (box : Setting) (club left next : ℕ) (group : List ℕ) (answers : List Sure) → left ≡ suc next → IsJudged box club left group answers → IsJudged box club (suc next) group answers
 one_less box club left next group answers same judged =
     let P : ℕ → Type 0 = λ n. IsJudged box club n group answers in
     subst P same judged

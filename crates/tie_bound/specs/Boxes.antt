@@ -3,12 +3,12 @@ use Rattle.std.specs.Prelude.{Bool, List}
 use Rattle.std.specs.List.{list_all}
 use Rattle.league_core.specs.declared.season.Score.{Score}
 use Rattle.league_core.specs.Options.{options_in, has_one_outcome}
-use Rattle.score_box.specs.Boxes.{Contents}
+use Rattle.score_box.specs.Settings.{Setting}
 
 -- the options of the fixtures of a box
-abbrev pub options_in_box : Contents → List (List Score)
+abbrev pub options_in_box : Setting → List (List Score)
 options_in_box box = options_in box.sheet box.season box.zone
 
 -- each fixture of the box has one outcome
-abbrev pub have_one_outcome : Contents → Bool
+abbrev pub have_one_outcome : Setting → Bool
 have_one_outcome box = list_all has_one_outcome (options_in_box box)

@@ -1,10 +1,12 @@
-//! The goals of the scores in a cell, outcome by outcome. Here a cell is shown to have a score of an
+//! The goals of the scores in a cell, outcome by outcome. Here a cell is shown to have a score of
+//! an
 //! outcome, or none: whether it is empty, or has one score alone, is read off from that.
 
 ghost use Rattle.std.specs.Prelude.{◌≡◌, IsTrue, ◌↔◌, MatchOption, IfSome};
 ghost use Rattle.league_core.specs.declared.season.Score.{Score};
 ghost use Rattle.league_core.specs.Options.{score_of, is_home_win, is_draw, is_away_win};
-ghost use Rattle.score_box.specs.Cells.{allows, IsAllowed, AllowsNone, IsSpanOf, IsAt, IsEmptyCell, HasOneScore};
+ghost use Rattle.score_box.specs.Cells.{allows, IsAllowed, AllowsNone, IsSpanOf, IsAt, IsEmptyCell};
+ghost use Rattle.score_box.specs.Cells.{HasOneScore};
 
 use super::Cell;
 use league_core::Score;
@@ -95,7 +97,7 @@ impl Cell {
         }
     }
 
-    /// A score that is left: the widest home win, else the least draw, else the widest away win.
+    /// A score that is left, or none.
     pub fn first(&self) -> Option<Score>
         ensures { MatchOption result (IsEmptyCell self.now) (λ score. IsTrue (allows self.now score)) }
     {

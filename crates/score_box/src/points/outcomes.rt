@@ -1,14 +1,16 @@
-//! The points of one fixture: three for a win, one to each side for a draw, by the outcomes that its
+//! The points of one fixture: three for a win, one to each side for a draw, by the outcomes that
+//! its
 //! cell has left.
 
 ghost use Rattle.std.specs.Prelude.{◌≡◌, ◌≤◌, if◌then◌else◌};
 ghost use Rattle.score_box.specs.Cells.{IsEmptyCell};
-ghost use Rattle.score_box.specs.Points.{won_points, drawn_points, lost_points, least_of_three, most_of_three, IsPointsOf};
+ghost use Rattle.score_box.specs.Points.{won_points, drawn_points, lost_points, least_of_three};
+ghost use Rattle.score_box.specs.Points.{most_of_three, IsPointsOf};
 
 use crate::cell::Cell;
 
 /// The least and the most points that a fixture gives to the sides that count.
-#[derive(Clone, Copy)]
+#[derive(Clone, Copy, Debug, PartialEq, Eq)]
 pub struct MatchPoints {
     pub least: u8,
     pub most: u8,

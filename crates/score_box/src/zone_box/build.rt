@@ -1,9 +1,11 @@
 //! How a box is made: the cells of the season, then what each literal leaves of them.
 
-ghost use Rattle.std.specs.Prelude.{◌≡◌, ℕ, ◌<◌, ◌==◌, Bool, true, false, IfOk, IfSome, IfNone, MatchOption, List, [], length, Option, Some};
+ghost use Rattle.std.specs.Prelude.{◌≡◌, ℕ, ◌<◌, ◌==◌, Bool, true, false, IfOk, IfSome, IfNone};
+ghost use Rattle.std.specs.Prelude.{MatchOption, List, [], length, Option, Some};
 ghost use Rattle.std.specs.List.{All};
 ghost use Rattle.league_core.specs.declared.season.Score.{Score};
 ghost use Rattle.league_core.specs.declared.zone.Literal.{Literal};
+ghost use Rattle.league_core.specs.Limits.{set_width};
 ghost use Rattle.league_core.specs.Finishes.{may_end};
 ghost use Rattle.league_core.specs.Zones.{is_on, is_of_score, marked_before, marked_after};
 ghost use Rattle.league_core.specs.Options.{options_from};
@@ -42,7 +44,7 @@ fn first_cell(played: Option<Score>, goal_limit: u8) -> Cell
 
 /// Cuts the cells by each literal of a score, and gives the marks of the others.
 pub fn take_literals(cells: &mut [Cell], literals: &[Literal]) -> Marks
-    requires { All (λ literal. IsTestBelow (length cells.old) 32 literal.test) literals.now }
+    requires { All (λ literal. IsTestBelow (length cells.old) set_width literal.test) literals.now }
     ensures cells { (limit : ℕ) (scores : List (Option Score))
         → AreCellsOf cells.old (options_from limit [] 0 scores)
         → AreCellsOf cells.new (options_from limit literals.now 0 scores) }
@@ -59,7 +61,7 @@ pub fn take_literals(cells: &mut [Cell], literals: &[Literal]) -> Marks
 
 /// Cuts the cell of the fixture that a literal is of, if it is of one.
 fn cut_cells(cells: &mut [Cell], literal: &Literal)
-    requires { IsTestBelow (length cells.old) 32 literal.now.test }
+    requires { IsTestBelow (length cells.old) set_width literal.now.test }
     ensures { TakesLiteral cells.old cells.new literal.now }
 {
     match fixture_of(&literal.test) {
@@ -72,7 +74,7 @@ fn cut_cells(cells: &mut [Cell], literal: &Literal)
 fn fixture_of(test: &Test) -> Option<u16>
     ensures some { IfSome result (λ fixture. (is_of_score test.now ≡ true)
         × ((number : ℕ) → is_on number test.now ≡ (fixture == number))
-        × ((fixtures : ℕ) → IsTestBelow fixtures 32 test.now → fixture < fixtures)) }
+        × ((fixtures : ℕ) → IsTestBelow fixtures set_width test.now → fixture < fixtures)) }
     ensures none { IfNone result ((number : ℕ) → is_on number test.now ≡ false) }
 {
     match test {

@@ -6,5 +6,8 @@ use Rattle.score_box.proofs.zone_box.have_one_score.Goals as goal
 
 pub returns : goal.returns
 returns c =
-    all_decided c.all.result HasOneScore (λ cell. ¬ HasOneScore cell) c.args.cells.now (λ cell one more. more one)
-    (cases_from_all _ _ _ HasOneScore (λ cell. ¬ HasOneScore cell) c.all.ensures.ran (YieldsList-from_slice c.args.cells.now cc) (λ x q k. search (rules, tests)) (λ x q k. search (rules, tests)))
+    all_decided c.all.result HasOneScore (λ cell. ¬ HasOneScore cell) c.args.cells.now
+    (λ cell one more. more one)
+    (cases_from_all _ _ _ HasOneScore (λ cell. ¬ HasOneScore cell) c.all.ensures.ran
+    (YieldsList-from_slice c.args.cells.now cc) (λ x q k. search (rules, tests))
+    (λ x q k. search (rules, tests)))

@@ -6,5 +6,8 @@ use Rattle.score_box.proofs.zone_box.have_scores.Goals as goal
 
 pub returns : goal.returns
 returns c =
-    all_decided c.all.result (λ cell. ¬ IsEmptyCell cell) IsEmptyCell c.args.cells.now (λ cell some none. some none)
-    (cases_from_all _ _ _ (λ cell. ¬ IsEmptyCell cell) IsEmptyCell c.all.ensures.ran (YieldsList-from_slice c.args.cells.now cc) (λ x q k. search (rules, tests)) (λ x q k. search (rules, tests)))
+    all_decided c.all.result (λ cell. ¬ IsEmptyCell cell) IsEmptyCell c.args.cells.now
+    (λ cell some none. some none)
+    (cases_from_all _ _ _ (λ cell. ¬ IsEmptyCell cell) IsEmptyCell c.all.ensures.ran
+    (YieldsList-from_slice c.args.cells.now cc) (λ x q k. search (rules, tests))
+    (λ x q k. search (rules, tests)))

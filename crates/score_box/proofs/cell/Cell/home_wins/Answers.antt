@@ -3,4 +3,5 @@ use Rattle.score_box.proofs.cell.Cell.home_wins.Goals as goal
 
 pub returns-then-self-4-clause-goals : goal.returns-then-self-4-clause-goals
 returns-then-self-4-clause-goals c =
-    home_wins_span c.args.self.now c.max.result c.min.result c.if-self.true c.if-self-2.true c.if-self-3.true c.if-self-4.true c.max.ensures c.min.ensures
+    home_wins_span c.args.self.now c.max.result c.min.result c.if-self.true c.if-self-2.true
+    c.if-self-3.true c.if-self-4.true c.max.ensures c.min.ensures

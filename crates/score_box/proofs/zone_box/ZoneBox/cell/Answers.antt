@@ -2,7 +2,8 @@
 use Rattle.std.proofs.Common.{◌<◌, length, subst, ap, ◌∙◌, arith}
 use Rattle.league_core.specs.Options.{options_in}
 use Rattle.score_box.specs.Cells.{allows}
-use Rattle.score_box.specs.Boxes.{Contents, AreCellsOf}
+use Rattle.score_box.specs.Boxes.{AreCellsOf}
+use Rattle.score_box.specs.Settings.{Setting}
 use Rattle.score_box.proofs.BoxLemmas.{cells_of_season}
 use Rattle.score_box.proofs.zone_box.ZoneBox.cell.Goals as goal
 
@@ -10,7 +11,7 @@ pub index-requires : goal.index-requires
 index-requires c =
     let now = c.args.self.now in
     let cells = c.self.inside.cells.items in
-    let Have : Contents → Type 0 = λ v. AreCellsOf cells (options_in v.sheet v.season v.zone) in
+    let Have : Setting → Type 0 = λ v. AreCellsOf cells (options_in v.sheet v.season v.zone) in
     let are = subst Have c.self.view_is c.self.invariant.options in
     omega (arith, cells_of_season now.sheet now.season now.zone cells are, c.self.inside.cells.ok.0)
 
@@ -18,7 +19,10 @@ pub returns : goal.returns
 returns c =
     let now = c.args.self.now in
     let cells = c.self.inside.cells.items in
-    let Have : Contents → Type 0 = λ v. AreCellsOf cells (options_in v.sheet v.season v.zone) in
-    let are : AreCellsOf cells (options_in now.sheet now.season now.zone) = subst Have c.self.view_is c.self.invariant.options in
-    let within : c.args.fixture < length cells = omega (arith, cells_of_season now.sheet now.season now.zone cells are) in
-    λ score. ap (λ cell. allows cell score) c.index.ensures ∙ are.each c.args.fixture c.index.result.now within score
+    let Have : Setting → Type 0 = λ v. AreCellsOf cells (options_in v.sheet v.season v.zone) in
+    let are : AreCellsOf cells (options_in now.sheet now.season
+    now.zone) = subst Have c.self.view_is c.self.invariant.options in
+    let within : c.args.fixture < length cells = omega
+    (arith, cells_of_season now.sheet now.season now.zone cells are) in
+    λ score. ap (λ cell. allows cell score) c.index.ensures
+    ∙ are.each c.args.fixture c.index.result.now within score

@@ -11,8 +11,12 @@ pub take_literals-marks-requires : goal.take_literals-marks-requires
 take_literals-marks-requires c =
     let sheet = c.args.sheet.now in
     let many : length sheet.fixtures ≡ length c.deref_mut.result.now =
-    sym c.requires.of_sheet.scores ∙ sym (ap length c.scores.ensures.scores)
-    ∙ sym (length-options_from sheet.goal_limit [] 0 c.scores.result.now) ∙ sym c.in_ok-cells.ensures.many ∙ sym (ap length c.deref_mut.ensures.value) in
-    let Below : List Literal → Type 0 = λ zone. All (λ literal. IsTestBelow (length c.deref_mut.result.now) 32 literal.test) zone in
-    let below : Below c.args.zone.now.literals = tests_below sheet (length c.deref_mut.result.now) c.args.zone.now.literals many (omega (arith, c.requires.limits.most_clubs)) c.requires.zone in
+    sym c.requires.league.of_sheet.scores ∙ sym (ap length c.scores.ensures.scores)
+    ∙ sym (length-options_from sheet.goal_limit [] 0 c.scores.result.now)
+    ∙ sym c.in_ok-cells.ensures.many ∙ sym (ap length c.deref_mut.ensures.value) in
+    let Below : List Literal → Type 0 = λ zone. All
+    (λ literal. IsTestBelow (length c.deref_mut.result.now) 32 literal.test) zone in
+    let below : Below c.args.zone.now.literals = tests_below sheet
+    (length c.deref_mut.result.now) c.args.zone.now.literals many
+    (omega (arith, c.requires.league.limits.most_clubs)) c.requires.zone in
     subst Below (sym c.as_slice.ensures) below

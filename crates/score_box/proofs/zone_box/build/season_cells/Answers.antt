@@ -13,20 +13,26 @@ loop-score-preserved c =
     let cells = c.loop-score.cells.items in
     let scores = c.args.scores.now in
     let limit = c.args.goal_limit in
-    let At : ℕ → Type 0 = λ k. IsCellOf c.first_cell.result (get_or (options_from limit [] 0 scores) k []) in
-    let here : At c.loop-score.score-index = first_options limit scores c.loop-score.score-index c.first_cell.result c.loop-score-test.true
+    let At : ℕ → Type 0 = λ k. IsCellOf c.first_cell.result
+    (get_or (options_from limit [] 0 scores) k []) in
+    let here : At c.loop-score.score-index = first_options limit scores c.loop-score.score-index
+    c.first_cell.result c.loop-score-test.true
     (λ score.
     c.first_cell.ensures score
-    ∙ ap (λ played. may_end limit played (Some score)) (get_or_default scores c.loop-score.score-index _ None c.loop-score-test.true)) in
+    ∙ ap (λ played. may_end limit played (Some score))
+    (get_or_default scores c.loop-score.score-index _ None c.loop-score-test.true)) in
     rw c.in_ok-push.ensures.items (
       omega (arith, length_push cells c.first_cell.result, c.loop-score.invariant.0),
-      options_push cells c.first_cell.result (options_from limit [] 0 scores) c.loop-score.invariant.1 (subst At (sym c.loop-score.invariant.0) here),
+      options_push cells c.first_cell.result
+          (options_from limit [] 0 scores) c.loop-score.invariant.1
+          (subst At (sym c.loop-score.invariant.0) here),
     )
 
 pub returns : goal.returns
 returns c = record {
   many =
-      let all : length c.loop-score.cells.items ≡ length c.args.scores.now = omega (arith, c.loop-score.invariant.0) in
+      let all : length c.loop-score.cells.items ≡ length c.args.scores.now = omega
+      (arith, c.loop-score.invariant.0) in
       all ∙ sym (length-options_from c.args.goal_limit [] 0 c.args.scores.now);
   each = c.loop-score.invariant.1;
 }
