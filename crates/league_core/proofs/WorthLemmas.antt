@@ -70,34 +70,52 @@ none_right : (b : Bool) (m : ℕ) → cond b 0 0 + m ≡ m
 none_right true m = omega arith
 none_right false m = omega arith
 
--- a home win gives points to the home side, a draw to both, an away win to the away side
+-- the points of the two sides after a home win, a draw and an away win
+pub sides_at_win : (score : Score) → is_home_win score ≡ true
+    → (match_points score.home score.away false ≡ pos 3)
+    × (match_points score.away score.home true ≡ pos 0)
+sides_at_win score won =
+    let below = ltb-true score.away score.home won in
+    (points_won score.home score.away false below, points_lost score.away score.home true below)
+
+pub sides_at_draw : (score : Score) → is_draw score ≡ true
+    → (match_points score.home score.away false ≡ pos 1)
+    × (match_points score.away score.home true ≡ pos 1)
+sides_at_draw score drawn =
+    let level = eqb-true score.home score.away drawn in (
+      points_drawn score.home score.away false level,
+      points_drawn score.away score.home true (sym level),
+    )
+
+pub sides_at_loss : (score : Score) → is_away_win score ≡ true
+    → (match_points score.home score.away false ≡ pos 0)
+    × (match_points score.away score.home true ≡ pos 3)
+sides_at_loss score lost =
+    let below = ltb-true score.home score.away lost in
+    (points_lost score.home score.away false below, points_won score.away score.home true below)
+
+-- so a home win gives points to the home side, a draw to both, an away win to the away side
 pub points_at_win : (home away : Bool) (score : Score) → is_home_win score ≡ true
     → points_of_sides home away score ≡ pos (won_points home)
 points_at_win home away score won =
-    let below : score.away < score.home = ltb-true score.away score.home won in
+    let sides = sides_at_win score won in
     both_sides home away (match_points score.home score.away false)
-    (match_points score.away score.home true) 3 0
-    (points_won score.home score.away false below)
-    (points_lost score.away score.home true below)
+    (match_points score.away score.home true) 3 0 sides.0 sides.1
     ∙ ap pos (none_left away (won_points home))
 
 pub points_at_draw : (home away : Bool) (score : Score) → is_draw score ≡ true
     → points_of_sides home away score ≡ pos (drawn_points home away)
-points_at_draw home away score level =
-    let same : score.home ≡ score.away = eqb-true score.home score.away level in
+points_at_draw home away score drawn =
+    let sides = sides_at_draw score drawn in
     both_sides home away (match_points score.home score.away false)
-    (match_points score.away score.home true) 1 1
-    (points_drawn score.home score.away false same)
-    (points_drawn score.away score.home true (sym same))
+    (match_points score.away score.home true) 1 1 sides.0 sides.1
 
 pub points_at_loss : (home away : Bool) (score : Score) → is_away_win score ≡ true
     → points_of_sides home away score ≡ pos (lost_points away)
 points_at_loss home away score lost =
-    let below : score.home < score.away = ltb-true score.home score.away lost in
+    let sides = sides_at_loss score lost in
     both_sides home away (match_points score.home score.away false)
-    (match_points score.away score.home true) 0 3
-    (points_lost score.home score.away false below)
-    (points_won score.away score.home true below)
+    (match_points score.away score.home true) 0 3 sides.0 sides.1
     ∙ ap pos (none_right home (lost_points away))
 
 -- none of them gives more than three points

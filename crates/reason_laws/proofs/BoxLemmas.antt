@@ -1,5 +1,4 @@
--- Finishes in the box of a zone: each is a finish of the season, and a zone in which each fixture
--- has one option has one of them.
+-- Finishes in the box of a zone: a zone in which each fixture has one option has one of them.
 use Rattle.std.proofs.Common.{◌≡◌, ℕ, suc, true, List, [], ◌∷◌, Option, Some, None, refl, sym, ap}
 use Rattle.std.proofs.Common.{◌∙◌}
 use Rattle.std.specs.List.{list_all}
@@ -13,29 +12,6 @@ use Rattle.league_core.specs.Options.{has_score, meets, options_of, options_from
 use Rattle.league_core.specs.Options.{has_one_score, is_single, takes_option, take_options, IsInBox}
 use Rattle.league_core.proofs.OptionLemmas.{has_score-options_of, has_score-first, same_score-true}
 use Rattle.reason_laws.proofs.FixedLemmas.{all_alike}
-
--- a finish in the box of a zone is a finish of the season
-box_may_end : (limit : ℕ) (zone : List Literal) (fixture : ℕ) (season scores : List (Option Score))
-    → take_options (options_from limit zone fixture season) scores ≡ true
-    → may_all_end limit season scores ≡ true
-box_may_end limit zone fixture [] [] takes = refl
-box_may_end limit zone fixture [] (ended ∷ scores) takes = absurd (false≢true takes)
-box_may_end limit zone fixture (played ∷ season) [] takes = absurd (false≢true takes)
-box_may_end limit zone fixture (played ∷ season) (None ∷ scores) takes = absurd (false≢true takes)
-box_may_end limit zone fixture (played ∷ season) (Some score ∷ scores) takes =
-    let parts = and_parts (takes_option (options_of limit zone fixture played) (Some score))
-    (take_options (options_from limit zone (suc fixture) season) scores) takes in
-    and_from (may_end limit played (Some score)) (may_all_end limit season scores)
-    (and_parts (meets zone fixture score) (may_end limit played (Some score))
-    (sym (has_score-options_of limit zone fixture played score) ∙ parts.0)).1
-    (box_may_end limit zone (suc fixture) season scores parts.1)
-
-pub box_is_finish : (sheet : Sheet) (season : Results) (zone : List Literal) (finish : Results)
-    → IsInBox sheet season zone finish → IsFinishOf sheet season finish
-box_is_finish sheet season zone finish box = record {
-  deductions = box.deductions;
-  scores = box_may_end sheet.goal_limit zone 0 season.scores finish.scores box.scores;
-}
 
 -- the first option of each fixture, and none where none is left
 abbrev first_scores : List (List Score) → List (Option Score)

@@ -42,7 +42,7 @@ use Rattle.league_core.specs.Splits.{are_outcomes_fixed}
 use Rattle.reason_laws.specs.SureLaws.{sure_of}
 use Rattle.reason_laws.proofs.MemberLemmas.{list_all-weaker, points_in_box}
 use Rattle.reason_laws.proofs.ReasonLemmas.{count_by-cons, count_by-front, count_by-other}
-use Rattle.reason_laws.proofs.BoxLemmas.{box_is_finish}
+use Rattle.league_core.proofs.BoxLemmas.{box_is_finish}
 use Rattle.reason_laws.proofs.SureOrderLemmas.{points_fixed}
 use Rattle.reason_laws.proofs.SingleLemmas.{single_fixed, order_is}
 

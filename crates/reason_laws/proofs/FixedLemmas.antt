@@ -15,6 +15,8 @@ use Rattle.league_core.specs.Options.{has_one_score, has_one_outcome}
 use Rattle.league_core.specs.PointRanges.{range_of, range_from, points_together}
 use Rattle.league_core.proofs.OptionLemmas.{same_score-true}
 use Rattle.reason_laws.proofs.MemberLemmas.{list_all-weaker}
+use Rattle.league_core.proofs.OutcomeLemmas.{one_of_three, same_outcome-itself}
+use Rattle.league_core.proofs.WorthLemmas.{sides_at_win, sides_at_draw, sides_at_loss}
 use Rattle.league_core.proofs.PointRangeLemmas.{least_reached, greatest_reached}
 
 -- the options have one value
@@ -78,17 +80,6 @@ scores_alike value (first ∷ options) one score other is is_other =
     (same_score-true first third same)) one in
     sym (each score is) ∙ each other is_other
 
--- a side that scored more has three points and the other none; sides that scored as many have one
--- each
-points_of_win : (more fewer : ℕ) (away other : Bool) → nat_lt fewer more ≡ true
-    → (match_points more fewer away ≡ pos 3) × (match_points fewer more other ≡ pos 0)
-points_of_win more fewer away other win = (grind (arith, nat_tests), grind (arith, nat_tests))
-
-points_of_draw : (goals other_goals : ℕ) (away other : Bool) → (goals == other_goals) ≡ true
-    → (match_points goals other_goals away ≡ pos 1) × (match_points other_goals goals other ≡ pos 1)
-points_of_draw goals other_goals away other draw =
-    (grind (arith, nat_tests), grind (arith, nat_tests))
-
 -- the points of a match are those of its outcome
 abbrev SamePoints : Score → Score → Type 0
 SamePoints score other =
@@ -97,28 +88,13 @@ SamePoints score other =
 
 points_by_outcome : (score other : Score) → same_outcome score other ≡ true → SamePoints score other
 points_by_outcome score other same =
-    elim (or_cases ((is_home_win score && is_home_win other) || (is_draw score && is_draw other))
-    (is_away_win score && is_away_win other) same) as (λ _. SamePoints score other) [
-      | inl home_or_draw ↦
-          elim (or_cases (is_home_win score && is_home_win other)
-          (is_draw score && is_draw other) home_or_draw) as (λ _. SamePoints score other) [
-            | inl home ↦
-                let both = and_parts (is_home_win score) (is_home_win other) home in
-                let mine = points_of_win score.home score.away false true both.0 in
-                let theirs = points_of_win other.home other.away false true both.1 in
-                (mine.0 ∙ sym theirs.0, mine.1 ∙ sym theirs.1)
-            | inr draw ↦
-                let both = and_parts (is_draw score) (is_draw other) draw in
-                let mine = points_of_draw score.home score.away false true both.0 in
-                let theirs = points_of_draw other.home other.away false true both.1 in
-                (mine.0 ∙ sym theirs.0, mine.1 ∙ sym theirs.1)
-          ]
-      | inr away ↦
-          let both = and_parts (is_away_win score) (is_away_win other) away in
-          let mine = points_of_win score.away score.home true false both.0 in
-          let theirs = points_of_win other.away other.home true false both.1 in
-          (mine.1 ∙ sym theirs.1, mine.0 ∙ sym theirs.0)
-    ]
+    one_of_three {P = SamePoints score other} score other same
+    (λ mine theirs. let here = sides_at_win score mine in
+    let there = sides_at_win other theirs in (here.0 ∙ sym there.0, here.1 ∙ sym there.1))
+    (λ mine theirs. let here = sides_at_draw score mine in
+    let there = sides_at_draw other theirs in (here.0 ∙ sym there.0, here.1 ∙ sym there.1))
+    (λ mine theirs. let here = sides_at_loss score mine in
+    let there = sides_at_loss other theirs in (here.0 ∙ sym there.0, here.1 ∙ sym there.1))
 
 worth_by_outcome : (club : ℕ) (match : Fixture) (score other : Score) → SamePoints score other
     → worth_to match_points club match score ≡ worth_to match_points club match other
@@ -139,20 +115,12 @@ points_alike club match (first ∷ options) one score other is is_other =
     (worth_by_outcome club match first third (points_by_outcome first third same))) one in
     sym (each score is) ∙ each other is_other
 
--- a score has its own outcome
-same_outcome-itself : (score other : Score) → score ≡ other → same_outcome score other ≡ true
-same_outcome-itself score other same = subst (λ (x : Score). same_outcome score x ≡ true) same
-    (one_of score.home score.away)
-  where
-    one_of : (m n : ℕ)
-        → ((nat_lt n m && nat_lt n m) || ((m == n) && (m == n)) || (nat_lt m n && nat_lt m n))
-        ≡ true
-    one_of m n = grind (arith, nat_tests)
-
 -- one option has one outcome
 pub one_score-outcome : (options : List Score) → has_one_score options ≡ true
     → has_one_outcome options ≡ true
 one_score-outcome [] one = refl
 one_score-outcome (first ∷ options) one =
     list_all-weaker (same_score first) (same_outcome first) options
-    (λ other same. same_outcome-itself first other (same_score-true first other same)) one
+    (λ other same.
+    subst (λ (x : Score). same_outcome first x ≡ true) (same_score-true first other same)
+    (same_outcome-itself first)) one

@@ -29,6 +29,7 @@ use Rattle.league_core.specs.Options.{takes_option, take_options, IsInBox}
 use Rattle.league_core.specs.PointRanges.{range_from, total_of, points_together, least_points_of}
 use Rattle.league_core.specs.PointRanges.{most_points_of}
 use Rattle.league_core.proofs.OptionLemmas.{has_score-options_of}
+use Rattle.league_core.proofs.SumLemmas.{total_of-sum_over}
 use Rattle.league_core.proofs.PointRangeLemmas.{range_bounds}
 
 -- a test of a fixture is true exactly where the fixture's score passes
@@ -143,35 +144,6 @@ sum_in_range value (match ∷ matches) (options ∷ more) (Some score ∷ scores
     let rest = sum_in_range value matches more scores parts.1 in
     (omega (arith, ints), omega (arith, ints))
 
-sum_over-zero : (matches : List Fixture) (scores : List (Option Score))
-    → sum_over (λ match score. pos 0) matches scores ≡ pos 0
-sum_over-zero [] scores = refl
-sum_over-zero (match ∷ matches) [] = refl
-sum_over-zero (match ∷ matches) (None ∷ scores) = omega (arith, ints, sum_over-zero matches scores)
-sum_over-zero (match ∷ matches) (Some score ∷ scores) = omega
-    (arith, ints, sum_over-zero matches scores)
-
-sum_over-sum : (value other : Fixture → Score → ℤ) (matches : List Fixture)
-    (scores : List (Option Score))
-    → sum_over (λ match score. value match score +ℤ other match score) matches scores
-    ≡ sum_over value matches scores +ℤ sum_over other matches scores
-sum_over-sum value other [] scores = refl
-sum_over-sum value other (match ∷ matches) [] = refl
-sum_over-sum value other (match ∷ matches) (None ∷ scores) = omega
-    (arith, ints, sum_over-sum value other matches scores)
-sum_over-sum value other (match ∷ matches) (Some score ∷ scores) = omega
-    (arith, ints, sum_over-sum value other matches scores)
-
--- the clubs of a set together have the points that matches give them together
-total_of-sums : (clubs : List ℕ) (matches : List Fixture) (scores : List (Option Score))
-    → total_of (λ club. sum_over (worth_to match_points club) matches scores) clubs ≡ sum_over
-    (points_together clubs) matches scores
-total_of-sums [] matches scores = sym (sum_over-zero matches scores)
-total_of-sums (club ∷ clubs) matches scores =
-    ap (λ n. sum_over (worth_to match_points club) matches scores +ℤ n)
-    (total_of-sums clubs matches scores)
-    ∙ sym (sum_over-sum (worth_to match_points club) (points_together clubs) matches scores)
-
 total_of-less : (value off : ℕ → ℤ) (clubs : List ℕ)
     → total_of (λ club. value club -ℤ off club) clubs ≡ total_of value clubs -ℤ total_of off clubs
 total_of-less value off [] = refl
@@ -189,7 +161,7 @@ points_in_box sheet season zone finish clubs box =
     let bounds = sum_in_range (points_together clubs) sheet.fixtures
     (options_in sheet season zone) finish.scores box.scores in
     let total = total_of-less won off clubs in
-    let sums = total_of-sums clubs sheet.fixtures finish.scores in
+    let sums = total_of-sum_over (worth_to match_points) clubs sheet.fixtures finish.scores in
     let same = ap (λ ds. total_of (λ club. pos (slice_index ds club)) clubs) box.deductions in
     (omega (arith, ints), omega (arith, ints))
 

@@ -4,6 +4,7 @@ use Rattle.std.proofs.Common.{◌≡◌, ℕ, Bool, true, false, not, ◌&&◌, 
 use Rattle.std.proofs.Common.{◌∷◌, length, refl, sym, ap, ◌∙◌, inl, inr}
 use Rattle.std.specs.Prelude.{◌⊎◌, ◌↔◌}
 use Rattle.std.specs.List.{list_any}
+use Rattle.std.proofs.Math.Bool.{or-false}
 use Rattle.std.proofs.lemmas.Bool.{true≢false, and_parts, and_from, or_left, or_right, not-true}
 use Rattle.std.proofs.lemmas.Bool.{cases_Bool}
 use Rattle.std.proofs.lemmas.List.Folds.{list_any-append}
@@ -168,10 +169,6 @@ pub leaves_show : (sheet : Sheet) (season : Results) (question : Question) (tree
 leaves_show sheet season question tree facts =
     none_at_root sheet season question (leaves_decide sheet season question tree [] facts)
 
-or_false : (b : Bool) → (b || false) ≡ b
-or_false true = refl
-or_false false = refl
-
 -- a half has the marks of the zone and that of its test
 pub before_in_half : (zone : List Literal) (test : Test) (holds : Bool) (rival : ℕ)
     → marked_before (with_test zone test holds) rival ≡
@@ -179,7 +176,7 @@ pub before_in_half : (zone : List Literal) (test : Test) (holds : Bool) (rival :
 before_in_half zone test holds rival =
     list_any-append (λ (literal : Literal). is_of_rival rival literal.test && literal.yes) zone
     (record { test = test; yes = holds } ∷ [])
-    ∙ ap (λ b. marked_before zone rival || b) (or_false (is_of_rival rival test && holds))
+    ∙ ap (λ b. marked_before zone rival || b) (or-false (is_of_rival rival test && holds))
 
 pub after_in_half : (zone : List Literal) (test : Test) (holds : Bool) (rival : ℕ)
     → marked_after (with_test zone test holds) rival ≡
@@ -187,7 +184,7 @@ pub after_in_half : (zone : List Literal) (test : Test) (holds : Bool) (rival : 
 after_in_half zone test holds rival =
     list_any-append (λ (literal : Literal). is_of_rival rival literal.test && not literal.yes) zone
     (record { test = test; yes = holds } ∷ [])
-    ∙ ap (λ b. marked_after zone rival || b) (or_false (is_of_rival rival test && not holds))
+    ∙ ap (λ b. marked_after zone rival || b) (or-false (is_of_rival rival test && not holds))
 
 -- a test that is not of the rival leaves its marks
 pub before_kept : (zone : List Literal) (test : Test) (holds : Bool) (rival : ℕ)
@@ -196,7 +193,7 @@ pub before_kept : (zone : List Literal) (test : Test) (holds : Bool) (rival : �
 before_kept zone test holds rival other =
     before_in_half zone test holds rival
     ∙ ap (λ b. marked_before zone rival || (b && holds)) other
-    ∙ or_false (marked_before zone rival)
+    ∙ or-false (marked_before zone rival)
 
 pub after_kept : (zone : List Literal) (test : Test) (holds : Bool) (rival : ℕ)
     → is_of_rival rival test ≡ false
@@ -204,7 +201,7 @@ pub after_kept : (zone : List Literal) (test : Test) (holds : Bool) (rival : ℕ
 after_kept zone test holds rival other =
     after_in_half zone test holds rival
     ∙ ap (λ b. marked_after zone rival || (b && not holds)) other
-    ∙ or_false (marked_after zone rival)
+    ∙ or-false (marked_after zone rival)
 
 -- a proper split tests a fixture or a club of the sheet, and not the question's own club
 pub proper_names : (sheet : Sheet) (season : Results) (question : Question) (zone : List Literal)
