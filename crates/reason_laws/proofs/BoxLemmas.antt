@@ -1,5 +1,5 @@
 -- Finishes in the box of a zone: a zone in which each fixture has one option has one of them.
-use Rattle.std.proofs.Common.{◌≡◌, ℕ, suc, true, List, [], ◌∷◌, Option, Some, None, refl, sym, ap}
+use Rattle.std.proofs.Common.{◌≡◌, true, List, [], ◌∷◌, Option, Some, None, refl, sym, ap}
 use Rattle.std.proofs.Common.{◌∙◌}
 use Rattle.std.specs.List.{list_all}
 use Rattle.std.proofs.lemmas.Bool.{false≢true, and_parts, and_from}
@@ -7,10 +7,10 @@ use Rattle.league_core.specs.declared.sheet.Sheet.{Sheet}
 use Rattle.league_core.specs.declared.season.Score.{Score}
 use Rattle.league_core.specs.declared.zone.Literal.{Literal}
 use Rattle.league_core.specs.Results.{Results}
-use Rattle.league_core.specs.Finishes.{same_score, may_end, may_all_end, IsFinishOf}
-use Rattle.league_core.specs.Options.{has_score, meets, options_of, options_from, options_in}
-use Rattle.league_core.specs.Options.{has_one_score, is_single, takes_option, take_options, IsInBox}
-use Rattle.league_core.proofs.OptionLemmas.{has_score-options_of, has_score-first, same_score-true}
+use Rattle.league_core.specs.Finishes.{same_score}
+use Rattle.league_core.specs.Options.{has_score, options_in}
+use Rattle.league_core.specs.Options.{has_one_score, is_single, take_options, IsInBox}
+use Rattle.league_core.proofs.OptionLemmas.{has_score-first, same_score-true}
 use Rattle.reason_laws.proofs.FixedLemmas.{all_alike}
 
 -- the first option of each fixture, and none where none is left

@@ -1,16 +1,15 @@
 -- Where the options of each fixture are alike, a sum has one value: points where they have one
 -- outcome, every sum where each fixture has one option.
-use Rattle.std.proofs.Common.{◌≡◌, ℕ, ℤ, pos, ◌+ℤ◌, Bool, true, false, ◌&&◌, ◌||◌, ◌==◌, cond}
-use Rattle.std.proofs.Common.{nat_lt, List, [], ◌∷◌, refl, sym, ap, ◌∙◌, subst, inl, inr, arith}
+use Rattle.std.proofs.Common.{◌≡◌, ℕ, ℤ, pos, ◌+ℤ◌, Bool, true, false, ◌==◌, cond}
+use Rattle.std.proofs.Common.{List, [], ◌∷◌, refl, sym, ap, ◌∙◌, subst, inl, inr, arith}
 use Rattle.std.specs.List.{list_all}
 use Rattle.std.proofs.lemmas.Int.{ints}
 use Rattle.std.proofs.lemmas.Bool.{false≢true, and_parts, or_cases}
-use Rattle.std.proofs.lemmas.Bool.Decides.{nat_tests}
 use Rattle.league_core.specs.declared.sheet.Fixture.{Fixture}
 use Rattle.league_core.specs.declared.season.Score.{Score}
 use Rattle.league_core.specs.Finishes.{same_score}
 use Rattle.league_core.specs.Sums.{match_points, worth_to}
-use Rattle.league_core.specs.Options.{has_score, is_home_win, is_draw, is_away_win, same_outcome}
+use Rattle.league_core.specs.Options.{has_score, same_outcome}
 use Rattle.league_core.specs.Options.{has_one_score, has_one_outcome}
 use Rattle.league_core.specs.PointRanges.{range_of, range_from, points_together}
 use Rattle.league_core.proofs.OptionLemmas.{same_score-true}
