@@ -27,7 +27,7 @@ FRONT_DATE = re.compile(
 FRONT_TIME = re.compile(r"^\d{1,2}[.:h]\d{2}(?:\s+UTC[+-]?\d*)?\s+")
 HEADING = re.compile(r"^(=|▪|»|\|)|^(matchday|round|spieltag|jornada|giornata|journée|week|group|"
                      r"regular|final|stage)\b[^-–:]*(\|.*)?$", re.IGNORECASE)
-SCORERS = re.compile(r"^[\[(].*(\d+'|\d+\+\d+'|;|-)")
+SCORERS = re.compile(r"^(?!\(\d+\)\s)[\[(].*(\d'|;)")
 MIDDLE_SCORE = re.compile(r"^(.+?)\s+" + GOALS + r"\s+(?:\([\d\s,:–-]*\)\s*)?([^\s(].*)$")
 TWO_NAMES = re.compile(r"^(.+?)\s+(?:-|–|—|v|vs|vs\.)\s+(.+?)(?:\s+" + GOALS + r")?"
                        r"\s*(?:\([\d\s,:–-]*\))?$")
@@ -181,7 +181,8 @@ def _read_lines(text: str) -> MatchList:
             continue
         if line.startswith("=") and not title:
             title = line.strip("= ")
-        if HEADING.match(line) or SCORERS.match(line):
+        is_heading = HEADING.match(line) and not re.search(r"\sv\s", line)
+        if is_heading or SCORERS.match(line):
             continue
         match = match_of_line(line, number, date)
         if isinstance(match, Match):
