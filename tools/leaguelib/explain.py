@@ -14,7 +14,7 @@ from .answers import Answer, BadAnswer, Report, read_report
 from .feeds import Input
 from .running import (add_input_arguments, ask_lines, position_of_ask, read_files, read_league,
                       report_of, run_program)
-from .sentences import explanation
+from .sentences import USUAL_STEPS, explanation
 from .texts import Season, Sheet
 from .wording import days_of, paragraph
 
@@ -29,6 +29,8 @@ def add_arguments(parser: argparse.ArgumentParser) -> None:
                         help="explain this report instead of running the program")
     parser.add_argument("--club", metavar="NAME", help="this club alone")
     parser.add_argument("--line", type=int, metavar="K", help="the first K places alone")
+    parser.add_argument("--steps", type=int, metavar="N", default=USUAL_STEPS,
+                        help=f"tell proofs of at most N lines ({USUAL_STEPS})")
 
 
 class Told:
@@ -56,8 +58,8 @@ def run(arguments: argparse.Namespace) -> int:
     answer = told.report.answers[position]
     _test_names(league.sheet, season, answer)
     days = days_of(data, league.sheet)
-    text = explanation(league, position, answer, told.is_checked, days, arguments.club,
-                       arguments.line)
+    most_steps = arguments.steps if told.is_checked else 0
+    text = explanation(league, position, answer, most_steps, days, arguments.club, arguments.line)
     common.write_text((paragraph(told.note) + "\n\n" if told.note else "") + text)
     return common.DOUBTFUL if told.note == NO_CHECK else common.DONE
 

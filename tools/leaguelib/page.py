@@ -13,7 +13,7 @@ from pathlib import Path
 from typing import TYPE_CHECKING
 
 from .answers import Place, Verdict
-from .sentences import decided_text, proof_steps, unsettled_texts
+from .sentences import USUAL_STEPS, decided_text, proof_steps, unsettled_texts
 from .wording import counted, limit_phrase, lots_phrase, match_text, place_phrase, score_text
 
 if TYPE_CHECKING:
@@ -183,7 +183,7 @@ def _reason(board: Board, verdict: Verdict) -> list[str]:
         parts = [f"<p>{safe(decided_text([verdict], verdict.word, limit))}</p>"]
         claim = "outside" if verdict.word == "clinched" else "inside"
         if board.has_proofs and claim in verdict.proofs:
-            steps = proof_steps(board.sheet, board.season, verdict, claim)
+            steps = proof_steps(board.sheet, board.season, verdict, claim, USUAL_STEPS)
             items = [f"<li>{safe(' '.join(step.split()))}</li>" for step in steps]
             parts += ["<ul>", *items, "</ul>"]
         return parts

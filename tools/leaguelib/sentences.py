@@ -14,13 +14,18 @@ from .texts import MOST_BUDGET, Season, Sheet
 from .wording import (counted, limit_phrase, listed, lots_phrase, match_text, paragraph,
                       place_phrase, score_text, shown)
 
+USUAL_STEPS = 100
 
-def explanation(league: Input, position: int, answer: Answer, with_proofs: bool,
+
+def explanation(league: Input, position: int, answer: Answer, most_steps: int,
                 days: dict[int, str], club: str | None, line: int | None) -> str:
-    """One ask in sentences."""
+    """One ask in sentences; proofs of at most so many steps are told."""
     sheet, season = league.sheet, league.season_at(position)
     verdicts = [verdict for verdict in answer.verdicts
                 if club in (None, verdict.club) and line in (None, verdict.places)]
+    if not sheet.lines:
+        raise common.Trouble("the sheet has no `line`, so there is no place to explain. Add one, "
+                             "like `line,1` for the first place.")
     if not verdicts:
         raise common.Trouble("the answer has no verdict of this club and line; clubs are written "
                              "as in the sheet: " + listed([shown(c.name) for c in sheet.clubs]))
@@ -29,7 +34,7 @@ def explanation(league: Input, position: int, answer: Answer, with_proofs: bool,
     for places in dict.fromkeys(verdict.places for verdict in verdicts):
         of_line = [verdict for verdict in verdicts if verdict.places == places]
         parts += ["", place_phrase(places).capitalize(), ""]
-        parts += _decided(sheet, season, of_line, with_proofs)
+        parts += _decided(sheet, season, of_line, most_steps)
         for verdict in of_line:
             if verdict.word == "possible":
                 parts += _two_ways(sheet, verdict)
@@ -59,7 +64,7 @@ def _opening(sheet: Sheet, season: Season, done: str, line: int, days: dict[int,
     return "\n".join([text, *lines])
 
 
-def _decided(sheet: Sheet, season: Season, verdicts: list[Verdict], with_proofs: bool) -> list[str]:
+def _decided(sheet: Sheet, season: Season, verdicts: list[Verdict], most_steps: int) -> list[str]:
     """A sentence on those that have clinched, and one on those that have lost."""
     parts: list[str] = []
     limit = limit_phrase(sheet, season)
@@ -67,13 +72,13 @@ def _decided(sheet: Sheet, season: Season, verdicts: list[Verdict], with_proofs:
         found = [verdict for verdict in verdicts if verdict.word == word]
         if not found:
             continue
-        told = [verdict for verdict in found if with_proofs and claim in verdict.proofs]
+        told = [verdict for verdict in found if most_steps and claim in verdict.proofs]
         rest = [verdict for verdict in found if verdict not in told]
         groups = ([rest] if rest else []) + [[verdict] for verdict in told]
         for group in groups:
             parts.append(paragraph("- " + decided_text(group, word, limit)))
             if group[0] in told:
-                parts += ["  Why:", *proof_steps(sheet, season, group[0], claim)]
+                parts += ["  Why:", *proof_steps(sheet, season, group[0], claim, most_steps)]
     return parts
 
 
@@ -86,10 +91,15 @@ def decided_text(group: list[Verdict], word: str, limit: str) -> str:
     return f"{names} {has} lost {place}: sure to miss it {limit}."
 
 
-def proof_steps(sheet: Sheet, season: Season, verdict: Verdict, claim: str) -> list[str]:
-    """The steps of a proof that was accepted, as paragraphs."""
+def proof_steps(sheet: Sheet, season: Season, verdict: Verdict, claim: str,
+                most_steps: int) -> list[str]:
+    """The steps of a proof that was accepted, as paragraphs; a longer one is only counted."""
+    proof = verdict.proofs[claim]
+    if len(proof.lines) > most_steps:
+        return [paragraph(f"The proof has {len(proof.lines)} lines, too many to tell here. The "
+                          "checker has accepted it.", 4)]
     try:
-        return steps_of(sheet, season, verdict, verdict.proofs[claim])
+        return steps_of(sheet, season, verdict, proof)
     except (IndexError, KeyError, TypeError, ValueError, AttributeError) as fault:
         raise common.Trouble(f"the proof behind line {verdict.line} of the report has not the "
                              "form of a proof.") from fault
