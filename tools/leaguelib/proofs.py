@@ -17,6 +17,10 @@ from .zones import Zone
 DEEPEST_INDENT = 10
 
 
+class DoesNotAddUp(Exception):
+    """A step that the checker accepted, and whose sums come out otherwise here."""
+
+
 @dataclass
 class Case:
     """A case that is still to be shut: how deep it lies, and the words that lead to it."""
@@ -91,7 +95,7 @@ def reason_text(zone: Zone, verdict: Verdict, is_inside: bool, reason: list) -> 
     elif kind == "high":
         text = _high_text(zone, reason[1])
     elif kind == "tie":
-        text = _tie_text(zone)
+        text = _tie_text(zone, verdict, is_inside)
     else:
         text = f"The points that are supposed of {shown(zone.name(zone.club))} cannot be reached."
     return text + " That cannot be."
@@ -106,9 +110,11 @@ def _count_text(zone: Zone, verdict: Verdict, is_inside: bool) -> str:
     club, size = shown(verdict.club), len(zone.sheet.clubs)
     if is_inside:
         ahead = zone.marked(True)
+        _hold(len(ahead) >= verdict.places)
         return (f"Then {_names(zone, ahead)} {_is_are(ahead)} ahead of {club}, which is in place "
                 f"{len(ahead) + 1} or further down, and not in {place_phrase(verdict.places)}.")
     behind = zone.marked(False)
+    _hold(len(behind) >= size - verdict.places)
     return (f"Then {_names(zone, behind)} {_is_are(behind)} not ahead of {club}, so at most "
             f"{size - 1 - len(behind)} of the other {size - 1} clubs are, and {club} is in place "
             f"{size - len(behind)} or higher: it does not miss {place_phrase(verdict.places)}.")
@@ -121,6 +127,8 @@ def _is_are(clubs: list[int]) -> str:
 def _low_text(zone: Zone, clubs: list[int]) -> str:
     """Rivals that must stay at the club's most points, and have more."""
     club, most = shown(zone.name(zone.club)), zone.points([zone.club], True)
+    _hold(set(clubs) <= set(zone.marked(False)))
+    _hold(zone.points(clubs, False) > len(clubs) * most)
     each = "" if len(clubs) == 1 else "Each of "
     return (f"{each}{_names(zone, clubs)}, not being ahead of {club}, has at most as many points "
             f"as {club}. "
@@ -132,6 +140,8 @@ def _low_text(zone: Zone, clubs: list[int]) -> str:
 def _high_text(zone: Zone, clubs: list[int]) -> str:
     """Rivals that must come up to the club's least points, and have fewer."""
     club, least = shown(zone.name(zone.club)), zone.points([zone.club], False)
+    _hold(set(clubs) <= set(zone.marked(True)))
+    _hold(zone.points(clubs, True) < len(clubs) * least)
     each = "" if len(clubs) == 1 else "Each of "
     return (f"{each}{_names(zone, clubs)}, being ahead of {club}, has at least as many points as "
             f"{club}. {_sum_text(zone, [zone.club], False)} "
@@ -168,23 +178,51 @@ def _shared(fixture: Fixture, names: set[str], gain: int, most: bool) -> str:
     return " (a draw gives one to each, a win three to one)"
 
 
-def _tie_text(zone: Zone) -> str:
+def _tie_text(zone: Zone, verdict: Verdict, is_inside: bool) -> str:
     """Each match has its outcome, and the criteria place the rivals."""
     standing = Standing(zone)
     outcomes = [_outcome_text(zone, fixture) for fixture in zone.season.open_fixtures(zone.sheet)]
-    club = shown(zone.name(zone.club))
+    club = shown(verdict.club)
     text = f"Here it is settled who wins: {listed(outcomes)}." if outcomes else "All is played."
     text += f" {club} ends on {counted(standing.points[zone.club], 'point')}."
-    marks = {**{rival: "ahead" for rival in zone.marked(True)},
-             **{rival: "not ahead" for rival in zone.marked(False)}}
-    for rival in (entry.number for entry in zone.sheet.clubs if entry.number != zone.club):
-        found, why = standing.judge(rival)
-        place = {"above": "ahead of", "below": "behind"}.get(found)
-        if place:
-            text += f" {shown(zone.name(rival))} is {place} {club} ({why})."
-        if rival in marks:
-            text += f" {shown(zone.name(rival))} was supposed to be {marks[rival]}."
-    return text + " This does not fit what was supposed."
+    found = {rival.number: standing.judge(rival.number) for rival in zone.sheet.clubs
+             if rival.number != zone.club}
+    for is_before, sure, words in ((False, "above", "was supposed not to be ahead, and is"),
+                                   (True, "below", "was supposed to be ahead, and is behind")):
+        for rival in zone.marked(is_before):
+            if found[rival][0] == sure:
+                where = _rival_text(zone, rival, found)
+                return f"{text} {where} But {_names(zone, [rival])} {words}."
+    return f"{text} {_tie_count_text(zone, verdict, is_inside, found)}"
+
+
+def _tie_count_text(zone: Zone, verdict: Verdict, is_inside: bool,
+                    found: dict[int, tuple[str, str]]) -> str:
+    """Rivals that are supposed or surely on one side, as many as shut the case."""
+    sure = "above" if is_inside else "below"
+    marked = zone.marked(is_inside)
+    settled = [rival for rival in found if found[rival][0] == sure and rival not in marked]
+    size, all_of_them = len(zone.sheet.clubs), len(marked) + len(settled)
+    _hold(all_of_them >= (verdict.places if is_inside else size - verdict.places))
+    text = " ".join(_rival_text(zone, rival, found) for rival in settled)
+    if marked:
+        text += f" {_names(zone, marked)} {_is_are(marked)} supposed to be " + (
+            "ahead." if is_inside else "not ahead.")
+    place = f"place {all_of_them + 1} or further down" if is_inside else (
+        f"place {size - all_of_them} or higher")
+    return f"{text} So {shown(verdict.club)} is in {place}.".strip()
+
+
+def _rival_text(zone: Zone, rival: int, found: dict[int, tuple[str, str]]) -> str:
+    """Where a rival surely stands, and by which criterion."""
+    place = "ahead of" if found[rival][0] == "above" else "behind"
+    return f"{_names(zone, [rival])} is {place} {_names(zone, [zone.club])} ({found[rival][1]})."
+
+
+def _hold(condition: bool) -> None:
+    """Stops where a step does not come out as the checker says."""
+    if not condition:
+        raise DoesNotAddUp
 
 
 def _outcome_text(zone: Zone, fixture: Fixture) -> str:

@@ -8,7 +8,7 @@ from __future__ import annotations
 from . import common
 from .answers import Answer, Example, Verdict
 from .feeds import Input
-from .proofs import steps_of
+from .proofs import DoesNotAddUp, steps_of
 from .running import ask_lines
 from .texts import MOST_BUDGET, Season, Sheet
 from .wording import (counted, limit_phrase, listed, lots_phrase, match_text, paragraph,
@@ -100,6 +100,10 @@ def proof_steps(sheet: Sheet, season: Season, verdict: Verdict, claim: str,
                           "checker has accepted it.", 4)]
     try:
         return steps_of(sheet, season, verdict, proof)
+    except DoesNotAddUp as fault:
+        raise common.Trouble(f"the checker accepts the proof behind line {verdict.line} of the "
+                             "report, and its sums come out otherwise here. One of the two is "
+                             "wrong: please tell the maintainers.", common.NO_PROGRAM) from fault
     except (IndexError, KeyError, TypeError, ValueError, AttributeError) as fault:
         raise common.Trouble(f"the proof behind line {verdict.line} of the report has not the "
                              "form of a proof.") from fault
