@@ -25,6 +25,16 @@ PARTS = {
 }
 
 
+EXAMPLES = """\
+examples:
+  league sheet fixtures.csv --name "My league" --lines 1,4 --order overall_first -o sheet.csv
+  league feed sheet.csv results.txt --ask > feed.csv
+  league lint sheet.csv feed.csv
+  league live sheet.csv feed.csv
+
+"""
+
+
 class Parser(argparse.ArgumentParser):
     """A parser that ends with the status of this command where words do not fit."""
 
@@ -40,7 +50,7 @@ def make_parser(chosen: str) -> Parser:
     parser = Parser(
         prog="league",
         description="Makes, tests and reads what the program futmax takes and answers.",
-        epilog=common.STATUS_TABLE + "\nThe manual page is docs/man/league.1.",
+        epilog=EXAMPLES + common.STATUS_TABLE,
         formatter_class=argparse.RawDescriptionHelpFormatter)
     words = parser.add_subparsers(dest="part", metavar="PART", required=True, parser_class=Parser)
     for name, summary in PARTS.items():

@@ -14,10 +14,14 @@ MANY_GOALS = 15
 
 @dataclass(frozen=True)
 class Doubt:
-    """A sentence on something that looks wrong, and its line; 0 where it is about the whole."""
+    """A sentence on something that looks wrong, and its line; 0 where it is about the whole.
+
+    What is minor is told only where nothing is refused.
+    """
 
     line: int
     message: str
+    is_minor: bool = False
 
 
 def sheet_doubts(sheet: Sheet, is_for_table: bool = False) -> Iterator[Doubt]:
@@ -90,7 +94,8 @@ def _club_doubts(sheet: Sheet) -> Iterator[Doubt]:
     usual = Counter(played.values()).most_common(1)[0][0]
     others = [f"{name} {number}" for name, number in played.items() if number != usual]
     if others:
-        yield Doubt(0, f"most clubs have {usual} matches in the sheet; others have another number: "
+        matches = "1 match" if usual == 1 else f"{usual} matches"
+        yield Doubt(0, f"most clubs have {matches} in the sheet; others have another number: "
                        f"{some(others)}")
 
 
@@ -103,7 +108,7 @@ def times(number: int) -> str:
 def some(texts: list[str]) -> str:
     """The first few of the texts, and how many more there are."""
     more = f" and {len(texts) - 6} more" if len(texts) > 6 else ""
-    return ", ".join(texts[:6]) + more
+    return "; ".join(texts[:6]) + more
 
 
 def some_pairs(pairs: list[tuple[str, str]]) -> str:
@@ -129,7 +134,7 @@ def feed_doubts(sheet: Sheet, entries: list[Entry],
         if entry.kind == "ask" and sheet.lines and not is_wide_told:
             if season.has_too_many_finishes(sheet):
                 is_wide_told = True
-                yield Doubt(entry.line, _wide_message(sheet, season))
+                yield Doubt(entry.line, _wide_message(sheet, season), is_minor=True)
         season.apply(entry)
 
 

@@ -2,6 +2,7 @@
 
 from __future__ import annotations
 
+from collections import Counter
 from dataclasses import dataclass, field
 
 from . import common
@@ -10,6 +11,7 @@ from .files import Joined
 from .names import shown
 from .records import Refused
 
+MOST_ALIKE = 3
 
 @dataclass
 class Finding:
@@ -47,11 +49,13 @@ class Outcome:
 
 def outcome_text(outcome: Outcome, whole: Joined) -> str:
     """What was found, as text for people; nothing where nothing was found."""
-    parts = [_finding_text(finding, whole) for finding in outcome.findings]
+    parts = _finding_texts(outcome.findings, whole)
     if outcome.more:
         lines = "1 more line" if outcome.more == 1 else f"{outcome.more} more lines"
         parts.append(f"And {lines} of that kind. Mend these first, and look again.\n")
     for doubt in outcome.doubts:
+        if doubt.is_minor and outcome.findings:
+            continue
         where = f"{whole.origin(doubt.line)}: " if doubt.line else ""
         parts.append(f"{where}Is this meant? {capital(doubt.message)}\n")
     refused = outcome.refused
@@ -61,6 +65,23 @@ def outcome_text(outcome: Outcome, whole: Joined) -> str:
     elif parts:
         parts.append("futmax takes this input.\n")
     return "".join(parts)
+
+
+def _finding_texts(findings: list[Finding], whole: Joined) -> list[str]:
+    """The mistakes in order; of those with one message the first few, and the lines of the rest."""
+    seen: Counter = Counter(finding.message for finding in findings)
+    told: Counter = Counter()
+    parts = []
+    for finding in findings:
+        told[finding.message] += 1
+        if told[finding.message] <= MOST_ALIKE or seen[finding.message] == MOST_ALIKE + 1:
+            parts.append(_finding_text(finding, whole))
+        elif told[finding.message] == MOST_ALIKE + 1:
+            last = max(other.line for other in findings if other.message == finding.message)
+            parts.append(f"The same in {seen[finding.message] - MOST_ALIKE} more lines, the last "
+                         f"of "
+                         f"them {whole.origin(last)}.\n")
+    return parts
 
 
 def _finding_text(finding: Finding, whole: Joined) -> str:

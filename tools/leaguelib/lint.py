@@ -139,6 +139,9 @@ def _advice_on_first(record: Record, league_line: int) -> Advice | None:
     if _is_header(record):
         return Advice("This looks like the first row of a fixture list. futmax takes no header "
                       "row: leave the line out. `league sheet` makes a sheet of a fixture list.")
+    if league_line and record.kind in FEED_KINDS:
+        return Advice("This is a line of a feed, and the sheet stands behind it: the sheet comes "
+                      "first, as in `league lint SHEET FEED`.")
     if league_line and record.kind in KINDS:
         return Advice("The first record has to be `league`, and it stands further down, in line "
                       f"{league_line}: move it to the top.")

@@ -58,7 +58,9 @@ def shown(text: str) -> str:
     signs = []
     for sign in text:
         code = ord(sign)
-        if 0xDC80 <= code <= 0xDCFF:
+        if sign == "\t":
+            signs.append("<TAB>")
+        elif 0xDC80 <= code <= 0xDCFF:
             signs.append(f"<byte {code - 0xDC00}>")
         elif sign in INVISIBLE or sign == "\u00a0" or unicodedata.category(sign) in ("Cc", "Cs"):
             signs.append(f"<U+{code:04X}>")

@@ -195,13 +195,14 @@ def line_repairs(fields: list[str], sheet: Sheet) -> Iterator[Candidate]:
                         [line_text("line", numbers[-1])])
     if numbers and number_of(fields[1]) in sheet.lines:
         yield Candidate("this line stands already, and can be left out")
-    if numbers and number_of(fields[1]) is not None:
-        most = len(sheet.clubs) - 1
+    most = len(sheet.clubs) - 1
+    if numbers and number_of(fields[1]) == 0:
+        yield Candidate(f"a line says how many places count, from 1 to {most}: 1 is the first "
+                        "place", is_told_alone=True)
+    elif numbers and number_of(fields[1]) is not None:
         yield Candidate(f"with {most + 1} clubs a line is a number from 1 to {most}: the first "
-                        f"{most + 1} places hold every club. For the last place write {most}, and "
-                        "look for `lost`", [line_text("line", most)])
-        yield Candidate(f"with {most + 1} clubs a line is a number from 1 to {most}: this one can "
-                        "be left out")
+                        f"{most + 1} places hold every club. To see who is last, write "
+                        f"`line,{most}` and look for `lost`", is_told_alone=True)
 
 
 def season_repairs() -> Iterator[Candidate]:
