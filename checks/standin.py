@@ -1,4 +1,4 @@
-"""A small program in place of futmax, and a test case that runs `league` upon it."""
+"""A small program in place of futmax, a case that runs `league` upon it, and a page taken apart."""
 
 import os
 import stat
@@ -6,6 +6,7 @@ import subprocess
 import sys
 import tempfile
 import unittest
+from html.parser import HTMLParser
 from pathlib import Path
 
 LEAGUE = str(Path(__file__).resolve().parent.parent / "tools" / "league")
@@ -100,3 +101,25 @@ class Case(unittest.TestCase):
         done = self.league(*words, data=data)
         self.assertEqual(done.returncode, status, done.stderr.decode())
         return " ".join(done.stdout.decode().split())
+
+
+class Page(HTMLParser):
+    """What stands on a page: its elements, links and goals."""
+
+    EMPTY = ("meta", "br", "!doctype")
+
+    def __init__(self, text: str) -> None:
+        super().__init__()
+        self.elements: list[tuple[str, dict]] = []
+        self.stack: list[str] = []
+        self.feed(text)
+
+    def handle_starttag(self, tag: str, attrs: list) -> None:
+        """Takes an opening."""
+        self.elements.append((tag, dict(attrs)))
+        if tag not in self.EMPTY:
+            self.stack.append(tag)
+
+    def handle_endtag(self, tag: str) -> None:
+        """Takes an end, which has to fit."""
+        assert self.stack.pop() == tag, tag
