@@ -1,25 +1,19 @@
 -- A test of a score divides a zone that has a finish: one of the halves at least has a finish.
-use Rattle.std.proofs.Common.{◌≡◌, ℕ, suc, ◌≤◌, Bool, true, false, not, ◌&&◌, ◌||◌, ◌==◌, nat_le}
-use Rattle.std.proofs.Common.{nat_lt, List, [], ◌∷◌, length, filter, Option, Some, None, refl, ap}
+use Rattle.std.proofs.Common.{◌≡◌, ℕ, suc, ◌≤◌, Bool, true, false, not, ◌&&◌, ◌||◌, ◌==◌}
+use Rattle.std.proofs.Common.{List, [], ◌∷◌, filter, Option, refl, ap}
 use Rattle.std.proofs.Common.{◌∙◌, inl, inr, arith}
 use Rattle.std.specs.List.{list_all}
 use Rattle.std.proofs.lemmas.Bool.{false≢true, and_parts, and_from, or_left, or_right, eq-eqb}
-use Rattle.std.proofs.lemmas.Bool.{ne_eqb, le-leb, cases_eq, cases_Bool}
-use Rattle.std.proofs.lemmas.List.Elements.{filter_agree}
-use Rattle.std.proofs.lemmas.List.Folds.{list_all-append}
+use Rattle.std.proofs.lemmas.Bool.{ne_eqb, cases_eq, cases_Bool}
 use Rattle.league_core.specs.declared.sheet.Sheet.{Sheet}
 use Rattle.league_core.specs.declared.season.Score.{Score}
-use Rattle.league_core.specs.declared.question.Question.{Question}
 use Rattle.league_core.specs.declared.zone.Test.{Test}
 use Rattle.league_core.specs.declared.zone.Test.TheVariants.{Home, Draw, HomeMost, AwayMost, Rival}
 use Rattle.league_core.specs.declared.zone.Literal.{Literal}
 use Rattle.league_core.specs.Results.{Results}
-use Rattle.league_core.specs.Zones.{passes, is_on, is_of_score, is_of_rival, is_as_said, with_test}
-use Rattle.league_core.specs.Options.{score_of, endings, has_score, meets_literal, meets}
-use Rattle.league_core.specs.Options.{options_of, options_from, options_in, has_option, has_finish}
-use Rattle.league_core.specs.Trees.{Tree, open_leaf, lent_leaf, refuted_leaf, branch, NodesMeet}
-use Rattle.league_core.specs.Splits.{have_both_finish, is_proper, IsProperNode}
-use Rattle.league_core.proofs.OptionLemmas.{has_score-options_of}
+use Rattle.league_core.specs.Zones.{passes, is_on, is_of_score, with_test}
+use Rattle.league_core.specs.Options.{endings, meets_literal, meets}
+use Rattle.league_core.specs.Options.{options_of, options_from, has_option, has_finish}
 use Rattle.league_core.proofs.HalfLemmas.{list_all-with, options_of-off, options_from-off}
 
 -- of options that are left, some pass a test or some do not
