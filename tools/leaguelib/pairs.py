@@ -62,13 +62,18 @@ class Gaps:
 
 
 def usual_rounds(matches: list[Match]) -> int:
-    """How often each pair meets, as far as the list tells: the number of most pairs that meet."""
+    """How often each pair meets, as far as the list tells: the number of most pairs that meet.
+
+    Where many pairs meet in both orders, or some do in a list of results, each pair meets twice.
+    """
     pairs = Counter(frozenset((match.home, match.away)) for match in matches)
-    directed = Counter((match.home, match.away) for match in matches)
+    directed = {(match.home, match.away) for match in matches}
     numbers = Counter(pairs.values())
     usual = max(numbers, key=lambda number: (numbers[number], number))
-    both_ways = any((away, home) in directed for home, away in directed)
-    return max(usual, 2) if both_ways else usual
+    both_ways = sum((away, home) in directed for home, away in directed) // 2
+    are_played = all(match.score is not None for match in matches)
+    is_double = both_ways * 3 >= len(pairs) or (are_played and both_ways > 0)
+    return max(usual, 2) if is_double else usual
 
 
 def lone_names(matches: list[Match]) -> str:

@@ -4,6 +4,7 @@ from __future__ import annotations
 
 import subprocess
 from dataclasses import dataclass, field
+from typing import Callable
 
 from . import common
 from .answer_end import AnswerEnd
@@ -35,7 +36,8 @@ class Ended(Exception):
 class Session:
     """The program with all that was sent to it."""
 
-    def __init__(self, command: list[str], sheet: bytes, make_end) -> None:
+    def __init__(self, command: list[str], sheet: bytes,
+                 make_end: Callable[[], AnswerEnd]) -> None:
         self.command = command
         self.sheet = sheet if sheet.endswith(b"\n") else sheet + b"\n"
         self.make_end = make_end

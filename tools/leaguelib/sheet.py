@@ -90,8 +90,8 @@ def _asked_order() -> str:
     """The order of the criteria, asked for where a person can answer."""
     if not (sys.stdin.isatty() and sys.stderr.isatty()):
         raise common.Trouble(ORDER_HELP, common.BAD_WORDS)
-    common.say(ORDER_HELP)
-    answer = input("order: ").strip()
+    common.say(ORDER_HELP + "\nType one of the two words, and Enter:")
+    answer = sys.stdin.readline().strip()
     if answer not in ORDERS:
         raise common.Trouble("the order is head_first or overall_first", common.BAD_WORDS)
     return answer
