@@ -158,8 +158,10 @@ def _news(board: Board) -> list[str]:
     changed = [verdict for verdict in board.verdicts.values() if board.has_changed(verdict)]
     if not changed:
         return [*parts, "<p>No mark.</p>"]
+    goals = counted(board.sheet.goal_limit, "goal")
     items = [f"<li>{name_of(v.club)}, {place_phrase(v.places)}: {v.word}, "
              f"before {board.earlier[(v.places, v.club)]}</li>" for v in changed]
+    parts.append(f"<p>With at most {goals} a side in each open match:</p>")
     return [*parts, "<ul>", *items, "</ul>"]
 
 

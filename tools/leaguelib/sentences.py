@@ -142,7 +142,8 @@ def unsettled_texts(sheet: Sheet, verdict: Verdict) -> list[str]:
         if claim in verdict.examples:
             way = way_text(sheet, verdict.examples[claim], verdict.club)
             parts.append(paragraph(f"It can {verb} it, for example, if {way}. What is not known is "
-                                   f"whether it {other}.", 4))
+                                   f"whether it {other}, with at most "
+                                   f"{counted(sheet.goal_limit, 'goal')} a side.", 4))
     parts.append(paragraph(_budget_text(sheet), 4))
     return parts
 
