@@ -21,12 +21,13 @@ use Rattle.league_core.specs.PointRanges.{Range, one_value, added, range_of, ran
 use Rattle.league_core.specs.Reasons.{times}
 use Rattle.league_core.proofs.OptionLemmas.{has_score-first}
 use Rattle.league_core.proofs.ClubSetLemmas.{clubs_below-none}
+use Rattle.league_core.proofs.OutcomeLemmas.{outcome_cases}
 use Rattle.league_core.proofs.PointRangeLemmas.{range_from-more, range_from-all, range_of-same, points_together-sides, total_of-next, total_of-sum}
 use Rattle.score_box.specs.declared.cell.Cell.{Cell}
 use Rattle.score_box.specs.declared.cell.goals.Goals.{Goals}
 use Rattle.score_box.specs.Cells.{allows, IsCellOf, IsEmptyCell}
 use Rattle.score_box.specs.Points.{least_of_three, most_of_three, IsPointsOf}
-use Rattle.score_box.proofs.CellLemmas.{Says, outcome_cases}
+use Rattle.score_box.proofs.CellLemmas.{Says}
 use Rattle.score_box.proofs.PointLemmas.{points_of_outcomes}
 use Rattle.flow_bound.specs.declared.cut.Cut.{Cut}
 use Rattle.flow_bound.specs.declared.cut.Cut.TheVariants.{Floor, Ceiling}

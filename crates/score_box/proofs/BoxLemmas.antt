@@ -5,6 +5,7 @@ use Rattle.std.proofs.Common.{◌&&◌, ◌||◌, ◌==◌, List, [], ◌∷◌,
 use Rattle.std.proofs.Common.{Some, None, refl, sym, ap, ◌∙◌, inl, inr, arith}
 use Rattle.std.specs.Bool.{MatchBool}
 use Rattle.std.specs.List.{All, AllWithin, HoldsAt, list_all}
+use Rattle.std.proofs.Math.Bool.{and-true, or-false}
 use Rattle.std.proofs.lemmas.Bool.{false≢true, cases_eq, eq-eqb, ne_eqb, and_from, or_cases}
 use Rattle.std.proofs.lemmas.Bool.Decides.{same_from_decides}
 use Rattle.std.proofs.lemmas.List.{length-set, get_or-set_same, get_or-set_other}
@@ -54,10 +55,6 @@ options_at-with limit zone literal scores k score within =
     ∙ ap (λ options. has_score options score && meets_literal k score literal)
     (sym (options_at limit zone scores k within))
 
-and_true : (b : Bool) → (b && true) ≡ b
-and_true true = refl
-and_true false = refl
-
 -- a literal of another fixture, or of a rival, takes nothing away
 meets-other : (k : ℕ) (score : Score) (literal : Literal) → is_on k literal.test ≡ false
     → meets_literal k score literal ≡ true
@@ -83,7 +80,7 @@ takes_mark cells literal off limit zone scores are = record {
             scores,
       ) in
       are.each k d within score
-      ∙ sym (and_true (has_score (get_or (options_from limit zone 0 scores) k []) score))
+      ∙ sym (and-true (has_score (get_or (options_from limit zone 0 scores) k []) score))
       ∙ ap (λ b. has_score (get_or (options_from limit zone 0 scores) k []) score && b)
       (sym (meets-other k score literal (off k)))
       ∙ sym (options_at-with limit zone literal scores k score inside);
@@ -128,7 +125,7 @@ takes_cut cells fixture cell literal in_range on cut limit zone scores are = rec
     at k d score below (inr other) =
         ap (λ c. allows c score) (get_or-set_other cells fixture k cell d other)
         ∙ are.each k d below score
-        ∙ sym (and_true (has_score (get_or (options_from limit zone 0 scores) k []) score))
+        ∙ sym (and-true (has_score (get_or (options_from limit zone 0 scores) k []) score))
         ∙ ap (λ b. has_score (get_or (options_from limit zone 0 scores) k []) score && b)
         (sym (meets-other k score literal (on k ∙ ne_eqb fixture k (λ e. other (sym e)))))
 
@@ -315,10 +312,6 @@ all_decided false Yes No cells apart one = (
     by_cell (cell ∷ cells) k within yes_at no_at = apart (get_or (cell ∷ cells) k cell)
         (yes_at cell) (no_at cell)
 
-or_none : (b : Bool) → (b || false) ≡ b
-or_none true = refl
-or_none false = refl
-
 -- the marks of a zone with one literal more
 pub marked_before-push : (zone : List Literal) (literal : Literal) (club : ℕ)
     → marked_before (zone ++ literal ∷ []) club ≡
@@ -326,7 +319,7 @@ pub marked_before-push : (zone : List Literal) (literal : Literal) (club : ℕ)
 marked_before-push zone literal club =
     list_any-append (λ (l : Literal). is_of_rival club l.test && l.yes) zone (literal ∷ [])
     ∙ ap (λ b. marked_before zone club || b)
-    (or_none (is_of_rival club literal.test && literal.yes))
+    (or-false (is_of_rival club literal.test && literal.yes))
 
 pub marked_after-push : (zone : List Literal) (literal : Literal) (club : ℕ)
     → marked_after (zone ++ literal ∷ []) club ≡
@@ -334,7 +327,7 @@ pub marked_after-push : (zone : List Literal) (literal : Literal) (club : ℕ)
 marked_after-push zone literal club =
     list_any-append (λ (l : Literal). is_of_rival club l.test && not l.yes) zone (literal ∷ [])
     ∙ ap (λ b. marked_after zone club || b)
-    (or_none (is_of_rival club literal.test && not literal.yes))
+    (or-false (is_of_rival club literal.test && not literal.yes))
 
 -- a test of the sheet is of one of its fixtures or clubs
 test_below : (sheet : Sheet) (fixtures : ℕ) (test : Test) → length sheet.fixtures ≡ fixtures

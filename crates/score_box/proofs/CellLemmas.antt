@@ -1,11 +1,12 @@
 -- The scores of a cell, outcome by outcome: which goals they have, and which scores reach the ends.
-use Rattle.std.proofs.Common.{◌≡◌, ℕ, Option, Some, None, IfSome, MatchOption, inl, inr, ◌+◌, ◌-◌}
+use Rattle.std.proofs.Common.{◌≡◌, ℕ, Option, Some, None, IfSome, MatchOption, ◌+◌, ◌-◌}
 use Rattle.std.proofs.Common.{◌<◌, ◌≤◌, Bool, true, ◌&&◌, nat_le, max, min, cond, refl, sym, ap}
 use Rattle.std.proofs.Common.{◌∙◌, arith}
 use Rattle.std.proofs.lemmas.Bool.{and_parts, and_from, lt-ltb, le-ltb, le-leb, leb-true, ltb-true}
-use Rattle.std.proofs.lemmas.Bool.{eq-eqb, eqb-true, ne_eqb, cases_order}
+use Rattle.std.proofs.lemmas.Bool.{eq-eqb, eqb-true, ne_eqb}
 use Rattle.league_core.specs.declared.season.Score.{Score}
 use Rattle.league_core.specs.Options.{score_of, is_home_win, is_draw, is_away_win}
+use Rattle.league_core.proofs.OutcomeLemmas.{outcome_cases}
 use Rattle.score_box.specs.declared.cell.Cell.{Cell}
 use Rattle.score_box.specs.declared.cell.goals.Goals.{Goals}
 use Rattle.score_box.specs.Cells.{is_within, keeps_outcome, allows, IsAllowed, IsSpanOf, AllowsNone}
@@ -247,18 +248,6 @@ away_wins_span cell least most kept home away reach upper lower =
       );
       away_most = (score_of cell.home_least cell.away_most, widest, refl);
     }
-
--- whatever its outcome, a score is a home win, a draw or an away win
-pub outcome_cases : {P : Type 0} (score : Score) → (is_home_win score ≡ true → P)
-    → (is_draw score ≡ true → P) → (is_away_win score ≡ true → P) → P
-outcome_cases {P} score home draw away =
-    elim (cases_order score.home score.away) as (λ _. P) [
-      | inl level ↦ draw (eq-eqb score.home score.away level)
-      | inr apart ↦ elim apart as (λ _. P) [
-        | inl below ↦ away (lt-ltb score.home score.away below)
-        | inr above ↦ home (lt-ltb score.away score.home above)
-      ]
-    ]
 
 -- what is said of the goals of an outcome, where the cell has any
 abbrev pub Says : Cell → (Score → Bool) → Option Goals → Type 0

@@ -1,15 +1,14 @@
 -- The points of a fixture by the outcomes that its cell has left, and of all fixtures together.
-use Rattle.std.proofs.Common.{◌≡◌, ◌≢◌, ◌⊎◌, ℕ, ◌+◌, ◌<◌, ◌≤◌, min, max, ℤ, pos, ◌+ℤ◌, ◌-ℤ◌, ◌≤ℤ◌}
-use Rattle.std.proofs.Common.{slice_index, Bool, true, false, ◌||◌, ◌==◌, nat_lt, cond, List, []}
+use Rattle.std.proofs.Common.{◌≡◌, ◌≢◌, ◌⊎◌, ℕ, ◌+◌, ◌<◌, ◌≤◌, min, max, ℤ, pos, ◌-ℤ◌, ◌≤ℤ◌}
+use Rattle.std.proofs.Common.{slice_index, Bool, true, false, ◌||◌, cond, List, []}
 use Rattle.std.proofs.Common.{length, get_or, drop, Option, Some, None, is_some, refl, sym, ap, ◌∙◌}
 use Rattle.std.proofs.Common.{inl, inr, arith}
 use Rattle.std.proofs.lemmas.Int.{ints}
-use Rattle.std.proofs.lemmas.Bool.{false≢true, ltb-true, eqb-true, le-ltb, ne_eqb, eq-eqb, cases_lt}
+use Rattle.std.proofs.lemmas.Bool.{false≢true, cases_lt}
 use Rattle.std.proofs.lemmas.Bool.{false_from_ne_true}
-use Rattle.std.proofs.lemmas.Bool.Decides.{nat_tests}
 use Rattle.league_core.specs.declared.sheet.Fixture.{Fixture}
 use Rattle.league_core.specs.declared.season.Score.{Score}
-use Rattle.league_core.specs.Sums.{has_club, match_points}
+use Rattle.league_core.specs.Sums.{has_club}
 use Rattle.league_core.specs.ClubSets.{clubs_below}
 use Rattle.league_core.specs.declared.sheet.Sheet.{Sheet}
 use Rattle.league_core.specs.declared.zone.Literal.{Literal}
@@ -17,6 +16,10 @@ use Rattle.league_core.specs.Results.{Results}
 use Rattle.league_core.specs.Options.{options_in, is_home_win, is_draw, is_away_win}
 use Rattle.league_core.specs.PointRanges.{added, range_from, points_of_sides, points_together}
 use Rattle.league_core.specs.PointRanges.{total_of, least_points_of, most_points_of}
+use Rattle.league_core.specs.PointRanges.{won_points, drawn_points, lost_points}
+use Rattle.league_core.proofs.OutcomeLemmas.{outcome_cases}
+use Rattle.league_core.proofs.WorthLemmas.{points_at_win, points_at_draw, points_at_loss}
+use Rattle.league_core.proofs.WorthLemmas.{won_points-most, drawn_points-most}
 use Rattle.league_core.proofs.PointRangeLemmas.{Reaches, least-is, greatest-is, range_of-same}
 use Rattle.league_core.proofs.PointRangeLemmas.{range_from-more, points_together-sides}
 use Rattle.score_box.specs.declared.cell.Cell.{Cell}
@@ -25,85 +28,8 @@ use Rattle.score_box.specs.Cells.{allows, IsCellOf, IsEmptyCell, IsAllowed}
 use Rattle.score_box.specs.Boxes.{AreCellsOf}
 use Rattle.score_box.specs.declared.points.PointRange.{PointRange}
 use Rattle.score_box.specs.declared.points.outcomes.MatchPoints.{MatchPoints}
-use Rattle.score_box.specs.Points.{won_points, drawn_points, lost_points, least_of_three}
-use Rattle.score_box.specs.Points.{most_of_three, IsPointsOf, IsRangeOver}
-use Rattle.score_box.proofs.CellLemmas.{Says, outcome_cases}
-
--- what a match is worth to its winner, to its loser and after a draw
-win_is : (scored conceded : ℕ) (away : Bool) → conceded < scored
-    → match_points scored conceded away ≡ pos 3
-win_is scored conceded away h =
-    ap (λ b. cond b (pos 3) (cond (scored == conceded) (pos 1) (pos 0))) (lt_true conceded scored h)
-  where
-    lt_true : (m n : ℕ) → m < n → nat_lt m n ≡ true
-    lt_true m n h = grind (arith, nat_tests)
-
-loss_is : (scored conceded : ℕ) (away : Bool) → scored < conceded
-    → match_points scored conceded away ≡ pos 0
-loss_is scored conceded away h =
-    ap (λ b. cond b (pos 3) (cond (scored == conceded) (pos 1) (pos 0)))
-    (le-ltb conceded scored (omega arith))
-    ∙ ap (λ b. cond b (pos 1) (pos 0)) (ne_eqb scored conceded (λ e. absurd (omega arith)))
-
-draw_is : (scored conceded : ℕ) (away : Bool) → scored ≡ conceded
-    → match_points scored conceded away ≡ pos 1
-draw_is scored conceded away e =
-    ap (λ b. cond b (pos 3) (cond (scored == conceded) (pos 1) (pos 0)))
-    (le-ltb conceded scored (omega arith))
-    ∙ ap (λ b. cond b (pos 1) (pos 0)) (eq-eqb scored conceded e)
-
--- the points of the sides that count, by the outcome
-sides : (home away : Bool) (x y : ℤ) (m n : ℕ) → x ≡ pos m → y ≡ pos n
-    → (cond home x (pos 0) +ℤ cond away y (pos 0)) ≡ pos (cond home m 0 + cond away n 0)
-sides true true x y m n e f = omega (arith, ints)
-sides true false x y m n e f = omega (arith, ints)
-sides false true x y m n e f = omega (arith, ints)
-sides false false x y m n e f = refl
-
-none_left : (b : Bool) (m : ℕ) → m + cond b 0 0 ≡ m
-none_left true m = omega arith
-none_left false m = omega arith
-
-none_right : (b : Bool) (m : ℕ) → cond b 0 0 + m ≡ m
-none_right true m = omega arith
-none_right false m = omega arith
-
-pub points_at_win : (home away : Bool) (score : Score) → is_home_win score ≡ true
-    → points_of_sides home away score ≡ pos (won_points home)
-points_at_win home away score wins =
-    let below : score.away < score.home = ltb-true score.away score.home wins in
-    sides home away (match_points score.home score.away false)
-    (match_points score.away score.home true) 3 0 (win_is score.home score.away false below)
-    (loss_is score.away score.home true below)
-    ∙ ap pos (none_left away (won_points home))
-
-pub points_at_draw : (home away : Bool) (score : Score) → is_draw score ≡ true
-    → points_of_sides home away score ≡ pos (drawn_points home away)
-points_at_draw home away score level =
-    let same : score.home ≡ score.away = eqb-true score.home score.away level in
-    sides home away (match_points score.home score.away false)
-    (match_points score.away score.home true) 1 1 (draw_is score.home score.away false same)
-    (draw_is score.away score.home true (sym same))
-
-pub points_at_loss : (home away : Bool) (score : Score) → is_away_win score ≡ true
-    → points_of_sides home away score ≡ pos (lost_points away)
-points_at_loss home away score loses =
-    let below : score.home < score.away = ltb-true score.home score.away loses in
-    sides home away (match_points score.home score.away false)
-    (match_points score.away score.home true) 0 3 (loss_is score.home score.away false below)
-    (win_is score.away score.home true below)
-    ∙ ap pos (none_right home (lost_points away))
-
--- no outcome gives more than three points
-won_most : (home : Bool) → won_points home ≤ 3
-won_most true = omega arith
-won_most false = omega arith
-
-drawn_most : (home away : Bool) → drawn_points home away ≤ 3
-drawn_most true true = omega arith
-drawn_most true false = omega arith
-drawn_most false true = omega arith
-drawn_most false false = omega arith
+use Rattle.score_box.specs.Points.{least_of_three, most_of_three, IsPointsOf, IsRangeOver}
+use Rattle.score_box.proofs.CellLemmas.{Says}
 
 -- each outcome that may come gives at least the least, and at most the most
 least_below : (wins draws losses home away : Bool)
@@ -139,13 +65,13 @@ given_at_three : (wins draws losses home away : Bool) → (wins || draws || loss
     → IsGiven wins draws losses home away (least_of_three wins draws losses home away)
 given_at_three true draws losses home away some three =
     let below = (least_below true draws losses home away).0 refl in
-    inl (refl, omega (arith, won_most home))
+    inl (refl, omega (arith, won_points-most home))
 given_at_three false true losses home away some three =
     let below = (least_below false true losses home away).1 refl in
-    inr (inl (refl, omega (arith, drawn_most home away)))
+    inr (inl (refl, omega (arith, drawn_points-most home away)))
 given_at_three false false true home away some three =
     let below = (least_below false false true home away).2 refl in
-    inr (inr (refl, omega (arith, won_most away)))
+    inr (inr (refl, omega (arith, won_points-most away)))
 given_at_three false false false home away some three = absurd (false≢true some)
 
 given_at_none : (wins draws losses home away : Bool) → (wins || draws || losses) ≡ true
@@ -293,11 +219,11 @@ reached cell options home draws away h a points is home_says draws_say away_says
 
 given_most : (wins draws losses home away : Bool) (points : ℕ)
     → IsGiven wins draws losses home away points → points ≤ 3
-given_most wins draws losses home away points (inl (some, same)) = omega (arith, won_most home)
+given_most wins draws losses home away points (inl (some, same)) = omega (arith, won_points-most home)
 given_most wins draws losses home away points (inr (inl (some, same))) = omega
-    (arith, drawn_most home away)
+    (arith, drawn_points-most home away)
 given_most wins draws losses home away points (inr (inr (some, same))) = omega
-    (arith, won_most away)
+    (arith, won_points-most away)
 
 in_order : (wins draws losses home away : Bool) (points : ℕ)
     → IsGiven wins draws losses home away points

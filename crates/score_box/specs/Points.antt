@@ -1,9 +1,10 @@
 -- The least and the most points of a box, fixture by fixture and together.
-use Rattle.std.specs.Prelude.{◌≡◌, ℕ, ℤ, ◌+◌, ◌*◌, min, max, pos, ◌≤◌, Bool, if◌then◌else◌, List}
+use Rattle.std.specs.Prelude.{◌≡◌, ℕ, ℤ, ◌*◌, min, max, pos, ◌≤◌, Bool, if◌then◌else◌, List}
 use Rattle.league_core.specs.declared.sheet.Fixture.{Fixture}
 use Rattle.league_core.specs.declared.season.Score.{Score}
 use Rattle.league_core.specs.Limits.{set_width}
 use Rattle.league_core.specs.PointRanges.{range_of, range_from, points_of_sides, points_together}
+use Rattle.league_core.specs.PointRanges.{won_points, drawn_points, lost_points}
 use Rattle.score_box.specs.declared.cell.Cell.{Cell}
 use Rattle.score_box.specs.declared.points.PointRange.{PointRange}
 use Rattle.score_box.specs.declared.points.outcomes.MatchPoints.{MatchPoints}
@@ -13,18 +14,6 @@ use Rattle.score_box.specs.Boxes.{AreCellsOf}
 -- the most points that can be taken off the clubs of a set: what a byte holds, of each
 abbrev pub most_taken_off : ℤ
 most_taken_off = pos (set_width * 255)
-
--- the points of a home win for the sides that count: three where the home side does
-abbrev pub won_points : Bool → ℕ
-won_points home = if home then 3 else 0
-
--- the points of a draw: one for each side that counts
-abbrev pub drawn_points : Bool → Bool → ℕ
-drawn_points home away = (if home then 1 else 0) + (if away then 1 else 0)
-
--- the points of an away win: three where the away side counts
-abbrev pub lost_points : Bool → ℕ
-lost_points away = if away then 3 else 0
 
 -- the least of the three that may come; one that may not counts as three, which none exceeds
 abbrev pub least_of_three : Bool → Bool → Bool → Bool → Bool → ℕ

@@ -1,11 +1,10 @@
 //! The points of one fixture: three for a win, one to each side for a draw, by the outcomes that
-//! its
-//! cell has left.
+//! its cell has left.
 
 ghost use Rattle.std.specs.Prelude.{◌≡◌, ◌≤◌, if◌then◌else◌};
+ghost use Rattle.league_core.specs.PointRanges.{won_points, drawn_points, lost_points};
 ghost use Rattle.score_box.specs.Cells.{IsEmptyCell};
-ghost use Rattle.score_box.specs.Points.{won_points, drawn_points, lost_points, least_of_three};
-ghost use Rattle.score_box.specs.Points.{most_of_three, IsPointsOf};
+ghost use Rattle.score_box.specs.Points.{least_of_three, most_of_three, IsPointsOf};
 
 use crate::cell::Cell;
 
