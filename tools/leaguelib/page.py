@@ -14,7 +14,8 @@ from typing import TYPE_CHECKING
 
 from .answers import Place, Verdict
 from .sentences import USUAL_STEPS, decided_text, proof_steps, unsettled_texts
-from .wording import counted, limit_phrase, lots_phrase, match_text, place_phrase, score_text
+from .wording import (counted, limit_phrase, lots_phrase, match_text, place_phrase, rules_phrase,
+                      score_text)
 
 if TYPE_CHECKING:
     from .board import Board
@@ -67,7 +68,8 @@ def _state(board: Board) -> list[str]:
     """How many matches are played, and which are open."""
     open_fixtures = board.season.open_fixtures(board.sheet)
     played = counted(len(board.season.scores), "match", "matches")
-    parts = [f"<p>{played} played, {len(open_fixtures)} open.</p>"]
+    rules = safe(rules_phrase(board.sheet, board.season))
+    parts = [f"<p>{played} played, {len(open_fixtures)} open. {rules}</p>"]
     if 0 < len(open_fixtures) <= 20:
         items = [f"<li>{safe(match_text(fixture))}{_day(board, fixture.number)}</li>"
                  for fixture in open_fixtures]

@@ -12,7 +12,7 @@ from .proofs import DoesNotAddUp, steps_of
 from .running import ask_lines
 from .texts import MOST_BUDGET, Season, Sheet
 from .wording import (counted, limit_phrase, listed, lots_phrase, match_text, paragraph,
-                      place_phrase, score_text, shown)
+                      place_phrase, rules_phrase, score_text, shown)
 
 USUAL_STEPS = 100
 
@@ -53,7 +53,8 @@ def events_text(league: Input, line: int) -> str:
 
 def _opening(sheet: Sheet, season: Season, done: str, line: int, days: dict[int, str]) -> str:
     """What is known at the ask, and what is open."""
-    text = paragraph(f"{shown(sheet.name)}, at the ask in line {line}, after {done}.")
+    text = paragraph(f"{shown(sheet.name)}, at the ask in line {line}, after {done}. "
+                     + rules_phrase(sheet, season))
     open_fixtures = season.open_fixtures(sheet)
     if not open_fixtures:
         return text + "\nNo match is open."

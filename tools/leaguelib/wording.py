@@ -66,6 +66,15 @@ def limit_phrase(sheet: Sheet, season: Season) -> str:
             "side, and however lots are drawn")
 
 
+def rules_phrase(sheet: Sheet, season: Season) -> str:
+    """What decides first between clubs level on points, and the points deducted."""
+    first = "goal difference and goals over all matches" if sheet.order == "overall_first" else (
+        "the matches between them")
+    deducted = [f"{shown(name)} {points}" for name, points in season.deductions.items() if points]
+    text = f"Between clubs level on points {first} count first."
+    return text + (f" Points deducted: {listed(deducted)}." if deducted else "")
+
+
 def lots_phrase(sheet: Sheet, lots: list[int], club: str) -> str:
     """The lots of an example, in few words where the club is the first or the last."""
     names = [shown(sheet.clubs[number - 1].name) for number in lots]
