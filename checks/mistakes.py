@@ -236,6 +236,8 @@ FEED_RECORDS = (
             ("without a sign",), ("deduct,Anchor,3",)),
     Mistake("points deducted from a misspelt club", in_feed("deduct,Ancor,3"),
             "fault,11,unknown_club", ("nearest name is `Anchor`",), ("deduct,Anchor,3",)),
+    Mistake("a deduction without points", in_feed("deduct,Anchor,"), "fault,11,wrong_width",
+            ("points taken away in all",)),
     Mistake("points deducted from a number", in_feed("deduct,1,3"), "fault,11,unknown_club",
             ("club 1 of the sheet is `Anchor`",), ("deduct,Anchor,3",)),
     Mistake("a number behind ask", in_feed("ask,1"), "fault,11,wrong_width", ("stands alone",),

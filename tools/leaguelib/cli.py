@@ -11,6 +11,7 @@ import importlib
 import importlib.util
 import os
 import sys
+import traceback
 
 from . import common
 
@@ -89,6 +90,17 @@ def main(words: list[str] | None = None) -> int:
         common.say(f"league: {fault.strerror or fault}")
         _drop_output()
         return common.CANNOT_WRITE
+    except Exception as fault:  # pylint: disable=broad-except
+        common.say(_own_fault(fault))
+        return common.OWN_FAULT
+
+
+def _own_fault(fault: Exception) -> str:
+    """What to say where this command itself is wrong: where, and what."""
+    last = traceback.extract_tb(fault.__traceback__)[-1]
+    place = f"{os.path.basename(last.filename)}, line {last.lineno}"
+    return (f"league: a fault of this command itself ({place}: {type(fault).__name__}: {fault}). "
+            "Please report it, with the input; the program futmax has no part in it")
 
 
 def _drop_output() -> None:

@@ -13,6 +13,7 @@ DOUBTFUL = 3
 CANNOT_READ = 4
 CANNOT_WRITE = 5
 NO_PROGRAM = 6
+OWN_FAULT = 70
 INTERRUPTED = 130
 
 STATUS_TABLE = """\
@@ -24,6 +25,7 @@ exit statuses:
   4    a file, or standard input, cannot be read
   5    the output cannot be written
   6    the program futmax cannot be run, or it ended with a fault
+  70   a fault of league itself
   130  stopped by hand (Ctrl-C)
 """
 

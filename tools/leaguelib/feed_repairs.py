@@ -96,7 +96,7 @@ def deduct_repairs(fields: list[str], sheet: Sheet) -> Iterator[Candidate]:
     """What a refused `deduct` was meant to be."""
     names = [club.name for club in sheet.clubs]
     kept = [part for part in fields if not is_date(part)]
-    if len(kept) == 2:
+    if len(kept) < 3:
         return
     name, points = kept[1], kept[2]
     reasons = [] if len(kept) == len(fields) else ["The record has no field for a date"]
