@@ -95,8 +95,8 @@ pub times_lent-put_same : (number : ℕ) (new tree : Tree)
 times_lent-put_same number new open_leaf = omega arith
 times_lent-put_same number new (lent_leaf other) =
     elim (cases_Bool (other == number)) as (λ _. times_lent number
-    (put number new (lent_leaf other)) ≡ times_lent number
-    (lent_leaf other) * times_lent number new) [
+    (put number new (lent_leaf other))
+    ≡ times_lent number (lent_leaf other) * times_lent number new) [
       | inl same ↦ rw same (omega arith)
       | inr different ↦ rw different (rw different (omega arith))
     ]
@@ -121,8 +121,8 @@ pub times_lent-put_other : (number other : ℕ) (new tree : Tree) → (other == 
 times_lent-put_other number other new open_leaf different = omega arith
 times_lent-put_other number other new (lent_leaf leaf) different =
     elim (cases_Bool (leaf == number)) as (λ _. times_lent other (put number new (lent_leaf leaf))
-    ≡ times_lent other (lent_leaf leaf) + times_lent number
-    (lent_leaf leaf) * times_lent other new) [
+    ≡ times_lent other (lent_leaf leaf)
+    + times_lent number (lent_leaf leaf) * times_lent other new) [
       | inl same ↦ rw (same, other_leaf number other leaf different same) (omega arith)
       | inr apart ↦ rw apart (omega arith)
     ]

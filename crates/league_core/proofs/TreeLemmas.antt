@@ -134,8 +134,8 @@ pub lent_zones-leaves_from : (number : ℕ) (tree : Tree) (zone : List Literal)
     (filter (λ (leaf : Leaf). is_lent_under number leaf.node) (leaves_from zone tree))
 lent_zones-leaves_from number open_leaf zone = refl
 lent_zones-leaves_from number (lent_leaf other) zone =
-    elim (cases_Bool (other == number)) as (λ _. lent_zones number zone (lent_leaf other) ≡ map
-    (λ (leaf : Leaf). leaf.zone)
+    elim (cases_Bool (other == number)) as (λ _. lent_zones number zone (lent_leaf other)
+    ≡ map (λ (leaf : Leaf). leaf.zone)
     (filter (λ (leaf : Leaf). is_lent_under number leaf.node)
     (leaves_from zone (lent_leaf other)))) [
       | inl same ↦ rw same refl

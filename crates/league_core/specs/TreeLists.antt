@@ -80,8 +80,8 @@ trees_of-preorder (branch test fresh yes_half no_half) rest =
     ∙ joined (trees_of rest)
   where
     joined : (read : Option (List Tree))
-        → with_node (Split test fresh) (in_front yes_half (in_front no_half read)) ≡ in_front
-        (branch test fresh yes_half no_half) read
+        → with_node (Split test fresh) (in_front yes_half (in_front no_half read))
+        ≡ in_front (branch test fresh yes_half no_half) read
     joined None = refl
     joined (Some trees) = refl
 

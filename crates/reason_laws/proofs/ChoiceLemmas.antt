@@ -25,7 +25,7 @@ use Rattle.league_core.specs.Splits.{is_proper}
 use Rattle.league_core.proofs.FinishListLemmas.{length-finishes_of}
 use Rattle.reason_laws.specs.Weights.{choices, finishes_in}
 use Rattle.league_core.proofs.HalfLemmas.{list_all-with, options_of-off, options_from-off}
-use Rattle.reason_laws.proofs.SplitLemmas.{proper_names}
+use Rattle.reason_laws.proofs.HalfMarkLemmas.{proper_names}
 use Rattle.reason_laws.proofs.CountLemmas.{count_by-parts, filter-all}
 
 -- where each fixture has an option there is a choice
@@ -61,9 +61,9 @@ length-parts counted taken left test is_taken is_left xs =
 -- a literal on the fixture divides its options among the halves
 options_of-on : (limit : ℕ) (zone : List Literal) (test : Test) (fixture : ℕ)
     (played : Option Score) → is_on fixture test ≡ true
-    → length (options_of limit (with_test zone test true) fixture played) + length
-    (options_of limit (with_test zone test false) fixture played) ≡ length
-    (options_of limit zone fixture played)
+    → length (options_of limit (with_test zone test true) fixture played)
+    + length (options_of limit (with_test zone test false) fixture played)
+    ≡ length (options_of limit zone fixture played)
 options_of-on limit zone test fixture played on =
     length-parts (meets zone fixture) (meets (with_test zone test true) fixture)
     (meets (with_test zone test false) fixture) (passes test)
@@ -92,17 +92,17 @@ kept_divided a b c x y z first second sum =
 choices_divided : (limit : ℕ) (zone : List Literal) (test : Test) (tested : ℕ)
     → ((i : ℕ) → is_on i test ≡ (tested == i)) → (season : List (Option Score)) (fixture : ℕ)
     → fixture ≤ tested → tested < fixture + length season
-    → choices (options_from limit (with_test zone test true) fixture season) + choices
-    (options_from limit (with_test zone test false) fixture season) ≡ choices
-    (options_from limit zone fixture season)
+    → choices (options_from limit (with_test zone test true) fixture season)
+    + choices (options_from limit (with_test zone test false) fixture season)
+    ≡ choices (options_from limit zone fixture season)
 choices_divided limit zone test tested at [] fixture from within = absurd (omega arith)
 choices_divided limit zone test tested at (played ∷ season) fixture from within =
     let options = λ (holds : Bool). options_of limit (with_test zone test holds) fixture played in
     let more = λ (holds : Bool). options_from limit (with_test zone test holds)
     (suc fixture) season in
-    elim (cases_eq tested fixture) as (λ _. length (options true) * choices (more true) + length
-    (options false) * choices (more false) ≡ length
-    (options_of limit zone fixture played) * choices
+    elim (cases_eq tested fixture) as (λ _. length (options true) * choices (more true)
+    + length (options false) * choices (more false)
+    ≡ length (options_of limit zone fixture played) * choices
     (options_from limit zone (suc fixture) season)) [
       | inl same ↦
           let later : (i : ℕ) → suc fixture ≤ i → is_on i test ≡ false = λ i behind. at i
@@ -131,8 +131,8 @@ choices_divided limit zone test tested at (played ∷ season) fixture from withi
 divided_at : (sheet : Sheet) (season : Results) (zone : List Literal) (test : Test) (tested : ℕ)
     → ((i : ℕ) → is_on i test ≡ (tested == i)) → IsSeasonOf sheet season
     → nat_lt tested (length sheet.fixtures) ≡ true
-    → finishes_in sheet season (with_test zone test true) + finishes_in sheet season
-    (with_test zone test false) ≡ finishes_in sheet season zone
+    → finishes_in sheet season (with_test zone test true)
+    + finishes_in sheet season (with_test zone test false) ≡ finishes_in sheet season zone
 divided_at sheet season zone test tested at is_season named =
     let within = ltb-true tested (length sheet.fixtures) named in
     let entries = is_season.scores in
@@ -141,8 +141,8 @@ divided_at sheet season zone test tested at is_season named =
 pub finishes_divided : (sheet : Sheet) (season : Results) (question : Question)
     (zone : List Literal) (test : Test) → IsSeasonOf sheet season → is_of_score test ≡ true
     → is_proper sheet season question zone test ≡ true
-    → finishes_in sheet season (with_test zone test true) + finishes_in sheet season
-    (with_test zone test false) ≡ finishes_in sheet season zone
+    → finishes_in sheet season (with_test zone test true)
+    + finishes_in sheet season (with_test zone test false) ≡ finishes_in sheet season zone
 finishes_divided sheet season question zone (Home fixture) is_season of_score proper =
     divided_at sheet season zone (Home fixture) fixture (λ i. refl) is_season
     (proper_names sheet season question zone (Home fixture) proper).0

@@ -1,15 +1,15 @@
 -- A zone in which each fixture has one option decides itself: where neither the window nor the
 -- criteria are a reason, its finish is an example with lots that favour the claim.
-use Rattle.std.proofs.Common.{◌≡◌, ◌≢◌, ℕ, ◌+◌, ◌-◌, ◌<◌, ◌≤◌, ℤ, ◌≤ℤ◌, Bool, true, false, not}
-use Rattle.std.proofs.Common.{◌&&◌, ◌||◌, ◌==◌, cond, nat_lt, List, [], ◌∷◌, length, filter}
+use Rattle.std.proofs.Common.{◌≡◌, ℕ, ◌+◌, ◌-◌, ◌<◌, ℤ, ◌≤ℤ◌, Bool, true, false}
+use Rattle.std.proofs.Common.{◌&&◌, ◌||◌, nat_lt, List, [], ◌∷◌, length}
 use Rattle.std.proofs.Common.{count_by, Ordering, Less, Equal, Greater, is_lt, nat_cmp, refl, sym}
 use Rattle.std.proofs.Common.{ap, ◌∙◌, arith}
 use Rattle.std.specs.Prelude.{int_lt, int_le}
-use Rattle.std.specs.List.{list_all, list_any}
+use Rattle.std.specs.List.{list_any}
 use Rattle.std.specs.Ordering.{ordering_then}
 use Rattle.std.proofs.lemmas.Int.{ints}
-use Rattle.std.proofs.lemmas.Bool.{false≢true, true≢false, and_parts, and_from, or_parts, or_right}
-use Rattle.std.proofs.lemmas.Bool.{eqb-true, eqb-false, leb-false, le-leb, lt-leb, lt-ltb, ltb-true}
+use Rattle.std.proofs.lemmas.Bool.{false≢true, true≢false, and_from, or_parts, or_right}
+use Rattle.std.proofs.lemmas.Bool.{leb-false, le-leb, lt-leb, lt-ltb, ltb-true}
 use Rattle.std.proofs.lemmas.Bool.{false_from_ne_true, not_from_false}
 use Rattle.std.proofs.lemmas.Bool.Decides.{Decides-int_eq}
 use Rattle.league_core.specs.declared.sheet.Sheet.{Sheet}
@@ -41,10 +41,11 @@ use Rattle.league_core.proofs.LotsLemmas.{lots_for_claim-are_lots, lots_for_clai
 use Rattle.league_core.specs.Splits.{are_outcomes_fixed}
 use Rattle.reason_laws.specs.SureLaws.{sure_of}
 use Rattle.reason_laws.proofs.MemberLemmas.{list_all-weaker, points_in_box}
-use Rattle.reason_laws.proofs.ReasonLemmas.{count_by-cons, count_by-front, count_by-other}
+use Rattle.reason_laws.proofs.RivalCountLemmas.{count_by-front}
 use Rattle.league_core.proofs.BoxLemmas.{box_is_finish}
 use Rattle.reason_laws.proofs.SureOrderLemmas.{points_fixed}
 use Rattle.reason_laws.proofs.SingleLemmas.{single_fixed, order_is}
+use Rattle.reason_laws.proofs.RivalCountLemmas.{count_by-rivals, count_by-both}
 
 -- who comes before a club that is drawn first comes before it without the lots
 first_less : (order : Ordering) (i j : ℕ) → j ≡ 0
@@ -85,73 +86,6 @@ behind_is_below sheet season zone finish lots rival club single box earlier behi
     rival) (lot_of lots club) earlier
     (sym (ap is_lt (order_of-lots sheet finish lots rival club)) ∙ behind) in
     ap is_below (order_is sheet season zone finish rival club single box ∙ ap sure_of greater)
-
--- those that pass a test which the club does not are no more than its rivals that pass a weaker one
-count_by-rivals : (before front : ℕ → Bool) (club : ℕ) (clubs : List ℕ) → before club ≡ false
-    → ((other : ℕ) → before other ≡ true → front other ≡ true)
-    → count_by before clubs ≤ count_by front (filter (λ other. not (other == club)) clubs)
-count_by-rivals before front club [] itself gives = omega arith
-count_by-rivals before front club (other ∷ clubs) itself gives =
-    let rest = count_by-rivals before front club clubs itself gives in
-    let here = count_by-cons before other clubs in
-    by_test (other == club) (before other) refl refl rest here
-  where
-    by_test : (own passes : Bool) → (other == club) ≡ own → before other ≡ passes
-        → count_by before clubs ≤ count_by front (filter (λ x. not (x == club)) clubs)
-        → count_by before (other ∷ clubs) ≡ cond {A = ℕ} (before other) 1 0 + count_by before clubs
-        → count_by before (other ∷ clubs) ≤ count_by front
-        (cond (not own) (other ∷ filter (λ x. not (x == club)) clubs)
-        (filter (λ x. not (x == club)) clubs))
-    by_test true passes same b rest here =
-        let none : cond {A = ℕ} (before other) 1 0 ≡ 0 = ap (λ t. cond {A = ℕ} t 1 0) (ap before
-        (eqb-true other club same) ∙ itself) in
-        omega arith
-    by_test false true same b rest here =
-        let counted = count_by-other front club other clubs in
-        let one : cond {A = ℕ} (before other) 1 0 ≡ 1 = ap (λ t. cond {A = ℕ} t 1 0) b in
-        let other_one : cond {A = ℕ} (front other) 1 0 ≡ 1 = ap (λ t. cond
-        {A = ℕ} t 1 0) (gives other b) in
-        omega arith
-    by_test false false same b rest here =
-        let counted = count_by-other front club other clubs in
-        let none : cond {A = ℕ} (before other) 1 0 ≡ 0 = ap (λ t. cond {A = ℕ} t 1 0) b in
-        omega arith
-
--- where each rival is before or behind, the rivals are no more than both together
-count_by-both : (known before back : ℕ → Bool) (club : ℕ) (clubs : List ℕ)
-    → list_all known clubs ≡ true
-    → ((other : ℕ) → known other ≡ true → other ≢ club → before other ≡ false → back other ≡ true)
-    → length (filter (λ other. not (other == club)) clubs) ≤ count_by before
-    (filter (λ other. not (other == club)) clubs) + count_by back
-    (filter (λ other. not (other == club)) clubs)
-count_by-both known before back club [] all covers = omega arith
-count_by-both known before back club (other ∷ clubs) all covers =
-    let parts = and_parts (known other) (list_all known clubs) all in
-    by_test (other == club) (before other) refl refl parts.0
-    (count_by-both known before back club clubs parts.1 covers)
-  where
-    by_test : (own passes : Bool) → (other == club) ≡ own → before other ≡ passes
-        → known other ≡ true
-        → length (filter (λ x. not (x == club)) clubs) ≤ count_by before
-        (filter (λ x. not (x == club)) clubs) + count_by back (filter (λ x. not (x == club)) clubs)
-        → length (cond (not own) (other ∷ filter (λ x. not (x == club)) clubs)
-        (filter (λ x. not (x == club)) clubs)) ≤ count_by before
-        (cond (not own) (other ∷ filter (λ x. not (x == club)) clubs)
-        (filter (λ x. not (x == club)) clubs)) + count_by back
-        (cond (not own) (other ∷ filter (λ x. not (x == club)) clubs)
-        (filter (λ x. not (x == club)) clubs))
-    by_test true passes same b is rest = rest
-    by_test false true same b is rest =
-        let ahead = count_by-other before club other clubs in
-        let behind = count_by-other back club other clubs in
-        let one : cond {A = ℕ} (before other) 1 0 ≡ 1 = ap (λ t. cond {A = ℕ} t 1 0) b in
-        omega arith
-    by_test false false same b is rest =
-        let ahead = count_by-other before club other clubs in
-        let behind = count_by-other back club other clubs in
-        let one : cond {A = ℕ} (back other) 1 0 ≡ 1 = ap (λ t. cond {A = ℕ} t 1 0) (covers other is
-        (eqb-false other club same) b) in
-        omega arith
 
 -- with too few rivals surely on the other side, lots that favour the claim put the club on its own
 side_is : (sheet : Sheet) (season : Results) (question : Question) (zone : List Literal)

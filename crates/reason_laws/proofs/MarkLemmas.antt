@@ -17,7 +17,8 @@ use Rattle.league_core.specs.Zones.{is_marked, rivals_of, with_test}
 use Rattle.league_core.specs.Splits.{is_proper}
 use Rattle.league_core.proofs.OthersLemmas.{length-others_of}
 use Rattle.reason_laws.specs.Weights.{unmarked_in}
-use Rattle.reason_laws.proofs.SplitLemmas.{before_in_half, after_in_half, before_kept, after_kept}
+use Rattle.reason_laws.proofs.HalfMarkLemmas.{before_in_half, after_in_half, before_kept}
+use Rattle.reason_laws.proofs.HalfMarkLemmas.{after_kept}
 use Rattle.reason_laws.proofs.CountLemmas.{count_by-parts, count_by-filter, count_by-agree}
 use Rattle.reason_laws.proofs.CountLemmas.{count_by-one, filter-all}
 

@@ -1,14 +1,13 @@
 -- Reasons are sound: where one holds, the question holds at no member of the zone. Here are the
 -- counts of marked rivals, the window and both cuts.
-use Rattle.std.proofs.Common.{◌≡◌, ℕ, suc, ◌+◌, ◌-◌, ◌<◌, ◌≤◌, ℤ, ◌≤ℤ◌, ◌<ℤ◌, Bool, true, false}
-use Rattle.std.proofs.Common.{not, ◌&&◌, ◌==◌, cond, nat_le, List, [], ◌∷◌, length, filter}
-use Rattle.std.proofs.Common.{count_by, refl, sym, ap, ◌∙◌, inl, inr, arith}
+use Rattle.std.proofs.Common.{◌≡◌, ℕ, ◌-◌, ◌<◌, ◌≤◌, ℤ, ◌≤ℤ◌, ◌<ℤ◌, Bool, true, false}
+use Rattle.std.proofs.Common.{not, ◌&&◌, nat_le, List, [], ◌∷◌, length}
+use Rattle.std.proofs.Common.{count_by, sym, ap, ◌∙◌, inl, inr, arith}
 use Rattle.std.specs.Prelude.{int_lt, int_le}
 use Rattle.std.specs.List.{list_all}
 use Rattle.std.proofs.lemmas.Int.{ints, clamps}
-use Rattle.std.proofs.lemmas.Bool.{false≢true, and_parts, or_cases, leb-true, lt-leb, eqb-true}
+use Rattle.std.proofs.lemmas.Bool.{false≢true, and_parts, or_cases, leb-true, lt-leb}
 use Rattle.std.proofs.lemmas.Bool.Decides.{nat_tests}
-use Rattle.std.proofs.lemmas.List.Sums.{sum_by-cons}
 use Rattle.std.proofs.lemmas.List.FromFn.{length-range_with_len}
 use Rattle.league_core.specs.declared.sheet.Sheet.{Sheet}
 use Rattle.league_core.specs.declared.question.Claim.{Claim}
@@ -17,7 +16,7 @@ use Rattle.league_core.specs.declared.question.Question.{Question}
 use Rattle.league_core.specs.declared.zone.Literal.{Literal}
 use Rattle.league_core.specs.Results.{Results}
 use Rattle.league_core.specs.Sheets.{clubs_of}
-use Rattle.league_core.specs.Sums.{has_club, points_of}
+use Rattle.league_core.specs.Sums.{points_of}
 use Rattle.league_core.specs.Ranking.{ranks_before, place_of, is_inside}
 use Rattle.league_core.specs.Questions.{is_on_side, is_in_window, holds_at}
 use Rattle.league_core.specs.Zones.{rivals_of, marked_before, marked_after, IsMember}
@@ -27,115 +26,10 @@ use Rattle.league_core.specs.Reasons.{times, refutes_by_floor, refutes_by_ceilin
 use Rattle.league_core.proofs.ClubLemmas.{range_has}
 use Rattle.league_core.proofs.RankingLemmas.{ranks_before-itself}
 use Rattle.reason_laws.proofs.MemberLemmas.{member_in_box, points_in_box, total_at_most}
-use Rattle.reason_laws.proofs.MemberLemmas.{total_at_least, points_before, points_not_before}
-use Rattle.reason_laws.proofs.MemberLemmas.{before_is, after_is}
-
--- the first of a list counts where it passes
-pub count_by-cons : (test : ℕ → Bool) (club : ℕ) (clubs : List ℕ)
-    → count_by test (club ∷ clubs) ≡ cond {A = ℕ} (test club) 1 0 + count_by test clubs
-count_by-cons test club clubs = sum_by-cons (λ (x : ℕ). cond (test x) 1 0) club clubs
-
--- all clubs of a list but one
-abbrev pub others_in : ℕ → List ℕ → List ℕ
-others_in club clubs = filter (λ other. not (other == club)) clubs
-
--- a club that is not the one counts among the others where it passes
-pub count_by-other : (test : ℕ → Bool) (club other : ℕ) (clubs : List ℕ)
-    → count_by test (cond (not false) (other ∷ others_in club clubs) (others_in club clubs)) ≡ cond
-    {A = ℕ} (test other) 1 0 + count_by test (others_in club clubs)
-count_by-other test club other clubs = count_by-cons test other (others_in club clubs)
-
--- of some clubs but one, those that pass are no more than those of all that pass another test with
--- them
-pub count_by-front : (front before : ℕ → Bool) (club : ℕ) (clubs : List ℕ)
-    → ((other : ℕ) → front other ≡ true → before other ≡ true)
-    → count_by front (filter (λ other. not (other == club)) clubs) ≤ count_by before clubs
-count_by-front front before club [] gives = omega arith
-count_by-front front before club (other ∷ clubs) gives =
-    let rest = count_by-front front before club clubs gives in
-    let here = count_by-cons before other clubs in
-    by_test (other == club) (front other) (before other) refl refl rest here
-  where
-    by_test : (own passes_front passes_before : Bool) → front other ≡ passes_front
-        → before other ≡ passes_before
-        → count_by front (filter (λ x. not (x == club)) clubs) ≤ count_by before clubs
-        → count_by before (other ∷ clubs) ≡ cond {A = ℕ} (before other) 1 0 + count_by before clubs
-        → count_by front
-        (cond (not own) (other ∷ filter (λ x. not (x == club)) clubs)
-        (filter (λ x. not (x == club)) clubs)) ≤ count_by before (other ∷ clubs)
-    by_test true passes_front passes_before f b rest here = omega arith
-    by_test false true passes_before f b rest here =
-        let counted = count_by-other front club other clubs in
-        let one : cond {A = ℕ} (front other) 1 0 ≡ 1 = ap (λ t. cond {A = ℕ} t 1 0) f in
-        let other_one : cond {A = ℕ} (before other) 1 0 ≡ 1 = ap (λ t. cond
-        {A = ℕ} t 1 0) (gives other f) in
-        omega arith
-    by_test false false passes_before f b rest here =
-        let counted = count_by-other front club other clubs in
-        let none : cond {A = ℕ} (front other) 1 0 ≡ 0 = ap (λ t. cond {A = ℕ} t 1 0) f in
-        omega arith
-
--- the clubs behind, those before, and the club itself are no more than all
-count_by-three : (back before : ℕ → Bool) (club : ℕ) (clubs : List ℕ)
-    → ((other : ℕ) → back other ≡ true → before other ≡ false) → before club ≡ false
-    → count_by back
-    (filter (λ other. not (other == club)) clubs) + count_by before clubs + count_by
-    (λ other. other == club) clubs ≤ length clubs
-count_by-three back before club [] apart itself = omega arith
-count_by-three back before club (other ∷ clubs) apart itself =
-    let rest = count_by-three back before club clubs apart itself in
-    let ahead = count_by-cons before other clubs in
-    let own = count_by-cons (λ x. x == club) other clubs in
-    by_test (other == club) (back other) refl refl rest ahead own
-  where
-    some_before : cond {A = ℕ} (before other) 1 0 ≤ 1
-    some_before = at_most_one (before other)
-      where
-        at_most_one : (b : Bool) → cond {A = ℕ} b 1 0 ≤ 1
-        at_most_one true = omega arith
-        at_most_one false = omega arith
-
-    by_test : (is_own passes : Bool) → (other == club) ≡ is_own → back other ≡ passes
-        → count_by back (filter (λ x. not (x == club)) clubs) + count_by before clubs + count_by
-        (λ x. x == club) clubs ≤ length clubs
-        → count_by before (other ∷ clubs) ≡ cond {A = ℕ} (before other) 1 0 + count_by before clubs
-        → count_by (λ x. x == club) (other ∷ clubs) ≡ cond {A = ℕ} (other == club) 1 0 + count_by
-        (λ x. x == club) clubs
-        → count_by back
-        (cond (not is_own) (other ∷ filter (λ x. not (x == club)) clubs)
-        (filter (λ x. not (x == club)) clubs)) + count_by before (other ∷ clubs) + count_by
-        (λ x. x == club) (other ∷ clubs) ≤ suc (length clubs)
-    by_test true passes same b rest ahead own =
-        let one : cond {A = ℕ} (other == club) 1 0 ≡ 1 = ap (λ t. cond {A = ℕ} t 1 0) same in
-        let none : cond {A = ℕ} (before other) 1 0 ≡ 0 = ap (λ t. cond {A = ℕ} t 1 0) (ap before
-        (eqb-true other club same) ∙ itself) in
-        omega arith
-    by_test false true same b rest ahead own =
-        let counted = count_by-other back club other clubs in
-        let one : cond {A = ℕ} (back other) 1 0 ≡ 1 = ap (λ t. cond {A = ℕ} t 1 0) b in
-        let none : cond {A = ℕ} (before other) 1 0 ≡ 0 = ap (λ t. cond
-        {A = ℕ} t 1 0) (apart other b) in
-        let not_own : cond {A = ℕ} (other == club) 1 0 ≡ 0 = ap (λ t. cond {A = ℕ} t 1 0) same in
-        omega arith
-    by_test false false same b rest ahead own =
-        let counted = count_by-other back club other clubs in
-        let zero_back : cond {A = ℕ} (back other) 1 0 ≡ 0 = ap (λ t. cond {A = ℕ} t 1 0) b in
-        let not_own : cond {A = ℕ} (other == club) 1 0 ≡ 0 = ap (λ t. cond {A = ℕ} t 1 0) same in
-        omega (arith, some_before)
-
--- a club that a list has is counted there
-count_by-own : (club : ℕ) (clubs : List ℕ) → has_club clubs club ≡ true
-    → 1 ≤ count_by (λ other. other == club) clubs
-count_by-own club [] has = absurd (false≢true has)
-count_by-own club (other ∷ clubs) has =
-    let counted = count_by-cons (λ x. x == club) other clubs in
-    elim (or_cases (other == club) (has_club clubs club) has) as (λ _. 1 ≤ count_by
-    (λ x. x == club) (other ∷ clubs)) [
-      | inl here ↦
-          let one : cond {A = ℕ} (other == club) 1 0 ≡ 1 = ap (λ t. cond
-          {A = ℕ} t 1 0) here in omega arith
-      | inr later ↦ let rest = count_by-own club clubs later in omega arith
-    ]
+use Rattle.reason_laws.proofs.MemberLemmas.{total_at_least}
+use Rattle.reason_laws.proofs.MarkedOrderLemmas.{points_before, points_not_before}
+use Rattle.reason_laws.proofs.MarkedOrderLemmas.{before_is, after_is}
+use Rattle.reason_laws.proofs.RivalCountLemmas.{count_by-front, count_by-three, count_by-own}
 
 -- with too many rivals before the club its place is not inside the line, with too many behind it is
 pub too_many_says : (sheet : Sheet) (question : Question) (finish : Results) (lots : List ℕ)
@@ -148,15 +42,15 @@ pub too_many_says : (sheet : Sheet) (question : Question) (finish : Results) (lo
     → is_on_side (is_inside sheet finish lots question.club question.line) claim ≡ false
 too_many_says sheet question finish lots front back Inside club_in ahead behind many =
     let before = λ (other : ℕ). ranks_before sheet finish lots other question.club in
-    let enough : question.line ≤ count_by front
-    (rivals_of sheet question.club) = leb-true question.line
+    let enough : question.line
+    ≤ count_by front (rivals_of sheet question.club) = leb-true question.line
     (count_by front (rivals_of sheet question.club)) many in
     let fewer = count_by-front front before question.club (clubs_of sheet) ahead in
     lt-leb (place_of sheet finish lots question.club) question.line (omega arith)
 too_many_says sheet question finish lots front back Outside club_in ahead behind many =
     let before = λ (other : ℕ). ranks_before sheet finish lots other question.club in
-    let enough : length sheet.clubs - question.line ≤ count_by back
-    (rivals_of sheet question.club) = leb-true (length sheet.clubs - question.line)
+    let enough : length sheet.clubs - question.line
+    ≤ count_by back (rivals_of sheet question.club) = leb-true (length sheet.clubs - question.line)
     (count_by back (rivals_of sheet question.club)) many in
     let itself = ranks_before-itself sheet finish lots question.club in
     let three = count_by-three back before question.club (clubs_of sheet) behind itself in

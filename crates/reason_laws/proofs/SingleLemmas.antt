@@ -34,7 +34,7 @@ use Rattle.league_core.specs.Splits.{are_outcomes_fixed}
 use Rattle.reason_laws.specs.SureLaws.{sure_of}
 use Rattle.reason_laws.proofs.MemberLemmas.{list_all-weaker}
 use Rattle.reason_laws.proofs.FixedLemmas.{range_from-alike, scores_alike, one_score-outcome}
-use Rattle.reason_laws.proofs.SureLemmas.{Agrees}
+use Rattle.reason_laws.proofs.RangeOrderLemmas.{Agrees}
 use Rattle.reason_laws.proofs.SureOrderLemmas.{points_fixed, range_clear, order_agrees}
 
 -- each of some ranges has one value

@@ -31,7 +31,7 @@ use Rattle.league_core.proofs.RankingLemmas.{order_of-lots}
 use Rattle.league_core.specs.Splits.{are_outcomes_fixed}
 use Rattle.reason_laws.proofs.MemberLemmas.{points_in_box}
 use Rattle.reason_laws.proofs.FixedLemmas.{range_from-alike, points_alike}
-use Rattle.reason_laws.proofs.SureLemmas.{Agrees, IsInRange, then_agrees, range_agrees}
+use Rattle.reason_laws.proofs.RangeOrderLemmas.{Agrees, IsInRange, then_agrees, range_agrees}
 use Rattle.reason_laws.proofs.SureOverallLemmas.{by_agrees}
 
 -- a club's points at a finish in the box are in their range
@@ -102,8 +102,8 @@ level_on_points-tied sheet season zone finish club fixed box =
     (clubs_of sheet)
   where
     each : (other : ℕ)
-        → is_level (sure_by_points sheet season (options_in sheet season zone) other club) ≡ int_eq
-        (points_of sheet finish other) (points_of sheet finish club)
+        → is_level (sure_by_points sheet season (options_in sheet season zone) other club)
+        ≡ int_eq (points_of sheet finish other) (points_of sheet finish club)
     each other =
         level_agrees (sure_by_points sheet season (options_in sheet season zone) other club)
         (greater_first (points_of sheet finish other) (points_of sheet finish club))

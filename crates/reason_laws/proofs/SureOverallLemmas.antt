@@ -18,8 +18,9 @@ use Rattle.league_core.specs.SureOrder.{is_surely_level_overall, is_surely_apart
 use Rattle.league_core.specs.SureOrder.{are_all_sure_overall, surely_level_overall, sure_in}
 use Rattle.league_core.specs.SureOrder.{sure_by}
 use Rattle.league_core.proofs.StandingLemmas.{level_overall-tied}
-use Rattle.reason_laws.proofs.SureLemmas.{Agrees, AreInRanges, then_agrees, ranges_agree}
-use Rattle.reason_laws.proofs.SureLemmas.{apart_differ, over_in_range, in_or_out, filter_where}
+use Rattle.reason_laws.proofs.RangeOrderLemmas.{Agrees, AreInRanges, then_agrees, ranges_agree}
+use Rattle.reason_laws.proofs.SureLemmas.{over_in_range, in_or_out, filter_where}
+use Rattle.reason_laws.proofs.RangeOrderLemmas.{apart_differ}
 use Rattle.reason_laws.proofs.SureLemmas.{within_agrees}
 
 -- a club's difference and goals over all matches are in their ranges

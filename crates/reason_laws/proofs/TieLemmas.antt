@@ -23,7 +23,8 @@ use Rattle.league_core.specs.Reasons.{refutes_by_floor, refutes_by_ceiling, refu
 use Rattle.league_core.specs.Reasons.{is_surely_above, is_surely_below, are_too_many_sure}
 use Rattle.league_core.specs.Reasons.{is_surely_wrong}
 use Rattle.league_core.specs.Splits.{are_outcomes_fixed}
-use Rattle.reason_laws.proofs.MemberLemmas.{member_in_box, before_is, after_is}
+use Rattle.reason_laws.proofs.MemberLemmas.{member_in_box}
+use Rattle.reason_laws.proofs.MarkedOrderLemmas.{before_is, after_is}
 use Rattle.reason_laws.proofs.ReasonLemmas.{too_many_says, holds_parts, count_says, window_says}
 use Rattle.reason_laws.proofs.ReasonLemmas.{floor_says, ceiling_says}
 use Rattle.reason_laws.proofs.SureOrderLemmas.{above_is, below_is_not}

@@ -1,4 +1,4 @@
-use Rattle.reason_laws.proofs.SplitLemmas.{proper_trees}
+use Rattle.reason_laws.proofs.HalfMarkLemmas.{proper_trees}
 use Rattle.reason_laws.proofs.splits.proper_trees_name_rivals.Goals as goal
 
 pub returns : goal.returns

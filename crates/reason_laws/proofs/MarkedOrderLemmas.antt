@@ -1,0 +1,121 @@
+-- The order of the clubs at a member of a zone: who ranks before another has as many points or
+-- more,
+-- and the zone's marks are so.
+use Rattle.std.proofs.Common.{◌≡◌, ℕ, ℤ, ◌≤ℤ◌, ◌<ℤ◌, Bool, true}
+use Rattle.std.proofs.Common.{false, not, ◌&&◌, cond, List, [], ◌∷◌}
+use Rattle.std.proofs.Common.{refl, sym, ap, ◌∙◌, inl, inr, arith}
+use Rattle.std.specs.Prelude.{int_lt}
+use Rattle.std.specs.Ordering.{int_cmp, is_lt, ordering_then}
+use Rattle.std.specs.declared.cmp.Ordering.{Ordering}
+use Rattle.std.specs.declared.cmp.Ordering.TheVariants.{Less, Equal, Greater}
+use Rattle.std.proofs.lemmas.Int.{ints, by_lt_z}
+use Rattle.std.proofs.lemmas.Bool.{false≢true, true≢false, and_parts}
+use Rattle.std.proofs.lemmas.Bool.{or_cases, eqb-true}
+use Rattle.league_core.specs.declared.sheet.Sheet.{Sheet}
+use Rattle.league_core.specs.declared.zone.Test.{Test}
+use Rattle.league_core.specs.declared.zone.Test.TheVariants.{Home, Draw, HomeMost, AwayMost, Rival}
+use Rattle.league_core.specs.declared.zone.Literal.{Literal}
+use Rattle.league_core.specs.Results.{Results}
+use Rattle.league_core.specs.Sums.{points_of}
+use Rattle.league_core.specs.Ranking.{ranks_before}
+use Rattle.league_core.specs.Zones.{is_of_rival, is_test_true}
+use Rattle.league_core.specs.Zones.{is_as_said, is_literal_true, are_literals_true}
+use Rattle.league_core.specs.Zones.{marked_before, marked_after}
+
+-- the first comparison says which of two numbers is the greater
+pub ahead_is : (x y : ℤ) → y <ℤ x → int_cmp y x ≡ Less
+ahead_is x y below =
+    ap (λ b. cond b Less (cond (int_lt x y) Greater Equal)) (under y x below)
+  where
+    under : (a b : ℤ) → a <ℤ b → int_lt a b ≡ true
+    under a b h = grind (arith, ints)
+
+pub behind_is : (x y : ℤ) → x <ℤ y → int_cmp y x ≡ Greater
+behind_is x y below =
+    ap (λ b. cond b Less (cond (int_lt x y) Greater Equal)) (not_under x y below)
+    ∙ ap (λ b. cond b Greater Equal) (under x y below)
+  where
+    under : (a b : ℤ) → a <ℤ b → int_lt a b ≡ true
+    under a b h = grind (arith, ints)
+
+    not_under : (a b : ℤ) → a <ℤ b → int_lt b a ≡ false
+    not_under a b h = grind (arith, ints)
+
+-- who ranks before another has as many points or more, and who does not has as many or fewer
+pub lead_says : (x y : ℤ) (rest : Ordering) → is_lt (ordering_then (int_cmp y x) rest) ≡ true
+    → y ≤ℤ x
+lead_says x y rest before =
+    by_lt_z x y (λ below. absurd
+    (false≢true (sym (ap (λ o. is_lt (ordering_then o rest)) (behind_is x y below)) ∙ before)))
+    (λ at_least. at_least)
+
+pub trail_says : (x y : ℤ) (rest : Ordering) → is_lt (ordering_then (int_cmp y x) rest) ≡ false
+    → x ≤ℤ y
+trail_says x y rest not_before =
+    by_lt_z y x (λ above. absurd
+    (true≢false (sym (ap (λ o. is_lt (ordering_then o rest)) (ahead_is x y above)) ∙ not_before)))
+    (λ at_most. at_most)
+
+pub points_before : (sheet : Sheet) (finish : Results) (lots : List ℕ) (club other : ℕ)
+    → ranks_before sheet finish lots club other ≡ true
+    → points_of sheet finish other ≤ℤ points_of sheet finish club
+points_before sheet finish lots club other before =
+    lead_says (points_of sheet finish club) (points_of sheet finish other) _ before
+
+pub points_not_before : (sheet : Sheet) (finish : Results) (lots : List ℕ) (club other : ℕ)
+    → ranks_before sheet finish lots club other ≡ false
+    → points_of sheet finish club ≤ℤ points_of sheet finish other
+points_not_before sheet finish lots club other not_before =
+    trail_says (points_of sheet finish club) (points_of sheet finish other) _ not_before
+
+-- the test of a rival is whether it ranks before the club
+pub rival_at : (sheet : Sheet) (club : ℕ) (finish : Results) (lots : List ℕ) (rival : ℕ)
+    (test : Test)
+    → is_of_rival rival test ≡ true
+    → is_test_true sheet club finish lots test ≡ ranks_before sheet finish lots rival club
+rival_at sheet club finish lots rival (Home f) is = absurd (false≢true is)
+rival_at sheet club finish lots rival (Draw f) is = absurd (false≢true is)
+rival_at sheet club finish lots rival (HomeMost f most) is = absurd (false≢true is)
+rival_at sheet club finish lots rival (AwayMost f most) is = absurd (false≢true is)
+rival_at sheet club finish lots rival (Rival other) is =
+    ap (λ n. ranks_before sheet finish lots n club) (eqb-true other rival is)
+
+-- a rival that is marked before the club ranks before it, and one that is marked after does not
+pub before_is : (sheet : Sheet) (club : ℕ) (finish : Results) (lots : List ℕ) (zone : List Literal)
+    (rival : ℕ) → are_literals_true sheet club finish lots zone ≡ true
+    → marked_before zone rival ≡ true → ranks_before sheet finish lots rival club ≡ true
+before_is sheet club finish lots [] rival literals marked = absurd (false≢true marked)
+before_is sheet club finish lots (literal ∷ zone) rival literals marked =
+    let holds = and_parts (is_literal_true sheet club finish lots literal) (are_literals_true sheet
+    club finish lots zone) literals in
+    elim (or_cases (is_of_rival rival literal.test && literal.yes)
+    (marked_before zone rival) marked) as (λ _. ranks_before sheet finish lots rival club ≡ true) [
+      | inl here ↦
+          let parts = and_parts (is_of_rival rival literal.test) literal.yes here in
+          sym (rival_at sheet club finish lots rival literal.test parts.0)
+          ∙ sym (ap (λ b. is_as_said b (is_test_true sheet club finish lots literal.test)) parts.1)
+          ∙ holds.0
+      | inr later ↦ before_is sheet club finish lots zone rival holds.1 later
+    ]
+
+pub after_is : (sheet : Sheet) (club : ℕ) (finish : Results) (lots : List ℕ) (zone : List Literal)
+    (rival : ℕ) → are_literals_true sheet club finish lots zone ≡ true
+    → marked_after zone rival ≡ true → ranks_before sheet finish lots rival club ≡ false
+after_is sheet club finish lots [] rival literals marked = absurd (false≢true marked)
+after_is sheet club finish lots (literal ∷ zone) rival literals marked =
+    let holds = and_parts (is_literal_true sheet club finish lots literal) (are_literals_true sheet
+    club finish lots zone) literals in
+    elim (or_cases (is_of_rival rival literal.test && not literal.yes)
+    (marked_after zone rival) marked) as (λ _. ranks_before sheet finish lots rival club ≡ false) [
+      | inl here ↦
+          let parts = and_parts (is_of_rival rival literal.test) (not literal.yes) here in
+          sym (rival_at sheet club finish lots rival literal.test parts.0)
+          ∙ said_no literal.yes (is_test_true sheet club finish lots literal.test) parts.1 holds.0
+      | inr later ↦ after_is sheet club finish lots zone rival holds.1 later
+    ]
+  where
+    said_no : (yes_said passed : Bool) → not yes_said ≡ true → is_as_said yes_said passed ≡ true
+        → passed ≡ false
+    said_no true passed negated holds = absurd (false≢true negated)
+    said_no false true negated holds = absurd (false≢true holds)
+    said_no false false negated holds = refl
