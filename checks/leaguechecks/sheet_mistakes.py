@@ -1,57 +1,7 @@
-"""Everyday mistakes in sheets and feeds: an input, the row with which the program ends, and what
-`league lint` has to say about it, among it the line to write instead.
+"""Everyday mistakes in whole files and in sheets."""
 
-`fault` is the row of the program, nothing where it takes the input. `writes` are the lines that
-lint offers in place of the wrong one; `LEAVE_OUT` where it says that the line can be left out.
-"""
-
-from __future__ import annotations
-
-from dataclasses import dataclass
-
-LEAVE_OUT = "nothing; leave the line out"
-CLUBS = "league,Cup,9\nclub,Anchor,1\nclub,Köln,1\nclub,Dock United,1\n"
-MATCHES = "match,Anchor,Köln\nmatch,Köln,Dock United\nmatch,Dock United,Anchor\n"
-SHEET = CLUBS + MATCHES + "line,1\nseason\n"
-FEED = SHEET + "result,1,2,1\n"
-
-
-@dataclass(frozen=True)
-class Mistake:
-    """A mistake: its name, the input, the row of the program, and what lint says."""
-
-    name: str
-    data: str | bytes
-    fault: str
-    says: tuple[str, ...]
-    writes: tuple[str, ...] = ()
-
-    @property
-    def input(self) -> bytes:
-        """The input as bytes."""
-        return self.data if isinstance(self.data, bytes) else self.data.encode("utf-8")
-
-
-def in_league(line: str) -> str:
-    """An input with this line in place of the `league` record."""
-    return line + "\n" + SHEET.split("\n", 1)[1] + "ask\n"
-
-
-def in_clubs(line: str) -> str:
-    """An input with this line behind three clubs, and a whole sheet and feed behind it."""
-    return CLUBS + line + "\n" + MATCHES + "line,1\nseason\nask\n"
-
-
-def in_matches(line: str) -> str:
-    """An input with this line in place of the third match."""
-    matches = MATCHES.rsplit("match", 1)[0]
-    return CLUBS + matches + line + "\nline,1\nseason\nask\n"
-
-
-def in_feed(line: str) -> str:
-    """An input with this line behind a result of the first fixture."""
-    return FEED + line + "\nask\n"
-
+from .mistake import (CLUBS, FEED, LEAVE_OUT, SHEET, Mistake, in_clubs, in_feed, in_league,
+                      in_matches)
 
 WHOLE_FILES = (
     Mistake("nothing in the file", "", "fault,1,no_league", ("The input is empty",)),
@@ -68,7 +18,8 @@ WHOLE_FILES = (
     Mistake("line ends of old Macs", in_feed("void,1").replace("\n", "\r"), "fault,1,no_league",
             ("carriage return alone",)),
     Mistake("semicolons between the fields", in_feed("void,1").replace(",", ";"),
-            "fault,1,no_league", ("commas, not by semicolons", "in 7 more lines"), ("league,Cup,9", "club,Köln,1")),
+            "fault,1,no_league", ("commas, not by semicolons", "in 7 more lines"),
+            ("league,Cup,9", "club,Köln,1")),
     Mistake("tabs between the fields", in_feed("void,1").replace(",", "\t"), "fault,1,no_league",
             ("commas, not by tabs",), ("club,Anchor,1",)),
     Mistake("a header row of a fixture list", "Date,HomeTeam,AwayTeam,FTHG,FTAG\n1,A,B,0,0\n",
@@ -195,86 +146,3 @@ LINE_RECORDS = (
             SHEET.rstrip("\n") + "result,1,2,1\nask\n", "fault,9,unknown_record",
             ("Two records stand on one line",), ("season", "result,1,2,1")),
 )
-
-FEED_RECORDS = (
-    Mistake("the score in one field", in_feed("result,2,5-1"), "fault,11,wrong_width",
-            ("two fields",), ("result,2,5,1",)),
-    Mistake("the score with a colon", in_feed("result,2,5:1"), "fault,11,wrong_width",
-            ("two fields",), ("result,2,5,1",)),
-    Mistake("a result by names", in_feed("result,Köln,Dock United,5,1"), "fault,11,wrong_width",
-            ("goes by its number", "is number 2"), ("result,2,5,1",)),
-    Mistake("fixtures counted from 0", in_feed("result,0,5,1"), "fault,11,unknown_fixture",
-            ("count from 1",)),
-    Mistake("a fixture that is not there", in_feed("result,4,5,1"), "fault,11,unknown_fixture",
-            ("there is no fixture 4",)),
-    Mistake("a date in a result", in_feed("result,2024-06-14,2,5,1"), "fault,11,wrong_width",
-            ("no field for a date",), ("result,2,5,1",)),
-    Mistake("a match that was not played", in_feed("result,2,-,-"), "fault,11,bad_goals",
-            ("score is missing",), (LEAVE_OUT,)),
-    Mistake("a result without a score", in_feed("result,2,,"), "fault,11,wrong_width",
-            ("score is missing",), (LEAVE_OUT,)),
-    Mistake("a star behind the goals", in_feed("result,2,3,0*"), "fault,11,bad_goals",
-            ("whole numbers",), ("result,2,3,0",)),
-    Mistake("goals as a spreadsheet has them", in_feed("result,2,3.0,0.0"), "fault,11,bad_goals",
-            ("whole numbers",), ("result,2,3,0",)),
-    Mistake("a hundred goals", in_feed("result,2,100,0"), "fault,11,bad_goals", ("0 to 99",)),
-    Mistake("the half-time score behind a result", in_feed("result,2,3,0,1,0"),
-            "fault,11,wrong_width", ("half",), ("result,2,3,0",)),
-    Mistake("a result twice", in_feed("result,1,2,1"), "fault,11,already_played",
-            ("this result already",), (LEAVE_OUT,)),
-    Mistake("a correction as a result", in_feed("result,1,2,2"), "fault,11,already_played",
-            ("write `fix`",), ("fix,1,2,2",)),
-    Mistake("a correction of an open match", in_feed("fix,2,2,2"), "fault,11,not_played",
-            ("write `result`",), ("result,2,2,2",)),
-    Mistake("an annulment of an open match", in_feed("void,2"), "fault,11,not_played",
-            ("nothing to annul",), (LEAVE_OUT,)),
-    Mistake("postponed in place of void", in_feed("postponed,2"), "fault,11,unknown_record",
-            ("nothing to annul",), (LEAVE_OUT,)),
-    Mistake("a score in an annulment", in_feed("void,1,2,1"), "fault,11,wrong_width",
-            ("number alone",), ("void,1",)),
-    Mistake("points deducted with a sign", in_feed("deduct,Anchor,-3"), "fault,11,bad_points",
-            ("without a sign",), ("deduct,Anchor,3",)),
-    Mistake("points deducted from a misspelt club", in_feed("deduct,Ancor,3"),
-            "fault,11,unknown_club", ("nearest name is `Anchor`",), ("deduct,Anchor,3",)),
-    Mistake("a deduction without points", in_feed("deduct,Anchor,"), "fault,11,wrong_width",
-            ("points taken away in all",)),
-    Mistake("points deducted from a number", in_feed("deduct,1,3"), "fault,11,unknown_club",
-            ("club 1 of the sheet is `Anchor`",), ("deduct,Anchor,3",)),
-    Mistake("a number behind ask", in_feed("ask,1"), "fault,11,wrong_width", ("stands alone",),
-            ("ask",)),
-    Mistake("ask in capitals", in_feed("ASK"), "fault,11,unknown_record", ("small letters",),
-            ("ask",)),
-    Mistake("a match behind season", in_feed("match,Anchor,Köln"), "fault,11,unknown_record",
-            ("before `season`",)),
-    Mistake("season twice", in_feed("season"), "fault,11,unknown_record", ("stands once",)),
-)
-
-SILENT = (
-    Mistake("no ask", FEED, "", ("has no `ask`",)),
-    Mistake("a result behind the last ask", FEED + "ask\nresult,2,0,0\n", "",
-            ("never answered",)),
-    Mistake("no line", FEED.replace("line,1\n", "") + "ask\n", "", ("has no `line`",)),
-    Mistake("a pair twice", in_matches("match,Dock United,Anchor\nmatch,Köln,Anchor"), "",
-            ("meet more often: Anchor - Köln",)),
-    Mistake("a match is missing", in_matches("# later"), "",
-            ("meet less often: Anchor - Dock United",)),
-    Mistake("one club with one match more",
-            in_matches("match,Dock United,Anchor\nmatch,Köln,Anchor"), "",
-            ("most clubs have 3 matches", "Dock United 2")),
-    Mistake("home and away exchanged",
-            in_matches("match,Dock United,Anchor\nmatch,Anchor,Köln\nmatch,Dock United,Köln\n"
-                       "match,Anchor,Dock United"), "", ("same club at home each time",)),
-    Mistake("a goal limit below the results", in_feed("result,2,11,0"), "",
-            ("11 goals", "goal limit is 9")),
-    Mistake("a slip of the finger in the goals", in_feed("result,2,31,0"), "",
-            ("is that the score",)),
-    Mistake("a space in a club's name", in_clubs("club, Ebb,1"), "", ("begins or ends with a "
-                                                                      "space",)),
-    Mistake("one club in two spellings", in_clubs("club,anchor,1"), "", ("names look alike",)),
-    Mistake("a deduction meant on top of another", in_feed("deduct,Anchor,3\ndeduct,Anchor,2"), "",
-            ("in all", "not 5")),
-    Mistake("a correction that changes nothing", in_feed("fix,1,2,1"), "", ("changes nothing",)),
-    Mistake("an ask that is too wide", SHEET + "ask\n", "", ("more than 10,000 ways",)),
-)
-
-TABLE = WHOLE_FILES + LEAGUES + CLUB_RECORDS + MATCH_RECORDS + LINE_RECORDS + FEED_RECORDS + SILENT

@@ -1,0 +1,1 @@
+"""The checks of the command `league`, which checks/league runs."""

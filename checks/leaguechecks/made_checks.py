@@ -1,0 +1,136 @@
+"""Sheets and feeds made by names: what is written, what is refused, and the examples."""
+
+from __future__ import annotations
+
+import tempfile
+from pathlib import Path
+
+from leaguelib.feeds import read_input, read_sheet
+from leaguelib.records import fields_of
+
+from .counting import HOME, Counter, league, said, same, sound_end
+from .mistake import SHEET
+
+EXAMPLES = sorted(path.parent for path in HOME.glob("examples/*/sheet.csv"))
+LIST = "Anchor - Köln\nKöln - Dock United\nDock United - Anchor\n"
+MADE = ["--name", "Cup", "--lines", "1", "--order", "head_first"]
+SHEETS = (
+    ("a complete list", LIST, MADE, 0, "match,Dock United,Anchor"),
+    ("no order", LIST, MADE[:4], 1, "Premier League"),
+    ("no lines", LIST, MADE[:2] + MADE[4:], 1, "--lines 1,4,17"),
+    ("no name", LIST, MADE[2:], 1, "What is the league called"),
+    ("a match is missing", LIST.rsplit("Dock", 1)[0], MADE, 2, "Anchor - Dock United"),
+    ("a match is missing and it is meant", LIST.rsplit("Dock", 1)[0], MADE + ["--as-is"], 0,
+     "season"),
+    ("a match is double", LIST + "Anchor - Köln\n", MADE, 2, "Anchor - Köln"),
+    ("one pair in both orders", "A - B\nB - A\nA - C\nB - D\nA - D\nB - C\n", MADE, 2,
+     "if each pair meets once, these stand too often"),
+    ("half of two rounds", "A 1-0 B\nB 1-0 A\nA 0-0 C\n", MADE, 2, "C - A"),
+    ("played matches alone", LIST.replace(" - ", " 1-0 "), MADE, 2, "all matches of this list "
+                                                                    "have"),
+    ("two rounds", LIST.replace(" - ", " 1-0 "), MADE + ["--rounds", "2"], 3, "match,Köln,Anchor"),
+    ("a misspelt name", LIST.replace("Dock United -", "Dock Unitd -"), MADE, 2, "is it `"),
+    ("a line that is no match", LIST + "postponed\n", MADE, 2, "line 4: cannot be read"),
+    ("a table", "Div,Date,HomeTeam,AwayTeam\nE,11/08/23,Anchor,Köln\n", MADE, 0, "# 2023-08-11"),
+    ("a table with semicolons", "Heim;Gast\nAnchor;Köln\n", MADE, 0, "match,Anchor,Köln"),
+    ("openfootball", "= Cup 2024\n\nMatchday 1\n[Fri Aug/11]\n 20.00  Anchor  2-1 (0-0)  Köln\n"
+     " Köln  v Anchor  @ Harbour\n", MADE[2:], 0, "league,Cup 2024,9"),
+    ("openfootball with dates in brackets", "= Cup\n[2024-06-14]\n(1) 21:00  Anchor v Köln  5-1 "
+     "(3-0)  @ Harbour\n    (Gull 1', 2'; Tern 3')\n(2) Köln v Anchor\n", MADE[2:], 0,
+     "# 2024-06-14\nmatch,Anchor,Köln\nmatch,Köln,Anchor\n"),
+    ("a line twice", LIST, MADE[:3] + ["1,1"] + MADE[4:], 2, "stands already"),
+    ("a line in words", LIST, MADE[:3] + ["top"] + MADE[4:], 1, "--lines 1,4,17"),
+    ("five lines", LIST, MADE[:3] + ["1,2,3,4,5"] + MADE[4:], 2, "refused"),
+    ("a name that is no text", LIST, ["--name", b"\xff"] + MADE[2:], 2, "1 to 40 bytes"),
+    ("ranks that are not there", LIST, MADE + ["--ranks", "/nowhere/ranks"], 4, "cannot be read"),
+    ("no rounds", LIST, MADE + ["--rounds", "0"], 1, "--rounds"),
+    ("goal limit 21", LIST, MADE + ["--goal-limit", "21"], 2, "1 to 20"),
+    ("a name with a comma", "Anchor - Ebb, 1904\n", MADE, 0, 'match,Anchor,"Ebb, 1904"'),
+)
+FEEDS = (
+    ("a result", "Anchor 2-1 Köln\n", 0, "result,1,2,1\n"),
+    ("a result with a date", "2024-06-14 Anchor 2:1 Köln\n", 0, "result,1,2,1\n"),
+    ("a correction", "Anchor 2-1 Köln\ncorrect Anchor 2-2 Köln\n", 0, "fix,1,2,2"),
+    ("an annulment", "Anchor 2-1 Köln\nannul Anchor - Köln\n", 0, "void,1"),
+    ("a deduction", "deduct Dock United 3\n", 0, "deduct,Dock United,3\n"),
+    ("a line of the feed", "result,2,0,0\n", 0, "result,2,0,0\n"),
+    ("a comment", "# first day\n\nask\n", 0, "ask\n"),
+    ("a misspelt club", "Ancor 2-1 Köln\n", 2, "nearest name is `Anchor`"),
+    ("a name without its accent", "Anchor 2-1 Koln\n", 2, "nearest name is `Köln`"),
+    ("home and away exchanged", "Köln 1-2 Anchor\n", 2, "Anchor - Köln, fixture 1"),
+    ("a result twice", "Anchor 2-1 Köln\nAnchor 2-1 Köln\n", 2, "already"),
+    ("no score", "Anchor - Köln\n", 2, "score is missing"),
+    ("no match", "good evening\n", 2, "not understood"),
+    ("a table of results", "HomeTeam,AwayTeam,FTHG,FTAG\nAnchor,Köln,2,1\nKöln,Dock United,,\n", 0,
+     "result,1,2,1\n"),
+)
+
+
+def names_of(folder: Path) -> tuple[str, str]:
+    """The fixtures of an example as lines by names, and its feed as lines by names."""
+    whole = read_input((folder / "sheet.csv").read_bytes() + (folder / "feed.csv").read_bytes())
+    fixtures = "".join(f"{one.home} - {one.away}\n" for one in whole.sheet.fixtures)
+    lines = []
+    for entry in whole.entries:
+        if entry.kind == "ask":
+            lines.append("ask")
+        elif entry.kind == "deduct":
+            lines.append(f"deduct {entry.club} {entry.points}")
+        else:
+            one = whole.sheet.fixture(entry.fixture)
+            pair = [f for f in whole.sheet.fixtures if (f.home, f.away) == (one.home, one.away)]
+            score = f"{entry.score[0]}-{entry.score[1]}"
+            word = {"result": "", "fix": "correct ", "void": "annul "}[entry.kind]
+            middle = "-" if entry.kind == "void" else score
+            if len(pair) > 1:
+                lines.append(f"{entry.kind},{entry.fixture},{score.replace('-', ',')}")
+            else:
+                lines.append(f"{word}{one.home} {middle} {one.away}")
+    return fixtures, "".join(line + "\n" for line in lines)
+
+
+def records(data: bytes) -> bytes:
+    """The lines that are no comments, with their line ends as Unix has them."""
+    lines = [line.rstrip(b"\r") for line in data.split(b"\n")]
+    return b"".join(line + b"\n" for line in lines if line and not line.startswith(b"#"))
+
+
+def check_round_trips(counter: Counter) -> None:
+    """Each example made by names has the bytes that were written by hand."""
+    for folder in EXAMPLES:
+        by_hand = (folder / "sheet.csv").read_bytes()
+        sheet = read_sheet(by_hand)
+        fixtures, feed = names_of(folder)
+        with tempfile.TemporaryDirectory() as work:
+            ranks = Path(work) / "ranks.csv"
+            clubs = [line for line in by_hand.splitlines() if line.startswith(b"club,")]
+            ranks.write_bytes(b"\n".join(clubs) + b"\n")
+            words: list[object] = ["sheet", "-", "--name", sheet.name, "--order", sheet.order,
+                                   "--goal-limit", sheet.goal_limit, "--ranks", ranks, "--as-is",
+                                   "--lines", ",".join(map(str, sheet.lines)) or "none",
+                                   "--no-comments"]
+            has_budget = len(fields_of(records(by_hand).split(b"\n")[0])) > 3
+            if has_budget and sheet.order == "head_first":
+                words += ["--budget", sheet.budget]
+            run = league(*words, data=fixtures.encode("utf-8"))
+        counter.check(f"sheet by names: {folder.name}", same(run, records(by_hand)))
+        run = league("feed", folder / "sheet.csv", data=feed.encode("utf-8"))
+        wanted = records((folder / "feed.csv").read_bytes())
+        counter.check(f"feed by names: {folder.name}", same(run, wanted))
+        run = league("lint", folder / "sheet.csv", folder / "feed.csv")
+        counter.check(f"lint takes the example {folder.name}",
+                      [] if run.returncode in (0, 3) else [run.stdout.decode("utf-8", "replace")])
+
+
+def check_made(counter: Counter) -> None:
+    """What `league sheet` and `league feed` write and say."""
+    for name, text, words, status, says in SHEETS:
+        run = league("sheet", "-", *words, data=text.encode("utf-8"))
+        counter.check("sheet: " + name, sound_end(run) + said(run, status, says))
+    with tempfile.TemporaryDirectory() as work:
+        sheet = Path(work) / "sheet.csv"
+        sheet.write_text(SHEET, "utf-8")
+        for name, text, status, says in FEEDS:
+            run = league("feed", sheet, data=text.encode("utf-8"))
+            counter.check("feed: " + name, sound_end(run) + said(run, status, says) + (
+                ["something was written"] if status and run.stdout else []))
