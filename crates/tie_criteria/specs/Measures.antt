@@ -2,10 +2,12 @@
 use Rattle.std.specs.Prelude.{ℕ, ℤ}
 use Rattle.league_core.specs.declared.sheet.Fixture.{Fixture}
 use Rattle.league_core.specs.declared.season.Score.{Score}
-use Rattle.league_core.specs.Sums.{Worth, match_points, goal_difference, goals, away_goals, wins, away_wins, worth_to, worth_among}
+use Rattle.league_core.specs.Sums.{Worth, match_points, goal_difference, goals, away_goals, wins}
+use Rattle.league_core.specs.Sums.{away_wins, worth_to, worth_among}
 use Rattle.league_core.specs.ClubSets.{clubs_in}
 use Rattle.tie_criteria.specs.declared.measure.Measure.{Measure}
-use Rattle.tie_criteria.specs.declared.measure.Measure.TheVariants.{Points, Difference, Goals, AwayGoals, Wins, AwayWins}
+use Rattle.tie_criteria.specs.declared.measure.Measure.TheVariants.{Points, Difference, Goals}
+use Rattle.tie_criteria.specs.declared.measure.Measure.TheVariants.{AwayGoals, Wins, AwayWins}
 use Rattle.tie_criteria.specs.declared.measure.Matches.{Matches}
 use Rattle.tie_criteria.specs.declared.measure.Matches.TheVariants.{All, Among}
 

@@ -4,7 +4,8 @@ ghost use Rattle.std.specs.Prelude.{◌≡◌, ◌≢◌, ◌<◌, ℕ, length, 
 ghost use Rattle.league_core.specs.Seasons.{IsLeague};
 ghost use Rattle.league_core.specs.Sums.{Worth, worth_to, worth_among, if_played};
 ghost use Rattle.league_core.specs.ClubSets.{clubs_in};
-ghost use Rattle.tie_criteria.specs.Records.{no_record, record_at, IsBounded, GrowsBy, AddsMatch, AreRecords};
+ghost use Rattle.tie_criteria.specs.Records.{no_record, record_at, IsBounded, GrowsBy, AddsMatch};
+ghost use Rattle.tie_criteria.specs.Records.{AreRecords};
 
 use crate::triple::Triple;
 use league_core::{ClubSet, Fixture, OutOfMemory, Score, Season, Sheet};

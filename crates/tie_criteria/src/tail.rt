@@ -1,4 +1,5 @@
-//! What decides among clubs that the head-to-head leaves level: the sums over all matches and the rank.
+//! What decides among clubs that the head-to-head leaves level: the sums over all matches and the
+//! rank.
 
 ghost use Rattle.std.specs.Prelude.{◌≡◌, ◌<◌, length};
 ghost use Rattle.league_core.specs.Seasons.{IsLeague};

@@ -8,4 +8,5 @@ returns-in-Points-clause-worth c =
     let fits : FitsSigned w32 c.match_points.result = search rules in
     to_z-of_z w32 c.match_points.result fits
     ∙ c.match_points.ensures.points c.args.away
-    ∙ ap (λ measure. worth_of measure c.args.scored c.args.conceded c.args.away) (sym c.in-Points.is)
+    ∙ ap (λ measure. worth_of measure c.args.scored c.args.conceded c.args.away)
+    (sym c.in-Points.is)

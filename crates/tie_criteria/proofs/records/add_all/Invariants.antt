@@ -7,4 +7,5 @@ use Rattle.tie_criteria.proofs.records.add_all.Given as goal
 -- each club's record so far and what is left of the matches make its whole record
 abbrev pub invariant-loop-i : goal.invariant-loop-i
 invariant-loop-i l =
-    (club : ℕ) → club < length l.sheet.clubs → IsSoFar l.fixtures l.scores (clubs_in l.group) l.i club (record_at l.found club)
+    (club : ℕ) → club < length l.sheet.clubs
+    → IsSoFar l.fixtures l.scores (clubs_in l.group) l.i club (record_at l.found club)

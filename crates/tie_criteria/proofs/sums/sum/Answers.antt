@@ -14,7 +14,8 @@ loop-i-preserved c =
     let matches = ap length c.as_slice-fixtures.ensures in
     let played = ap length c.scores-scores.ensures.scores in
     let value = value_in c.args.matches (worth_of c.args.measure) c.args.club in
-    let step = sum_over-drop value c.as_slice-fixtures.result.now c.scores-scores.result.now c.loop-i.i (record { home = 0; away = 0 }) None (omega arith) (omega arith) in
+    let step = sum_over-drop value c.as_slice-fixtures.result.now c.scores-scores.result.now
+    c.loop-i.i (record { home = 0; away = 0 }) None (omega arith) (omega arith) in
     record {
       so_far = omega (arith, ints, step);
       low = omega (arith, ints);

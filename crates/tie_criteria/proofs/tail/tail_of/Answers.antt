@@ -15,5 +15,7 @@ returns c =
     let away_scored = to_z-of_z w32 c.sum-3.result away_scored_fits ∙ c.sum-3.ensures.sum in
     let wins = to_z-of_z w32 c.sum-4.result wins_fits ∙ c.sum-4.ensures.sum in
     let away_wins = to_z-of_z w32 c.sum-5.result away_wins_fits ∙ c.sum-5.ensures.sum in
-    let rank = rank_of-read c.args.sheet.now c.as_slice.result.now c.args.club c.index-as_slice-club.result c.as_slice.ensures c.requires.in_range in
-    (λ i. difference i ∷ scored i ∷ away_scored i ∷ wins i ∷ away_wins i ∷ neg_ℤ (pos (rank i)) ∷ [])
+    let rank = rank_of-read c.args.sheet.now c.as_slice.result.now c.args.club
+    c.index-as_slice-club.result c.as_slice.ensures c.requires.in_range in
+    (λ i. difference i ∷ scored i ∷ away_scored i ∷ wins i ∷ away_wins i ∷ neg_ℤ (pos (rank i)) ∷
+    [])

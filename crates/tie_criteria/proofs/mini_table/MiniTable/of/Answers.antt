@@ -1,4 +1,5 @@
-use Rattle.std.proofs.Common.{◌≡◌, ℕ, Bool, true, false, [], ◌∷◌, ◌++◌, map, cond, sym, ap, refl, ◌∙◌, arith}
+use Rattle.std.proofs.Common.{◌≡◌, ℕ, Bool, true, false, [], ◌∷◌, ◌++◌, map, cond, sym, ap, refl}
+use Rattle.std.proofs.Common.{◌∙◌, arith}
 use Rattle.std.proofs.lemmas.List.{map-append}
 use Rattle.league_core.specs.Sums.{has_club}
 use Rattle.league_core.specs.ClubSets.{clubs_below, clubs_in}
@@ -9,13 +10,15 @@ use Rattle.tie_criteria.proofs.RecordLemmas.{row_at, rows_are}
 use Rattle.tie_criteria.proofs.mini_table.MiniTable.of.Goals as goal
 
 -- the row of a club, where the club is kept
-row-cond : (f : ℕ → Row) (row : Row) (keep : Bool) (club : ℕ) → row ≡ f club → cond keep (row ∷ []) [] ≡ map f (cond keep (club ∷ []) [])
+row-cond : (f : ℕ → Row) (row : Row) (keep : Bool) (club : ℕ) → row ≡ f club
+    → cond keep (row ∷ []) [] ≡ map f (cond keep (club ∷ []) [])
 row-cond f row true club is = ap (λ r. r ∷ []) is
 row-cond f row false club is = refl
 
 pub loop-club-init : goal.loop-club-init
 loop-club-init c =
-    c.new-rows.ensures.items ∙ ap (map (row_at c.in_ok-found.found.items)) (sym (clubs_below-none c.args.group.bits))
+    c.new-rows.ensures.items
+    ∙ ap (map (row_at c.in_ok-found.found.items)) (sym (clubs_below-none c.args.group.bits))
 
 pub loop-club-preserved : goal.loop-club-preserved
 loop-club-preserved c =
@@ -37,4 +40,5 @@ returns c =
     let last : c.loop-club.club ≡ 32 = omega arith in
     c.loop-club.invariant
     ∙ ap (λ n. map (row_at c.in_ok-found.found.items) (clubs_below n c.args.group.bits)) last
-    ∙ rows_are c.args.sheet.now c.args.season.now (clubs_in c.args.group) c.in_ok-found.found.items c.in_ok-found.ensures c.requires.of_group
+    ∙ rows_are c.args.sheet.now c.args.season.now
+    (clubs_in c.args.group) c.in_ok-found.found.items c.in_ok-found.ensures c.requires.of_group
