@@ -1,8 +1,8 @@
 -- One verdict always holds: the list of all finishes is gone through once for each side of the line,
 -- with the lots that favour that side.
-use Rattle.std.proofs.Common.{◌≡◌, ◌⊎◌, ℕ, suc, ◌<◌, Bool, true, false, ◌&&◌, List, [], ◌∷◌, length, Option, All, Contains, refl, sym, ◌∙◌, subst, inl, inr, arith}
+use Rattle.std.proofs.Common.{◌≡◌, ◌⊎◌, ℕ, ◌<◌, Bool, true, false, List, [], ◌∷◌, length, Option, All, Contains, refl, sym, ◌∙◌, subst, inl, inr, arith}
 use Rattle.std.proofs.lemmas.Bool.{false≢true, and_parts}
-use Rattle.std.proofs.lemmas.List.Elements.{All-nil, All-cons, All-contains, Contains-append_left, Contains-append_right}
+use Rattle.std.proofs.lemmas.List.Elements.{All-nil, All-cons, All-contains, Contains-append_right}
 use Rattle.league_core.specs.declared.sheet.Sheet.{Sheet}
 use Rattle.league_core.specs.declared.season.Score.{Score}
 use Rattle.league_core.specs.declared.question.Claim.{Claim}
@@ -11,7 +11,7 @@ use Rattle.league_core.specs.Results.{Results, are_results}
 use Rattle.league_core.specs.Sheets.{IsWithinLimits}
 use Rattle.league_core.specs.Sums.{points_of}
 use Rattle.league_core.specs.Ranking.{is_inside}
-use Rattle.league_core.specs.Questions.{is_on_side, is_in_window, holds_at, full_question}
+use Rattle.league_core.specs.Questions.{is_on_side, is_in_window, full_question}
 use Rattle.league_core.specs.Finishes.{IsFinishOf}
 use Rattle.league_core.specs.FinishList.{finishes_of}
 use Rattle.league_core.specs.Verdicts.{HasExample, HasNoExample, IsClinched, IsLost, IsPossible}

@@ -1,8 +1,14 @@
--- Lots name each club once, so they are the table that they give wherever points and criteria allow it.
-use Rattle.std.proofs.Common.{◌≡◌, ◌⊎◌, ◌≢◌, ℕ, zero, suc, ◌+◌, ◌<◌, ◌≤◌, Bool, true, false, not, ◌||◌, ◌==◌, eqb, nat_lt, cond, List, [], ◌∷◌, ◌++◌, length, Ordering, Less, nat_cmp, refl, sym, ◌∙◌, ap, subst, inl, inr, arith, length-append}
+-- Lots name each club once, so they are the table that they give wherever points and criteria allow
+-- it.
+use Rattle.std.proofs.Common.{◌≡◌, ◌≢◌, ℕ, ◌+◌, ◌<◌, true, false, not}
+use Rattle.std.proofs.Common.{◌||◌, ◌==◌, eqb, nat_lt, cond, List, [], ◌∷◌, ◌++◌, length, Ordering}
+use Rattle.std.proofs.Common.{nat_cmp, refl, sym, ◌∙◌, ap, subst, inl, inr, arith}
+use Rattle.std.proofs.Common.{length-append}
 use Rattle.std.specs.List.{list_all, list_any, range_with_len}
 use Rattle.std.proofs.lemmas.List.{append_assoc}
-use Rattle.std.proofs.lemmas.Bool.{false≢true, and_parts, or_cases, or_left, or_right, eqb-true, eqb-false, eq-eqb, ne_eqb, ltb-true, lt-ltb, cases_eq, cases_lt, false_from_ne_true}
+use Rattle.std.proofs.lemmas.Bool.{false≢true, and_parts, or_cases, or_left, or_right, eqb-true}
+use Rattle.std.proofs.lemmas.Bool.{eq-eqb, ne_eqb, ltb-true, lt-ltb, cases_eq, cases_lt}
+use Rattle.std.proofs.lemmas.Bool.{false_from_ne_true}
 use Rattle.std.proofs.lemmas.List.Folds.{list_any-append}
 use Rattle.std.proofs.lemmas.Map.Steps.{le-length_from_below}
 use Rattle.league_core.specs.declared.sheet.Sheet.{Sheet}
@@ -178,7 +184,8 @@ pub table_of_itself : (sheet : Sheet) (season : Results) (table : List ℕ)
     → IsTable sheet season table table
 table_of_itself sheet season table drawn allowed =
     let clubs = length sheet.clubs in
-    let parts = and_parts (length table == clubs) (list_all (has_club table) (range_with_len 0 clubs))
+    let parts = and_parts (length table == clubs) (list_all (has_club table)
+    (range_with_len 0 clubs))
     drawn in
     let names : NameEach clubs table = record {
       long = eqb-true (length table) clubs parts.0;

@@ -1,9 +1,14 @@
 -- Two lots suffice: the lots that favour a claim about a club serve it as well as any lots do, and
 -- the club drawn first, or last, gives such lots.
-use Rattle.std.proofs.Common.{◌≡◌, ◌≢◌, ℕ, ◌+◌, ◌<◌, ◌≤◌, Bool, true, false, not, ◌||◌, ◌==◌, cond, nat_lt, nat_le, List, [], ◌∷◌, length, Ordering, Less, Equal, Greater, is_lt, nat_cmp, refl, sym, ◌∙◌, ap, subst, inl, inr, arith, length-append}
+use Rattle.std.proofs.Common.{◌≡◌, ◌≢◌, ℕ, ◌+◌, ◌<◌, ◌≤◌, Bool, true, false, not, ◌||◌, ◌==◌, cond}
+use Rattle.std.proofs.Common.{nat_lt, nat_le, List, [], ◌∷◌, length, Ordering, Less, Equal, Greater}
+use Rattle.std.proofs.Common.{is_lt, nat_cmp, refl, sym, ◌∙◌, ap, subst, inl, inr, arith}
+use Rattle.std.proofs.Common.{length-append}
 use Rattle.std.specs.List.{list_all, range_with_len}
 use Rattle.std.specs.Ordering.{ordering_then}
-use Rattle.std.proofs.lemmas.Bool.{false≢true, and_parts, and_from, or_left, or_right, eq-eqb, ltb-true, lt-ltb, leb-true, le-leb, cases_eq, not-true, not_from_false, leb-false, lt-leb}
+use Rattle.std.proofs.lemmas.Bool.{false≢true, and_parts, and_from, or_left, or_right, eq-eqb}
+use Rattle.std.proofs.lemmas.Bool.{ltb-true, lt-ltb, leb-true, le-leb, cases_eq, not-true}
+use Rattle.std.proofs.lemmas.Bool.{not_from_false, leb-false, lt-leb}
 use Rattle.std.proofs.lemmas.Cmp.{tied_itself}
 use Rattle.std.proofs.lemmas.List.Folds.{list_any-append}
 use Rattle.league_core.specs.declared.sheet.Sheet.{Sheet}
@@ -15,10 +20,12 @@ use Rattle.league_core.specs.Sheets.{clubs_of}
 use Rattle.league_core.specs.Sums.{has_club, points_of}
 use Rattle.league_core.specs.Ranking.{are_lots, lot_of, ranks_before, place_of, is_inside}
 use Rattle.league_core.specs.Questions.{is_on_side, is_in_window, holds_at}
-use Rattle.league_core.specs.LotsFor.{others_of, first_lots, last_lots, lots_for_claim, IsFavoured, order_without_lots, best_place_of, worst_place_of}
+use Rattle.league_core.specs.LotsFor.{others_of, first_lots, last_lots, lots_for_claim, IsFavoured}
+use Rattle.league_core.specs.LotsFor.{order_without_lots, best_place_of, worst_place_of}
 use Rattle.league_core.proofs.OrderingLemmas.{is_lt-nat_cmp}
 use Rattle.league_core.proofs.ClubLemmas.{all_in_range, count_by-le}
-use Rattle.league_core.proofs.OthersLemmas.{lot_of-absent, lot_of-present, others_have_not, others_have, length-others_of}
+use Rattle.league_core.proofs.OthersLemmas.{lot_of-absent, lot_of-present, others_have_not}
+use Rattle.league_core.proofs.OthersLemmas.{others_have, length-others_of}
 use Rattle.league_core.proofs.RankingLemmas.{order_of-lots, order_of_total}
 
 -- who comes before the first in the lots comes before it by what counts more, so with all lots

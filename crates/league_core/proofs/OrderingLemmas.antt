@@ -1,5 +1,6 @@
 -- What one comparison after another says, whatever is compared.
-use Rattle.std.proofs.Common.{◌≡◌, ℕ, ◌<◌, true, Ordering, Less, Equal, Greater, nat_cmp, nat_lt, is_lt, refl, arith}
+use Rattle.std.proofs.Common.{◌≡◌, ℕ, ◌<◌, true, Ordering, Less, Equal, Greater, nat_cmp, nat_lt}
+use Rattle.std.proofs.Common.{is_lt, refl, arith}
 use Rattle.std.specs.Ordering.{ordering_then}
 use Rattle.std.proofs.lemmas.Bool.{false≢true}
 use Rattle.std.proofs.lemmas.Bool.Decides.{nat_tests}

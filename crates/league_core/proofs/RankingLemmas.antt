@@ -1,10 +1,13 @@
 -- The ranking is a total order of all clubs, and with lots no two clubs are level in it.
-use Rattle.std.proofs.Common.{◌≡◌, ◌≢◌, ◌⊎◌, ℕ, ℤ, ◌<◌, true, false, ◌==◌, List, ◌∷◌, length, get_or, Ordering, Less, Equal, Greater, is_eq, is_lt, nat_cmp, refl, sym, ◌∙◌, ap, subst, inl, inr, arith}
+use Rattle.std.proofs.Common.{◌≡◌, ◌≢◌, ◌⊎◌, ℕ, ℤ, ◌<◌, true, false, ◌==◌, List, ◌∷◌, length}
+use Rattle.std.proofs.Common.{get_or, Ordering, Less, Equal, Greater, is_eq, is_lt, nat_cmp, refl}
+use Rattle.std.proofs.Common.{sym, ◌∙◌, ap, subst, inl, inr, arith}
 use Rattle.std.specs.Cmp.{IsTotalOrder}
 use Rattle.std.specs.List.{list_all, range_with_len}
 use Rattle.std.specs.Ordering.{ordering_then, ordering_reverse, int_eq}
 use Rattle.std.proofs.lemmas.Bool.{false≢true, and_parts, eqb-true}
-use Rattle.std.proofs.lemmas.Cmp.{int_cmp_total, nat_cmp_total, on_total, then_total, alike_right, tied_itself}
+use Rattle.std.proofs.lemmas.Cmp.{int_cmp_total, nat_cmp_total, on_total, then_total, alike_right}
+use Rattle.std.proofs.lemmas.Cmp.{tied_itself}
 use Rattle.std.proofs.lemmas.List.Elements.{filter_agree}
 use Rattle.std.proofs.lemmas.List.Sums.{passes_at_first}
 use Rattle.league_core.specs.declared.sheet.Sheet.{Sheet}
@@ -15,7 +18,8 @@ use Rattle.league_core.specs.HeadToHead.{greater_first, by_first_difference}
 use Rattle.league_core.specs.Ahead.{standing_in}
 use Rattle.league_core.specs.Ranking.{are_lots, lot_of, tied_group_of, order_of, ranks_before}
 use Rattle.league_core.specs.LotsFor.{order_without_lots}
-use Rattle.league_core.proofs.OrderingLemmas.{then_agree, then-then, then-equal, nat_cmp-equal, less-is_lt}
+use Rattle.league_core.proofs.OrderingLemmas.{then_agree, then-then, then-equal, nat_cmp-equal}
+use Rattle.league_core.proofs.OrderingLemmas.{less-is_lt}
 use Rattle.league_core.proofs.ClubLemmas.{each_in_range, lot_of-within}
 use Rattle.league_core.proofs.StandingLemmas.{by_first_difference_total, key_by, standing_by-key}
 

@@ -1,5 +1,6 @@
 -- Lists of results: what stays true where a score is written, and where there is none.
-use Rattle.std.proofs.Common.{◌≡◌, ℕ, Bool, true, false, ◌&&◌, ◌==◌, List, set, replicate, Option, Some, None, refl, ap, ◌∙◌, leb}
+use Rattle.std.proofs.Common.{◌≡◌, ℕ, Bool, true, false, ◌&&◌, ◌==◌, List, set, replicate, Option}
+use Rattle.std.proofs.Common.{Some, None, refl, ap, ◌∙◌, leb}
 use Rattle.std.specs.List.{list_all}
 use Rattle.std.specs.Bool.{Decides}
 use Rattle.std.specs.Option.{option_eq}
@@ -24,22 +25,32 @@ and_of true b h k = k
 and_of false b h k = h
 
 -- one element that passes is written into a list of such
-pub list_all-set : {X : Type 0} (p : X → Bool) (xs : List X) (i : ℕ) (x : X) → p x ≡ true → list_all p xs ≡ true → list_all p (set xs i x) ≡ true
+pub list_all-set : {X : Type 0} (p : X → Bool) (xs : List X) (i : ℕ) (x : X) → p x ≡ true
+    → list_all p xs ≡ true → list_all p (set xs i x) ≡ true
 list_all-set p xs i x passes all =
-    list_all-from_AllPass p (set xs i x) (All-set (λ y. p y ≡ true) xs i x passes (AllPass-from_list_all p xs all))
+    list_all-from_AllPass p (set xs i x)
+    (All-set (λ y. p y ≡ true) xs i x passes (AllPass-from_list_all p xs all))
 
 -- copies of an element that passes
-pub list_all-replicate : {X : Type 0} (p : X → Bool) (n : ℕ) (x : X) → p x ≡ true → list_all p (replicate n x) ≡ true
-list_all-replicate p n x passes = list_all-from_AllPass p (replicate n x) (All-replicate (λ y. p y ≡ true) n x passes)
+pub list_all-replicate : {X : Type 0} (p : X → Bool) (n : ℕ) (x : X) → p x ≡ true
+    → list_all p (replicate n x) ≡ true
+list_all-replicate p n x passes = list_all-from_AllPass p (replicate n x)
+    (All-replicate (λ y. p y ≡ true) n x passes)
 
 -- a score that may be, or none, is written into results
-pub are_results-set : (scores : List (Option Score)) (deductions : List ℕ) (i : ℕ) (score : Option Score) → is_score_or_none score ≡ true → are_results (record { scores = scores; deductions = deductions }) ≡ true → are_results (record { scores = set scores i score; deductions = deductions }) ≡ true
+pub are_results-set : (scores : List (Option Score)) (deductions : List ℕ) (i : ℕ)
+    (score : Option Score) → is_score_or_none score ≡ true
+    → are_results (record { scores = scores; deductions = deductions }) ≡ true
+    → are_results (record { scores = set scores i score; deductions = deductions }) ≡ true
 are_results-set scores deductions i score may_be all =
     let parts = both_of _ _ all in
     and_of _ _ (list_all-set is_score_or_none scores i score may_be parts.0) parts.1
 
 -- so many points that may be are taken off a club
-pub are_results-deduct : (scores : List (Option Score)) (deductions : List ℕ) (club points : ℕ) → leb points 99 ≡ true → are_results (record { scores = scores; deductions = deductions }) ≡ true → are_results (record { scores = scores; deductions = set deductions club points }) ≡ true
+pub are_results-deduct : (scores : List (Option Score)) (deductions : List ℕ) (club points : ℕ)
+    → leb points 99 ≡ true
+    → are_results (record { scores = scores; deductions = deductions }) ≡ true
+    → are_results (record { scores = scores; deductions = set deductions club points }) ≡ true
 are_results-deduct scores deductions club points may_be all =
     let parts = both_of _ _ all in
     and_of _ _ parts.0 (list_all-set (λ n. leb n 99) deductions club points may_be parts.1)
@@ -51,17 +62,25 @@ scores_decided s t = (
       let home = (Decides-eqb s.home t.home).0 parts.0 in
       let away = (Decides-eqb s.away t.away).0 parts.1 in
       λ i. record { home = home i; away = away i },
-  λ e. and_of _ _ ((Decides-eqb s.home t.home).1 (ap (λ (u : Score). u.home) e)) ((Decides-eqb s.away t.away).1 (ap (λ (u : Score). u.away) e)),
+  λ e. and_of _ _ ((Decides-eqb s.home t.home).1 (ap (λ (u : Score). u.home) e))
+      ((Decides-eqb s.away t.away).1 (ap (λ (u : Score). u.away) e)),
 )
 
 -- an optional value is decided where the value is
-pub options_decided : {X : Type 0} (same : X → X → Bool) → ((x y : X) → Decides (same x y) (x ≡ y)) → (a b : Option X) → Decides (option_eq same a b) (a ≡ b)
+pub options_decided : {X : Type 0} (same : X → X → Bool) → ((x y : X) → Decides (same x y) (x ≡ y))
+    → (a b : Option X) → Decides (option_eq same a b) (a ≡ b)
 options_decided same decides None None = (λ _. refl, λ _. refl)
 options_decided same decides None (Some y) = (λ h. cc, λ e. cc)
 options_decided same decides (Some x) None = (λ h. cc, λ e. cc)
-options_decided same decides (Some x) (Some y) = (λ h. ap Some ((decides x y).0 h), λ e. (decides x y).1 cc)
+options_decided same decides (Some x) (Some y) =
+    (λ h. ap Some ((decides x y).0 h), λ e. (decides x y).1 cc)
 
 -- no score, and no points taken off
-pub are_results-unplayed : (scores : List (Option Score)) (deductions : List ℕ) (fixtures clubs : ℕ) → scores ≡ replicate fixtures None → deductions ≡ replicate clubs 0 → are_results (record { scores = scores; deductions = deductions }) ≡ true
+pub are_results-unplayed : (scores : List (Option Score)) (deductions : List ℕ)
+    (fixtures clubs : ℕ) → scores ≡ replicate fixtures None → deductions ≡ replicate clubs 0
+    → are_results (record { scores = scores; deductions = deductions }) ≡ true
 are_results-unplayed scores deductions fixtures clubs none nothing =
-    and_of _ _ (ap (list_all is_score_or_none) none ∙ list_all-replicate is_score_or_none fixtures None refl) (ap (list_all (λ points. leb points 99)) nothing ∙ list_all-replicate (λ points. leb points 99) clubs 0 refl)
+    and_of _ _ (ap (list_all is_score_or_none) none
+    ∙ list_all-replicate is_score_or_none fixtures None refl)
+    (ap (list_all (λ points. leb points 99)) nothing
+    ∙ list_all-replicate (λ points. leb points 99) clubs 0 refl)

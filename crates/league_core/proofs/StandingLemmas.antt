@@ -1,6 +1,7 @@
 -- The standing in a group is a total order: it compares one list of numbers of each club, the
 -- club's key, which has the numbers that decide in the order in which they do.
-use Rattle.std.proofs.Common.{◌≡◌, ℕ, zero, suc, ℤ, Bool, true, false, ◌==◌, List, [], ◌∷◌, length, Ordering, Less, Equal, Greater, is_eq, refl, sym, ◌∙◌, ap, subst}
+use Rattle.std.proofs.Common.{◌≡◌, ℕ, zero, suc, ℤ, Bool, true, false, ◌==◌, List, [], ◌∷◌, length}
+use Rattle.std.proofs.Common.{Ordering, Less, Equal, Greater, is_eq, refl, sym, ◌∙◌, ap, subst}
 use Rattle.std.specs.Cmp.{IsTotalOrder}
 use Rattle.std.specs.Ordering.{ordering_reverse}
 use Rattle.std.proofs.lemmas.Bool.{false≢true, true≢false}
@@ -11,8 +12,11 @@ use Rattle.league_core.specs.declared.sheet.Order.{Order}
 use Rattle.league_core.specs.declared.sheet.Order.TheVariants.{HeadFirst, OverallFirst}
 use Rattle.league_core.specs.Results.{Results}
 use Rattle.league_core.specs.Sums.{sum_of, sum_among, match_points, goal_difference, goals}
-use Rattle.league_core.specs.HeadToHead.{greater_first, by_first_difference, head_to_head_of, by_head_to_head, are_level_in, level_with}
-use Rattle.league_core.specs.Ahead.{overall_of, by_overall, lead_within, lead_in, first_sums_of, by_first_sums, are_level_overall, level_overall, standing_by, standing_in, IsAheadIn}
+use Rattle.league_core.specs.HeadToHead.{greater_first, by_first_difference, head_to_head_of}
+use Rattle.league_core.specs.HeadToHead.{by_head_to_head, are_level_in, level_with}
+use Rattle.league_core.specs.Ahead.{overall_of, by_overall, lead_within, lead_in, first_sums_of}
+use Rattle.league_core.specs.Ahead.{by_first_sums, are_level_overall, level_overall, standing_by}
+use Rattle.league_core.specs.Ahead.{standing_in, IsAheadIn}
 use Rattle.league_core.proofs.OrderingLemmas.{then_agree, then-two, then-three}
 
 -- by the first number at which two lists differ, lists are in a total order
@@ -121,7 +125,8 @@ level_overall-tied sheet season group club other tied =
     (λ third. ap is_eq
     (alike_right (by_first_sums_total sheet season) club other third tied)) group
 
--- what decides in a group by an order of the criteria: the key in the group, or the two sums first and
+-- what decides in a group by an order of the criteria: the key in the group, or the two sums first
+-- and
 -- then the key among the clubs that share them
 abbrev pub key_by : Order → Sheet → Results → List ℕ → ℕ → List ℤ
 key_by HeadFirst sheet season group club = key_within (length group) sheet season group club

@@ -1,6 +1,7 @@
 -- How often the head-to-head record is taken at most is no part of the meaning: as many times as
 -- the group has clubs are enough, and so lead and standing meet the recursion that they stand for.
-use Rattle.std.proofs.Common.{◌≡◌, ◌≢◌, ℕ, zero, suc, ◌≤◌, Bool, true, false, ◌==◌, cond, List, [], ◌∷◌, length, Ordering, is_eq, refl, sym, ◌∙◌, ap, subst, arith}
+use Rattle.std.proofs.Common.{◌≡◌, ◌≢◌, ℕ, zero, suc, ◌≤◌, Bool, true, false, ◌==◌, cond, List, []}
+use Rattle.std.proofs.Common.{◌∷◌, length, Ordering, is_eq, refl, sym, ◌∙◌, ap, subst, arith}
 use Rattle.std.proofs.lemmas.Bool.{false≢true, eqb-true, eqb-false}
 use Rattle.std.proofs.lemmas.Cmp.{tied_itself}
 use Rattle.std.proofs.lemmas.List.Sums.{length-filter, count_by-le-length}
@@ -12,8 +13,9 @@ use Rattle.league_core.specs.declared.sheet.Order.TheVariants.{HeadFirst, Overal
 use Rattle.league_core.specs.Results.{Results}
 use Rattle.league_core.specs.Sums.{has_club, sum_of, goal_difference, goals}
 use Rattle.league_core.specs.HeadToHead.{greater_first, by_head_to_head, are_level_in, level_with}
-use Rattle.league_core.specs.Ahead.{by_overall, lead_within, lead_in, by_first_sums, are_level_overall, level_overall, standing_by}
-use Rattle.league_core.specs.Laws.{lead_by_the_rule, standing_by_the_rule}
+use Rattle.league_core.specs.Ahead.{by_overall, lead_within, lead_in, by_first_sums}
+use Rattle.league_core.specs.Ahead.{are_level_overall, level_overall, standing_by}
+use Rattle.league_core.specs.StandingLaws.{lead_by_the_rule, standing_by_the_rule}
 use Rattle.league_core.proofs.OrderingLemmas.{then_agree, then-two}
 use Rattle.league_core.proofs.StandingLemmas.{by_head_to_head_total, by_first_sums_total}
 

@@ -1,6 +1,7 @@
 -- From a club's best and worst place in a played season to its verdict.
 use Rattle.std.proofs.Common.{◌≡◌, ℕ, ◌<◌, ◌≤◌, true, nat_le, List, length, sym, ◌∙◌, subst}
-use Rattle.std.proofs.lemmas.Bool.{false≢true, and_parts, and_from, le-leb, lt-leb, not_from_true, not_from_false}
+use Rattle.std.proofs.lemmas.Bool.{false≢true, and_parts, and_from, le-leb, lt-leb, not_from_true}
+use Rattle.std.proofs.lemmas.Bool.{not_from_false}
 use Rattle.league_core.specs.declared.sheet.Sheet.{Sheet}
 use Rattle.league_core.specs.declared.question.Claim.{Claim}
 use Rattle.league_core.specs.declared.question.Claim.TheVariants.{Inside, Outside}
@@ -9,10 +10,12 @@ use Rattle.league_core.specs.Sheets.{IsWithinLimits}
 use Rattle.league_core.specs.Sums.{points_of}
 use Rattle.league_core.specs.Ranking.{is_inside}
 use Rattle.league_core.specs.Finishes.{is_played}
-use Rattle.league_core.specs.Questions.{is_on_side, is_in_window, holds_at, IsExample, full_question}
+use Rattle.league_core.specs.Questions.{is_on_side, is_in_window, holds_at, IsExample}
+use Rattle.league_core.specs.Questions.{full_question}
 use Rattle.league_core.specs.Verdicts.{IsClinched, IsLost}
 use Rattle.league_core.specs.LotsFor.{lots_for_claim, best_place_of, worst_place_of}
-use Rattle.league_core.proofs.LotsLemmas.{holds_at-favoured, lots_for_claim-are_lots, lots_for_claim-favoured}
+use Rattle.league_core.proofs.LotsLemmas.{holds_at-favoured, lots_for_claim-are_lots}
+use Rattle.league_core.proofs.LotsLemmas.{lots_for_claim-favoured}
 use Rattle.league_core.proofs.FinishLemmas.{played_finishes_itself, played_only_finish}
 use Rattle.league_core.proofs.PointsLemmas.{points_in_full_window, results-deductions}
 

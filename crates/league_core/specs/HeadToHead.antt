@@ -1,5 +1,6 @@
 -- The head-to-head record of a club in a group of clubs, after the UEFA group criteria of 2021/22:
--- match points, then goal difference, then goals, from the matches among the clubs of the group alone.
+-- match points, then goal difference, then goals, from the matches among the clubs of the group
+-- alone.
 -- Deductions do not count here.
 use Rattle.std.specs.Prelude.{ℕ, ℤ, List, [], ◌∷◌, filter, Bool}
 use Rattle.std.specs.declared.cmp.Ordering.{Ordering}
@@ -28,7 +29,8 @@ head_to_head_of sheet season group club =
 -- Less where the one club's record in the group is the greater
 abbrev pub by_head_to_head : Sheet → Results → List ℕ → ℕ → ℕ → Ordering
 by_head_to_head sheet season group club other =
-    by_first_difference (head_to_head_of sheet season group club) (head_to_head_of sheet season group other)
+    by_first_difference (head_to_head_of sheet season group club)
+    (head_to_head_of sheet season group other)
 
 -- both clubs have one record in the group
 abbrev pub are_level_in : Sheet → Results → List ℕ → ℕ → ℕ → Bool

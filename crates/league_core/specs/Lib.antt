@@ -17,6 +17,7 @@ pub mod Questions
 pub mod Verdicts
 pub mod LotsFor
 pub mod Laws
+pub mod StandingLaws
 pub mod Zones
 pub mod Options
 pub mod FinishList
@@ -38,4 +39,7 @@ pub mod LendingLaws
 pub mod SplitLaws
 pub mod ZoneLaws
 pub mod WorkedRows
+pub mod CriteriaRows
+pub mod SeasonRows
 pub mod ZoneRows
+pub mod SureRows

@@ -1,6 +1,10 @@
 -- How much a league may hold. The numbers are those of src/limits.rt.
 use Rattle.std.specs.Prelude.{ℕ, ℤ, pos, neg_ℤ}
-use Rattle.league_core.specs.declared.limits.TheConstants.{LEAST_CLUBS, MOST_CLUBS, MOST_FIXTURES, MOST_LINES, MOST_RANK, MOST_GOAL_LIMIT, MOST_BUDGET, MOST_NAME_BYTES, MOST_GOALS, MOST_DEDUCTION, MOST_POINTS, MOST_EVENTS, MOST_FINISHES, SET_WIDTH}
+use Rattle.league_core.specs.declared.limits.TheConstants.{LEAST_CLUBS, MOST_CLUBS, MOST_FIXTURES}
+use Rattle.league_core.specs.declared.limits.TheConstants.{MOST_LINES, MOST_RANK, MOST_GOAL_LIMIT}
+use Rattle.league_core.specs.declared.limits.TheConstants.{MOST_BUDGET, MOST_NAME_BYTES, MOST_GOALS}
+use Rattle.league_core.specs.declared.limits.TheConstants.{MOST_DEDUCTION, MOST_POINTS, MOST_EVENTS}
+use Rattle.league_core.specs.declared.limits.TheConstants.{MOST_FINISHES, SET_WIDTH}
 
 -- the fewest and the most clubs of a sheet
 abbrev pub least_clubs : ℕ
@@ -41,7 +45,8 @@ most_goals = MOST_GOALS
 abbrev pub most_deduction : ℕ
 most_deduction = MOST_DEDUCTION
 
--- the least and the most points of a club: none but the greatest deduction, and three of each fixture
+-- the least and the most points of a club: none but the greatest deduction, and three of each
+-- fixture
 abbrev pub least_points : ℤ
 least_points = neg_ℤ (pos MOST_DEDUCTION)
 

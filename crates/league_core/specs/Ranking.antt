@@ -1,5 +1,6 @@
 -- The table: which club ranks before which, once the lots are drawn, and in which place.
-use Rattle.std.specs.Prelude.{◌≡◌, ℕ, ◌+◌, Bool, ◌&&◌, ◌==◌, IsTrue, List, [], ◌∷◌, length, filter, count_by, nat_le}
+use Rattle.std.specs.Prelude.{◌≡◌, ℕ, ◌+◌, Bool, ◌&&◌, ◌==◌, IsTrue, List, [], ◌∷◌, length, filter}
+use Rattle.std.specs.Prelude.{count_by, nat_le}
 use Rattle.std.specs.List.{list_all, range_with_len, position_or_len}
 use Rattle.std.specs.declared.cmp.Ordering.{Ordering}
 use Rattle.std.specs.declared.cmp.Ordering.TheVariants.{Less}
@@ -22,7 +23,8 @@ lot_of lots club = position_or_len (λ drawn. drawn == club) lots
 -- the clubs on the club's number of points, itself among them
 abbrev pub tied_group_of : Sheet → Results → ℕ → List ℕ
 tied_group_of sheet season club =
-    filter (λ other. int_eq (points_of sheet season other) (points_of sheet season club)) (clubs_of sheet)
+    filter (λ other. int_eq (points_of sheet season other) (points_of sheet season club))
+    (clubs_of sheet)
 
 -- Less where the one club ranks before the other: by points, then as the two stand in the group of
 -- all clubs on those points, then by the lots

@@ -1,4 +1,5 @@
--- What has been played: the data of a season, or of one of its finishes, whichever events led to it.
+-- What has been played: the data of a season, or of one of its finishes, whichever events led to
+-- it.
 use Rattle.std.specs.Prelude.{ℕ, List, Bool, true, ◌&&◌, nat_le, Option, Some, None}
 use Rattle.std.specs.List.{list_all}
 use Rattle.league_core.specs.declared.season.Score.{Score}
@@ -21,4 +22,5 @@ is_score_or_none (Some score) = is_score score
 -- each score is one that a match may have, and no club has more than 99 points taken off
 abbrev pub are_results : Results → Bool
 are_results results =
-    list_all is_score_or_none results.scores && list_all (λ points. nat_le points most_deduction) results.deductions
+    list_all is_score_or_none results.scores
+    && list_all (λ points. nat_le points most_deduction) results.deductions

@@ -1,6 +1,8 @@
--- The season of a list of events: results, corrections, annulments and deductions, taken in the order
+-- The season of a list of events: results, corrections, annulments and deductions, taken in the
+-- order
 -- in which they are reported.
-use Rattle.std.specs.Prelude.{◌≡◌, ◌<◌, ◌≤◌, ℕ, IsTrue, List, length, replicate, slice_set, fold, All, Some, None}
+use Rattle.std.specs.Prelude.{◌≡◌, ◌<◌, ◌≤◌, ℕ, IsTrue, List, length, replicate, slice_set, fold}
+use Rattle.std.specs.Prelude.{All, Some, None}
 use Rattle.league_core.specs.declared.sheet.Sheet.{Sheet}
 use Rattle.league_core.specs.declared.season.Event.{Event}
 use Rattle.league_core.specs.declared.season.Event.TheVariants.{Set, Clear, Deduct}
@@ -8,7 +10,8 @@ use Rattle.league_core.specs.Limits.{most_deduction}
 use Rattle.league_core.specs.Sheets.{IsWithinLimits}
 use Rattle.league_core.specs.Results.{Results, is_score}
 
--- nothing is played, and nothing is taken off any club's points; the numbers are of clubs and of fixtures
+-- nothing is played, and nothing is taken off any club's points; the numbers are of clubs and of
+-- fixtures
 abbrev pub unplayed_season : ℕ → ℕ → Results
 unplayed_season clubs fixtures =
     record { scores = replicate fixtures None; deductions = replicate clubs 0 }
@@ -18,16 +21,19 @@ unplayed_season clubs fixtures =
 abbrev pub event_applied : Results → Event → Results
 event_applied season (Set fixture score) =
     record season { scores = slice_set season.scores fixture (Some score) }
-event_applied season (Clear fixture) = record season { scores = slice_set season.scores fixture None }
+event_applied season (Clear fixture) = record season
+    { scores = slice_set season.scores fixture None }
 event_applied season (Deduct club points) =
     record season { deductions = slice_set season.deductions club points }
 
--- what a season may be told: of a fixture that it has, a score that may be or none; of a club that it
+-- what a season may be told: of a fixture that it has, a score that may be or none; of a club that
+-- it
 -- has, a deduction that may be
 abbrev pub IsEventOf : Results → Event → Type 0
 IsEventOf season (Set fixture score) = (fixture < length season.scores) × IsTrue (is_score score)
 IsEventOf season (Clear fixture) = fixture < length season.scores
-IsEventOf season (Deduct club points) = (club < length season.deductions) × (points ≤ most_deduction)
+IsEventOf season (Deduct club points) = (club < length season.deductions)
+    × (points ≤ most_deduction)
 
 -- each of these events is one that a season of the sheet may be told
 abbrev pub AreEventsOf : Sheet → List Event → Type 0

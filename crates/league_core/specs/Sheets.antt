@@ -1,8 +1,10 @@
 -- The league sheet and its limits: what the rules of the input allow a sheet to be.
-use Rattle.std.specs.Prelude.{◌≤◌, ℕ, Bool, true, not, ◌&&◌, ◌==◌, nat_le, nat_lt, nat_eq, IsTrue, List, [], ◌∷◌, length, bytes_eq}
+use Rattle.std.specs.Prelude.{◌≤◌, ℕ, Bool, true, not, ◌&&◌, ◌==◌, nat_le, nat_lt, nat_eq, IsTrue}
+use Rattle.std.specs.Prelude.{List, [], ◌∷◌, length, bytes_eq}
 use Rattle.std.specs.List.{list_all, list_any, range_with_len}
 use Rattle.league_core.specs.declared.sheet.Sheet.{Sheet}
-use Rattle.league_core.specs.Limits.{least_clubs, most_clubs, most_fixtures, most_lines, most_rank, most_goal_limit, most_budget, most_name_bytes}
+use Rattle.league_core.specs.Limits.{least_clubs, most_clubs, most_fixtures, most_lines, most_rank}
+use Rattle.league_core.specs.Limits.{most_goal_limit, most_budget, most_name_bytes}
 use Rattle.league_core.specs.declared.sheet.Club.{Club}
 use Rattle.league_core.specs.declared.sheet.Fixture.{Fixture}
 
@@ -14,9 +16,11 @@ clubs_of sheet = range_with_len 0 (length sheet.clubs)
 abbrev pub is_name_byte : ℕ → Bool
 is_name_byte byte = nat_le 32 byte && not (byte == 127)
 
--- a name has 1 to 40 bytes, none of them a control byte; that they are UTF-8 the type of names keeps
+-- a name has 1 to 40 bytes, none of them a control byte; that they are UTF-8 the type of names
+-- keeps
 abbrev pub is_name : List ℕ → Bool
-is_name bytes = nat_le 1 (length bytes) && nat_le (length bytes) most_name_bytes && list_all is_name_byte bytes
+is_name bytes = nat_le 1 (length bytes) && nat_le (length bytes) most_name_bytes
+    && list_all is_name_byte bytes
 
 -- a club has a name, and a fixed rank from 1 to 999
 abbrev pub is_club : Club → Bool

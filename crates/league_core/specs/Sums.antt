@@ -1,13 +1,15 @@
 -- What matches add up to for a club: points by the three-point rule, goal difference, goals, away
 -- goals, wins, away wins. Each is added over the played matches of a set of fixtures.
-use Rattle.std.specs.Prelude.{ℕ, ℤ, pos, ◌+ℤ◌, ◌-ℤ◌, Bool, true, false, ◌&&◌, ◌==◌, nat_lt, if◌then◌else◌, slice_index, List, [], ◌∷◌, Option, Some, None}
+use Rattle.std.specs.Prelude.{ℕ, ℤ, pos, ◌+ℤ◌, ◌-ℤ◌, Bool, true, false, ◌&&◌, ◌==◌, nat_lt}
+use Rattle.std.specs.Prelude.{if◌then◌else◌, slice_index, List, [], ◌∷◌, Option, Some, None}
 use Rattle.std.specs.List.{list_any}
 use Rattle.league_core.specs.declared.sheet.Sheet.{Sheet}
 use Rattle.league_core.specs.declared.sheet.Fixture.{Fixture}
 use Rattle.league_core.specs.declared.season.Score.{Score}
 use Rattle.league_core.specs.Results.{Results}
 
--- what one match is worth to a side, by the goals it scored, those it let in, and whether it was away
+-- what one match is worth to a side, by the goals it scored, those it let in, and whether it was
+-- away
 abbrev pub Worth : Type 0
 Worth = ℕ → ℕ → Bool → ℤ
 
@@ -58,7 +60,8 @@ abbrev pub if_played : (Fixture → Score → ℤ) → Fixture → Option Score 
 if_played value match None = pos 0
 if_played value match (Some score) = value match score
 
--- the worth of all matches together; a match without an entry, or an entry without a match, adds none
+-- the worth of all matches together; a match without an entry, or an entry without a match, adds
+-- none
 abbrev pub sum_over : (Fixture → Score → ℤ) → List Fixture → List (Option Score) → ℤ
 sum_over value [] scores = pos 0
 sum_over value (match ∷ matches) [] = pos 0
@@ -74,7 +77,8 @@ abbrev pub sum_among : List ℕ → Worth → Sheet → Results → ℕ → ℤ
 sum_among group worth sheet season club =
     sum_over (worth_among group worth club) sheet.fixtures season.scores
 
--- a club's points: those of all its matches, less what is taken off; 0 is taken off a number that is
+-- a club's points: those of all its matches, less what is taken off; 0 is taken off a number that
+-- is
 -- no club's
 abbrev pub points_of : Sheet → Results → ℕ → ℤ
 points_of sheet season club =

@@ -1,7 +1,8 @@
 -- What is sure of two clubs in a zone in which all options of each fixture have the same outcome.
 -- Points then have one value; each other sum of the ranking has a range. The comparison goes the
 -- way of the ranking and stops where a range leaves it open.
-use Rattle.std.specs.Prelude.{ℕ, zero, suc, pos, neg_ℤ, Bool, true, false, ◌&&◌, ◌||◌, ◌==◌, int_lt, if◌then◌else◌, List, [], ◌∷◌, length, filter}
+use Rattle.std.specs.Prelude.{ℕ, zero, suc, pos, neg_ℤ, Bool, true, false, ◌&&◌, ◌||◌, ◌==◌, int_lt}
+use Rattle.std.specs.Prelude.{if◌then◌else◌, List, [], ◌∷◌, length, filter}
 use Rattle.std.specs.List.{list_all}
 use Rattle.std.specs.Ordering.{int_eq}
 use Rattle.league_core.specs.declared.sheet.Sheet.{Sheet}
@@ -13,7 +14,8 @@ use Rattle.league_core.specs.declared.sure.Sure.TheVariants.{Above, Below, Level
 use Rattle.league_core.specs.declared.zone.Literal.{Literal}
 use Rattle.league_core.specs.Results.{Results}
 use Rattle.league_core.specs.Sheets.{clubs_of}
-use Rattle.league_core.specs.Sums.{Worth, match_points, goal_difference, goals, away_goals, wins, away_wins, worth_to, worth_among}
+use Rattle.league_core.specs.Sums.{Worth, match_points, goal_difference, goals, away_goals, wins}
+use Rattle.league_core.specs.Sums.{away_wins, worth_to, worth_among}
 use Rattle.league_core.specs.Ahead.{rank_of}
 use Rattle.league_core.specs.Options.{options_in}
 use Rattle.league_core.specs.PointRanges.{Range, one_value, range_from, points_range}
@@ -100,7 +102,8 @@ overall_ranges sheet options club =
 -- a rival's record in the group against the club's, and its sums over all matches
 abbrev pub by_record_ranges : Sheet → List (List Score) → List ℕ → ℕ → ℕ → Sure
 by_record_ranges sheet options group rival club =
-    sure_by_ranges (record_ranges sheet options group rival) (record_ranges sheet options group club)
+    sure_by_ranges (record_ranges sheet options group rival)
+    (record_ranges sheet options group club)
 
 abbrev pub by_overall_ranges : Sheet → List (List Score) → ℕ → ℕ → Sure
 by_overall_ranges sheet options rival club =
@@ -111,7 +114,8 @@ abbrev pub is_surely_in : Sheet → List (List Score) → List ℕ → ℕ → �
 is_surely_in sheet options group club other =
     is_level (by_record_ranges sheet options group other club)
 
--- a club of the group surely has another record there: a part misses the club's own value. It is used
+-- a club of the group surely has another record there: a part misses the club's own value. It is
+-- used
 -- only where each part of the club's record has one value
 abbrev pub is_surely_out : Sheet → List (List Score) → List ℕ → ℕ → ℕ → Bool
 is_surely_out sheet options group club other =
@@ -125,7 +129,8 @@ are_all_sure sheet options group club =
 
 -- the rival against the club within a group, with the head-to-head taken at most so many times:
 -- where their records are level and it is sure who shares them, it is taken again over those clubs,
--- and where these are the whole group the sums over all matches decide. As many times as the group has
+-- and where these are the whole group the sums over all matches decide. As many times as the group
+-- has
 -- clubs are enough for a club of the group, so that Level is said only where all sums are level
 abbrev pub sure_within : ℕ → Sheet → List (List Score) → List ℕ → ℕ → ℕ → Sure
 sure_within zero sheet options group rival club = Level
@@ -162,7 +167,8 @@ abbrev pub is_surely_level_overall : Sheet → List (List Score) → ℕ → ℕ
 is_surely_level_overall sheet options club other =
     is_level (by_first_sum_ranges sheet options other club)
 
--- a club surely has another difference or other goals: one of the two misses the club's own value. It
+-- a club surely has another difference or other goals: one of the two misses the club's own value.
+-- It
 -- is used only where the club's difference and goals have one value each
 abbrev pub is_surely_apart_overall : Sheet → List (List Score) → ℕ → ℕ → Bool
 is_surely_apart_overall sheet options club other =
@@ -179,7 +185,8 @@ abbrev pub surely_level_overall : Sheet → List (List Score) → List ℕ → �
 surely_level_overall sheet options group club =
     filter (is_surely_level_overall sheet options club) group
 
--- the rival against the club within a group by an order of the criteria: with the head-to-head first;
+-- the rival against the club within a group by an order of the criteria: with the head-to-head
+-- first;
 -- or by difference and goals over all matches, and where these are level and it is sure who shares
 -- them, with the head-to-head among those clubs
 abbrev pub sure_by : Order → Sheet → List (List Score) → List ℕ → ℕ → ℕ → Sure
@@ -202,7 +209,8 @@ abbrev pub level_on_points : Sheet → Results → List (List Score) → ℕ →
 level_on_points sheet season options club =
     filter (λ other. is_level (sure_by_points sheet season options other club)) (clubs_of sheet)
 
--- what is sure of the rival against the club: by points, then within the group of all clubs on them by
+-- what is sure of the rival against the club: by points, then within the group of all clubs on them
+-- by
 -- the sheet's order of the criteria
 unfoldable pub sure_order : Sheet → Results → List Literal → ℕ → ℕ → Sure
 sure_order sheet season zone rival club =

@@ -1,7 +1,7 @@
 //! The laws of the ranking and of verdicts: functions that do nothing, each with a law as
 //! contract.
 //!
-//! The statements are in `specs/Laws.antt`. They hold by the definitions alone, for every sheet
+//! The statements are in `specs/Laws.antt` and `specs/StandingLaws.antt`. They hold by the definitions alone, for every sheet
 //! and every season, so that code and proofs elsewhere may rest on them.
 
 ghost use Rattle.league_core.specs.Laws.{FavouredLotsAreBest, FavouredLotsAnswer};
@@ -14,9 +14,9 @@ ghost use Rattle.league_core.specs.Laws.{PointsAreInTheFullWindow};
 ghost use Rattle.league_core.specs.Laws.{RankingIsATotalOrder, OneOfTwoRanksBefore};
 ghost use Rattle.league_core.specs.Laws.{NeverBothRankBefore, NoneRanksBeforeItself};
 ghost use Rattle.league_core.specs.Laws.{BeforeIsALowerPlace, PlacesAreAsManyAsClubs};
-ghost use Rattle.league_core.specs.Laws.{StandingIsATotalOrder, OneAtMostIsAhead};
-ghost use Rattle.league_core.specs.Laws.{BlocksStandAlike, EachStandsAlikeToABlock};
-ghost use Rattle.league_core.specs.Laws.{TimesAreEnough, StandingIsByTheRule};
+ghost use Rattle.league_core.specs.StandingLaws.{StandingIsATotalOrder, OneAtMostIsAhead};
+ghost use Rattle.league_core.specs.StandingLaws.{BlocksStandAlike, EachStandsAlikeToABlock};
+ghost use Rattle.league_core.specs.StandingLaws.{TimesAreEnough, StandingIsByTheRule};
 ghost use Rattle.league_core.specs.Laws.{MorePointsRankBefore, NoneRanksBeforeMorePoints};
 ghost use Rattle.league_core.specs.Laws.{EventsAreTakenInOrder, EachSeasonHasAFinish};
 ghost use Rattle.league_core.specs.Laws.{PossibleExcludesClinched, PossibleExcludesLost};

@@ -3,7 +3,8 @@
 //! Contracts see a season as the record `Results`. Every call but `unplayed` and `copy` takes no
 //! memory.
 
-ghost use Rattle.std.specs.Prelude.{◌≡◌, ◌<◌, ◌≤◌, ◌↔◌, length, slice_index, slice_index_or, slice_set, IfOk, IsTrue, None};
+ghost use Rattle.std.specs.Prelude.{◌≡◌, ◌<◌, ◌≤◌, ◌↔◌, length, slice_index, slice_index_or};
+ghost use Rattle.std.specs.Prelude.{slice_set, IfOk, IsTrue, None};
 ghost use Rattle.league_core.specs.Results.{are_results, is_score_or_none};
 ghost use Rattle.league_core.specs.Seasons.{unplayed_season, event_applied, IsEventOf};
 
@@ -33,7 +34,8 @@ pub enum Event {
 
 /// What has been played. No score has more than 99 goals a side, no deduction more than 99 points.
 ///
-/// Beside the scores it keeps a code of two bytes for each: two seasons are compared by their codes,
+/// Beside the scores it keeps a code of two bytes for each: two seasons are compared by their
+/// codes,
 /// which is one comparison of memory.
 #[derive(Drop)]
 pub struct Season {
