@@ -2,13 +2,14 @@
 
 from __future__ import annotations
 
+import os
 import subprocess
 import sys
 from pathlib import Path
 
 HOME = Path(__file__).resolve().parents[2]
 LEAGUE = HOME / "tools" / "league"
-PROGRAM = HOME / "crates" / "futmax" / "out" / "futmax"
+PROGRAM = os.environ.get("FUTMAX") or HOME / "crates" / "futmax" / "out" / "futmax"
 
 
 class Counter:

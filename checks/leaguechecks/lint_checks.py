@@ -15,8 +15,8 @@ from .mistakes import TABLE
 
 MOST_COMPARED = 300
 PIECES = (b"", b",", b'"', b"\r", b"\n", b"\xef\xbb\xbf", b"#", b" ", b"0", b"100", b"\x7f",
-          b"\xff", b"club,", b"match,", b"line,2\n", b"season\n", b"ask\n", b"result,2,0,0\n", b",,\n",
-          b"deduct,Anchor,5\n", b",2000,overall_first", b"x" * 41, b"y" * 1100)
+          b"\xff", b"club,", b"match,", b"line,2\n", b"season\n", b"ask\n", b"result,2,0,0\n",
+          b",,\n", b"deduct,Anchor,5\n", b",2000,overall_first", b"x" * 41, b"y" * 1100)
 
 
 def check_mistakes(counter: Counter) -> None:

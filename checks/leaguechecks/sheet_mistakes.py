@@ -1,6 +1,6 @@
 """Everyday mistakes in whole files and in sheets."""
 
-from .mistake import (CLUBS, FEED, LEAVE_OUT, SHEET, Mistake, in_clubs, in_feed, in_league,
+from .mistake import (FEED, LEAVE_OUT, SHEET, Mistake, in_clubs, in_feed, in_league,
                       in_matches)
 
 WHOLE_FILES = (
