@@ -1,61 +1,43 @@
 -- The sums that a match leaves to one of its sides, by the outcome that all its scores have.
-use Rattle.std.proofs.Common.{◌≡◌, ℕ, ◌+◌, ◌<◌, ◌≤◌, ◌⊎◌, ℤ, pos, ◌-ℤ◌, Bool, true, false, not, ◌==◌, nat_lt, cond, [], refl, sym, ap, ◌∙◌, subst, inl, inr, arith}
+use Rattle.std.proofs.Common.{◌≡◌, ℕ, ◌+◌, ◌<◌, ◌≤◌, ◌⊎◌, ℤ, pos, ◌-ℤ◌, Bool, true, false, not}
+use Rattle.std.proofs.Common.{◌==◌, nat_lt, cond, [], refl, sym, ap, ◌∙◌, subst, inl, inr, arith}
 use Rattle.std.proofs.lemmas.Int.{ints}
 use Rattle.std.proofs.lemmas.Bool.{lt-ltb, le-ltb, eq-eqb, ne_eqb, cases_lt}
 use Rattle.league_core.specs.declared.season.Score.{Score}
-use Rattle.league_core.specs.Sums.{match_points, goal_difference, goals, away_goals, wins, away_wins}
+use Rattle.league_core.specs.Sums.{match_points, goal_difference, goals, away_goals, wins}
+use Rattle.league_core.specs.Sums.{away_wins}
 use Rattle.league_core.specs.Options.{score_of, is_draw}
-use Rattle.league_core.specs.PointRanges.{Range, one_value, range_of}
+use Rattle.league_core.specs.PointRanges.{Range, one_value, negated, range_of}
+use Rattle.league_core.specs.Extents.{IsExtent}
+use Rattle.league_core.proofs.ExtentLemmas.{extent-is, extent_at, one_extent, negated_extent}
+use Rattle.league_core.proofs.WorthLemmas.{points_won, points_drawn, points_lost}
+use Rattle.league_core.proofs.WorthLemmas.{one_win, no_win, one_away_win, no_away_win}
 use Rattle.tie_criteria.specs.declared.measure.Measure.{Measure}
-use Rattle.tie_criteria.specs.declared.measure.Measure.TheVariants.{Points, Difference, Goals, AwayGoals, Wins, AwayWins}
+use Rattle.tie_criteria.specs.declared.measure.Measure.TheVariants.{Points, Difference, Goals}
+use Rattle.tie_criteria.specs.declared.measure.Measure.TheVariants.{AwayGoals, Wins, AwayWins}
 use Rattle.tie_criteria.specs.Measures.{worth_of}
 use Rattle.score_box.specs.declared.cell.Cell.{Cell}
 use Rattle.score_box.specs.Cells.{allows, keeps_outcome, IsEmptyCell}
 use Rattle.score_box.proofs.CellLemmas.{IsInRanges, ranges_of, allows_from}
 use Rattle.tie_bound.specs.declared.span.GoalSpan.{GoalSpan}
 use Rattle.tie_bound.specs.declared.sums.Sums.{Sums}
-use Rattle.tie_bound.specs.Spans.{as_range, negated, IsNear, IsMargin}
+use Rattle.tie_bound.specs.Spans.{as_range, IsNear, IsMargin}
 use Rattle.tie_bound.specs.Sums.{range_by, no_sums}
-use Rattle.tie_bound.specs.Sides.{goals_by, to_side, AreGoalsOf, Wins as WinsAll, Draws as DrawsAll, Loses as LosesAll, AreSumsOf}
-use Rattle.tie_bound.proofs.ExtentLemmas.{IsExtent, extent-is, one_extent, goals_extent, negated_extent, near_extent, worth_near, no_options}
-
--- what a match is worth to its winner, after a draw and to its loser
-points_won : (scored conceded : ℕ) (away : Bool) → conceded < scored → match_points scored conceded away ≡ pos 3
-points_won scored conceded away h =
-    ap (λ b. cond b (pos 3) (cond (scored == conceded) (pos 1) (pos 0))) (lt-ltb conceded scored h)
-
-points_drawn : (scored conceded : ℕ) (away : Bool) → scored ≡ conceded → match_points scored conceded away ≡ pos 1
-points_drawn scored conceded away e =
-    ap (λ b. cond b (pos 3) (cond (scored == conceded) (pos 1) (pos 0))) (le-ltb conceded scored (omega arith))
-    ∙ ap (λ b. cond b (pos 1) (pos 0)) (eq-eqb scored conceded e)
-
-points_lost : (scored conceded : ℕ) (away : Bool) → scored < conceded → match_points scored conceded away ≡ pos 0
-points_lost scored conceded away h =
-    ap (λ b. cond b (pos 3) (cond (scored == conceded) (pos 1) (pos 0))) (le-ltb conceded scored (omega arith))
-    ∙ ap (λ b. cond b (pos 1) (pos 0)) (ne_eqb scored conceded (λ e. absurd (omega arith)))
-
-one_win : (scored conceded : ℕ) (away : Bool) → conceded < scored → wins scored conceded away ≡ pos 1
-one_win scored conceded away h = ap (λ b. cond b (pos 1) (pos 0)) (lt-ltb conceded scored h)
-
-no_win : (scored conceded : ℕ) (away : Bool) → scored ≤ conceded → wins scored conceded away ≡ pos 0
-no_win scored conceded away h = ap (λ b. cond b (pos 1) (pos 0)) (le-ltb conceded scored h)
-
-one_away_win : (scored conceded : ℕ) → conceded < scored → away_wins scored conceded true ≡ pos 1
-one_away_win scored conceded h = ap (λ b. cond b (pos 1) (pos 0)) (lt-ltb conceded scored h)
-
-no_away_win : (scored conceded : ℕ) (away : Bool) → scored ≤ conceded → away_wins scored conceded away ≡ pos 0
-no_away_win scored conceded true h = ap (λ b. cond b (pos 1) (pos 0)) (le-ltb conceded scored h)
-no_away_win scored conceded false h = refl
+use Rattle.tie_bound.specs.Sides.{goals_by, to_side, AreGoalsOf, Wins as WinsAll, Draws as DrawsAll}
+use Rattle.tie_bound.specs.Sides.{Loses as LosesAll, AreSumsOf}
+use Rattle.tie_bound.proofs.ExtentLemmas.{goals_extent, near_extent, worth_near, no_options}
 
 -- two wins of one side have one outcome, so a cell that has the one and lies round the other has both
-home_win_in : (cell : Cell) (won score : Score) → allows cell won ≡ true → won.away < won.home → score.away < score.home → IsInRanges cell score → allows cell score ≡ true
+home_win_in : (cell : Cell) (won score : Score) → allows cell won ≡ true → won.away < won.home
+    → score.away < score.home → IsInRanges cell score → allows cell score ≡ true
 home_win_in cell won score allowed wins win ranges =
     let kept = (ranges_of cell won allowed).1 in
     let outcome : (s : Score) → s.away < s.home → keeps_outcome cell s ≡ cell.home_win =
     λ s h. ap (λ b. cond b cell.home_win (cond (is_draw s) cell.draw cell.away_win)) (lt-ltb s.away s.home h) in
     allows_from cell score ranges (outcome score win ∙ sym (outcome won wins) ∙ kept)
 
-away_win_in : (cell : Cell) (won score : Score) → allows cell won ≡ true → won.home < won.away → score.home < score.away → IsInRanges cell score → allows cell score ≡ true
+away_win_in : (cell : Cell) (won score : Score) → allows cell won ≡ true → won.home < won.away
+    → score.home < score.away → IsInRanges cell score → allows cell score ≡ true
 away_win_in cell won score allowed wins win ranges =
     let kept = (ranges_of cell won allowed).1 in
     let outcome : (s : Score) → s.home < s.away → keeps_outcome cell s ≡ cell.away_win =
@@ -65,11 +47,15 @@ away_win_in cell won score allowed wins win ranges =
     allows_from cell score ranges (outcome score win ∙ sym (outcome won wins) ∙ kept)
 
 -- the closest win is by the least margin that the goals leave, and by one goal where they overlap
-closest_by : (b : Bool) (winner loser : GoalSpan) (range : Range) → nat_lt loser.most winner.least ≡ b → IsMargin winner loser range → range.least ≡ cond b (pos winner.least -ℤ pos loser.most) (pos 1)
+closest_by : (b : Bool) (winner loser : GoalSpan) (range : Range) → nat_lt loser.most winner.least
+    ≡ b → IsMargin winner loser range → range.least ≡ cond b (pos winner.least -ℤ pos loser.most)
+    (pos 1)
 closest_by b winner loser range test margin = margin.closest ∙ ap (λ t. cond t (pos winner.least -ℤ pos loser.most) (pos 1)) test
 
 -- the margins of home wins
-home_margin : (cell : Cell) (own other : GoalSpan) (range : Range) → WinsAll cell false → AreGoalsOf cell false own → AreGoalsOf cell true other → IsMargin own other range → IsExtent cell (to_side goal_difference false) range
+home_margin : (cell : Cell) (own other : GoalSpan) (range : Range) → WinsAll cell false
+    → AreGoalsOf cell false own → AreGoalsOf cell true other → IsMargin own other range
+    → IsExtent (allows cell) (to_side goal_difference false) range
 home_margin cell own other range all_won own_goals other_goals margin =
     by_gap (cases_lt other.most own.least)
   where
@@ -91,13 +77,15 @@ home_margin cell own other range all_won own_goals other_goals margin =
         let reach : least.away < most.home = omega (arith, other_goals.least.2) in
         (score_of most.home least.away, home_win_in cell most (score_of most.home least.away) own_goals.most.1 beats reach inside, omega (arith, ints, own_goals.most.2, other_goals.least.2, margin.widest))
 
-    within : (score : Score) → allows cell score ≡ true → (own.least ≤ score.home) × (score.home ≤ own.most) × (other.least ≤ score.away) × (score.away ≤ other.most) × (score.away < score.home)
+    within : (score : Score) → allows cell score ≡ true
+        → (own.least ≤ score.home) × (score.home ≤ own.most) × (other.least ≤ score.away) × (score.away ≤ other.most) × (score.away < score.home)
     within score is =
         let mine = own_goals.within score is in
         let theirs = other_goals.within score is in
         (mine.0, mine.1, theirs.0, theirs.1, all_won score is)
 
-    by_gap : (other.most < own.least) ⊎ (own.least ≤ other.most) → IsExtent cell (to_side goal_difference false) range
+    by_gap : (other.most < own.least) ⊎ (own.least ≤ other.most) → IsExtent (allows cell)
+        (to_side goal_difference false) range
     by_gap (inl gap) =
         let closest : range.least ≡ (pos own.least -ℤ pos other.most) = closest_by true own other range (lt-ltb other.most own.least gap) margin in
         let low_in = (ranges_of cell low own_goals.least.1).0 in
@@ -122,7 +110,9 @@ home_margin cell own other range all_won own_goals other_goals margin =
         }
 
 -- the margins of away wins: those of home wins with the sides exchanged
-away_margin : (cell : Cell) (own other : GoalSpan) (range : Range) → WinsAll cell true → AreGoalsOf cell true own → AreGoalsOf cell false other → IsMargin own other range → IsExtent cell (to_side goal_difference true) range
+away_margin : (cell : Cell) (own other : GoalSpan) (range : Range) → WinsAll cell true
+    → AreGoalsOf cell true own → AreGoalsOf cell false other → IsMargin own other range
+    → IsExtent (allows cell) (to_side goal_difference true) range
 away_margin cell own other range all_won own_goals other_goals margin =
     by_gap (cases_lt other.most own.least)
   where
@@ -144,13 +134,15 @@ away_margin cell own other range all_won own_goals other_goals margin =
         let reach : least.home < most.away = omega (arith, other_goals.least.2) in
         (score_of least.home most.away, away_win_in cell most (score_of least.home most.away) own_goals.most.1 beats reach inside, omega (arith, ints, own_goals.most.2, other_goals.least.2, margin.widest))
 
-    within : (score : Score) → allows cell score ≡ true → (own.least ≤ score.away) × (score.away ≤ own.most) × (other.least ≤ score.home) × (score.home ≤ other.most) × (score.home < score.away)
+    within : (score : Score) → allows cell score ≡ true
+        → (own.least ≤ score.away) × (score.away ≤ own.most) × (other.least ≤ score.home) × (score.home ≤ other.most) × (score.home < score.away)
     within score is =
         let mine = own_goals.within score is in
         let theirs = other_goals.within score is in
         (mine.0, mine.1, theirs.0, theirs.1, all_won score is)
 
-    by_gap : (other.most < own.least) ⊎ (own.least ≤ other.most) → IsExtent cell (to_side goal_difference true) range
+    by_gap : (other.most < own.least) ⊎ (own.least ≤ other.most) → IsExtent (allows cell)
+        (to_side goal_difference true) range
     by_gap (inl gap) =
         let closest : range.least ≡ (pos own.least -ℤ pos other.most) = closest_by true own other range (lt-ltb other.most own.least gap) margin in
         let low_in = (ranges_of cell low own_goals.least.1).0 in
@@ -182,9 +174,12 @@ pub record IsMatchOf (cell : Cell) (away : Bool) (own other : GoalSpan) : Type 0
   pub other_few : other.most ≤ 255
 
 -- ranges that the scores of a cell reach, measure by measure, are the sums of the side
-sums_from : (cell : Cell) (away : Bool) (own other : GoalSpan) (sums : Sums) → IsMatchOf cell away own other → ((measure : Measure) → IsExtent cell (to_side (worth_of measure) away) (range_by sums measure)) → AreSumsOf cell away sums
+sums_from : (cell : Cell) (away : Bool) (own other : GoalSpan) (sums : Sums)
+    → IsMatchOf cell away own other
+    → ((measure : Measure) → IsExtent (allows cell) (to_side (worth_of measure) away) (range_by sums measure))
+    → AreSumsOf cell away sums
 sums_from cell away own other sums match extents = record {
-  each = λ options is measure. extent-is cell (to_side (worth_of measure) away) (range_by sums measure) options (extents measure) is;
+  each = λ options is measure. extent-is (allows cell) (to_side (worth_of measure) away) (range_by sums measure) options (extents measure) is;
   near = λ measure.
       near_extent cell (to_side (worth_of measure) away) (range_by sums measure) (extents measure)
       (λ score is.
@@ -194,29 +189,36 @@ sums_from cell away own other sums match extents = record {
 }
 
 -- away goals count for the away side alone
-away_goals_extent : (cell : Cell) (away : Bool) (goals : GoalSpan) → AreGoalsOf cell away goals → IsExtent cell (to_side away_goals away) (cond away (record { least = pos goals.least; greatest = pos goals.most }) (one_value (pos 0)))
+away_goals_extent : (cell : Cell) (away : Bool) (goals : GoalSpan) → AreGoalsOf cell away goals → IsExtent (allows cell) (to_side away_goals away) (cond away (record { least = pos goals.least; greatest = pos goals.most }) (one_value (pos 0)))
 away_goals_extent cell true own are = goals_extent cell true own are
 away_goals_extent cell false own are =
-    one_extent cell (to_side away_goals false) (pos 0) are.least.0 are.least.1 (λ score is. refl)
+    one_extent (allows cell) (to_side away_goals false) (pos 0) are.least.0 are.least.1 (λ score is. refl)
 
 -- a win counts as an away win for the away side alone
-away_win_extent : (cell : Cell) (away : Bool) (score : Score) → allows cell score ≡ true → WinsAll cell away → IsExtent cell (to_side away_wins away) (cond away (one_value (pos 1)) (one_value (pos 0)))
+away_win_extent : (cell : Cell) (away : Bool) (score : Score) → allows cell score ≡ true
+    → WinsAll cell away → IsExtent (allows cell) (to_side away_wins away)
+    (cond away (one_value (pos 1)) (one_value (pos 0)))
 away_win_extent cell true score allowed all_won =
-    one_extent cell (to_side away_wins true) (pos 1) score allowed (λ s is. one_away_win s.away s.home (all_won s is))
+    one_extent (allows cell) (to_side away_wins true) (pos 1) score allowed (λ s is. one_away_win s.away s.home (all_won s is))
 away_win_extent cell false score allowed all_won =
-    one_extent cell (to_side away_wins false) (pos 0) score allowed (λ s is. refl)
+    one_extent (allows cell) (to_side away_wins false) (pos 0) score allowed (λ s is. refl)
 
-margin_extent : (cell : Cell) (away : Bool) (own other : GoalSpan) (range : Range) → WinsAll cell away → AreGoalsOf cell away own → AreGoalsOf cell (not away) other → IsMargin own other range → IsExtent cell (to_side goal_difference away) range
+margin_extent : (cell : Cell) (away : Bool) (own other : GoalSpan) (range : Range)
+    → WinsAll cell away → AreGoalsOf cell away own → AreGoalsOf cell (not away) other
+    → IsMargin own other range → IsExtent (allows cell) (to_side goal_difference away) range
 margin_extent cell true own other range all_won own_goals other_goals margin = away_margin cell own other range all_won own_goals other_goals margin
 margin_extent cell false own other range all_won own_goals other_goals margin = home_margin cell own other range all_won own_goals other_goals margin
 
 -- a defeat is the other side's win
-lost_extent : (cell : Cell) (away : Bool) (own other : GoalSpan) (range : Range) → LosesAll cell away → AreGoalsOf cell away own → AreGoalsOf cell (not away) other → IsMargin other own range → IsExtent cell (to_side goal_difference away) (negated range)
+lost_extent : (cell : Cell) (away : Bool) (own other : GoalSpan) (range : Range)
+    → LosesAll cell away → AreGoalsOf cell away own → AreGoalsOf cell (not away) other
+    → IsMargin other own range → IsExtent (allows cell) (to_side goal_difference away)
+    (negated range)
 lost_extent cell true own other range loses own_goals other_goals margin =
-    negated_extent cell (to_side goal_difference false) (to_side goal_difference true) range (λ score. omega (arith, ints))
+    negated_extent (allows cell) (to_side goal_difference false) (to_side goal_difference true) range (λ score. omega (arith, ints))
     (home_margin cell other own range loses other_goals own_goals margin)
 lost_extent cell false own other range loses own_goals other_goals margin =
-    negated_extent cell (to_side goal_difference true) (to_side goal_difference false) range (λ score. omega (arith, ints))
+    negated_extent (allows cell) (to_side goal_difference true) (to_side goal_difference false) range (λ score. omega (arith, ints))
     (away_margin cell other own range loses other_goals own_goals margin)
 
 -- what the code gives for a side that wins, draws or loses with these goals
@@ -244,13 +246,9 @@ pub record AreLost (own other : GoalSpan) (away : Bool) (sums : Sums) : Type 0 w
   pub wins : as_range sums.wins ≡ one_value (pos 0)
   pub away_wins : as_range sums.away_wins ≡ one_value (pos 0)
 
--- the same extent of an equal range
-extent_at : (cell : Cell) (value : Score → ℤ) (range other : Range) → range ≡ other → IsExtent cell value other → IsExtent cell value range
-extent_at cell value range other same extent =
-    let P : Range → Type 0 = λ r. IsExtent cell value r in
-    subst P (sym same) extent
-
-pub won_sums : (cell : Cell) (away : Bool) (own other : GoalSpan) (sums : Sums) → IsMatchOf cell away own other → WinsAll cell away → AreWon own other away sums → AreSumsOf cell away sums
+pub won_sums : (cell : Cell) (away : Bool) (own other : GoalSpan) (sums : Sums)
+    → IsMatchOf cell away own other → WinsAll cell away → AreWon own other away sums
+    → AreSumsOf cell away sums
 won_sums cell away own other sums match wins_all are = sums_from cell away own other sums match extents
   where
     some : Score
@@ -259,16 +257,18 @@ won_sums cell away own other sums match wins_all are = sums_from cell away own o
     allowed : allows cell some ≡ true
     allowed = match.own_goals.least.1
 
-    extents : (measure : Measure) → IsExtent cell (to_side (worth_of measure) away) (range_by sums measure)
-    extents Points = extent_at cell (to_side match_points away) (as_range sums.points) (one_value (pos 3)) are.points (one_extent cell (to_side match_points away) (pos 3) some allowed (λ score is. points_won (goals_by away score) (goals_by (not away) score) away (wins_all score is)))
+    extents : (measure : Measure) → IsExtent (allows cell) (to_side (worth_of measure) away)
+        (range_by sums measure)
+    extents Points = extent_at (allows cell) (to_side match_points away) (as_range sums.points) (one_value (pos 3)) are.points (one_extent (allows cell) (to_side match_points away) (pos 3) some allowed (λ score is. points_won (goals_by away score) (goals_by (not away) score) away (wins_all score is)))
     extents Difference = margin_extent cell away own other (as_range sums.difference) wins_all match.own_goals match.other_goals are.difference
-    extents Goals = extent_at cell (to_side goals away) (as_range sums.goals) (record { least = pos own.least; greatest = pos own.most }) are.goals (goals_extent cell away own match.own_goals)
-    extents AwayGoals = extent_at cell (to_side away_goals away) (as_range sums.away_goals) (cond away (record { least = pos own.least; greatest = pos own.most }) (one_value (pos 0))) are.away_goals (away_goals_extent cell away own match.own_goals)
-    extents Wins = extent_at cell (to_side wins away) (as_range sums.wins) (one_value (pos 1)) are.wins (one_extent cell (to_side wins away) (pos 1) some allowed (λ score is. one_win (goals_by away score) (goals_by (not away) score) away (wins_all score is)))
-    extents AwayWins = extent_at cell (to_side away_wins away) (as_range sums.away_wins) (cond away (one_value (pos 1)) (one_value (pos 0))) are.away_wins (away_win_extent cell away some allowed wins_all)
+    extents Goals = extent_at (allows cell) (to_side goals away) (as_range sums.goals) (record { least = pos own.least; greatest = pos own.most }) are.goals (goals_extent cell away own match.own_goals)
+    extents AwayGoals = extent_at (allows cell) (to_side away_goals away) (as_range sums.away_goals) (cond away (record { least = pos own.least; greatest = pos own.most }) (one_value (pos 0))) are.away_goals (away_goals_extent cell away own match.own_goals)
+    extents Wins = extent_at (allows cell) (to_side wins away) (as_range sums.wins) (one_value (pos 1)) are.wins (one_extent (allows cell) (to_side wins away) (pos 1) some allowed (λ score is. one_win (goals_by away score) (goals_by (not away) score) away (wins_all score is)))
+    extents AwayWins = extent_at (allows cell) (to_side away_wins away) (as_range sums.away_wins) (cond away (one_value (pos 1)) (one_value (pos 0))) are.away_wins (away_win_extent cell away some allowed wins_all)
 
 -- in a draw the other side has the same goals
-pub drawn_match : (cell : Cell) (away : Bool) (own : GoalSpan) → own.most ≤ 255 → DrawsAll cell away → AreGoalsOf cell away own → IsMatchOf cell away own own
+pub drawn_match : (cell : Cell) (away : Bool) (own : GoalSpan) → own.most ≤ 255 → DrawsAll cell away
+    → AreGoalsOf cell away own → IsMatchOf cell away own own
 drawn_match cell away own few draws are = record {
   own_goals = are;
   other_goals = record {
@@ -280,7 +280,9 @@ drawn_match cell away own few draws are = record {
   other_few = few;
 }
 
-pub drawn_sums : (cell : Cell) (away : Bool) (own other : GoalSpan) (sums : Sums) → IsMatchOf cell away own other → DrawsAll cell away → AreDrawn own away sums → AreSumsOf cell away sums
+pub drawn_sums : (cell : Cell) (away : Bool) (own other : GoalSpan) (sums : Sums)
+    → IsMatchOf cell away own other → DrawsAll cell away → AreDrawn own away sums
+    → AreSumsOf cell away sums
 drawn_sums cell away own other sums match draws are = sums_from cell away own other sums match extents
   where
     some : Score
@@ -289,18 +291,22 @@ drawn_sums cell away own other sums match draws are = sums_from cell away own ot
     allowed : allows cell some ≡ true
     allowed = match.own_goals.least.1
 
-    no_difference : (score : Score) → allows cell score ≡ true → to_side goal_difference away score ≡ pos 0
+    no_difference : (score : Score) → allows cell score ≡ true → to_side goal_difference away score
+        ≡ pos 0
     no_difference score is = let level = draws score is in omega (arith, ints)
 
-    extents : (measure : Measure) → IsExtent cell (to_side (worth_of measure) away) (range_by sums measure)
-    extents Points = extent_at cell (to_side match_points away) (as_range sums.points) (one_value (pos 1)) are.points (one_extent cell (to_side match_points away) (pos 1) some allowed (λ score is. points_drawn (goals_by away score) (goals_by (not away) score) away (draws score is)))
-    extents Difference = extent_at cell (to_side goal_difference away) (as_range sums.difference) (one_value (pos 0)) are.difference (one_extent cell (to_side goal_difference away) (pos 0) some allowed no_difference)
-    extents Goals = extent_at cell (to_side goals away) (as_range sums.goals) (record { least = pos own.least; greatest = pos own.most }) are.goals (goals_extent cell away own match.own_goals)
-    extents AwayGoals = extent_at cell (to_side away_goals away) (as_range sums.away_goals) (cond away (record { least = pos own.least; greatest = pos own.most }) (one_value (pos 0))) are.away_goals (away_goals_extent cell away own match.own_goals)
-    extents Wins = extent_at cell (to_side wins away) (as_range sums.wins) (one_value (pos 0)) are.wins (one_extent cell (to_side wins away) (pos 0) some allowed (λ score is. let level = draws score is in no_win (goals_by away score) (goals_by (not away) score) away (omega arith)))
-    extents AwayWins = extent_at cell (to_side away_wins away) (as_range sums.away_wins) (one_value (pos 0)) are.away_wins (one_extent cell (to_side away_wins away) (pos 0) some allowed (λ score is. let level = draws score is in no_away_win (goals_by away score) (goals_by (not away) score) away (omega arith)))
+    extents : (measure : Measure) → IsExtent (allows cell) (to_side (worth_of measure) away)
+        (range_by sums measure)
+    extents Points = extent_at (allows cell) (to_side match_points away) (as_range sums.points) (one_value (pos 1)) are.points (one_extent (allows cell) (to_side match_points away) (pos 1) some allowed (λ score is. points_drawn (goals_by away score) (goals_by (not away) score) away (draws score is)))
+    extents Difference = extent_at (allows cell) (to_side goal_difference away) (as_range sums.difference) (one_value (pos 0)) are.difference (one_extent (allows cell) (to_side goal_difference away) (pos 0) some allowed no_difference)
+    extents Goals = extent_at (allows cell) (to_side goals away) (as_range sums.goals) (record { least = pos own.least; greatest = pos own.most }) are.goals (goals_extent cell away own match.own_goals)
+    extents AwayGoals = extent_at (allows cell) (to_side away_goals away) (as_range sums.away_goals) (cond away (record { least = pos own.least; greatest = pos own.most }) (one_value (pos 0))) are.away_goals (away_goals_extent cell away own match.own_goals)
+    extents Wins = extent_at (allows cell) (to_side wins away) (as_range sums.wins) (one_value (pos 0)) are.wins (one_extent (allows cell) (to_side wins away) (pos 0) some allowed (λ score is. let level = draws score is in no_win (goals_by away score) (goals_by (not away) score) away (omega arith)))
+    extents AwayWins = extent_at (allows cell) (to_side away_wins away) (as_range sums.away_wins) (one_value (pos 0)) are.away_wins (one_extent (allows cell) (to_side away_wins away) (pos 0) some allowed (λ score is. let level = draws score is in no_away_win (goals_by away score) (goals_by (not away) score) away (omega arith)))
 
-pub lost_sums : (cell : Cell) (away : Bool) (own other : GoalSpan) (sums : Sums) → IsMatchOf cell away own other → LosesAll cell away → AreLost own other away sums → AreSumsOf cell away sums
+pub lost_sums : (cell : Cell) (away : Bool) (own other : GoalSpan) (sums : Sums)
+    → IsMatchOf cell away own other → LosesAll cell away → AreLost own other away sums
+    → AreSumsOf cell away sums
 lost_sums cell away own other sums match loses are = sums_from cell away own other sums match extents
   where
     some : Score
@@ -309,13 +315,14 @@ lost_sums cell away own other sums match loses are = sums_from cell away own oth
     allowed : allows cell some ≡ true
     allowed = match.own_goals.least.1
 
-    extents : (measure : Measure) → IsExtent cell (to_side (worth_of measure) away) (range_by sums measure)
-    extents Points = extent_at cell (to_side match_points away) (as_range sums.points) (one_value (pos 0)) are.points (one_extent cell (to_side match_points away) (pos 0) some allowed (λ score is. points_lost (goals_by away score) (goals_by (not away) score) away (loses score is)))
-    extents Difference = extent_at cell (to_side goal_difference away) (as_range sums.difference) (negated are.difference.0) are.difference.2 (lost_extent cell away own other are.difference.0 loses match.own_goals match.other_goals are.difference.1)
-    extents Goals = extent_at cell (to_side goals away) (as_range sums.goals) (record { least = pos own.least; greatest = pos own.most }) are.goals (goals_extent cell away own match.own_goals)
-    extents AwayGoals = extent_at cell (to_side away_goals away) (as_range sums.away_goals) (cond away (record { least = pos own.least; greatest = pos own.most }) (one_value (pos 0))) are.away_goals (away_goals_extent cell away own match.own_goals)
-    extents Wins = extent_at cell (to_side wins away) (as_range sums.wins) (one_value (pos 0)) are.wins (one_extent cell (to_side wins away) (pos 0) some allowed (λ score is. let below = loses score is in no_win (goals_by away score) (goals_by (not away) score) away (omega arith)))
-    extents AwayWins = extent_at cell (to_side away_wins away) (as_range sums.away_wins) (one_value (pos 0)) are.away_wins (one_extent cell (to_side away_wins away) (pos 0) some allowed (λ score is. let below = loses score is in no_away_win (goals_by away score) (goals_by (not away) score) away (omega arith)))
+    extents : (measure : Measure) → IsExtent (allows cell) (to_side (worth_of measure) away)
+        (range_by sums measure)
+    extents Points = extent_at (allows cell) (to_side match_points away) (as_range sums.points) (one_value (pos 0)) are.points (one_extent (allows cell) (to_side match_points away) (pos 0) some allowed (λ score is. points_lost (goals_by away score) (goals_by (not away) score) away (loses score is)))
+    extents Difference = extent_at (allows cell) (to_side goal_difference away) (as_range sums.difference) (negated are.difference.0) are.difference.2 (lost_extent cell away own other are.difference.0 loses match.own_goals match.other_goals are.difference.1)
+    extents Goals = extent_at (allows cell) (to_side goals away) (as_range sums.goals) (record { least = pos own.least; greatest = pos own.most }) are.goals (goals_extent cell away own match.own_goals)
+    extents AwayGoals = extent_at (allows cell) (to_side away_goals away) (as_range sums.away_goals) (cond away (record { least = pos own.least; greatest = pos own.most }) (one_value (pos 0))) are.away_goals (away_goals_extent cell away own match.own_goals)
+    extents Wins = extent_at (allows cell) (to_side wins away) (as_range sums.wins) (one_value (pos 0)) are.wins (one_extent (allows cell) (to_side wins away) (pos 0) some allowed (λ score is. let below = loses score is in no_win (goals_by away score) (goals_by (not away) score) away (omega arith)))
+    extents AwayWins = extent_at (allows cell) (to_side away_wins away) (as_range sums.away_wins) (one_value (pos 0)) are.away_wins (one_extent (allows cell) (to_side away_wins away) (pos 0) some allowed (λ score is. let below = loses score is in no_away_win (goals_by away score) (goals_by (not away) score) away (omega arith)))
 
 -- where no score is open, the match adds nothing
 pub none_sums : (cell : Cell) (away : Bool) → IsEmptyCell cell → AreSumsOf cell away no_sums
@@ -324,7 +331,8 @@ none_sums cell away empty = record {
   near = near;
 }
   where
-    nothing : (measure : Measure) → range_of (to_side (worth_of measure) away) [] ≡ range_by no_sums measure
+    nothing : (measure : Measure) → range_of (to_side (worth_of measure) away) []
+        ≡ range_by no_sums measure
     nothing Points = refl
     nothing Difference = refl
     nothing Goals = refl

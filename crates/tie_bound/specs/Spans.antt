@@ -8,10 +8,6 @@ use Rattle.tie_bound.specs.declared.span.GoalSpan.{GoalSpan}
 abbrev pub as_range : Span → Range
 as_range span = record { least = span.least; greatest = span.greatest }
 
--- the range of a sum with its sign turned round
-abbrev pub negated : Range → Range
-negated range = record { least = neg_ℤ range.greatest; greatest = neg_ℤ range.least }
-
 -- both ends are this far from zero at most
 pub record IsNear (bound : ℕ) (range : Range) : Type 0 where
   pub least_above : neg_ℤ (pos bound) ≤ℤ range.least

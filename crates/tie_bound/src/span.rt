@@ -1,8 +1,8 @@
 //! The range of one sum: its least and its greatest value.
 
 ghost use Rattle.std.specs.Prelude.{◌≡◌, ◌-ℤ◌, pos, nat_lt, if◌then◌else◌};
-ghost use Rattle.league_core.specs.PointRanges.{one_value, added};
-ghost use Rattle.tie_bound.specs.Spans.{as_range, negated, IsNear, IsMargin};
+ghost use Rattle.league_core.specs.PointRanges.{one_value, negated, added};
+ghost use Rattle.tie_bound.specs.Spans.{as_range, IsNear, IsMargin};
 
 /// The least and the greatest value of a sum.
 #[derive(Clone, Copy)]
