@@ -99,11 +99,3 @@ def check_random(counter: Counter) -> None:
                                                                                     "read"))
     folder = league("lint", HOME)
     counter.check("a folder for a file", sound_end(folder) + said(folder, 4, "cannot be read"))
-    for words in ([], ["lint"], ["sheet"], ["other"], ["live", "a"]):
-        run = league(*words)
-        name = "words that do not fit: " + " ".join(words)
-        counter.check(name, sound_end(run) + said(run, 1, ""))
-    for words in (["--help"], ["lint", "--help"], ["sheet", "--help"], ["feed", "--help"],
-                  ["live", "--help"]):
-        run = league(*words)
-        counter.check("help: " + " ".join(words), sound_end(run) + said(run, 0, "exit statuses"))
