@@ -1,6 +1,8 @@
 -- The bits of a set of clubs: the first so many, one alone, those that two sets share, how many are
 -- set, and the lowest.
-use Rattle.std.proofs.Common.{◌≡◌, ℕ, suc, zero, ◌+◌, ◌-◌, ◌/◌, ◌%◌, ◌^◌, ◌<◌, ◌≤◌, ◌≢◌, ◌⊎◌, inl, inr, min, Bool, true, false, ◌&&◌, eqb, ltb, cond, List, [], ◌∷◌, filter, length, count_ones, sym, ap, refl, ◌∙◌, subst, arith}
+use Rattle.std.proofs.Common.{◌≡◌, ℕ, suc, zero, ◌+◌, ◌-◌, ◌/◌, ◌%◌, ◌^◌, ◌<◌, ◌≤◌, ◌≢◌, ◌⊎◌, inl}
+use Rattle.std.proofs.Common.{inr, min, Bool, true, false, ◌&&◌, eqb, ltb, cond, List, [], ◌∷◌}
+use Rattle.std.proofs.Common.{filter, length, count_ones, sym, ap, refl, ◌∙◌, subst, arith}
 use Rattle.std.specs.List.{range_with_len}
 use Rattle.std.specs.Int.{bit_at, trailing_zeros}
 use lib.Bits.{bit_and}
@@ -9,18 +11,22 @@ use mir.Syntax.{w32}
 use Rattle.std.proofs.lemmas.Bool.{eq-eqb, cases_eq, cases_lt, and_from, lt-ltb, le-ltb, ne_eqb}
 use Rattle.std.proofs.lemmas.Bool.Decides.{nat_tests}
 use Rattle.std.proofs.lemmas.Nat.{ones_le_self, shr-shr, shr_below}
-use Rattle.std.proofs.lemmas.Nat.Bits.{bit_at-lt, bit_at_and, bit_at_ones, bit_at_ones_above, bit_at-pow_same, bit_at-pow_other, bit_at-trailing_zeros}
+use Rattle.std.proofs.lemmas.Nat.Bits.{bit_at-lt, bit_at_and, bit_at_ones, bit_at_ones_above}
+use Rattle.std.proofs.lemmas.Nat.Bits.{bit_at-pow_same, bit_at-pow_other, bit_at-trailing_zeros}
 use Rattle.league_core.specs.Sums.{has_club}
 use Rattle.league_core.specs.ClubSets.{clubs_below}
-use Rattle.league_core.proofs.ClubSetLemmas.{has_club-clubs_below, filter_agree_in, clubs_below-range, clubs_below-zero}
+use Rattle.league_core.proofs.ClubSetLemmas.{has_club-clubs_below, filter_agree_in}
+use Rattle.league_core.proofs.ClubSetLemmas.{clubs_below-range, clubs_below-zero}
 
 -- the lowest bits, so many of them, are the first clubs
-pub clubs_below-ones : (count clubs : ℕ) → clubs ≤ count → clubs_below count (2 ^ clubs - 1) ≡ range_with_len 0 clubs
+pub clubs_below-ones : (count clubs : ℕ) → clubs ≤ count
+    → clubs_below count (2 ^ clubs - 1) ≡ range_with_len 0 clubs
 clubs_below-ones count clubs within =
     clubs_below-range count (2 ^ clubs - 1) clubs within
     (λ x. has_club-clubs_below count (2 ^ clubs - 1) x ∙ by_place x (cases_lt x clubs))
   where
-    by_place : (x : ℕ) → (x < clubs) ⊎ (clubs ≤ x) → (ltb x count && eqb (bit_at (2 ^ clubs - 1) x) 1) ≡ ltb x clubs
+    by_place : (x : ℕ) → (x < clubs) ⊎ (clubs ≤ x)
+        → (ltb x count && eqb (bit_at (2 ^ clubs - 1) x) 1) ≡ ltb x clubs
     by_place x (inl below) =
         and_from _ _ (lt-ltb x count (omega arith)) (eq-eqb _ 1 (bit_at_ones clubs x below))
         ∙ sym (lt-ltb x clubs below)
@@ -30,23 +36,28 @@ clubs_below-ones count clubs within =
         grind (arith, nat_tests)
 
 -- of a run of numbers, one that lies below it is none
-filter-run_below : (club from count : ℕ) → club < from → filter (λ x. eqb club x) (range_with_len from count) ≡ []
+filter-run_below : (club from count : ℕ) → club < from
+    → filter (λ x. eqb club x) (range_with_len from count) ≡ []
 filter-run_below club from zero below = refl
 filter-run_below club from (suc count) below =
     let other : eqb club from ≡ false = ne_eqb club from (λ e. omega arith) in
-    ap (λ b. cond b (from ∷ filter (λ x. eqb club x) (range_with_len (from + 1) count)) (filter (λ x. eqb club x) (range_with_len (from + 1) count))) other
+    ap (λ b. cond b (from ∷ filter (λ x. eqb club x) (range_with_len (from + 1) count))
+    (filter (λ x. eqb club x) (range_with_len (from + 1) count))) other
     ∙ filter-run_below club (from + 1) count (omega arith)
 
 -- of a run of numbers, one that it has is the one that equals it
-filter-run_one : (club from count : ℕ) → from ≤ club → club < from + count → filter (λ x. eqb club x) (range_with_len from count) ≡ club ∷ []
+filter-run_one : (club from count : ℕ) → from ≤ club → club < from + count
+    → filter (λ x. eqb club x) (range_with_len from count) ≡ club ∷ []
 filter-run_one club from zero low high = absurd (omega arith)
 filter-run_one club from (suc count) low high =
-    by_place (cases_eq club from) (λ below. filter-run_one club (from + 1) count below (omega arith))
+    by_place (cases_eq club from)
+    (λ below. filter-run_one club (from + 1) count below (omega arith))
   where
     rest : List ℕ
     rest = filter (λ x. eqb club x) (range_with_len (from + 1) count)
 
-    by_place : (club ≡ from) ⊎ (club ≢ from) → (from + 1 ≤ club → rest ≡ club ∷ []) → cond (eqb club from) (from ∷ rest) rest ≡ club ∷ []
+    by_place : (club ≡ from) ⊎ (club ≢ from) → (from + 1 ≤ club → rest ≡ club ∷ [])
+        → cond (eqb club from) (from ∷ rest) rest ≡ club ∷ []
     by_place (inl here) further =
         ap (λ b. cond b (from ∷ rest) rest) (eq-eqb club from here)
         ∙ ap (λ xs. from ∷ xs) (filter-run_below club (from + 1) count (omega arith))
@@ -59,7 +70,8 @@ filter-run_one club from (suc count) low high =
 pub clubs_below-one : (count club : ℕ) → club < count → clubs_below count (2 ^ club) ≡ club ∷ []
 unfolding clubs_below
 clubs_below-one count club within =
-    filter_agree_in (λ x. eqb (bit_at (2 ^ club) x) 1) (λ x. eqb club x) (range_with_len 0 count) (λ x inside. by_place x (cases_eq x club))
+    filter_agree_in (λ x. eqb (bit_at (2 ^ club) x) 1) (λ x. eqb club x) (range_with_len 0 count)
+    (λ x inside. by_place x (cases_eq x club))
     ∙ filter-run_one club 0 count (omega arith) (omega arith)
   where
     by_place : (x : ℕ) → (x ≡ club) ⊎ (x ≢ club) → eqb (bit_at (2 ^ club) x) 1 ≡ eqb club x
@@ -71,21 +83,33 @@ clubs_below-one count club within =
         ∙ sym (ne_eqb club x (λ e. other (sym e)))
 
 -- the clubs that two sets share
-pub has_club-and : (bits other x : ℕ) → has_club (clubs_below 32 (bit_and bits other)) x ≡ (has_club (clubs_below 32 bits) x && has_club (clubs_below 32 other) x)
+pub has_club-and : (bits other x : ℕ)
+    → has_club (clubs_below 32 (bit_and bits other)) x ≡
+    (has_club (clubs_below 32 bits) x && has_club (clubs_below 32 other) x)
 has_club-and bits other x =
-    rw (has_club-clubs_below 32 (bit_and bits other) x, has_club-clubs_below 32 bits x, has_club-clubs_below 32 other x, bit_at_and bits other x)
+    rw (
+      has_club-clubs_below 32
+          (bit_and bits other) x,
+      has_club-clubs_below 32 bits x,
+      has_club-clubs_below 32 other x,
+      bit_at_and bits other x,
+    )
     (both_bits (ltb x 32) (bit_at bits x) (bit_at other x) (bit_at-lt bits x) (bit_at-lt other x))
   where
-    both_bits : (b : Bool) (m n : ℕ) → m < 2 → n < 2 → (b && eqb (min m n) 1) ≡ ((b && eqb m 1) && (b && eqb n 1))
+    both_bits : (b : Bool) (m n : ℕ) → m < 2 → n < 2
+        → (b && eqb (min m n) 1) ≡ ((b && eqb m 1) && (b && eqb n 1))
     both_bits true m n low low' = grind (arith, nat_tests)
     both_bits false m n low low' = refl
 
-length-cond : (b : Bool) (x : ℕ) (xs : List ℕ) → length (cond b (x ∷ xs) xs) ≡ cond b 1 0 + length xs
+length-cond : (b : Bool) (x : ℕ) (xs : List ℕ)
+    → length (cond b (x ∷ xs) xs) ≡ cond b 1 0 + length xs
 length-cond true x xs = omega arith
 length-cond false x xs = omega arith
 
 -- the bits from a place on, counted
-length-run_bits : (bits width from count : ℕ) → from + count ≡ width → bits < 2 ^ width → length (filter (λ club. eqb (bit_at bits club) 1) (range_with_len from count)) ≡ count_ones (bits / 2 ^ from)
+length-run_bits : (bits width from count : ℕ) → from + count ≡ width → bits < 2 ^ width
+    → length (filter (λ club. eqb (bit_at bits club) 1) (range_with_len from count)) ≡ count_ones
+    (bits / 2 ^ from)
 length-run_bits bits width from zero ends fits =
     let at_end : width ≡ 0 + from = omega arith in
     let below : bits < 2 ^ (0 + from) = subst (λ n. bits < 2 ^ n) at_end fits in
@@ -96,8 +120,10 @@ length-run_bits bits width from zero ends fits =
     nothing ∙ ap count_ones (sym none)
 length-run_bits bits width from (suc count) ends fits =
     let rest = filter (λ club. eqb (bit_at bits club) 1) (range_with_len (from + 1) count) in
-    let bit : cond (eqb (bit_at bits from) 1) 1 0 ≡ bits / 2 ^ from % 2 = one_or_none (bit_at bits from) (bit_at-lt bits from) in
-    let later : length rest ≡ count_ones (bits / 2 ^ (from + 1)) = length-run_bits bits width (from + 1) count (omega arith) fits in
+    let bit : cond (eqb (bit_at bits from) 1) 1 0 ≡ bits / 2 ^ from % 2 = one_or_none
+    (bit_at bits from) (bit_at-lt bits from) in
+    let later : length rest ≡ count_ones (bits / 2 ^ (from + 1)) = length-run_bits bits width
+    (from + 1) count (omega arith) fits in
     let half : bits / 2 ^ (from + 1) ≡ bits / 2 ^ from / 2 = sym (shr-shr bits from 1) in
     length-cond (eqb (bit_at bits from) 1) from rest
     ∙ ap (λ n. n + length rest) bit
@@ -108,7 +134,8 @@ length-run_bits bits width from (suc count) ends fits =
     one_or_none n low = grind (arith, nat_tests)
 
 -- a set has as many clubs as it has bits
-pub length-clubs_below : (count bits : ℕ) → bits < 2 ^ count → length (clubs_below count bits) ≡ count_ones bits
+pub length-clubs_below : (count bits : ℕ) → bits < 2 ^ count
+    → length (clubs_below count bits) ≡ count_ones bits
 unfolding clubs_below
 length-clubs_below count bits fits =
     length-run_bits bits count 0 count (omega arith) fits ∙ ap count_ones (whole bits)
@@ -117,7 +144,9 @@ length-clubs_below count bits fits =
     whole n = omega arith
 
 -- the lowest bit of a set that has one is its first club
-pub lowest_is_first : (bits : ℕ) → bits < 2 ^ 32 → clubs_below 32 bits ≢ [] → (has_club (clubs_below 32 bits) (trailing_zeros w32 bits) ≡ true) × ((club : ℕ) → has_club (clubs_below 32 bits) club ≡ true → trailing_zeros w32 bits ≤ club)
+pub lowest_is_first : (bits : ℕ) → bits < 2 ^ 32 → clubs_below 32 bits ≢ []
+    → (has_club (clubs_below 32 bits) (trailing_zeros w32 bits) ≡ true)
+    × ((club : ℕ) → has_club (clubs_below 32 bits) club ≡ true → trailing_zeros w32 bits ≤ club)
 lowest_is_first bits fits some = (member, least)
   where
     first : ℕ
@@ -130,7 +159,8 @@ lowest_is_first bits fits some = (member, least)
     member =
         let lowest = bit_at-trailing_zeros w32 bits (omega (arith, not_zero)) fits in
         has_club-clubs_below 32 bits first
-        ∙ and_from (ltb first 32) (eqb (bit_at bits first) 1) (lt-ltb first 32 lowest.0) (eq-eqb (bit_at bits first) 1 lowest.1)
+        ∙ and_from (ltb first 32) (eqb (bit_at bits first) 1) (lt-ltb first 32 lowest.0)
+        (eq-eqb (bit_at bits first) 1 lowest.1)
 
     least : (club : ℕ) → has_club (clubs_below 32 bits) club ≡ true → first ≤ club
     least club has = by_order (cases_lt club first)

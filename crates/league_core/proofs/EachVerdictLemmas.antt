@@ -1,6 +1,8 @@
--- One verdict always holds: the list of all finishes is gone through once for each side of the line,
+-- One verdict always holds: the list of all finishes is gone through once for each side of the
+-- line,
 -- with the lots that favour that side.
-use Rattle.std.proofs.Common.{◌≡◌, ◌⊎◌, ℕ, ◌<◌, Bool, true, false, List, [], ◌∷◌, length, Option, All, Contains, refl, sym, ◌∙◌, subst, inl, inr, arith}
+use Rattle.std.proofs.Common.{◌≡◌, ◌⊎◌, ℕ, ◌<◌, Bool, true, false, List, [], ◌∷◌, length, Option}
+use Rattle.std.proofs.Common.{All, Contains, refl, sym, ◌∙◌, subst, inl, inr, arith}
 use Rattle.std.proofs.lemmas.Bool.{false≢true, and_parts}
 use Rattle.std.proofs.lemmas.List.Elements.{All-nil, All-cons, All-contains, Contains-append_right}
 use Rattle.league_core.specs.declared.sheet.Sheet.{Sheet}
@@ -16,7 +18,8 @@ use Rattle.league_core.specs.Finishes.{IsFinishOf}
 use Rattle.league_core.specs.FinishList.{finishes_of}
 use Rattle.league_core.specs.Verdicts.{HasExample, HasNoExample, IsClinched, IsLost, IsPossible}
 use Rattle.league_core.specs.LotsFor.{lots_for_claim}
-use Rattle.league_core.proofs.LotsLemmas.{holds_at-favoured, lots_for_claim-are_lots, lots_for_claim-favoured}
+use Rattle.league_core.proofs.LotsLemmas.{holds_at-favoured, lots_for_claim-are_lots}
+use Rattle.league_core.proofs.LotsLemmas.{lots_for_claim-favoured}
 use Rattle.league_core.proofs.FinishListLemmas.{finishes_listed}
 use Rattle.league_core.proofs.OneVerdictLemmas.{finish_example}
 

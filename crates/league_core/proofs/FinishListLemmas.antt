@@ -1,4 +1,5 @@
--- The list of all finishes of a season: how long it is, what it has, and where a finish stands in it.
+-- The list of all finishes of a season: how long it is, what it has, and where a finish stands in
+-- it.
 use Rattle.std.proofs.Common.{◌≡◌, ℕ, zero, suc, ◌+◌, ◌*◌, ◌<◌, ◌≤◌, true, nat_le}
 use Rattle.std.proofs.Common.{List, [], ◌∷◌, ◌++◌, length, get_or, map, Option, Some, None, All}
 use Rattle.std.proofs.Common.{Contains, slice_get, refl, sym, ap, ◌∙◌, subst, arith, length-append}

@@ -1,5 +1,7 @@
 -- How many points a club can have: three for each match at most, less its deduction.
-use Rattle.std.proofs.Common.{◌≡◌, ℕ, zero, suc, ◌*◌, ◌≤◌, ℤ, pos, negsuc, ◌-ℤ◌, ◌≤ℤ◌, Bool, true, false, ◌==◌, cond, nat_le, nat_lt, int_le, slice_index, List, [], ◌∷◌, length, Option, Some, None, arith}
+use Rattle.std.proofs.Common.{◌≡◌, ℕ, zero, suc, ◌*◌, ◌≤◌, ℤ, pos, negsuc, ◌-ℤ◌, ◌≤ℤ◌, Bool, true}
+use Rattle.std.proofs.Common.{false, ◌==◌, cond, nat_le, nat_lt, int_le, slice_index, List, [], ◌∷◌}
+use Rattle.std.proofs.Common.{length, Option, Some, None, arith}
 use Rattle.std.specs.List.{list_all}
 use Rattle.std.proofs.lemmas.Bool.{and_parts, and_from, leb-true}
 use Rattle.std.proofs.lemmas.Int.{ints}

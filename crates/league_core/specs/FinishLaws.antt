@@ -1,4 +1,5 @@
--- What holds of finishes and of the list of them all, and that each club of a season is clinched, lost or
+-- What holds of finishes and of the list of them all, and that each club of a season is clinched,
+-- lost or
 -- possible: each statement is the contract of a function of src/finish_laws.rt that does nothing.
 use Rattle.std.specs.Prelude.{◌≡◌, ◌⊎◌, ◌<◌, ◌↔◌, ℕ, IsTrue, List, length, Contains, slice_get}
 use Rattle.std.specs.Prelude.{Option, Some}

@@ -6,10 +6,11 @@ use Rattle.league_core.specs.declared.limits.TheConstants.{MOST_BUDGET, MOST_NAM
 use Rattle.league_core.specs.declared.limits.TheConstants.{MOST_DEDUCTION, MOST_POINTS, MOST_EVENTS}
 use Rattle.league_core.specs.declared.limits.TheConstants.{MOST_FINISHES, SET_WIDTH}
 
--- the fewest and the most clubs of a sheet
+-- the fewest clubs of a sheet
 abbrev pub least_clubs : ℕ
 least_clubs = LEAST_CLUBS
 
+-- the most clubs of a sheet
 abbrev pub most_clubs : ℕ
 most_clubs = MOST_CLUBS
 
@@ -45,11 +46,11 @@ most_goals = MOST_GOALS
 abbrev pub most_deduction : ℕ
 most_deduction = MOST_DEDUCTION
 
--- the least and the most points of a club: none but the greatest deduction, and three of each
--- fixture
+-- the least points of a club: none but the greatest deduction
 abbrev pub least_points : ℤ
 least_points = neg_ℤ (pos MOST_DEDUCTION)
 
+-- the most points of a club: three of each fixture
 abbrev pub most_points : ℤ
 most_points = pos MOST_POINTS
 

@@ -91,13 +91,15 @@ has_one_score (score ∷ options) = list_all (same_score score) options
 unfoldable pub is_single : Sheet → Results → List Literal → Bool
 is_single sheet season zone = list_all has_one_score (options_in sheet season zone)
 
--- the home side wins, the match is drawn, the away side wins
+-- the home side wins
 abbrev pub is_home_win : Score → Bool
 is_home_win score = nat_lt score.away score.home
 
+-- the match is drawn
 abbrev pub is_draw : Score → Bool
 is_draw score = score.home == score.away
 
+-- the away side wins
 abbrev pub is_away_win : Score → Bool
 is_away_win score = nat_lt score.home score.away
 

@@ -1,6 +1,7 @@
 -- The least and the most that the fixtures of a zone can add up to, fixture by fixture: each of
 -- them takes the option that gives least, or most. The clubs of a set are counted together.
-use Rattle.std.specs.Prelude.{Bool, true, false, if◌then◌else◌, ℕ, ◌+◌, ℤ, pos, neg_ℤ, ◌+ℤ◌, ◌-ℤ◌, List, [], ◌∷◌, slice_index}
+use Rattle.std.specs.Prelude.{Bool, true, false, if◌then◌else◌, ℕ, ◌+◌, ℤ, pos, neg_ℤ, ◌+ℤ◌, ◌-ℤ◌}
+use Rattle.std.specs.Prelude.{List, [], ◌∷◌, slice_index}
 use Rattle.std.specs.Int.{int_min, int_max}
 use Rattle.league_core.specs.declared.sheet.Sheet.{Sheet}
 use Rattle.league_core.specs.declared.sheet.Fixture.{Fixture}
@@ -62,13 +63,15 @@ points_of_sides home away score =
     (if home then match_points score.home score.away false else pos 0)
     +ℤ (if away then match_points score.away score.home true else pos 0)
 
--- what a home win, a draw and an away win give to the two sides, where each of them counts or not
+-- the points of a home win for the sides that count: three where the home side does
 abbrev pub won_points : Bool → ℕ
 won_points home = if home then 3 else 0
 
+-- the points of a draw: one for each side that counts
 abbrev pub drawn_points : Bool → Bool → ℕ
 drawn_points home away = (if home then 1 else 0) + (if away then 1 else 0)
 
+-- the points of an away win: three where the away side counts
 abbrev pub lost_points : Bool → ℕ
 lost_points away = if away then 3 else 0
 
@@ -83,7 +86,8 @@ points_range sheet season options clubs =
     added (range_from (points_together clubs) sheet.fixtures options)
     (one_value (pos 0 -ℤ deducted_from season clubs))
 
--- the least points that the clubs of a set can have together in a zone that has a finish; marks do not
+-- the least points that the clubs of a set can have together in a zone that has a finish; marks do
+-- not
 -- count here, and a fixture without an option counts nothing
 unfoldable pub least_points_of : Sheet → Results → List Literal → List ℕ → ℤ
 least_points_of sheet season zone clubs =

@@ -27,7 +27,8 @@ holds_at sheet question finish lots =
     && is_on_side (is_inside sheet finish lots question.club question.line) question.claim
 
 -- a finish of the season, and lots of all clubs, at which the question holds
-pub record IsExample (sheet : Sheet) (season : Results) (question : Question) (finish : Results) (lots : List ℕ) : Type 0 where
+pub record IsExample (sheet : Sheet) (season : Results) (question : Question) (finish : Results)
+    (lots : List ℕ) : Type 0 where
   pub is_finish : IsFinishOf sheet season finish
   pub is_drawn : IsTrue (are_lots (length sheet.clubs) lots)
   pub holds : IsTrue (holds_at sheet question finish lots)

@@ -1,5 +1,6 @@
 -- Reasons: why a question holds nowhere in a zone. Each is one only where the zone has a finish.
-use Rattle.std.specs.Prelude.{ℕ, ℤ, pos, ◌-◌, ◌*ℤ◌, Bool, false, true, ◌&&◌, ◌||◌, nat_le, int_lt, List, [], ◌∷◌, length, count_by}
+use Rattle.std.specs.Prelude.{ℕ, ℤ, pos, ◌-◌, ◌*ℤ◌, Bool, false, true, ◌&&◌, ◌||◌, nat_le, int_lt}
+use Rattle.std.specs.Prelude.{List, [], ◌∷◌, length, count_by}
 use Rattle.std.specs.List.{list_all, list_any}
 use Rattle.league_core.specs.declared.sheet.Sheet.{Sheet}
 use Rattle.league_core.specs.declared.question.Claim.{Claim}
@@ -59,11 +60,12 @@ refutes_by_ceiling sheet season question zone clubs =
     && int_lt (most_points_of sheet season zone clubs)
     (times clubs (own_least sheet season question zone))
 
--- the rival is surely before the club, or surely behind it
+-- the rival is surely before the club
 abbrev pub is_surely_above : Sheet → Results → Question → List Literal → ℕ → Bool
 is_surely_above sheet season question zone rival =
     is_above (sure_order sheet season zone rival question.club)
 
+-- the rival is surely behind the club
 abbrev pub is_surely_below : Sheet → Results → Question → List Literal → ℕ → Bool
 is_surely_below sheet season question zone rival =
     is_below (sure_order sheet season zone rival question.club)
@@ -71,7 +73,8 @@ is_surely_below sheet season question zone rival =
 -- too many rivals are marked, or surely stand, on the other side
 abbrev pub are_too_many_sure : Sheet → Results → Question → List Literal → Bool
 are_too_many_sure sheet season question zone =
-    too_many sheet question (λ rival. marked_before zone rival || is_surely_above sheet season question zone rival)
+    too_many sheet question
+    (λ rival. marked_before zone rival || is_surely_above sheet season question zone rival)
     (λ rival. marked_after zone rival || is_surely_below sheet season question zone rival)
     question.claim
 

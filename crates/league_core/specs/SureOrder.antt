@@ -47,18 +47,21 @@ sure_by_ranges (rival ∷ rivals) [] = Level
 sure_by_ranges (rival ∷ rivals) (club ∷ clubs) =
     sure_then (sure_by_range rival club) (sure_by_ranges rivals clubs)
 
+-- the answer is that the rival is before the club
 abbrev pub is_above : Sure → Bool
 is_above Above = true
 is_above Below = false
 is_above Level = false
 is_above Unknown = false
 
+-- the answer is that it is behind the club
 abbrev pub is_below : Sure → Bool
 is_below Above = false
 is_below Below = true
 is_below Level = false
 is_below Unknown = false
 
+-- the answer is that the two are level
 abbrev pub is_level : Sure → Bool
 is_level Above = false
 is_level Below = false
@@ -72,10 +75,11 @@ is_apart (range ∷ ranges) [] = false
 is_apart (range ∷ ranges) (other ∷ others) =
     int_lt other.greatest range.least || int_lt range.greatest other.least || is_apart ranges others
 
--- a club's sum over all matches, and over those of a group
+-- a club's sum over all matches
 abbrev pub range_over : Worth → Sheet → List (List Score) → ℕ → Range
 range_over worth sheet options club = range_from (worth_to worth club) sheet.fixtures options
 
+-- a club's sum over the matches of a group
 abbrev pub range_among : List ℕ → Worth → Sheet → List (List Score) → ℕ → Range
 range_among group worth sheet options club =
     range_from (worth_among group worth club) sheet.fixtures options
@@ -99,12 +103,13 @@ overall_ranges sheet options club =
     ∷ one_value (neg_ℤ (pos (rank_of sheet club)))
     ∷ []
 
--- a rival's record in the group against the club's, and its sums over all matches
+-- a rival's record in the group against the club's
 abbrev pub by_record_ranges : Sheet → List (List Score) → List ℕ → ℕ → ℕ → Sure
 by_record_ranges sheet options group rival club =
     sure_by_ranges (record_ranges sheet options group rival)
     (record_ranges sheet options group club)
 
+-- a rival's sums over all matches against the club's
 abbrev pub by_overall_ranges : Sheet → List (List Score) → ℕ → ℕ → Sure
 by_overall_ranges sheet options rival club =
     sure_by_ranges (overall_ranges sheet options rival) (overall_ranges sheet options club)

@@ -1,4 +1,5 @@
--- Zones in which the criteria are looked at, by hand, for either order of them; computed when the crate
+-- Zones in which the criteria are looked at, by hand, for either order of them; computed when the
+-- crate
 -- is checked. Clubs are named by letters in the comments, and count from 0 below, as fixtures do.
 use Rattle.std.specs.Prelude.{◌≡◌, ℕ, pos, true, false, List, [], ◌∷◌, None, map}
 use Rattle.std.specs.Prelude.{refl}

@@ -1,7 +1,8 @@
 //! The laws of the ranking and of verdicts: functions that do nothing, each with a law as
 //! contract.
 //!
-//! The statements are in `specs/Laws.antt` and `specs/StandingLaws.antt`. They hold by the definitions alone, for every sheet
+//! The statements are in `specs/Laws.antt` and `specs/StandingLaws.antt`. They hold by the
+//! definitions alone, for every sheet
 //! and every season, so that code and proofs elsewhere may rest on them.
 
 ghost use Rattle.league_core.specs.Laws.{FavouredLotsAreBest, FavouredLotsAnswer};

@@ -1,7 +1,8 @@
 //! Lists and names that contracts see as plain data: two with the same items are equal, whatever
 //! room they keep.
 
-ghost use Rattle.std.specs.Prelude.{◌≡◌, [], ◌∷◌, ◌++◌, length, ◌↔◌, IsTrue, IfOk, OnOk, OnErr, option_to_list, IsNone, string_bytes};
+ghost use Rattle.std.specs.Prelude.{◌≡◌, [], ◌∷◌, ◌++◌, length, ◌↔◌, IsTrue, IfOk, OnOk, OnErr};
+ghost use Rattle.std.specs.Prelude.{option_to_list, IsNone, string_bytes};
 
 use crate::memory::OutOfMemory;
 use std::alloc::Global;

@@ -4,7 +4,8 @@
 //! Contracts see the items and the room, as `Roomy` of `specs/Rooms.antt`. A type that keeps such a
 //! list may say in its own invariant how much room it always has.
 
-ghost use Rattle.std.specs.Prelude.{◌≡◌, ◌<◌, ◌≤◌, ◌+◌, [], ◌∷◌, ◌++◌, length, OnOk, OnErr, slice_index_or, slice_set};
+ghost use Rattle.std.specs.Prelude.{◌≡◌, ◌<◌, ◌≤◌, ◌+◌, [], ◌∷◌, ◌++◌, length, OnOk, OnErr};
+ghost use Rattle.std.specs.Prelude.{slice_index_or, slice_set};
 ghost use Rattle.std.specs.List.{insert, remove};
 
 use crate::memory::OutOfMemory;
@@ -25,7 +26,8 @@ impl<T> Model for RoomyList<T> {
 
     ghost use Rattle.std.specs.Prelude.{◌-◌, vec_len, vec_capacity};
 
-    ghost view = { λ list. record { items = list.items.items; room = vec_capacity list.items - vec_len list.items } };
+    ghost view = { λ list.
+        record { items = list.items.items; room = vec_capacity list.items - vec_len list.items } };
 }
 
 impl<T> RoomyList<T> {

@@ -37,7 +37,8 @@ pub fn trees_are_their_lists()
     ensures told { ListsTellTrees }
 {}
 
-/// A season has a finish, and no split loses the finishes of a zone; a proper one leaves some in each
+/// A season has a finish, and no split loses the finishes of a zone; a proper one leaves some in
+/// each
 /// half, so that each zone of a tree of proper splits has one.
 pub fn splits_leave_finishes()
     ensures root { SeasonsHaveAFinish }

@@ -36,7 +36,8 @@ pub struct Zone {
 /// Why a question holds nowhere in a zone.
 #[derive(Clone, Copy, Debug, PartialEq, Eq)]
 pub enum Reason {
-    /// So many rivals are marked before the club that none of the first places is left for it, or so
+    /// So many rivals are marked before the club that none of the first places is left for it, or
+    /// so
     /// many behind it that it is inside.
     Count,
     /// The club's points miss the question's window.
@@ -45,6 +46,7 @@ pub enum Reason {
     Low(ClubSet),
     /// A ceiling cut: these rivals cannot all come up to the club's least points.
     High(ClubSet),
-    /// Every outcome is fixed, and points and criteria are sure of enough rivals, or contradict a mark.
+    /// Every outcome is fixed, and points and criteria are sure of enough rivals, or contradict a
+    /// mark.
     Tie,
 }

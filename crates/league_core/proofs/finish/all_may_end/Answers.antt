@@ -21,7 +21,8 @@ returns-then-not-one_may_end c =
     let not : may_end c.args.limit (get_or season fixture None) (get_or finish fixture None)
     ≡ false = cc in (
       λ h. absurd (false≢true h),
-      λ all. absurd (false≢true (sym not ∙ may_end-at c.args.limit season finish all fixture below)),
+      λ all. absurd
+          (false≢true (sym not ∙ may_end-at c.args.limit season finish all fixture below)),
     )
 
 pub loop-fixture-preserved : goal.loop-fixture-preserved

@@ -1,4 +1,5 @@
-use Rattle.league_core.proofs.OneVerdictLemmas.{possible_or_clinched, possible_or_lost, clinched_or_lost}
+use Rattle.league_core.proofs.OneVerdictLemmas.{possible_or_clinched, possible_or_lost}
+use Rattle.league_core.proofs.OneVerdictLemmas.{clinched_or_lost}
 use Rattle.league_core.proofs.laws.one_verdict_at_most.Goals as goal
 
 pub returns-clause-possible_clinched : goal.returns-clause-possible_clinched

@@ -1,7 +1,8 @@
 use Rattle.std.proofs.Common.{sym, ◌∙◌}
 use Rattle.std.proofs.lemmas.Bool.{false≢true}
 use Rattle.league_core.proofs.PlaceLemmas.{place_of-before, place_of-le}
-use Rattle.league_core.proofs.RankingLemmas.{order_of_total, ranks_before-one, ranks_before-both, ranks_before-itself}
+use Rattle.league_core.proofs.RankingLemmas.{order_of_total, ranks_before-one, ranks_before-both}
+use Rattle.league_core.proofs.RankingLemmas.{ranks_before-itself}
 use Rattle.league_core.proofs.laws.ranking_is_a_total_order.Goals as goal
 
 pub returns-clause-total : goal.returns-clause-total

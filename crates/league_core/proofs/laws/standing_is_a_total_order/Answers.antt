@@ -1,4 +1,5 @@
-use Rattle.league_core.proofs.StandingLemmas.{standing_in_total, standing_in-one, standing_in-alike, standing_in-alike_right}
+use Rattle.league_core.proofs.StandingLemmas.{standing_in_total, standing_in-one, standing_in-alike}
+use Rattle.league_core.proofs.StandingLemmas.{standing_in-alike_right}
 use Rattle.league_core.proofs.laws.standing_is_a_total_order.Goals as goal
 
 pub returns-clause-total : goal.returns-clause-total

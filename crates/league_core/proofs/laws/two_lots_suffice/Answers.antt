@@ -1,4 +1,6 @@
-use Rattle.league_core.proofs.LotsLemmas.{favoured_is_best, holds_at-favoured, lots_for_claim-are_lots, lots_for_claim-favoured, best_place_of-le, place_of-worst}
+use Rattle.league_core.proofs.LotsLemmas.{favoured_is_best, holds_at-favoured}
+use Rattle.league_core.proofs.LotsLemmas.{lots_for_claim-are_lots, lots_for_claim-favoured}
+use Rattle.league_core.proofs.LotsLemmas.{best_place_of-le, place_of-worst}
 use Rattle.league_core.proofs.laws.two_lots_suffice.Goals as goal
 
 pub returns-clause-sides : goal.returns-clause-sides

@@ -1,4 +1,5 @@
-use Rattle.league_core.proofs.VerdictLemmas.{clinched_by_worst_place, lost_by_best_place, example_inside, example_outside}
+use Rattle.league_core.proofs.VerdictLemmas.{clinched_by_worst_place, lost_by_best_place}
+use Rattle.league_core.proofs.VerdictLemmas.{example_inside, example_outside}
 use Rattle.league_core.proofs.laws.two_places_decide_a_played_season.Goals as goal
 
 pub returns-clause-clinched : goal.returns-clause-clinched

@@ -9,5 +9,6 @@ pub returns : goal.returns
 returns c =
     let clubs = c.args.clubs in
     let fits : 2 ^ clubs < 2 ^ 64 = pow-lt {j = 64} (omega arith) in
-    let bits : 1 * 2 ^ clubs % 2 ^ 64 ≡ 2 ^ clubs = ap (λ n. n % 2 ^ 64) (omega arith) ∙ mod-eq_of_lt fits in
+    let bits : 1 * 2 ^ clubs % 2 ^ 64 ≡ 2 ^ clubs = ap (λ n. n % 2 ^ 64) (omega
+    arith) ∙ mod-eq_of_lt fits in
     ap (λ n. clubs_below 32 (n - 1)) bits ∙ clubs_below-ones 32 clubs (omega arith)

@@ -8,5 +8,6 @@ pub returns : goal.returns
 returns c =
     λ club.
     c.without.ensures club
-    ∙ ap (λ clubs. has_club clubs club && not (has_club (clubs_in c.args.self) club)) c.first.ensures
+    ∙ ap (λ clubs. has_club clubs club && not (has_club (clubs_in c.args.self) club))
+    c.first.ensures
     ∙ ap (λ b. b && not (has_club (clubs_in c.args.self) club)) (has_club-range c.args.clubs club)

@@ -9,5 +9,6 @@ pub returns : goal.returns
 returns c =
     let club = c.args.club in
     let fits : 2 ^ club < 2 ^ 32 = pow-lt {j = 32} (omega arith) in
-    let bits : 1 * 2 ^ club % 2 ^ 32 ≡ 2 ^ club = ap (λ n. n % 2 ^ 32) (omega arith) ∙ mod-eq_of_lt fits in
+    let bits : 1 * 2 ^ club % 2 ^ 32 ≡ 2 ^ club = ap (λ n. n % 2 ^ 32) (omega
+    arith) ∙ mod-eq_of_lt fits in
     ap (clubs_below 32) bits ∙ clubs_below-one 32 club (omega arith)

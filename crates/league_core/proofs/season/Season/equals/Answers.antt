@@ -31,5 +31,6 @@ returns-then-same_codes c =
           ∙ codes_name_results season other c.self.invariant.0 c.other.invariant.0 codes
           (sym one ∙ points.0 same ∙ two)
           ∙ sym that,
-      λ same. points.1 (one ∙ ap (λ (s : Results). s.deductions) (sym this ∙ same ∙ that) ∙ sym two),
+      λ same. points.1
+          (one ∙ ap (λ (s : Results). s.deductions) (sym this ∙ same ∙ that) ∙ sym two),
     )
