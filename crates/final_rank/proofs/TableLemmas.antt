@@ -1,39 +1,52 @@
 -- Counts over the clubs of a sheet, and places in the lots.
-use Rattle.std.proofs.Common.{◌≡◌, ℕ, ◌+◌, ◌<◌, ◌≤◌, Bool, true, false, not, eqb, cond, List, [], ◌∷◌, ◌++◌, count_by, length, unwrap_or, Some, None, ap, refl, ◌∙◌, arith, zero-add, ◌⊎◌, inl, inr}
+use Rattle.std.proofs.Common.{◌≡◌, ℕ, ◌+◌, ◌<◌, ◌≤◌, Bool, true, false, not, eqb, cond, List, []}
+use Rattle.std.proofs.Common.{◌∷◌, ◌++◌, count_by, length, unwrap_or, Some, None, ap, refl, ◌∙◌}
+use Rattle.std.proofs.Common.{arith, zero-add, ◌⊎◌, inl, inr}
 use Rattle.std.specs.List.{range_with_len, position_or_len, position}
 use Rattle.std.proofs.lemmas.Bool.{cases_lt, lt-ltb, le-ltb}
 use Rattle.std.proofs.lemmas.List.{map-id}
-use Rattle.std.proofs.lemmas.List.FromFn.{filter_of_map_range_with_len_more, map-range_with_len_more}
+use Rattle.std.proofs.lemmas.List.FromFn.{filter_of_map_range_with_len_more}
+use Rattle.std.proofs.lemmas.List.FromFn.{map-range_with_len_more}
 use Rattle.std.proofs.lemmas.List.Sums.{sum_by-append, prefix_len-le-length}
 use mir.Val.{bool_byte}
 use Rattle.league_core.specs.LotsFor.{others_of}
 
 -- of one club more, all but the one are the others so far, and this club where it is another
-pub others_of-suc : (clubs club : ℕ) → others_of (clubs + 1) club ≡ others_of clubs club ++ cond (not (eqb clubs club)) (clubs ∷ []) []
+pub others_of-suc : (clubs club : ℕ)
+    → others_of (clubs + 1) club ≡ others_of clubs club ++ cond (not (eqb clubs club)) (clubs ∷ [])
+    []
 others_of-suc clubs club =
-    let more = filter_of_map_range_with_len_more (λ other. not (eqb other club)) (λ (x : ℕ). x) 0 clubs clubs (omega arith) in
+    let more = filter_of_map_range_with_len_more (λ other. not (eqb other club)) (λ (x : ℕ). x) 0
+    clubs clubs (omega arith) in
     rw (map-id, map-id) at more
 
-range_with_len-suc : (clubs : ℕ) → range_with_len 0 (clubs + 1) ≡ range_with_len 0 clubs ++ clubs ∷ []
+range_with_len-suc : (clubs : ℕ) → range_with_len 0 (clubs + 1) ≡ range_with_len 0 clubs ++ clubs ∷
+    []
 range_with_len-suc clubs =
     let more = map-range_with_len_more (λ (x : ℕ). x) 0 clubs clubs (omega arith) in
     rw (map-id, map-id) at more
 
 -- a count over one club more
-pub count_by-range_suc : (p : ℕ → Bool) (clubs : ℕ) → count_by p (range_with_len 0 (clubs + 1)) ≡ count_by p (range_with_len 0 clubs) + cond (p clubs) 1 0
+pub count_by-range_suc : (p : ℕ → Bool) (clubs : ℕ)
+    → count_by p (range_with_len 0 (clubs + 1)) ≡ count_by p (range_with_len 0 clubs) + cond
+    (p clubs) 1 0
 count_by-range_suc p clubs =
     ap (count_by p) (range_with_len-suc clubs)
     ∙ sum_by-append (λ x. cond (p x) 1 0) (range_with_len 0 clubs) (clubs ∷ [])
     ∙ ap (λ n. count_by p (range_with_len 0 clubs) + n) (zero-add (cond (p clubs) 1 0))
 
 -- where a place is found it is the first, and where none is the length stands for it
-pub unwrap_or-position : (p : ℕ → Bool) (xs : List ℕ) → unwrap_or (position p xs) (length xs) ≡ position_or_len p xs
+pub unwrap_or-position : (p : ℕ → Bool) (xs : List ℕ)
+    → unwrap_or (position p xs) (length xs) ≡ position_or_len p xs
 unwrap_or-position p xs = by_place (cases_lt (position_or_len p xs) (length xs)) where
-  by_place : (position_or_len p xs < length xs) ⊎ (length xs ≤ position_or_len p xs) → unwrap_or (position p xs) (length xs) ≡ position_or_len p xs
+  by_place : (position_or_len p xs < length xs) ⊎ (length xs ≤ position_or_len p xs)
+      → unwrap_or (position p xs) (length xs) ≡ position_or_len p xs
   by_place (inl found) =
-      ap (λ b. unwrap_or (cond b (Some (position_or_len p xs)) None) (length xs)) (lt-ltb (position_or_len p xs) (length xs) found)
+      ap (λ b. unwrap_or (cond b (Some (position_or_len p xs)) None) (length xs))
+      (lt-ltb (position_or_len p xs) (length xs) found)
   by_place (inr none) =
-      ap (λ b. unwrap_or (cond b (Some (position_or_len p xs)) None) (length xs)) (le-ltb (position_or_len p xs) (length xs) none)
+      ap (λ b. unwrap_or (cond b (Some (position_or_len p xs)) None) (length xs))
+      (le-ltb (position_or_len p xs) (length xs) none)
       ∙ omega (arith, prefix_len-le-length (λ x. not (p x)) xs)
 
 -- a test counts one at most

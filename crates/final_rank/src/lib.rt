@@ -4,13 +4,17 @@
 #![tactic(auto)]
 
 mod around;
+mod blocks;
 mod drawing;
+mod final_table;
 mod places;
-mod standings;
+mod span;
 
+pub use blocks::points;
 pub use drawing::lots_for;
+pub use final_table::table;
 pub use places::{best_place, place, worst_place};
-pub use standings::table;
+pub use span::{Span, spans};
 
 #[cfg(test)]
 mod tests;

@@ -2,7 +2,8 @@
 //!
 //! The clubs around the club are found once, and then each club is counted by its lot.
 
-ghost use Rattle.std.specs.Prelude.{◌≡◌, ◌<◌, ◌==◌, ◌&&◌, ◌||◌, nat_lt, position, length, IfOk, IsTrue};
+ghost use Rattle.std.specs.Prelude.{◌≡◌, ◌<◌, ◌==◌, ◌&&◌, ◌||◌, nat_lt, position, length, IfOk};
+ghost use Rattle.std.specs.Prelude.{IsTrue};
 ghost use Rattle.league_core.specs.Sheets.{IsWithinLimits};
 ghost use Rattle.league_core.specs.Seasons.{IsSeasonOf};
 ghost use Rattle.league_core.specs.Sums.{has_club};
@@ -11,8 +12,7 @@ ghost use Rattle.league_core.specs.Ranking.{are_lots, lot_of, place_of};
 ghost use Rattle.final_rank.specs.Places.{IsBestPlace, IsWorstPlace};
 
 use crate::around::{Around, stand};
-use crate::drawing::lots_for;
-use league_core::{Claim, Lots, OutOfMemory, Season, Sheet};
+use league_core::{Lots, OutOfMemory, Season, Sheet};
 use std::alloc::Global;
 
 /// The club's place with these lots, from 1.
@@ -50,9 +50,8 @@ pub fn best_place(
     requires in_range { club < length sheet.now.clubs }
     ensures { IfOk result (λ place. IsBestPlace sheet.now season.now club place) }
 {
-    let lots = lots_for(alloc, sheet.clubs.len() as u8, club, Claim::Inside)?;
-    let found = place(alloc, sheet, season, &lots, club)?;
-    Ok(found)
+    let around = stand(alloc, sheet, season, club)?;
+    Ok(around.span().best)
 }
 
 /// The club's greatest place over all lots, from 1: that with the club last in the lots.
@@ -67,9 +66,8 @@ pub fn worst_place(
     requires in_range { club < length sheet.now.clubs }
     ensures { IfOk result (λ place. IsWorstPlace sheet.now season.now club place) }
 {
-    let lots = lots_for(alloc, sheet.clubs.len() as u8, club, Claim::Outside)?;
-    let found = place(alloc, sheet, season, &lots, club)?;
-    Ok(found)
+    let around = stand(alloc, sheet, season, club)?;
+    Ok(around.span().worst)
 }
 
 /// The other is ahead of the club, or level with it and earlier in the lots than this lot.

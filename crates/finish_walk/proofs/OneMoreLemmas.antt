@@ -5,7 +5,7 @@ use Rattle.league_core.specs.declared.sheet.Sheet.{Sheet}
 use Rattle.league_core.specs.Results.{Results}
 use Rattle.league_core.specs.LotsFor.{best_place_of, worst_place_of}
 use Rattle.finish_walk.specs.declared.reach.Reach.{Reach}
-use Rattle.finish_walk.specs.Spans.{span_of}
+use Rattle.final_rank.specs.Spans.{span_of}
 use Rattle.finish_walk.specs.Reaches.{IsReachOver, reach_at, with_better, with_worse, with_finish}
 
 -- the reach over one finish alone

@@ -7,9 +7,9 @@ use Rattle.league_core.specs.declared.sheet.Sheet.{Sheet}
 use Rattle.league_core.specs.Results.{Results}
 use Rattle.league_core.specs.Finishes.{IsFinishOf}
 use Rattle.finish_walk.specs.declared.reach.Reach.{Reach}
-use Rattle.finish_walk.specs.declared.places.Span.{Span}
+use Rattle.final_rank.specs.declared.span.Span.{Span}
 use Rattle.finish_walk.specs.Walks.{count_of_finishes, number_in, IsNumbered}
-use Rattle.finish_walk.specs.Spans.{span_of, spans_of}
+use Rattle.final_rank.specs.Spans.{span_of, spans_of}
 use Rattle.finish_walk.specs.Reaches.{IsReachOver, AreReachesOver, AreReaches, IsBefore, reach_at, first_reaches_of, with_finish, TakesFinish}
 use Rattle.finish_walk.proofs.NumberLemmas.{number_in-lt, number_in-same}
 use Rattle.finish_walk.proofs.OneMoreLemmas.{reach_of_one, IsOneMore, reach_more}

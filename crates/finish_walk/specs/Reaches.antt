@@ -6,9 +6,9 @@ use Rattle.league_core.specs.Results.{Results}
 use Rattle.league_core.specs.Finishes.{IsFinishOf}
 use Rattle.league_core.specs.LotsFor.{best_place_of, worst_place_of}
 use Rattle.finish_walk.specs.declared.reach.Reach.{Reach}
-use Rattle.finish_walk.specs.declared.places.Span.{Span}
+use Rattle.final_rank.specs.declared.span.Span.{Span}
 use Rattle.finish_walk.specs.Walks.{number_in}
-use Rattle.finish_walk.specs.Spans.{spans_of}
+use Rattle.final_rank.specs.Spans.{spans_of}
 
 -- the reach of a club over those finishes that pass a test: each of its places comes with one of
 -- them that has it, and none of them has a better one, or a worse one

@@ -10,7 +10,6 @@ mod keeping;
 mod laws;
 mod odometer;
 mod outcome;
-mod places;
 mod reach;
 mod walk;
 
@@ -18,7 +17,6 @@ pub use counting::{MOST_FINISHES, finish_count};
 pub use laws::reaches_decide;
 pub use odometer::{first_finish, next_finish};
 pub use outcome::Verdict;
-pub use places::{Span, spans};
 pub use reach::Reach;
 pub use walk::{reaches, verdict};
 

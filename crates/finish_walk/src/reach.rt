@@ -11,7 +11,7 @@ ghost use Rattle.finish_walk.specs.Outcomes.{IsVerdictOf};
 
 use crate::keeping::kept;
 use crate::outcome::Verdict;
-use crate::places::Span;
+use final_rank::Span;
 use league_core::{Finish, OutOfMemory, Season};
 use std::alloc::Global;
 

@@ -10,8 +10,8 @@ ghost use Rattle.finish_walk.specs.Outcomes.{IsVerdictOf};
 
 use crate::odometer::{first_finish, next_finish};
 use crate::outcome::Verdict;
-use crate::places::{Span, spans};
 use crate::reach::Reach;
+use final_rank::{Span, spans};
 use league_core::{OutOfMemory, Season, Sheet};
 use std::alloc::Global;
 

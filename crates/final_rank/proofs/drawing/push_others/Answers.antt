@@ -16,7 +16,8 @@ loop-other-preserved c =
           let another = ne_eqb c.loop-other.other c.args.club w.if-other-club.true in
           ap (λ v. v.items) w.order-is
           ∙ w.push.ensures.items
-          ∙ ap (λ r. cond (is_ok r) (c.loop-other.order.items ++ c.loop-other.other ∷ []) c.loop-other.order.items) w.in_ok-push.was
+          ∙ ap (λ r. cond (is_ok r) (c.loop-other.order.items ++ c.loop-other.other ∷ [])
+          c.loop-other.order.items) w.in_ok-push.was
           ∙ ap (λ xs. xs ++ c.loop-other.other ∷ []) c.loop-other.invariant
           ∙ append_assoc before so_far (c.loop-other.other ∷ [])
           ∙ ap (λ b. before ++ (so_far ++ cond (not b) (c.loop-other.other ∷ []) [])) (sym another)

@@ -1,6 +1,6 @@
 use Rattle.std.proofs.Common.{◌≡◌, ℕ, ◌<◌, ◌≤◌, get_or}
 use Rattle.finish_walk.specs.declared.reach.Reach.{Reach}
-use Rattle.finish_walk.specs.declared.places.Span.{Span}
+use Rattle.final_rank.specs.declared.span.Span.{Span}
 use Rattle.finish_walk.specs.Reaches.{with_finish}
 use Rattle.finish_walk.proofs.walk.take_finish.Given as goal
 

@@ -1,0 +1,33 @@
+//! The places that a season leaves each club, whatever the lots.
+
+ghost use Rattle.std.specs.Prelude.{◌≡◌, IfOk};
+ghost use Rattle.league_core.specs.Sheets.{IsWithinLimits};
+ghost use Rattle.league_core.specs.Seasons.{IsSeasonOf};
+ghost use Rattle.final_rank.specs.Spans.{spans_of};
+
+use crate::around::Around;
+use crate::blocks::blocks;
+use league_core::{OutOfMemory, Season, Sheet};
+use std::alloc::Global;
+
+/// A club's least and greatest place over all drawings of lots, from 1.
+#[derive(Clone, Copy, Debug, PartialEq, Eq)]
+pub struct Span {
+    pub best: u8,
+    pub worst: u8,
+}
+
+/// The spans of all clubs in this season, in the sheet's order: the clubs are put in blocks once.
+pub fn spans(alloc: Global, sheet: &Sheet, season: &Season) -> Result<Vec<Span>, OutOfMemory>
+    requires limits { IsWithinLimits sheet.now }
+    requires of_sheet { IsSeasonOf sheet.now season.now }
+    ensures { IfOk result (λ found. found.items ≡ spans_of sheet.now season.now) }
+{
+    let blocks = blocks(alloc, sheet, season)?;
+    let mut found = Vec::new(alloc);
+    for club in 0..sheet.clubs.len() as u8 {
+        let around = Around::of(&blocks, club);
+        found.push(around.span())?;
+    }
+    Ok(found)
+}
