@@ -1,5 +1,6 @@
 -- Finishes and their numbers in the list of all: what a new score of one fixture makes of them.
-use Rattle.std.proofs.Common.{◌≡◌, ℕ, zero, suc, ◌+◌, ◌*◌, ◌<◌, true, List, [], ◌∷◌, length, get_or, set, take, Option, Some, None, is_some, refl, sym, ap, ◌∙◌, arith}
+use Rattle.std.proofs.Common.{◌≡◌, ℕ, zero, suc, ◌+◌, ◌*◌, ◌<◌, true, List, [], ◌∷◌, length, get_or}
+use Rattle.std.proofs.Common.{set, take, Option, Some, None, is_some, refl, sym, ap, ◌∙◌, arith}
 use Rattle.std.specs.List.{list_all}
 use Rattle.std.proofs.lemmas.Bool.{false≢true, and_parts, and_from}
 use Rattle.league_core.specs.declared.sheet.Sheet.{Sheet}
@@ -106,6 +107,7 @@ finish_is_played sheet season finish is_finish =
 pub finish_of_sheet : (sheet : Sheet) (season finish : Results) → IsSeasonOf sheet season
     → IsFinishOf sheet season finish → IsSeasonOf sheet finish
 finish_of_sheet sheet season finish of_sheet is_finish = record {
-  scores = length-may_all_end sheet.goal_limit season.scores finish.scores is_finish.scores ∙ of_sheet.scores;
+  scores = length-may_all_end sheet.goal_limit season.scores finish.scores is_finish.scores
+      ∙ of_sheet.scores;
   deductions = ap length is_finish.deductions ∙ of_sheet.deductions;
 }

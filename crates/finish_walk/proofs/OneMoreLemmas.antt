@@ -1,5 +1,6 @@
 -- The reach of a club over some finishes, and over one finish more.
-use Rattle.std.proofs.Common.{◌≡◌, ◌⊎◌, inl, inr, ℕ, ◌≤◌, Bool, true, false, cond, nat_lt, refl, ap, arith}
+use Rattle.std.proofs.Common.{◌≡◌, ◌⊎◌, inl, inr, ℕ, ◌≤◌, Bool, true, false, cond, nat_lt, refl, ap}
+use Rattle.std.proofs.Common.{arith}
 use Rattle.std.proofs.lemmas.Bool.{ltb-true, ltb-false}
 use Rattle.league_core.specs.declared.sheet.Sheet.{Sheet}
 use Rattle.league_core.specs.Results.{Results}
@@ -30,10 +31,12 @@ record HasBest (Passes : Results → Type 0) (sheet : Sheet) (club : ℕ) (reach
   pub least : (finish : Results) → Passes finish → reach.best ≤ best_place_of sheet finish club
 
 -- and the worse side
-record HasWorst (Passes : Results → Type 0) (sheet : Sheet) (club : ℕ) (reach : Reach) : Type 0 where
-  pub passes : Passes reach.worst_finish
-  pub place : worst_place_of sheet reach.worst_finish club ≡ reach.worst
-  pub greatest : (finish : Results) → Passes finish → worst_place_of sheet finish club ≤ reach.worst
+record HasWorst (Passes : Results → Type 0) (sheet : Sheet) (club : ℕ) (reach : Reach) : Type 0
+  where
+    pub passes : Passes reach.worst_finish
+    pub place : worst_place_of sheet reach.worst_finish club ≡ reach.worst
+    pub greatest : (finish : Results) → Passes finish
+        → worst_place_of sheet finish club ≤ reach.worst
 
 -- some finishes and one more
 pub record IsOneMore (Passes After : Results → Type 0) (finish : Results) : Type 0 where

@@ -1,5 +1,7 @@
 -- The first finish of a season: each open fixture ends 0:0, fixture by fixture.
-use Rattle.std.proofs.Common.{◌≡◌, ℕ, zero, suc, ◌+◌, ◌*◌, ◌<◌, ◌≤◌, true, cond, ◌&&◌, nat_le, List, [], ◌∷◌, length, get_or, set, Option, Some, None, is_some, refl, sym, ap, ◌∙◌, subst, arith}
+use Rattle.std.proofs.Common.{◌≡◌, ℕ, zero, suc, ◌+◌, ◌*◌, ◌<◌, ◌≤◌, true, cond, ◌&&◌, nat_le, List}
+use Rattle.std.proofs.Common.{[], ◌∷◌, length, get_or, set, Option, Some, None, is_some, refl, sym}
+use Rattle.std.proofs.Common.{ap, ◌∙◌, subst, arith}
 use Rattle.std.proofs.lemmas.Bool.{and_from, le-leb}
 use Rattle.std.proofs.lemmas.List.{set-get_or}
 use Rattle.league_core.specs.declared.sheet.Sheet.{Sheet}
@@ -87,7 +89,8 @@ begun_number limit zero [] past = refl
 begun_number limit (suc fixtures) [] past = refl
 begun_number limit zero (played ∷ season) past = absurd (omega arith)
 begun_number limit (suc fixtures) (None ∷ season) past =
-    let later = ap (λ n. n * ways_to_end limit None) (begun_number limit fixtures season (omega arith)) in
+    let later = ap (λ n. n * ways_to_end limit None)
+    (begun_number limit fixtures season (omega arith)) in
     omega arith
 begun_number limit (suc fixtures) (Some score ∷ season) past =
     let later = begun_number limit fixtures season (omega arith) in

@@ -1,5 +1,7 @@
 -- The step from one finish to the next, fixture by fixture.
-use Rattle.std.proofs.Common.{◌≡◌, ℕ, ◌+◌, ◌*◌, ◌<◌, ◌≤◌, Bool, true, false, cond, nat_le, length, get_or, set, Option, Some, None, is_some, refl, sym, ap, ◌∙◌, subst, arith}
+use Rattle.std.proofs.Common.{◌≡◌, ℕ, ◌+◌, ◌*◌, ◌<◌, ◌≤◌, Bool, true, false, cond, nat_le, length}
+use Rattle.std.proofs.Common.{get_or, set, Option, Some, None, is_some, refl, sym, ap, ◌∙◌, subst}
+use Rattle.std.proofs.Common.{arith}
 use Rattle.std.proofs.lemmas.Bool.{false≢true, and_parts, and_from, le-leb, leb-true}
 use Rattle.std.proofs.lemmas.List.{take_all}
 use Rattle.league_core.specs.declared.sheet.Sheet.{Sheet}
@@ -7,7 +9,8 @@ use Rattle.league_core.specs.declared.season.Score.{Score}
 use Rattle.league_core.specs.Results.{Results, is_score}
 use Rattle.league_core.specs.Finishes.{may_end, IsFinishOf}
 use Rattle.league_core.specs.FinishList.{ways_to_end, ways_to_finish, end_number, number_of}
-use Rattle.finish_walk.specs.Walks.{count_of_finishes, number_in, IsNumbered, ways_before, Turns, GoesOn}
+use Rattle.finish_walk.specs.Walks.{count_of_finishes, number_in, IsNumbered, ways_before, Turns}
+use Rattle.finish_walk.specs.Walks.{GoesOn}
 use Rattle.finish_walk.proofs.WaysLemmas.{ways_to_finish-take_more}
 use Rattle.finish_walk.proofs.NumberLemmas.{may_all_end-set, number_of-set, number_in-lt}
 
@@ -89,7 +92,8 @@ turns-open sheet season finish new fixture ended next round is_finish within unp
     number is =
     let limit = sheet.goal_limit in
     let before = ways_before sheet season fixture in
-    let set_number = number_of-set limit season.scores finish.scores fixture next is_finish.scores within in
+    let set_number = number_of-set limit season.scores finish.scores fixture next is_finish.scores
+    within in
     let N : Option Score → Type 0 = λ o.
     number_of limit season.scores (set finish.scores fixture next)
     + end_number limit o (get_or finish.scores fixture None) * before
@@ -103,7 +107,8 @@ turns-open sheet season finish new fixture ended next round is_finish within unp
     ≡ number_in sheet season finish + end_number limit None next * before in
     let moved = subst R (sym is) (subst E (sym ended_is) (subst N unplayed set_number)) in
     let more = ways_to_finish-take_more limit season.scores fixture within in
-    let W : Option Score → Type 0 = λ o. ways_before sheet season (fixture + 1) ≡ before * ways_to_end limit o in
+    let W : Option Score → Type 0 = λ o. ways_before sheet season (fixture + 1) ≡ before *
+    ways_to_end limit o in
     let ways = subst W unplayed more in
     let both = turned before limit (number_in sheet season finish) (number_in sheet season new)
     (end_number limit None ended) (end_number limit None next) round moved number in
@@ -127,9 +132,11 @@ pub ways_before-none : (sheet : Sheet) (season : Results) → ways_before sheet 
 ways_before-none sheet season = refl
 
 -- a finish whose first wheels are all round, where one more step moves the next wheel
-pub record IsTurning (sheet : Sheet) (season old : Results) (fixture : ℕ) (finish : Results) : Type 0 where
+pub record IsTurning (sheet : Sheet) (season old : Results) (fixture : ℕ) (finish : Results) : Type
+    0 where
   pub is_finish : IsFinishOf sheet season finish
-  pub number : number_in sheet season finish + ways_before sheet season fixture ≡ number_in sheet season old + 1
+  pub number : number_in sheet season finish + ways_before sheet season fixture ≡ number_in sheet
+      season old + 1
 
 -- a wheel that has come round leaves the step to the next
 pub turning_more : (sheet : Sheet) (season old finish new : Results) (fixture : ℕ) (round : Bool)

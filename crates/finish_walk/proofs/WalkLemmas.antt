@@ -1,5 +1,6 @@
 -- What a walk knows of the clubs' reaches, finish by finish.
-use Rattle.std.proofs.Common.{◌≡◌, inl, inr, ℕ, ◌+◌, ◌<◌, List, [], ◌∷◌, ◌++◌, length, get_or, map, take, sym, ap, ◌∙◌, subst, arith}
+use Rattle.std.proofs.Common.{◌≡◌, inl, inr, ℕ, ◌+◌, ◌<◌, List, [], ◌∷◌, ◌++◌, length, get_or, map}
+use Rattle.std.proofs.Common.{take, sym, ap, ◌∙◌, subst, arith}
 use Rattle.std.proofs.lemmas.Bool.{cases_lt}
 use Rattle.std.proofs.lemmas.List.{length-map, get_or-map, map-append, take_more}
 use Rattle.std.proofs.lemmas.List.FromFn.{length-map-range_with_len, get_or-map-range_with_len}
@@ -10,7 +11,8 @@ use Rattle.finish_walk.specs.declared.reach.Reach.{Reach}
 use Rattle.final_rank.specs.declared.span.Span.{Span}
 use Rattle.finish_walk.specs.Walks.{count_of_finishes, number_in, IsNumbered}
 use Rattle.final_rank.specs.Spans.{span_of, spans_of}
-use Rattle.finish_walk.specs.Reaches.{IsReachOver, AreReachesOver, AreReaches, IsBefore, reach_at, first_reaches_of, with_finish, TakesFinish}
+use Rattle.finish_walk.specs.Reaches.{IsReachOver, AreReachesOver, AreReaches, IsBefore, reach_at}
+use Rattle.finish_walk.specs.Reaches.{first_reaches_of, with_finish, TakesFinish}
 use Rattle.finish_walk.proofs.NumberLemmas.{number_in-lt, number_in-same}
 use Rattle.finish_walk.proofs.OneMoreLemmas.{reach_of_one, IsOneMore, reach_more}
 
@@ -91,9 +93,11 @@ reaches_more sheet season finish next old new spans is are spans_are takes =
           ∙ ap (λ xs. with_finish reach (get_or xs club blank) next) spans_are
           ∙ ap (λ span. with_finish reach span next)
           (get_or-spans_of sheet next club blank (omega arith)) in
-          let R : Reach → Type 0 = λ r. IsReachOver (IsBefore sheet season (bound + 1)) sheet club r in
+          let R : Reach → Type 0 = λ r. IsReachOver (IsBefore sheet season (bound + 1)) sheet club
+          r in
           subst R (sym taken)
-          (reach_more (IsBefore sheet season bound) (IsBefore sheet season (bound + 1)) sheet club next
+          (reach_more (IsBefore sheet season bound) (IsBefore sheet season (bound + 1)) sheet club
+          next
           reach (one_more sheet season next bound is) (are.each club none (omega arith)));
     })
 

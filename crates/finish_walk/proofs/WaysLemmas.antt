@@ -1,5 +1,6 @@
 -- In how many ways the first fixtures of a season may end.
-use Rattle.std.proofs.Common.{◌≡◌, ℕ, zero, suc, ◌+◌, ◌*◌, ◌<◌, ◌≤◌, List, [], ◌∷◌, length, get_or, take, Option, None, ap, ◌∙◌, arith}
+use Rattle.std.proofs.Common.{◌≡◌, ℕ, zero, suc, ◌+◌, ◌*◌, ◌<◌, ◌≤◌, List, [], ◌∷◌, length, get_or}
+use Rattle.std.proofs.Common.{take, Option, None, ap, ◌∙◌, arith}
 use Rattle.std.proofs.Math.Nat.{mul-le-mul_left}
 use Rattle.league_core.specs.declared.season.Score.{Score}
 use Rattle.league_core.specs.FinishList.{ways_to_end, ways_to_finish}
@@ -14,11 +15,13 @@ ways_to_finish-take_suc limit (played ∷ season) zero within =
     let one : w * 1 ≡ 1 * w = omega arith in
     one
 ways_to_finish-take_suc limit (played ∷ season) (suc i) within =
-    let rest = ap (λ n. ways_to_end limit played * n) (ways_to_finish-take_suc limit season i (omega arith)) in
+    let rest = ap (λ n. ways_to_end limit played * n)
+    (ways_to_finish-take_suc limit season i (omega arith)) in
     rest ∙ omega arith
 
 -- one fixture more multiplies them by its own ways
-pub ways_to_finish-take_more : (limit : ℕ) (season : List (Option Score)) (i : ℕ) → i < length season
+pub ways_to_finish-take_more : (limit : ℕ) (season : List (Option Score)) (i : ℕ)
+    → i < length season
     → ways_to_finish limit (take (i + 1) season)
     ≡ ways_to_finish limit (take i season) * ways_to_end limit (get_or season i None)
 ways_to_finish-take_more limit season i within =

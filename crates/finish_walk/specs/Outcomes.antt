@@ -1,6 +1,5 @@
--- What an answer says of a club and a line: the verdict of the season, with two examples where both
--- sides are possible.
-use Rattle.std.specs.Prelude.{ℕ, length}
+-- What an answer says of a club and a line: the verdict of the season, by what the club can reach.
+use Rattle.std.specs.Prelude.{ℕ, nat_le, nat_lt, if◌then◌else◌, length}
 use Rattle.league_core.specs.declared.sheet.Sheet.{Sheet}
 use Rattle.league_core.specs.declared.question.Claim.{Claim}
 use Rattle.league_core.specs.declared.question.Claim.TheVariants.{Inside, Outside}
@@ -8,8 +7,9 @@ use Rattle.league_core.specs.Results.{Results}
 use Rattle.league_core.specs.Questions.{IsExample, full_question}
 use Rattle.league_core.specs.Verdicts.{IsClinched, IsLost}
 use Rattle.league_core.specs.LotsFor.{lots_for_claim}
-use Rattle.finish_walk.specs.declared.outcome.Verdict.{Verdict}
-use Rattle.finish_walk.specs.declared.outcome.Verdict.TheVariants.{Clinched, Lost, Possible}
+use Rattle.finish_walk.specs.declared.reach.Reach.{Reach}
+use Rattle.finish_walk.specs.declared.verdict.Verdict.{Verdict}
+use Rattle.finish_walk.specs.declared.verdict.Verdict.TheVariants.{Clinched, Lost, Possible}
 
 -- the finish shows that the club may end on the claim's side of the line, with the lots that favour
 -- the claim
@@ -18,9 +18,17 @@ Shows sheet season club line claim finish =
     IsExample sheet season (full_question club line claim) finish
     (lots_for_claim (length sheet.clubs) club claim)
 
--- the answer is the season's verdict for the club and the line, and its finishes show both sides
-abbrev pub IsVerdictOf : Sheet → Results → ℕ → ℕ → Verdict → Type 0
-IsVerdictOf sheet season club line Clinched = IsClinched sheet season club line
-IsVerdictOf sheet season club line Lost = IsLost sheet season club line
-IsVerdictOf sheet season club line (Possible inside outside) =
-    Shows sheet season club line Inside inside × Shows sheet season club line Outside outside
+-- clinched where the worst place is inside the line, lost where the best one is outside it
+abbrev pub verdict_at : Reach → ℕ → Verdict
+verdict_at reach line =
+    if nat_le reach.worst line then Clinched else if nat_lt line reach.best then Lost else Possible
+
+-- the answer is the season's verdict for the club and the line, and where both sides are possible
+-- the
+-- finishes of the reach show them
+abbrev pub IsVerdictOf : Sheet → Results → ℕ → ℕ → Reach → Verdict → Type 0
+IsVerdictOf sheet season club line reach Clinched = IsClinched sheet season club line
+IsVerdictOf sheet season club line reach Lost = IsLost sheet season club line
+IsVerdictOf sheet season club line reach Possible =
+    Shows sheet season club line Inside reach.best_finish
+    × Shows sheet season club line Outside reach.worst_finish

@@ -1,6 +1,7 @@
 -- What a club can reach: over some finishes of a season its best place with the club first in the
 -- lots, and its worst with the club last, each with a finish that shows it.
-use Rattle.std.specs.Prelude.{◌≡◌, ◌<◌, ◌≤◌, ℕ, nat_lt, if◌then◌else◌, List, length, map, slice_index_or}
+use Rattle.std.specs.Prelude.{◌≡◌, ◌<◌, ◌≤◌, ℕ, nat_lt, ◌||◌, IsTrue, if◌then◌else◌, List, length}
+use Rattle.std.specs.Prelude.{map, slice_index_or}
 use Rattle.league_core.specs.declared.sheet.Sheet.{Sheet}
 use Rattle.league_core.specs.Results.{Results}
 use Rattle.league_core.specs.Finishes.{IsFinishOf}
@@ -65,6 +66,10 @@ with_worse reach place finish =
 
 abbrev pub with_finish : Reach → Span → Results → Reach
 with_finish reach span finish = with_worse (with_better reach span.best finish) span.worst finish
+
+-- the places are better than the best of the reach, or worse than its worst
+abbrev pub Widens : Reach → Span → Type 0
+Widens reach span = IsTrue (nat_lt span.best reach.best || nat_lt reach.worst span.worst)
 
 -- each club's reach has the finish too, by the places that it leaves the club
 pub record TakesFinish (old new : List Reach) (spans : List Span) (finish : Results) : Type 0 where

@@ -1,6 +1,7 @@
 -- The finishes of a season as a walk meets them: how many they are, which of them comes at which
 -- number, and the step from one to the next.
-use Rattle.std.specs.Prelude.{◌≡◌, ◌≤◌, ◌+◌, ℕ, Bool, true, false, if◌then◌else◌, take, slice_index_or, slice_set, Some, None, is_some}
+use Rattle.std.specs.Prelude.{◌≡◌, ◌≤◌, ◌+◌, ℕ, Bool, true, false, if◌then◌else◌, take}
+use Rattle.std.specs.Prelude.{slice_index_or, slice_set, Some, None, is_some}
 use Rattle.league_core.specs.declared.sheet.Sheet.{Sheet}
 use Rattle.league_core.specs.declared.season.Score.{Score}
 use Rattle.league_core.specs.Results.{Results}

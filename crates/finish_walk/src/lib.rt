@@ -9,16 +9,16 @@ mod counting;
 mod keeping;
 mod laws;
 mod odometer;
-mod outcome;
 mod reach;
+mod verdict;
 mod walk;
 
 pub use counting::{MOST_FINISHES, finish_count};
 pub use laws::reaches_decide;
 pub use odometer::{first_finish, next_finish};
-pub use outcome::Verdict;
 pub use reach::Reach;
-pub use walk::{reaches, verdict};
+pub use verdict::Verdict;
+pub use walk::reaches;
 
 #[cfg(test)]
 mod tests;

@@ -89,7 +89,8 @@ struct Mark {
 
 impl Mark {
     fn next(home: u8, away: u8) -> Mark
-        ensures { result ≡ record { score = record { home = home; away = away }; is_round = false } }
+        ensures { result
+            ≡ record { score = record { home = home; away = away }; is_round = false } }
     {
         Mark {
             score: Score { home, away },

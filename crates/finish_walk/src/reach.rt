@@ -1,16 +1,16 @@
 //! What one club can reach, and the verdict that follows.
 
-ghost use Rattle.std.specs.Prelude.{◌≡◌, ◌<◌, ℕ, length, IsTrue, IfOk, OnOk};
+ghost use Rattle.std.specs.Prelude.{◌≡◌, ◌<◌, ℕ, length, IsTrue, IfOk, OnErr, OnOk};
 ghost use Rattle.league_core.specs.declared.sheet.Sheet.{Sheet};
 ghost use Rattle.league_core.specs.Sheets.{IsWithinLimits};
 ghost use Rattle.league_core.specs.Results.{Results, are_results};
 ghost use Rattle.league_core.specs.Finishes.{is_played};
 ghost use Rattle.finish_walk.specs.Reaches.{IsReachOf, reach_at, with_finish};
-ghost use Rattle.finish_walk.specs.Reaches.{with_better, with_worse};
-ghost use Rattle.finish_walk.specs.Outcomes.{IsVerdictOf};
+ghost use Rattle.finish_walk.specs.Reaches.{with_better, with_worse, Widens};
+ghost use Rattle.finish_walk.specs.Outcomes.{verdict_at, IsVerdictOf};
 
 use crate::keeping::kept;
-use crate::outcome::Verdict;
+use crate::verdict::Verdict;
 use final_rank::Span;
 use league_core::{Finish, OutOfMemory, Season};
 use std::alloc::Global;
@@ -40,7 +40,7 @@ impl Reach {
     }
 
     /// Takes one finish more. It is copied only where it gives the club a better place than those
-    /// so far, or a worse one.
+    /// so far, or a worse one; a place never stands without its finish, also where memory is short.
     pub(crate) fn take(
         &mut self,
         alloc: Global,
@@ -48,7 +48,8 @@ impl Reach {
         finish: &Season,
     ) -> Result<(), OutOfMemory>
         requires { IsTrue (is_played finish.now) }
-        ensures { OnOk result (self.new ≡ with_finish self.old span finish.now) }
+        ensures taken { OnOk result (self.new ≡ with_finish self.old span finish.now) }
+        ensures spared { OnErr result (Widens self.old span) }
     {
         self.take_better(alloc, span.best, finish)?;
         self.take_worse(alloc, span.worst, finish)?;
@@ -57,7 +58,9 @@ impl Reach {
 
     fn take_better(&mut self, alloc: Global, place: u8, finish: &Season) -> Result<(), OutOfMemory>
         requires { IsTrue (is_played finish.now) }
-        ensures { OnOk result (self.new ≡ with_better self.old place finish.now) }
+        ensures taken { OnOk result (self.new ≡ with_better self.old place finish.now) }
+        ensures spared { OnErr result (place < self.old.best) }
+        ensures kept { OnErr result (self.new ≡ self.old) }
     {
         if place < self.best {
             self.best_finish = kept(alloc, finish)?;
@@ -68,7 +71,9 @@ impl Reach {
 
     fn take_worse(&mut self, alloc: Global, place: u8, finish: &Season) -> Result<(), OutOfMemory>
         requires { IsTrue (is_played finish.now) }
-        ensures { OnOk result (self.new ≡ with_worse self.old place finish.now) }
+        ensures taken { OnOk result (self.new ≡ with_worse self.old place finish.now) }
+        ensures spared { OnErr result (self.old.worst < place) }
+        ensures kept { OnErr result (self.new ≡ self.old) }
     {
         if self.worst < place {
             self.worst_finish = kept(alloc, finish)?;
@@ -78,21 +83,21 @@ impl Reach {
     }
 
     /// The verdict for a line of so many first places, where this is the club's reach over all
-    /// finishes of a season.
-    pub fn verdict(self, line: u8) -> Verdict
-        ensures { (sheet : Sheet) (season : Results) (club : ℕ)
+    /// finishes of a season. Where it is `Possible` the two finishes of the reach show both sides:
+    /// the one with the club first in the lots, the other with the club last.
+    pub fn verdict(&self, line: u8) -> Verdict
+        ensures value { result ≡ verdict_at self.now line }
+        ensures meaning { (sheet : Sheet) (season : Results) (club : ℕ)
             → IsWithinLimits sheet → IsTrue (are_results season) → club < length sheet.clubs
-            → IsReachOf sheet season club self → IsVerdictOf sheet season club line result }
+            → IsReachOf sheet season club self.now
+            → IsVerdictOf sheet season club line self.now result }
     {
         if self.worst <= line {
-            return Verdict::Clinched;
-        }
-        if line < self.best {
-            return Verdict::Lost;
-        }
-        Verdict::Possible {
-            inside: self.best_finish,
-            outside: self.worst_finish,
+            Verdict::Clinched
+        } else if line < self.best {
+            Verdict::Lost
+        } else {
+            Verdict::Possible
         }
     }
 }

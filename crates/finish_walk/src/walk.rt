@@ -1,15 +1,13 @@
 //! The walk: each finish is met once, for all clubs together.
 
-ghost use Rattle.std.specs.Prelude.{◌≡◌, ◌<◌, length, IfOk, OnOk, IsTrue};
+ghost use Rattle.std.specs.Prelude.{◌≡◌, length, IfOk, OnOk, IsTrue};
 ghost use Rattle.league_core.specs.Sheets.{IsWithinLimits};
 ghost use Rattle.league_core.specs.Seasons.{IsSeasonOf};
 ghost use Rattle.finish_walk.specs.Walks.{HasFewFinishes};
 ghost use Rattle.league_core.specs.Finishes.{is_played};
 ghost use Rattle.finish_walk.specs.Reaches.{AreReaches, TakesFinish, first_reaches_of};
-ghost use Rattle.finish_walk.specs.Outcomes.{IsVerdictOf};
 
 use crate::odometer::{first_finish, next_finish};
-use crate::outcome::Verdict;
 use crate::reach::Reach;
 use final_rank::{Span, spans};
 use league_core::{OutOfMemory, Season, Sheet};
@@ -61,25 +59,4 @@ fn take_finish(
         reaches[club].take(alloc, spans[club], finish)?;
     }
     Ok(())
-}
-
-/// The verdict of the season for the club and a line of so many first places.
-pub fn verdict(
-    alloc: Global,
-    sheet: &Sheet,
-    season: &Season,
-    club: u8,
-    line: u8,
-) -> Result<Verdict, OutOfMemory>
-    requires limits { IsWithinLimits sheet.now }
-    requires of_sheet { IsSeasonOf sheet.now season.now }
-    requires few { HasFewFinishes sheet.now season.now }
-    requires in_range { club < length sheet.now.clubs }
-    ensures { IfOk result (λ found. IsVerdictOf sheet.now season.now club line found) }
-{
-    // A read season is known to have no score and no deduction above 99.
-    let _scores = season.scores();
-    let mut reaches = reaches(alloc, sheet, season)?;
-    let reach = reaches.swap_remove(club as usize);
-    Ok(reach.verdict(line))
 }

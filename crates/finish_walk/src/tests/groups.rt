@@ -1,7 +1,7 @@
 //! What the clubs of small leagues and of two real groups can reach, and their verdicts.
 
 use super::{GROUP_A, GROUP_E, Match, are_fixtures, fixtures_of, four_clubs, season_of};
-use crate::{Verdict, finish_count, reaches, verdict};
+use crate::{Verdict, finish_count, reaches};
 use std::alloc::Global;
 use std::process::Abort;
 use std::test::Fail;
@@ -93,14 +93,6 @@ fn clubs_reach_what_the_rules_leave_them(rt: HostRuntime) -> Result<(), Fail> {
     Ok(())
 }
 
-fn letter(verdict: &Verdict) -> char {
-    match verdict {
-        Verdict::Clinched => 'c',
-        Verdict::Lost => 'l',
-        Verdict::Possible { .. } => 'p',
-    }
-}
-
 // By hand: Germany has 6 points, Switzerland 4, Scotland 1 and Hungary none. With one goal a side
 // Scotland can draw level with Switzerland on points, but not make up six goals.
 #[test]
@@ -111,18 +103,18 @@ fn the_three_verdicts_of_a_group(rt: HostRuntime) -> Result<(), Fail> {
     let sheet = four_clubs(alloc, 1, fixtures)?;
     let season = season_of(alloc, GROUP_A)?;
     assert!(rt; finish_count(&sheet, &season).is_some());
+    let found = reaches(alloc, &sheet, &season)?;
+    let clinched = Verdict::Clinched;
+    let lost = Verdict::Lost;
+    let possible = Verdict::Possible;
     for (line, wanted) in [
-        (1, ['p', 'l', 'l', 'p']),
-        (2, ['c', 'l', 'l', 'c']),
-        (3, ['c', 'p', 'p', 'c']),
+        (1, [possible, lost, lost, possible]),
+        (2, [clinched, lost, lost, clinched]),
+        (3, [clinched, possible, possible, clinched]),
     ] {
         for club in 0..4 {
-            let found = verdict(alloc, &sheet, &season, club, line)?;
-            assert_eq!(rt;
-                letter(&found),
-                wanted[club as usize],
-                "line {line}, club {club}"
-            );
+            let verdict = found[club].verdict(line);
+            assert!(rt; verdict == wanted[club], "line {line}, club {club}");
         }
     }
     Ok(())

@@ -5,4 +5,5 @@ use Rattle.finish_walk.proofs.counting.finish_count.Given as goal
 -- the ways of the fixtures that were passed
 abbrev pub invariant-loop-played : goal.invariant-loop-played
 invariant-loop-played l =
-    (l.count ≡ ways_to_finish l.sheet.goal_limit (take l.played-index l.played-items)) × (l.count ≤ 10000)
+    (l.count ≡ ways_to_finish l.sheet.goal_limit (take l.played-index l.played-items))
+    × (l.count ≤ 10000)

@@ -1,4 +1,5 @@
-use Rattle.finish_walk.proofs.ReachLemmas.{clinched_by_worst, lost_by_best, best_shows_inside, worst_shows_outside}
+use Rattle.finish_walk.proofs.ReachLemmas.{clinched_by_worst, lost_by_best, best_shows_inside}
+use Rattle.finish_walk.proofs.ReachLemmas.{worst_shows_outside}
 use Rattle.finish_walk.proofs.laws.reaches_decide.Goals as goal
 
 pub returns-clause-clinched : goal.returns-clause-clinched

@@ -7,7 +7,12 @@ pub start-requires-clause-in_finish : goal.start-requires-clause-in_finish
 start-requires-clause-in_finish c =
     let season = c.args.season.now in
     let scores = ap (λ (r : Results). length r.scores) c.loop-fixture.invariant in
-    omega (arith, scores, length-begun c.loop-fixture.fixture season.scores, c.requires.of_sheet.scores)
+    omega (
+      arith,
+      scores,
+      length-begun c.loop-fixture.fixture season.scores,
+      c.requires.of_sheet.scores,
+    )
 
 pub loop-fixture-preserved : goal.loop-fixture-preserved
 loop-fixture-preserved c =

@@ -1,7 +1,8 @@
 use Rattle.std.proofs.Common.{get_or, is_some, Some, None, sym, ap, ◌∙◌, arith}
 use Rattle.league_core.specs.Finishes.{may_end}
 use Rattle.finish_walk.proofs.NumberLemmas.{length-may_all_end, may_end_at}
-use Rattle.finish_walk.proofs.StepLemmas.{is_none, is_score_within, turns-played, finish_with, turns-open}
+use Rattle.finish_walk.proofs.StepLemmas.{is_none, is_score_within, turns-played, finish_with}
+use Rattle.finish_walk.proofs.StepLemmas.{turns-open}
 use Rattle.finish_walk.proofs.odometer.turn.Goals as goal
 
 pub returns-then-is_some-clause-number : goal.returns-then-is_some-clause-number

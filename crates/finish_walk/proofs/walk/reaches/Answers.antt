@@ -44,9 +44,11 @@ take_finish-requires-clause-played c =
 pub finishes-smaller : goal.finishes-smaller
 finishes-smaller c =
     let next = stepped c.args.sheet.now c.args.season.now c.finishes.finish
-    c.next_finish.new.finish c.next_finish.result c.next_finish.ensures.number c.finishes-test.true in
+    c.next_finish.new.finish c.next_finish.result c.next_finish.ensures.number
+    c.finishes-test.true in
     let at = next.stands in
-    let low = number_in-lt c.args.sheet.now c.args.season.now c.next_finish.new.finish next.is_finish in
+    let low = number_in-lt c.args.sheet.now c.args.season.now c.next_finish.new.finish
+    next.is_finish in
     omega arith
 
 pub finishes-preserved : goal.finishes-preserved
@@ -54,17 +56,20 @@ finishes-preserved c =
     let sheet = c.args.sheet.now in
     let season = c.args.season.now in
     let next = stepped sheet season c.finishes.finish
-    c.next_finish.new.finish c.next_finish.result c.next_finish.ensures.number c.finishes-test.true in
+    c.next_finish.new.finish c.next_finish.result c.next_finish.ensures.number
+    c.finishes-test.true in
     let taken = c.in_ok-take_finish.ensures in
     let old : List Reach = c.deref_mut.result.now in
     let O : List Reach → Type 0 = λ rs.
-    AreReachesOver (IsBefore sheet season (number_in sheet season c.finishes.finish + 1)) sheet rs in
+    AreReachesOver (IsBefore sheet season (number_in sheet season c.finishes.finish + 1)) sheet
+    rs in
     let new = reaches_more sheet season c.finishes.finish c.next_finish.new.finish old
     c.take_finish.new.reaches c.deref.result.now next
     (subst O (sym c.deref_mut.ensures.value) c.finishes.invariant.reaches)
     (c.deref.ensures.value ∙ c.in_ok-spans.ensures) taken in
     let N : List Reach → Type 0 = λ rs.
-    AreReachesOver (IsBefore sheet season (number_in sheet season c.next_finish.new.finish + 1)) sheet rs in
+    AreReachesOver (IsBefore sheet season (number_in sheet season c.next_finish.new.finish + 1))
+    sheet rs in
     record {
       is_finish = next.is_finish;
       reaches = subst N
@@ -75,6 +80,7 @@ finishes-preserved c =
 pub returns : goal.returns
 returns c =
     let last = ended c.args.sheet.now c.args.season.now c.finishes.finish
-    c.next_finish.new.finish c.next_finish.result c.next_finish.ensures.number c.finishes-test.false in
+    c.next_finish.new.finish c.next_finish.result c.next_finish.ensures.number
+    c.finishes-test.false in
     reaches_all c.args.sheet.now c.args.season.now c.finishes.finish c.finishes.found.items last
     c.finishes.invariant.reaches

@@ -8,7 +8,8 @@ use Rattle.finish_walk.proofs.walk.reaches.Given as goal
 abbrev pub invariant-finishes : goal.invariant-finishes
 invariant-finishes l = record {
   is_finish : IsFinishOf l.sheet l.season l.finish;
-  reaches : AreReachesOver (IsBefore l.sheet l.season (number_in l.sheet l.season l.finish + 1)) l.sheet l.found.items;
+  reaches : AreReachesOver (IsBefore l.sheet l.season (number_in l.sheet l.season l.finish + 1))
+      l.sheet l.found.items;
 }
 
 abbrev pub decreases-finishes : goal.decreases-finishes
