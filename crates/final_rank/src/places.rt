@@ -4,8 +4,7 @@
 
 ghost use Rattle.std.specs.Prelude.{◌≡◌, ◌<◌, ◌==◌, ◌&&◌, ◌||◌, nat_lt, position, length, IfOk};
 ghost use Rattle.std.specs.Prelude.{IsTrue};
-ghost use Rattle.league_core.specs.Sheets.{IsWithinLimits};
-ghost use Rattle.league_core.specs.Seasons.{IsSeasonOf};
+ghost use Rattle.league_core.specs.Seasons.{IsLeague};
 ghost use Rattle.league_core.specs.Sums.{has_club};
 ghost use Rattle.league_core.specs.ClubSets.{clubs_in};
 ghost use Rattle.league_core.specs.Ranking.{are_lots, lot_of, place_of};
@@ -23,8 +22,7 @@ pub fn place(
     lots: &Lots,
     club: u8,
 ) -> Result<u8, OutOfMemory>
-    requires limits { IsWithinLimits sheet.now }
-    requires of_sheet { IsSeasonOf sheet.now season.now }
+    requires league { IsLeague sheet.now season.now }
     requires drawn { IsTrue (are_lots (length sheet.now.clubs) lots.now) }
     requires in_range { club < length sheet.now.clubs }
     ensures { IfOk result (λ place. place ≡ place_of sheet.now season.now lots.now club) }
@@ -45,8 +43,7 @@ pub fn best_place(
     season: &Season,
     club: u8,
 ) -> Result<u8, OutOfMemory>
-    requires limits { IsWithinLimits sheet.now }
-    requires of_sheet { IsSeasonOf sheet.now season.now }
+    requires league { IsLeague sheet.now season.now }
     requires in_range { club < length sheet.now.clubs }
     ensures { IfOk result (λ place. IsBestPlace sheet.now season.now club place) }
 {
@@ -61,8 +58,7 @@ pub fn worst_place(
     season: &Season,
     club: u8,
 ) -> Result<u8, OutOfMemory>
-    requires limits { IsWithinLimits sheet.now }
-    requires of_sheet { IsSeasonOf sheet.now season.now }
+    requires league { IsLeague sheet.now season.now }
     requires in_range { club < length sheet.now.clubs }
     ensures { IfOk result (λ place. IsWorstPlace sheet.now season.now club place) }
 {

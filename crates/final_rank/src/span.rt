@@ -1,8 +1,7 @@
 //! The places that a season leaves each club, whatever the lots.
 
 ghost use Rattle.std.specs.Prelude.{◌≡◌, IfOk};
-ghost use Rattle.league_core.specs.Sheets.{IsWithinLimits};
-ghost use Rattle.league_core.specs.Seasons.{IsSeasonOf};
+ghost use Rattle.league_core.specs.Seasons.{IsLeague};
 ghost use Rattle.final_rank.specs.Spans.{spans_of};
 
 use crate::around::Around;
@@ -19,8 +18,7 @@ pub struct Span {
 
 /// The spans of all clubs in this season, in the sheet's order: the clubs are put in blocks once.
 pub fn spans(alloc: Global, sheet: &Sheet, season: &Season) -> Result<Vec<Span>, OutOfMemory>
-    requires limits { IsWithinLimits sheet.now }
-    requires of_sheet { IsSeasonOf sheet.now season.now }
+    requires league { IsLeague sheet.now season.now }
     ensures { IfOk result (λ found. found.items ≡ spans_of sheet.now season.now) }
 {
     let blocks = blocks(alloc, sheet, season)?;

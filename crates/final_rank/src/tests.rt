@@ -5,7 +5,9 @@ ghost use Rattle.std.specs.List.{list_all};
 ghost use Rattle.league_core.specs.Sheets.{IsWithinLimits, is_fixture};
 
 use crate::{best_place, place, points, spans, table, worst_place};
-use league_core::{Club, Event, Fixture, Listing, Lots, Name, OutOfMemory, Score, Season, Sheet};
+use league_core::{
+    Club, Event, Fixture, Listing, Lots, Name, Order, OutOfMemory, Score, Season, Sheet,
+};
 use std::alloc::Global;
 use std::process::Abort;
 use std::test::Fail;
@@ -63,6 +65,7 @@ fn four_clubs(alloc: Global, ranks: [u16; 4], fixtures: Vec<Fixture>) -> Result<
         lines: Listing::new(alloc),
         goal_limit: 9,
         budget: 2000,
+        order: Order::HeadFirst,
     })
 }
 

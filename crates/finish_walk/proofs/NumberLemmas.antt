@@ -6,7 +6,7 @@ use Rattle.std.proofs.lemmas.Bool.{false≢true, and_parts, and_from}
 use Rattle.league_core.specs.declared.sheet.Sheet.{Sheet}
 use Rattle.league_core.specs.declared.season.Score.{Score}
 use Rattle.league_core.specs.Results.{Results}
-use Rattle.league_core.specs.Seasons.{IsSeasonOf}
+use Rattle.league_core.specs.Seasons.{IsLeague}
 use Rattle.league_core.specs.Finishes.{may_end, may_all_end, IsFinishOf, is_played}
 use Rattle.league_core.specs.FinishList.{ways_to_end, ways_to_finish, end_number, number_of}
 use Rattle.league_core.proofs.FinishListLemmas.{finish_stands, length-finishes_of, number_of-same}
@@ -104,10 +104,13 @@ finish_is_played sheet season finish is_finish =
         (may_all_end sheet.goal_limit season finish) may).1
 
 -- a finish of a season of the sheet is a season of the sheet
-pub finish_of_sheet : (sheet : Sheet) (season finish : Results) → IsSeasonOf sheet season
-    → IsFinishOf sheet season finish → IsSeasonOf sheet finish
-finish_of_sheet sheet season finish of_sheet is_finish = record {
-  scores = length-may_all_end sheet.goal_limit season.scores finish.scores is_finish.scores
-      ∙ of_sheet.scores;
-  deductions = ap length is_finish.deductions ∙ of_sheet.deductions;
+pub finish_of_sheet : (sheet : Sheet) (season finish : Results) → IsLeague sheet season
+    → IsFinishOf sheet season finish → IsLeague sheet finish
+finish_of_sheet sheet season finish league is_finish = record {
+  limits = league.limits;
+  of_sheet = record {
+    scores = length-may_all_end sheet.goal_limit season.scores finish.scores is_finish.scores
+        ∙ league.of_sheet.scores;
+    deductions = ap length is_finish.deductions ∙ league.of_sheet.deductions;
+  };
 }

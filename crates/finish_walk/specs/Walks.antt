@@ -4,6 +4,7 @@ use Rattle.std.specs.Prelude.{◌≡◌, ◌≤◌, ◌+◌, ℕ, Bool, true, fa
 use Rattle.std.specs.Prelude.{slice_index_or, slice_set, Some, None, is_some}
 use Rattle.league_core.specs.declared.sheet.Sheet.{Sheet}
 use Rattle.league_core.specs.declared.season.Score.{Score}
+use Rattle.league_core.specs.Limits.{most_finishes}
 use Rattle.league_core.specs.Results.{Results}
 use Rattle.league_core.specs.Finishes.{IsFinishOf}
 use Rattle.league_core.specs.FinishList.{ways_to_finish, number_of}
@@ -11,10 +12,6 @@ use Rattle.league_core.specs.FinishList.{ways_to_finish, number_of}
 -- how many finishes a season has
 abbrev pub count_of_finishes : Sheet → Results → ℕ
 count_of_finishes sheet season = ways_to_finish sheet.goal_limit season.scores
-
--- the most finishes that are walked
-abbrev pub most_finishes : ℕ
-most_finishes = 10000
 
 -- they are few enough to be walked
 abbrev pub HasFewFinishes : Sheet → Results → Type 0

@@ -4,10 +4,8 @@ ghost use Rattle.std.specs.Prelude.{◌≡◌, ◌≤◌, SomeIff};
 ghost use Rattle.league_core.specs.FinishList.{ways_to_end};
 ghost use Rattle.finish_walk.specs.Walks.{count_of_finishes, HasFewFinishes};
 
+use league_core::limits::MOST_FINISHES;
 use league_core::{Score, Season, Sheet};
-
-/// The most finishes that a walk takes.
-pub const MOST_FINISHES: u32 = 10_000;
 
 /// The number of the season's finishes, where it is at most `MOST_FINISHES`.
 pub fn finish_count(sheet: &Sheet, season: &Season) -> Option<u32>

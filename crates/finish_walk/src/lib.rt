@@ -13,7 +13,7 @@ mod reach;
 mod verdict;
 mod walk;
 
-pub use counting::{MOST_FINISHES, finish_count};
+pub use counting::finish_count;
 pub use laws::reaches_decide;
 pub use odometer::{first_finish, next_finish};
 pub use reach::Reach;

@@ -12,7 +12,7 @@
 ghost use Rattle.std.specs.Prelude.{◌≡◌, ◌+◌, ◌<◌, ◌≤◌, length, if◌then◌else◌};
 ghost use Rattle.std.specs.Prelude.{IsTrue, IfOk, Some, None, false};
 ghost use Rattle.league_core.specs.Sheets.{IsWithinLimits};
-ghost use Rattle.league_core.specs.Seasons.{IsSeasonOf};
+ghost use Rattle.league_core.specs.Seasons.{IsLeague};
 ghost use Rattle.league_core.specs.Finishes.{may_end, IsFinishOf};
 ghost use Rattle.league_core.specs.FinishList.{ways_to_end, end_number};
 ghost use Rattle.finish_walk.specs.Walks.{IsNumbered, GoesOn, Turns, with_start};
@@ -22,8 +22,7 @@ use std::alloc::Global;
 
 /// The first finish, in which each open fixture ends 0:0.
 pub fn first_finish(alloc: Global, sheet: &Sheet, season: &Season) -> Result<Season, OutOfMemory>
-    requires limits { IsWithinLimits sheet.now }
-    requires of_sheet { IsSeasonOf sheet.now season.now }
+    requires league { IsLeague sheet.now season.now }
     ensures { IfOk result (λ finish. IsNumbered sheet.now season.now 0 finish) }
 {
     let mut finish = season.copy(alloc)?;
@@ -48,8 +47,7 @@ fn start(season: &Season, finish: &mut Season, fixture: u16)
 /// The next finish in place of this one. After the last the first comes again, and the answer is
 /// false.
 pub fn next_finish(sheet: &Sheet, season: &Season, finish: &mut Season) -> bool
-    requires limits { IsWithinLimits sheet.now }
-    requires of_sheet { IsSeasonOf sheet.now season.now }
+    requires league { IsLeague sheet.now season.now }
     requires is_finish { IsFinishOf sheet.now season.now finish.old }
     ensures is_finish { IsFinishOf sheet.now season.now finish.new }
     ensures number { GoesOn sheet.now season.now finish.old finish.new result }

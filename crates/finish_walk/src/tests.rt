@@ -5,7 +5,7 @@ ghost use Rattle.std.specs.Prelude.{◌≡◌, ◌<◌, ◌≤◌, IsTrue, IfOk,
 ghost use Rattle.std.specs.List.{list_all};
 ghost use Rattle.league_core.specs.Sheets.{IsWithinLimits, is_fixture};
 
-use league_core::{Club, Event, Fixture, Listing, Name, OutOfMemory, Score, Season, Sheet};
+use league_core::{Club, Event, Fixture, Listing, Name, Order, OutOfMemory, Score, Season, Sheet};
 use std::alloc::Global;
 
 mod counting;
@@ -70,6 +70,7 @@ fn four_clubs(alloc: Global, goal_limit: u8, fixtures: Vec<Fixture>) -> Result<S
         lines: Listing::new(alloc),
         goal_limit: goal_limit.clamp(1, 20),
         budget: 2000,
+        order: Order::HeadFirst,
     })
 }
 

@@ -1,8 +1,7 @@
 //! The walk: each finish is met once, for all clubs together.
 
 ghost use Rattle.std.specs.Prelude.{◌≡◌, length, IfOk, OnOk, IsTrue};
-ghost use Rattle.league_core.specs.Sheets.{IsWithinLimits};
-ghost use Rattle.league_core.specs.Seasons.{IsSeasonOf};
+ghost use Rattle.league_core.specs.Seasons.{IsLeague};
 ghost use Rattle.finish_walk.specs.Walks.{HasFewFinishes};
 ghost use Rattle.league_core.specs.Finishes.{is_played};
 ghost use Rattle.finish_walk.specs.Reaches.{AreReaches, TakesFinish, first_reaches_of};
@@ -15,8 +14,7 @@ use std::alloc::Global;
 
 /// What each club can reach over all finishes of the season, in the sheet's order.
 pub fn reaches(alloc: Global, sheet: &Sheet, season: &Season) -> Result<Vec<Reach>, OutOfMemory>
-    requires limits { IsWithinLimits sheet.now }
-    requires of_sheet { IsSeasonOf sheet.now season.now }
+    requires league { IsLeague sheet.now season.now }
     requires few { HasFewFinishes sheet.now season.now }
     ensures { IfOk result (λ found. AreReaches sheet.now season.now found.items) }
 {
@@ -31,8 +29,7 @@ pub fn reaches(alloc: Global, sheet: &Sheet, season: &Season) -> Result<Vec<Reac
 
 /// The reaches of all clubs over one finish.
 fn first_reaches(alloc: Global, sheet: &Sheet, finish: &Season) -> Result<Vec<Reach>, OutOfMemory>
-    requires limits { IsWithinLimits sheet.now }
-    requires of_sheet { IsSeasonOf sheet.now finish.now }
+    requires league { IsLeague sheet.now finish.now }
     requires played { IsTrue (is_played finish.now) }
     ensures { IfOk result (λ found. found.items ≡ first_reaches_of sheet.now finish.now) }
 {

@@ -1,7 +1,7 @@
 //! How many finishes there are, and from where on they are too many.
 
 use super::{GROUP_A, Match, are_fixtures, fixtures_of, four_clubs, season_of};
-use crate::{MOST_FINISHES, finish_count};
+use crate::finish_count;
 use std::test::Fail;
 
 const EIGHT_OPEN: &[Match] = &[
@@ -65,7 +65,6 @@ const ROWS: [Row; 6] = [
 #[test]
 fn finishes_are_counted_up_to_the_limit(rt: HostRuntime) -> Result<(), Fail> {
     let alloc = rt.alloc();
-    assert_eq!(rt; MOST_FINISHES, 10_000);
     for row in ROWS.iter() {
         let fixtures = fixtures_of(alloc, row.matches)?;
         assert!(rt; are_fixtures(&fixtures) && fixtures.len() <= 600);

@@ -1,7 +1,6 @@
 //! The finishes one after the other.
 
-ghost use Rattle.league_core.specs.Sheets.{IsWithinLimits};
-ghost use Rattle.league_core.specs.Seasons.{IsSeasonOf};
+ghost use Rattle.league_core.specs.Seasons.{IsLeague};
 ghost use Rattle.league_core.specs.Finishes.{IsFinishOf};
 
 use super::{Match, are_fixtures, fixtures_of, four_clubs, season_of};
@@ -43,8 +42,7 @@ fn is_wanted(finish: &Season, wanted: [(u8, u8); 3]) -> bool {
 
 /// The finishes from the first one on, sixteen of them, and then the first one again.
 fn check_steps(rt: &impl Abort, sheet: &Sheet, season: &Season, finish: &mut Season)
-    requires limits { IsWithinLimits sheet.now }
-    requires of_sheet { IsSeasonOf sheet.now season.now }
+    requires league { IsLeague sheet.now season.now }
     requires is_finish { IsFinishOf sheet.now season.now finish.old }
 {
     for wanted in WANTED {

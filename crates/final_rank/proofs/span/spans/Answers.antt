@@ -22,4 +22,4 @@ loop-club-preserved c =
     (is_of_sheet sheet club (omega arith)) in
     spans-more sheet season c.loop-club.found.items c.push.new.self.items club
     c.span.result c.loop-club.invariant c.in_ok-push.ensures.items
-    (c.span.ensures sheet season club c.requires.limits (omega arith) around)
+    (c.span.ensures sheet season club c.requires.league.limits (omega arith) around)

@@ -1,4 +1,5 @@
 use Rattle.std.proofs.Common.{◌≡◌, ◌≤◌, take}
+use Rattle.league_core.specs.Limits.{most_finishes}
 use Rattle.league_core.specs.FinishList.{ways_to_finish}
 use Rattle.finish_walk.proofs.counting.finish_count.Given as goal
 
@@ -6,4 +7,4 @@ use Rattle.finish_walk.proofs.counting.finish_count.Given as goal
 abbrev pub invariant-loop-played : goal.invariant-loop-played
 invariant-loop-played l =
     (l.count ≡ ways_to_finish l.sheet.goal_limit (take l.played-index l.played-items))
-    × (l.count ≤ 10000)
+    × (l.count ≤ most_finishes)

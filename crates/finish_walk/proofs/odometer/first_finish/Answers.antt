@@ -11,15 +11,15 @@ start-requires-clause-in_finish c =
       arith,
       scores,
       length-begun c.loop-fixture.fixture season.scores,
-      c.requires.of_sheet.scores,
+      c.requires.league.of_sheet.scores,
     )
 
 pub loop-fixture-preserved : goal.loop-fixture-preserved
 loop-fixture-preserved c =
     begun_more c.args.season.now c.loop-fixture.fixture c.loop-fixture.finish c.start.new.finish
-    (omega (arith, c.requires.of_sheet.scores)) c.loop-fixture.invariant c.start.ensures
+    (omega (arith, c.requires.league.of_sheet.scores)) c.loop-fixture.invariant c.start.ensures
 
 pub returns : goal.returns
 returns c =
     begun_all c.args.sheet.now c.args.season.now c.loop-fixture.finish c.loop-fixture.fixture
-    (omega (arith, c.requires.of_sheet.scores)) c.loop-fixture.invariant
+    (omega (arith, c.requires.league.of_sheet.scores)) c.loop-fixture.invariant

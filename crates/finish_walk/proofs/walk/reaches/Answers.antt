@@ -8,10 +8,10 @@ use Rattle.finish_walk.proofs.StepLemmas.{stepped, ended}
 use Rattle.finish_walk.proofs.WalkLemmas.{length-spans_of, reaches_first, reaches_more, reaches_all}
 use Rattle.finish_walk.proofs.walk.reaches.Goals as goal
 
-pub first_reaches-requires-clause-of_sheet : goal.first_reaches-requires-clause-of_sheet
-first_reaches-requires-clause-of_sheet c =
+pub first_reaches-requires-clause-league : goal.first_reaches-requires-clause-league
+first_reaches-requires-clause-league c =
     finish_of_sheet c.args.sheet.now c.args.season.now c.in_ok-finish.finish
-    c.requires.of_sheet c.in_ok-finish.ensures.is_finish
+    c.requires.league c.in_ok-finish.ensures.is_finish
 
 pub first_reaches-requires-clause-played : goal.first_reaches-requires-clause-played
 first_reaches-requires-clause-played c =
@@ -25,10 +25,11 @@ finishes-init c = record {
       c.in_ok-found.found.items c.in_ok-finish.ensures c.in_ok-found.ensures;
 }
 
-pub spans-requires-clause-of_sheet : goal.spans-requires-clause-of_sheet
-spans-requires-clause-of_sheet c =
-    finish_of_sheet c.args.sheet.now c.args.season.now c.next_finish.new.finish
-    c.requires.of_sheet c.next_finish.ensures.is_finish
+pub spans-requires : goal.spans-requires
+spans-requires c = record {
+  league = finish_of_sheet c.args.sheet.now c.args.season.now c.next_finish.new.finish
+      c.requires.league c.next_finish.ensures.is_finish;
+}
 
 pub take_finish-requires-clause-as_many : goal.take_finish-requires-clause-as_many
 take_finish-requires-clause-as_many c =
