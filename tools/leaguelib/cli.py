@@ -76,7 +76,8 @@ def main(words: list[str] | None = None) -> int:
         chosen = next((word for word in given if not word.startswith("-")), "")
         arguments = make_parser(chosen).parse_args(given)
         status = arguments.run(arguments)
-        sys.stdout.flush()
+        if sys.stdout is not None:
+            sys.stdout.flush()
         return status
     except common.Trouble as trouble:
         common.say(f"league: {trouble.message}")

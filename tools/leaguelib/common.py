@@ -6,6 +6,8 @@ import os
 import sys
 from pathlib import Path
 
+from .records import MOST_INPUT_BYTES
+
 DONE = 0
 BAD_WORDS = 1
 TO_MEND = 2
@@ -41,6 +43,8 @@ class Trouble(Exception):
 
 def say(message: str) -> None:
     """Writes a message to standard error, whatever signs are in it."""
+    if sys.stderr is None:
+        return
     data = (message + "\n").encode("utf-8", "backslashreplace")
     sys.stderr.flush()
     sys.stderr.buffer.write(data)
@@ -49,19 +53,29 @@ def say(message: str) -> None:
 
 def read_bytes(path: str) -> bytes:
     """The bytes of a file, or of standard input where the path is `-`."""
-    if path == "-":
-        return sys.stdin.buffer.read()
     try:
-        return Path(path).read_bytes()
+        if path == "-":
+            if sys.stdin is None:
+                raise Trouble("standard input is closed", CANNOT_READ)
+            data = sys.stdin.buffer.read(MOST_INPUT_BYTES + 1)
+        else:
+            with open(path, "rb") as file:
+                data = file.read(MOST_INPUT_BYTES + 1)
     except (OSError, ValueError) as fault:
         reason = getattr(fault, "strerror", None) or str(fault)
         raise Trouble(f"{path}: cannot be read: {reason}", CANNOT_READ) from fault
+    if len(data) > MOST_INPUT_BYTES:
+        raise Trouble(f"{path}: this has more than {MOST_INPUT_BYTES:,} bytes, the most that "
+                      "futmax takes")
+    return data
 
 
 def write_text(text: str, path: str = "-") -> None:
     """Writes text to a file, or to standard output where the path is `-`."""
     data = text.encode("utf-8", "surrogateescape")
     if path == "-":
+        if sys.stdout is None:
+            raise Trouble("standard output is closed", CANNOT_WRITE)
         sys.stdout.buffer.write(data)
         sys.stdout.buffer.flush()
         return

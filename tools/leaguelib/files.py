@@ -63,36 +63,40 @@ def _converted(data: bytes, encoding: str, messages: list[str]) -> bytes:
 
 @dataclass
 class Joined:
-    """Several files one behind the other, as `cat` joins them, and where each line comes from."""
+    """Several files one behind the other, as `cat` joins them, and where each begins.
+
+    A start is the name of a file, the line of the whole in which its first own line stands, and the
+    number of that line in the file: 2 where its first line is glued to the last of the file before.
+    """
 
     data: bytes
-    origins: list[tuple[str, int]]
+    starts: list[tuple[str, int, int]]
+    lines: int
 
     def origin(self, line: int) -> str:
         """The file and the line in it, for a line of the whole, from 1."""
-        if not self.origins:
+        found = [start for start in self.starts if start[1] <= min(line, max(self.lines, 1))]
+        if not found:
             return f"line {line}"
-        if line > len(self.origins):
-            name, last = self.origins[-1]
-            return f"{name}, behind line {last}"
-        name, number = self.origins[line - 1]
-        return f"{name}, line {number}"
+        name, first, number = found[-1]
+        if line > self.lines:
+            return f"{name}, behind line {self.lines - first + number}"
+        return f"{name}, line {line - first + number}"
 
 
 def joined(files: list[tuple[str, bytes]]) -> Joined:
     """The files one behind the other; a line that two files share belongs to the first."""
-    origins: list[tuple[str, int]] = []
-    whole = b""
+    starts: list[tuple[str, int, int]] = []
+    parts: list[bytes] = []
+    lines = 0
+    is_ended = True
     for name, data in files:
-        lines = data.split(b"\n")
-        if lines[-1] == b"":
-            lines.pop()
-        first = 1
-        if whole and not whole.endswith(b"\n") and lines:
-            first = 2
-        origins.extend((name, number) for number in range(first, len(lines) + 1))
-        whole += data
-    return Joined(whole, origins)
+        if data:
+            starts.append((name, lines + 1, 1 if is_ended else 2))
+            lines += data.count(b"\n") + (not data.endswith(b"\n")) - (not is_ended)
+            is_ended = data.endswith(b"\n")
+        parts.append(data)
+    return Joined(b"".join(parts), starts, lines)
 
 
 def without_mark(data: bytes) -> bytes:

@@ -13,13 +13,14 @@ from .doubts import feed_doubts, sheet_doubts
 from .feeds import InputReader, read_input
 from .files import examine, joined
 from .findings import Finding, Outcome, capital, outcome_text
-from .records import Record, Refused, count_lines, lines_of, record_of, records_of
+from .records import Record, Refused, count_lines, lines_of, record_of
 from .refusals import Advice, advise
 from .repairs import FEED_KINDS
 from .texts import Entry
 from .words import words_for
 
 MOST_SHOWN = 30
+MOST_REFUSED = 10_000
 
 
 def add_arguments(parser: argparse.ArgumentParser) -> None:
@@ -70,6 +71,8 @@ def look(data: bytes, is_sheet_only: bool = False, is_for_table: bool = False) -
             record = record_of(number, raw)
             if record is not None:
                 entries.extend(_take(record, reader, outcome))
+            if outcome.more >= MOST_REFUSED:
+                break
     except Refused as refused:
         words = capital(words_for(refused, [], None)) + "."
         outcome.findings.append(Finding(refused.line, words))
@@ -84,10 +87,8 @@ def look(data: bytes, is_sheet_only: bool = False, is_for_table: bool = False) -
 
 def _league_line(data: bytes) -> int:
     """The line of the first `league` record; 0 where none stands in the input."""
-    try:
-        return next((record.line for record in records_of(data) if record.kind == "league"), 0)
-    except Refused:
-        return 0
+    place = 0 if data.startswith(b"league,") else data.find(b"\nleague,") + 1
+    return data.count(b"\n", 0, place) + 1 if place or data.startswith(b"league,") else 0
 
 
 def refusal_of(data: bytes) -> Refused | None:
