@@ -134,3 +134,18 @@ def check_made(counter: Counter) -> None:
             run = league("feed", sheet, data=text.encode("utf-8"))
             counter.check("feed: " + name, sound_end(run) + said(run, status, says) + (
                 ["something was written"] if status and run.stdout else []))
+        check_log(counter, sheet, Path(work) / "feed.csv")
+
+
+def check_log(counter: Counter, sheet: Path, log: Path) -> None:
+    """A feed that grows: by lines, by the table of a day that is read twice, and by nothing wrong."""
+    log.write_text("# first day\nresult,1,2,1\nask", "utf-8")
+    words = ["feed", sheet, "--log", log, "--append", "--ask"]
+    table = "HomeTeam,AwayTeam,FTHG,FTAG\nAnchor,Köln,2,1\nKöln,Dock United,0,0\n"
+    runs = [league(*words, data=text.encode("utf-8"))
+            for text in (table, table, "Köln 1-1 Dock United\n", "correct Köln 1-1 Dock United\n")]
+    wanted = ("# first day\nresult,1,2,1\nask\nresult,2,0,0\nask\nask\n"
+              "fix,2,1,1\nask\n")
+    statuses = [run.returncode for run in runs]
+    counter.check("feed: a log that grows", [log.read_text("utf-8"), str(statuses)]
+                  if log.read_text("utf-8") != wanted or statuses != [0, 0, 2, 0] else [])
