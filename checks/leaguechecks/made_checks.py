@@ -30,6 +30,8 @@ SHEETS = (
                                                                     "have"),
     ("two rounds", LIST.replace(" - ", " 1-0 "), MADE + ["--rounds", "2"], 3, "match,Köln,Anchor"),
     ("a misspelt name", LIST.replace("Dock United -", "Dock Unitd -"), MADE, 2, "is it `"),
+    ("a misspelt name among rounds", LIST.replace("Dock United -", "Dock Unitd -"),
+     MADE + ["--rounds", "2"], 3, "is it `"),
     ("a line that is no match", LIST + "postponed\n", MADE, 2, "line 4: cannot be read"),
     ("a table", "Div,Date,HomeTeam,AwayTeam\nE,11/08/23,Anchor,Köln\n", MADE, 0, "# 2023-08-11"),
     ("a table with semicolons", "Heim;Gast\nAnchor;Köln\n", MADE, 0, "match,Anchor,Köln"),

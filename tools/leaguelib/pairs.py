@@ -76,8 +76,8 @@ def usual_rounds(matches: list[Match]) -> int:
     return max(usual, 2) if is_double else usual
 
 
-def lone_names(matches: list[Match]) -> str:
-    """A question on names that stand seldom and look like another: is it one club?"""
+def lone_names(matches: list[Match]) -> list[str]:
+    """Questions on names that stand seldom and look like another: is it one club?"""
     played = Counter(name for match in matches for name in (match.home, match.away))
     most = max(played.values())
     questions = []
@@ -85,7 +85,7 @@ def lone_names(matches: list[Match]) -> str:
         rarer, other = sorted((first, second), key=lambda name: played[name])
         if played[rarer] < most and are_alike(first, second):
             questions.append(f"{shown(rarer)} stands {times(played[rarer])}: is it {shown(other)}?")
-    return ". " + " ".join(questions) if questions else ""
+    return questions
 
 
 def gaps_in(matches: list[Match], names: list[str], rounds: int) -> Gaps:

@@ -66,6 +66,7 @@ def run(arguments: argparse.Namespace) -> int:
     records = _records(name, order, arguments, ranks, lines)
     text = _text(found, gaps, ranks, records, order, arguments)
     notes = list(found.notes) + list(_test(text)) + gaps.notes()
+    notes += lone_names(found.matches) if gaps.missing else []
     common.write_text(text, arguments.output)
     for note in notes:
         common.say(f"league: {note}")
@@ -82,7 +83,8 @@ def complete(matches: list[Match], names: list[str], rounds: int | None, is_as_i
         raise common.Trouble(gaps.extra_text())
     are_played = all(match.score is not None for match in matches)
     if rounds is None and (gaps.missing or are_played):
-        raise common.Trouble(gaps.missing_text(are_played) + lone_names(matches))
+        sentences = [gaps.missing_text(are_played)] + lone_names(matches)
+        raise common.Trouble(". ".join(sentences))
     return gaps
 
 
