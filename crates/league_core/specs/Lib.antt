@@ -43,3 +43,4 @@ pub mod CriteriaRows
 pub mod SeasonRows
 pub mod ZoneRows
 pub mod SureRows
+pub mod TreeRows

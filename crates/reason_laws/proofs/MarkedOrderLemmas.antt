@@ -1,6 +1,5 @@
 -- The order of the clubs at a member of a zone: who ranks before another has as many points or
--- more,
--- and the zone's marks are so.
+-- more, and the zone's marks are so.
 use Rattle.std.proofs.Common.{◌≡◌, ℕ, ℤ, ◌≤ℤ◌, ◌<ℤ◌, Bool, true}
 use Rattle.std.proofs.Common.{false, not, ◌&&◌, cond, List, [], ◌∷◌}
 use Rattle.std.proofs.Common.{refl, sym, ap, ◌∙◌, inl, inr, arith}
