@@ -1,10 +1,12 @@
 -- What a fixture adds to the excess of a side, and that all fixtures together add the whole.
 use mir.Syntax.{w64}
 use mir.Val.{to_z, of_z}
-use Rattle.std.proofs.Common.{◌≡◌, ◌≢◌, ℕ, zero, suc, ◌+◌, ◌<◌, ◌≤◌, ℤ, pos, neg_ℤ, ◌+ℤ◌, ◌-ℤ◌, ◌*ℤ◌, ◌≤ℤ◌, Bool, true, false, not, ◌&&◌, ◌||◌, ◌==◌, nat_lt, cond, List, [], ◌∷◌, length, get_or, drop, slice_index, Option, Some, None, is_some, refl, sym, ap, ◌∙◌, subst, arith, add-one}
-use Rattle.std.specs.Int.{int_min, int_max}
+use Rattle.std.proofs.Common.{◌≡◌, ◌≢◌, ℕ, zero, suc, ◌+◌, ◌<◌, ◌≤◌, ℤ, pos, neg_ℤ, ◌+ℤ◌, ◌-ℤ◌}
+use Rattle.std.proofs.Common.{◌*ℤ◌, ◌≤ℤ◌, Bool, true, false, not, ◌&&◌, ◌==◌, nat_lt, cond}
+use Rattle.std.proofs.Common.{List, [], ◌∷◌, length, get_or, drop, slice_index}
+use Rattle.std.proofs.Common.{refl, sym, ap, ◌∙◌, arith, add-one}
 use Rattle.std.proofs.lemmas.Int.{ints}
-use Rattle.std.proofs.lemmas.Bool.{false≢true, false_from_ne_true, and_parts, ltb-true, eqb-false}
+use Rattle.std.proofs.lemmas.Bool.{false≢true, and_parts, ltb-true, eqb-false}
 use Rattle.std.proofs.lemmas.List.Sums.{AllPass-from_list_all}
 use Rattle.std.proofs.Math.IntN.{suc_ℤ-*ℤ}
 use Rattle.league_core.specs.declared.sheet.Sheet.{Sheet}
@@ -16,125 +18,24 @@ use Rattle.league_core.specs.Results.{Results}
 use Rattle.league_core.specs.Sheets.{IsWithinLimits, is_fixture}
 use Rattle.league_core.specs.Sums.{has_club}
 use Rattle.league_core.specs.ClubSets.{clubs_below, clubs_in}
-use Rattle.league_core.specs.Options.{options_in, has_finish, has_option, is_home_win, is_draw, is_away_win}
-use Rattle.league_core.specs.PointRanges.{Range, one_value, added, range_of, range_from, total_of, points_of_sides, points_together, deducted_from}
+use Rattle.league_core.specs.Options.{options_in, has_finish, has_option}
+use Rattle.league_core.specs.PointRanges.{Range, one_value, added, range_of, range_from, total_of}
+use Rattle.league_core.specs.PointRanges.{points_of_sides, points_together, deducted_from}
 use Rattle.league_core.specs.Reasons.{times}
 use Rattle.league_core.proofs.OptionLemmas.{has_score-first}
 use Rattle.league_core.proofs.ClubSetLemmas.{clubs_below-none}
-use Rattle.league_core.proofs.OutcomeLemmas.{outcome_cases}
-use Rattle.league_core.proofs.PointRangeLemmas.{range_from-more, range_from-all, range_of-same, points_together-sides, total_of-next, total_of-sum}
+use Rattle.league_core.proofs.PointRangeLemmas.{range_from-more, range_from-all, range_of-same}
+use Rattle.league_core.proofs.PointRangeLemmas.{points_together-sides, total_of-next, total_of-sum}
 use Rattle.score_box.specs.declared.cell.Cell.{Cell}
-use Rattle.score_box.specs.declared.cell.goals.Goals.{Goals}
-use Rattle.score_box.specs.Cells.{allows, IsCellOf, IsEmptyCell}
-use Rattle.score_box.specs.Points.{least_of_three, most_of_three, IsPointsOf}
-use Rattle.score_box.proofs.CellLemmas.{Says}
-use Rattle.score_box.proofs.PointLemmas.{points_of_outcomes}
+use Rattle.score_box.specs.Cells.{IsCellOf, IsEmptyCell}
 use Rattle.flow_bound.specs.declared.cut.Cut.{Cut}
 use Rattle.flow_bound.specs.declared.cut.Cut.TheVariants.{Floor, Ceiling}
 use Rattle.flow_bound.specs.declared.tally.Pair.{Pair}
 use Rattle.flow_bound.specs.declared.worth.Worth.{Worth}
-use Rattle.flow_bound.specs.Parts.{sum_below, entry, sum_of_side, sum_of_pairs, has_both, excess_in, side_of}
-use Rattle.flow_bound.specs.Fixtures.{counted, end_of, worth_of, IsWorthOf, IsFloorWorth, IsCeilingWorth, excess_over}
+use Rattle.flow_bound.specs.Parts.{sum_below, entry, sum_of_side, sum_of_pairs, has_both, excess_in}
+use Rattle.flow_bound.specs.Parts.{side_of}
+use Rattle.flow_bound.specs.Fixtures.{counted, end_of, worth_of_sides, excess_over}
 use Rattle.flow_bound.proofs.PartLemmas.{credited, sum_below-same, sum_of_side-credited}
-
--- a cell that is not empty has a score of one of the outcomes
-pub some_outcome : (cell : Cell) (home draws away : Option Goals) → Says cell is_home_win home
-    → Says cell is_draw draws → Says cell is_away_win away → ¬ IsEmptyCell cell
-    → (is_some home || is_some draws || is_some away) ≡ true
-some_outcome cell (Some goals) draws away home_says draws_say away_says some = refl
-some_outcome cell None (Some goals) away home_says draws_say away_says some = refl
-some_outcome cell None None (Some goals) home_says draws_say away_says some = refl
-some_outcome cell None None None home_says draws_say away_says some =
-    absurd (some (λ score. false_from_ne_true (allows cell score) (λ allowed.
-    outcome_cases score
-    (λ passed. home_says score (record { allowed = allowed; passed = passed }))
-    (λ passed. draws_say score (record { allowed = allowed; passed = passed }))
-    (λ passed. away_says score (record { allowed = allowed; passed = passed })))))
-
--- the points of the outcomes that a cell has
-points : (cell : Cell) (home draws away : Option Goals) (h a : Bool) → Says cell is_home_win home
-    → Says cell is_draw draws → Says cell is_away_win away → ¬ IsEmptyCell cell
-    → IsPointsOf cell h a (record {
-      least = least_of_three (is_some home) (is_some draws) (is_some away) h a;
-      most = most_of_three (is_some home) (is_some draws) (is_some away) h a;
-    })
-points cell home draws away h a home_says draws_say away_says some =
-    points_of_outcomes cell home draws away h a (record {
-      least = least_of_three (is_some home) (is_some draws) (is_some away) h a;
-      most = most_of_three (is_some home) (is_some draws) (is_some away) h a;
-    }) home_says draws_say away_says some refl refl
-
--- what a fixture is worth to a floor cut
-pub floor_is : (cell : Cell) (home draws away : Option Goals) (worth : Worth)
-    → Says cell is_home_win home → Says cell is_draw draws → Says cell is_away_win away
-    → ¬ IsEmptyCell cell
-    → IsFloorWorth (is_some home) (is_some draws) (is_some away) worth → worth.surplus ≤ 3
-    → IsWorthOf Floor cell worth
-floor_is cell home draws away worth home_says draws_say away_says some is small =
-    let own = points cell home draws away true false home_says draws_say away_says some in
-    let other = points cell home draws away false true home_says draws_say away_says some in
-    let at_home = is true false in
-    let on_tour = is false true in
-    record {
-      value = λ options is_cell h a.
-          sym ((points cell home draws away h a home_says draws_say away_says some).least options
-          is_cell)
-          ∙ is h a;
-      home_least = omega (arith, ints, own.at_most, own.in_order);
-      home_most = omega (arith, ints, own.at_most, own.in_order);
-      away_least = omega (arith, ints, other.at_most, other.in_order);
-      away_most = omega (arith, ints, other.at_most, other.in_order);
-      surplus_most = small;
-    }
-
--- and to a ceiling cut
-pub ceiling_is : (cell : Cell) (home draws away : Option Goals) (worth : Worth)
-    → Says cell is_home_win home → Says cell is_draw draws → Says cell is_away_win away
-    → ¬ IsEmptyCell cell
-    → IsCeilingWorth (is_some home) (is_some draws) (is_some away) worth → worth.surplus ≤ 3
-    → IsWorthOf Ceiling cell worth
-ceiling_is cell home draws away worth home_says draws_say away_says some is small =
-    let own = points cell home draws away true false home_says draws_say away_says some in
-    let other = points cell home draws away false true home_says draws_say away_says some in
-    let at_home = is true false in
-    let on_tour = is false true in
-    record {
-      value = λ options is_cell h a.
-          ap (λ n. pos 0 -ℤ n)
-          (sym ((points cell home draws away h a home_says draws_say away_says some).most options
-          is_cell))
-          ∙ is h a;
-      home_least = omega (arith, ints, own.at_most);
-      home_most = omega (arith, ints, own.at_most);
-      away_least = omega (arith, ints, other.at_most);
-      away_most = omega (arith, ints, other.at_most);
-      surplus_most = small;
-    }
-
--- a fixture without a side that counts has nothing to add
-no_points : (options : List Score)
-    → range_of (points_of_sides false false) options ≡ one_value (pos 0)
-no_points [] = refl
-no_points (score ∷ []) = refl
-no_points (score ∷ other ∷ options) =
-    ap (λ (r : Range). record {
-      least = int_min (pos 0) r.least;
-      greatest = int_max (pos 0)
-          r.greatest;
-    })
-    (no_points (other ∷ options))
-
-pub no_side : (cut : Cut) (options : List Score) (home away : Bool) → home ≡ false → away ≡ false
-    → end_of cut (range_of (points_of_sides home away) options) ≡ pos 0
-no_side cut options home away no_home no_away =
-    ap (λ h. end_of cut (range_of (points_of_sides h away) options)) no_home
-    ∙ ap (λ a. end_of cut (range_of (points_of_sides false a) options)) no_away
-    ∙ ap (end_of cut) (no_points options)
-    ∙ at cut
-  where
-    at : (cut : Cut) → end_of cut (one_value (pos 0)) ≡ pos 0
-    at Floor = refl
-    at Ceiling = refl
 
 -- what a fixture adds to both entries and to the pairs it adds to the excess
 pub fixture_added : (table middle new : List ℤ) (pairs new_pairs : List Pair) (pair : Pair)
@@ -145,7 +46,7 @@ pub fixture_added : (table middle new : List ℤ) (pairs new_pairs : List Pair) 
     → sum_of_pairs (has_both side) new_pairs ≡ sum_of_pairs (has_both side) pairs
     + cond (has_both side pair) pair.surplus 0
     → excess_in new new_pairs side
-    ≡ excess_in table pairs side +ℤ worth_of worth (side pair.home) (side pair.away)
+    ≡ excess_in table pairs side +ℤ worth_of_sides worth (side pair.home) (side pair.away)
 fixture_added table middle new pairs new_pairs pair worth home away side long middle_long home_low
     away_low surplus_is home_is away_is middle_is new_is met =
     let first = ap (λ (t : List ℤ). sum_of_side t side) middle_is
@@ -274,14 +175,6 @@ range_end cut matches options i set all =
     none : (cut : Cut) → pos 0 -ℤ counted cut (pos 0) ≡ pos 0
     none Floor = refl
     none Ceiling = refl
-
--- what holds of three outcomes holds of the same ones
-pub same_outcomes : (Fact : Bool → Bool → Bool → Type 0) (wins draws losses won drawn lost : Bool)
-    → wins ≡ won → draws ≡ drawn → losses ≡ lost → Fact won drawn lost → Fact wins draws losses
-same_outcomes Fact wins draws losses won drawn lost w d l fact =
-    subst (λ (b : Bool). Fact b draws losses) (sym w)
-    (subst (λ (b : Bool). Fact won b losses) (sym d)
-    (subst (λ (b : Bool). Fact won drawn b) (sym l) fact))
 
 -- the points that are taken off a club, as a cut counts them
 pub counted_bounds : (cut : Cut) (off : ℕ) → off < 256

@@ -1,4 +1,5 @@
--- Lemmas on one notion each: sums over clubs and pairs, the peel, the network, sets of clubs, answers.
+-- Lemmas on one notion each: sums over clubs and pairs, the peel, the network, sets of clubs,
+-- answers, what a fixture is worth, cuts.
 pub mod PartLemmas
 pub mod OneMoreLemmas
 pub mod PeelLemmas
@@ -6,6 +7,8 @@ pub mod PlaceLemmas
 pub mod NetworkLemmas
 pub mod SetLemmas
 pub mod ChoiceLemmas
+pub mod WorthLemmas
 pub mod FixtureLemmas
+pub mod ChosenLemmas
 pub mod CutLemmas
 pub mod WorkedCuts

@@ -1,6 +1,9 @@
--- The network: what a cut takes from the positive weights is the excess of its source side, and so the
+-- The network: what a cut takes from the positive weights is the excess of its source side, and so
+-- the
 -- least cut has the least best side.
-use Rattle.std.proofs.Common.{◌≡◌, ℕ, ◌+◌, ◌<◌, ◌≤◌, ℤ, pos, ◌+ℤ◌, Bool, true, false, not, ◌&&◌, ◌||◌, eqb, ltb, cond, List, [], ◌∷◌, length, slice_index, refl, sym, ap, ◌∙◌, arith}
+use Rattle.std.proofs.Common.{◌≡◌, ℕ, ◌+◌, ◌<◌, ◌≤◌, ℤ, pos, ◌+ℤ◌, Bool, true, false, not, ◌&&◌}
+use Rattle.std.proofs.Common.{◌||◌, eqb, ltb, cond, List, [], ◌∷◌, length, slice_index, refl, sym}
+use Rattle.std.proofs.Common.{ap, ◌∙◌, arith}
 use Rattle.std.proofs.lemmas.Int.{ints}
 use Rattle.std.proofs.lemmas.Bool.{false≢true, and_parts, eq-eqb, ne_eqb, lt-ltb, le-ltb}
 use Rattle.league_core.specs.declared.club_set.ClubSet.{ClubSet}
@@ -8,7 +11,8 @@ use Rattle.league_core.specs.ClubSets.{clubs_in}
 use Rattle.flow_net.specs.declared.arcs.Arc.{Arc}
 use Rattle.flow_net.specs.Cut.{IsCut, IsLeastCut, capacity_of}
 use Rattle.flow_bound.specs.declared.tally.Pair.{Pair}
-use Rattle.flow_bound.specs.Parts.{sum_of_side, sum_of_pairs, has_both, excess_in, in_both, IsPartOf, HasNoExcess, IsLeastBest, side_of}
+use Rattle.flow_bound.specs.Parts.{sum_of_side, sum_of_pairs, has_both, excess_in, in_both}
+use Rattle.flow_bound.specs.Parts.{IsPartOf, HasNoExcess, IsLeastBest, side_of}
 use Rattle.flow_bound.specs.Network.{IsNumbering, has_home_in, parts_pair_in, through}
 use Rattle.flow_bound.proofs.PartLemmas.{sum_of_pairs-cons, excess_in-same}
 
@@ -143,7 +147,8 @@ pub best_at_cut : (table : List ℤ) (pairs : List Pair) (rest : ClubSet) (place
     → IsLeastBest table pairs (side_of rest) best
 best_at_cut table pairs rest places side best arcs total value numbered network least some is =
     record {
-      part = λ club among. (and_parts (side_of rest club) (through places side club) (sym (is club) ∙
+      part = λ club among.
+          (and_parts (side_of rest club) (through places side club) (sym (is club) ∙
           among)).0;
       exceeds = omega (arith, ints, own);
       greatest = λ part inside.
@@ -153,7 +158,8 @@ best_at_cut table pairs rest places side best arcs total value numbered network 
       contained = λ part inside same club among.
           let taken = cut_is table pairs rest places part arcs total numbered network inside in
           let equal : capacity_of (with_source rest part) arcs ≡ value = omega (arith, ints, own) in
-          let parts = and_parts (side_of rest club) (through places side club) (sym (is club) ∙ among)
+          let parts = and_parts (side_of rest club) (through places side club) (sym (is club)
+          ∙ among)
           in
           sym (at_node rest places part club numbered parts.0)
           ∙ least.contained (with_source rest part) (cut_of_part rest part) equal

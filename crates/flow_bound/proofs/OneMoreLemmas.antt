@@ -1,10 +1,12 @@
 -- What one club more brings to a side: its own entry at least, as no pair takes anything away.
-use Rattle.std.proofs.Common.{◌≡◌, ◌≢◌, ◌⊎◌, ℕ, ◌<◌, ◌≤◌, ℤ, pos, ◌+ℤ◌, ◌≤ℤ◌, Bool, true, false, ◌&&◌, ◌||◌, cond, eqb, List, [], ◌∷◌, sym, ap, ◌∙◌, inl, inr, arith}
+use Rattle.std.proofs.Common.{◌≡◌, ◌≢◌, ◌⊎◌, ℕ, ◌<◌, ◌≤◌, ℤ, pos, ◌+ℤ◌, ◌≤ℤ◌, Bool, true, false}
+use Rattle.std.proofs.Common.{◌&&◌, ◌||◌, cond, eqb, List, [], ◌∷◌, sym, ap, ◌∙◌, inl, inr, arith}
 use Rattle.std.proofs.lemmas.Int.{ints}
 use Rattle.std.proofs.lemmas.Bool.{cases_eq, eq-eqb, ne_eqb}
 use Rattle.flow_bound.specs.declared.tally.Pair.{Pair}
 use Rattle.flow_bound.specs.Parts.{entry, sum_of_side, sum_of_pairs, has_both, excess_in}
-use Rattle.flow_bound.proofs.PartLemmas.{excess_in-same, sum_below-one, sum_below-plus, sum_below-same, sum_of_pairs-cons}
+use Rattle.flow_bound.proofs.PartLemmas.{excess_in-same, sum_below-one, sum_below-plus}
+use Rattle.flow_bound.proofs.PartLemmas.{sum_below-same, sum_of_pairs-cons}
 
 -- the clubs of a side and one club
 abbrev pub with_club : (ℕ → Bool) → ℕ → ℕ → Bool

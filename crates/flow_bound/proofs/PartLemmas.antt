@@ -1,11 +1,14 @@
 -- The parts of an excess: sums over clubs and over pairs, and what a credit adds to them.
-use Rattle.std.proofs.Common.{◌≡◌, ◌≢◌, ◌⊎◌, ℕ, zero, suc, ◌+◌, ◌<◌, ◌≤◌, ℤ, pos, neg_ℤ, ◌+ℤ◌, ◌≤ℤ◌, Bool, true, false, ◌&&◌, cond, eqb, List, [], ◌∷◌, ◌++◌, length, set, refl, sym, ap, ◌∙◌, subst, inl, inr, arith, add-one}
+use Rattle.std.proofs.Common.{◌≡◌, ◌≢◌, ◌⊎◌, ℕ, zero, suc, ◌+◌, ◌<◌, ◌≤◌, ℤ, pos, neg_ℤ, ◌+ℤ◌, ◌≤ℤ◌}
+use Rattle.std.proofs.Common.{Bool, true, false, ◌&&◌, cond, eqb, List, [], ◌∷◌, ◌++◌, length, set}
+use Rattle.std.proofs.Common.{refl, sym, ap, ◌∙◌, subst, inl, inr, arith, add-one}
 use Rattle.std.proofs.lemmas.Int.{ints}
 use Rattle.std.proofs.lemmas.Bool.{false≢true, false_from_ne_true, cases_eq, eq-eqb, ne_eqb}
 use Rattle.std.proofs.lemmas.List.{length-set, get_or-set_same, get_or-set_other}
 use Rattle.std.proofs.lemmas.List.Sums.{sum_by-cons, sum_by_push}
 use Rattle.flow_bound.specs.declared.tally.Pair.{Pair}
-use Rattle.flow_bound.specs.Parts.{sum_below, entry, sum_of_side, sum_of_pairs, has_both, excess_in, ArePairs, IsPartOf, IsTable}
+use Rattle.flow_bound.specs.Parts.{sum_below, entry, sum_of_side, sum_of_pairs, has_both, excess_in}
+use Rattle.flow_bound.specs.Parts.{ArePairs, IsPartOf, IsClubTable}
 use Rattle.flow_bound.specs.Network.{has_home_in, has_away_in}
 
 -- values that agree below a count have one sum
@@ -160,10 +163,10 @@ sum_of_side-credited table club amount side long within =
             omega (arith, ints)
 
 -- a table stays one after a credit
-pub IsTable-credited : (credits : ℕ) (table : List ℤ) (club : ℕ) (amount : ℤ)
-    → IsTable credits table → club < 32 → neg_ℤ (pos 3) ≤ℤ amount → amount ≤ℤ pos 3
-    → IsTable (credits + 1) (credited table club amount)
-IsTable-credited credits table club amount is within least most = record {
+pub IsClubTable-credited : (credits : ℕ) (table : List ℤ) (club : ℕ) (amount : ℤ)
+    → IsClubTable credits table → club < 32 → neg_ℤ (pos 3) ≤ℤ amount → amount ≤ℤ pos 3
+    → IsClubTable (credits + 1) (credited table club amount)
+IsClubTable-credited credits table club amount is within least most = record {
   long = length-set table club (entry table club +ℤ amount) ∙ is.long;
   least = λ other.
       let same = entry-credited table club other amount (omega (arith, is.long)) in
@@ -181,9 +184,10 @@ IsTable-credited credits table club amount is within least most = record {
     bounds false = (omega (arith, ints), omega (arith, ints))
 
 -- room for more credits is no loss
-pub IsTable-more : (credits more : ℕ) (table : List ℤ) → credits ≤ more → IsTable credits table
-    → IsTable more table
-IsTable-more credits more table le is = record {
+pub IsClubTable-more : (credits more : ℕ) (table : List ℤ) → credits ≤ more
+    → IsClubTable credits table
+    → IsClubTable more table
+IsClubTable-more credits more table le is = record {
   long = is.long;
   least = λ club. omega (arith, ints, is.least club);
   most = λ club. omega (arith, ints, is.most club);
@@ -264,12 +268,13 @@ away_credited table new pair amount part side long home away low is new_is =
         ∙ ap (λ b. pos (cond ((part pair.home && b) && side pair.away) pair.surplus 0)) (sym away)
 
 -- a table stays one after a small surplus is added
-pub IsTable-surplus : (credits : ℕ) (table new : List ℤ) (club surplus : ℕ) (amount : ℤ)
-    → IsTable credits table → club < 32 → surplus ≤ 3 → amount ≡ pos surplus
-    → new ≡ credited table club amount → IsTable (credits + 1) new
-IsTable-surplus credits table new club surplus amount is low small amount_is new_is =
-    subst (λ (t : List ℤ). IsTable (credits + 1) t) (sym new_is)
-    (IsTable-credited credits table club amount is low (omega (arith, ints)) (omega (arith, ints)))
+pub IsClubTable-surplus : (credits : ℕ) (table new : List ℤ) (club surplus : ℕ) (amount : ℤ)
+    → IsClubTable credits table → club < 32 → surplus ≤ 3 → amount ≡ pos surplus
+    → new ≡ credited table club amount → IsClubTable (credits + 1) new
+IsClubTable-surplus credits table new club surplus amount is low small amount_is new_is =
+    subst (λ (t : List ℤ). IsClubTable (credits + 1) t) (sym new_is)
+    (IsClubTable-credited credits table club amount is low (omega (arith, ints))
+    (omega (arith, ints)))
 
 -- one club more in a sum
 pub sum_below-next : (count : ℕ) (value : ℕ → ℤ)
@@ -301,12 +306,12 @@ pub entry_kept : (table : List ℤ) (club other : ℕ) (value : ℤ) → other �
 entry_kept table club other value apart = get_or-set_other table club other value (pos 0) apart
 
 -- a table stays one after a small amount is added
-pub IsTable-amount : (credits : ℕ) (table new : List ℤ) (club : ℕ) (amount : ℤ)
-    → IsTable credits table → club < 32 → neg_ℤ (pos 3) ≤ℤ amount → amount ≤ℤ pos 3
-    → new ≡ credited table club amount → IsTable (credits + 1) new
-IsTable-amount credits table new club amount is low least most new_is =
-    subst (λ (t : List ℤ). IsTable (credits + 1) t) (sym new_is)
-    (IsTable-credited credits table club amount is low least most)
+pub IsClubTable-amount : (credits : ℕ) (table new : List ℤ) (club : ℕ) (amount : ℤ)
+    → IsClubTable credits table → club < 32 → neg_ℤ (pos 3) ≤ℤ amount → amount ≤ℤ pos 3
+    → new ≡ credited table club amount → IsClubTable (credits + 1) new
+IsClubTable-amount credits table new club amount is low least most new_is =
+    subst (λ (t : List ℤ). IsClubTable (credits + 1) t) (sym new_is)
+    (IsClubTable-credited credits table club amount is low least most)
 
 -- no pair is in an empty list, and room for more is no loss
 pub ArePairs-none : (pairs : List Pair) → pairs ≡ [] → ArePairs 0 pairs

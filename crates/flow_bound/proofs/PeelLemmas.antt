@@ -1,12 +1,15 @@
 -- Clubs that add nothing are no loss, and what is best among the rest is best among all.
-use Rattle.std.proofs.Common.{◌≡◌, ℕ, ◌+◌, ◌≤◌, ℤ, pos, ◌+ℤ◌, ◌≤ℤ◌, Bool, true, false, not, ◌&&◌, cond, List, [], ◌∷◌, refl, sym, ap, ◌∙◌, arith}
+use Rattle.std.proofs.Common.{◌≡◌, ℕ, ◌+◌, ◌≤◌, ℤ, pos, ◌+ℤ◌, ◌≤ℤ◌, Bool, true, false, not, ◌&&◌}
+use Rattle.std.proofs.Common.{cond, List, [], ◌∷◌, refl, sym, ap, ◌∙◌, arith}
 use Rattle.std.specs.Prelude.{int_lt}
 use Rattle.std.proofs.lemmas.Int.{ints}
 use Rattle.std.proofs.lemmas.Bool.{false≢true, and_parts}
 use Rattle.flow_bound.specs.declared.tally.Pair.{Pair}
-use Rattle.flow_bound.specs.Parts.{entry, sum_of_side, sum_of_pairs, has_both, excess_in, in_both, IsPartOf, HasNoExcess, KeepsExcess, IsLeastBest}
+use Rattle.flow_bound.specs.Parts.{entry, sum_of_side, sum_of_pairs, has_both, excess_in, in_both}
+use Rattle.flow_bound.specs.Parts.{IsPartOf, HasNoExcess, KeepsExcess, IsLeastBest}
 use Rattle.flow_bound.specs.Network.{has_home_in, has_away_in}
-use Rattle.flow_bound.proofs.PartLemmas.{sum_below-same, sum_below-plus, sum_below-low, sum_of_pairs-cons, excess_in-same, excess_in-empty}
+use Rattle.flow_bound.proofs.PartLemmas.{sum_below-same, sum_below-plus, sum_below-low}
+use Rattle.flow_bound.proofs.PartLemmas.{sum_of_pairs-cons, excess_in-same, excess_in-empty}
 
 -- the clubs of a side that are in the part and not kept
 abbrev dropped : (ℕ → Bool) → (ℕ → Bool) → (ℕ → Bool) → ℕ → Bool

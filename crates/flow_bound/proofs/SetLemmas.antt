@@ -1,12 +1,15 @@
 -- Sets and tests of clubs: clubs are below 32, and a set of one club is its list.
-use Rattle.std.proofs.Common.{◌≡◌, ◌≢◌, ◌⊎◌, ℕ, zero, suc, ◌+◌, ◌<◌, ◌≤◌, Bool, true, false, ◌&&◌, ◌||◌, eqb, ltb, cond, List, [], ◌∷◌, filter, refl, sym, ap, ◌∙◌, inl, inr, arith}
-use Rattle.std.specs.List.{range_with_len, list_all}
+use Rattle.std.proofs.Common.{◌≡◌, ◌⊎◌, ℕ, ◌+◌, ◌<◌, ◌≤◌, Bool, true, false, ◌&&◌}
+use Rattle.std.proofs.Common.{◌||◌, eqb, ltb, List, [], ◌∷◌, refl, sym, ap, ◌∙◌, inl}
+use Rattle.std.proofs.Common.{inr, arith}
+use Rattle.std.specs.List.{list_all}
 use Rattle.std.specs.Int.{bit_at}
-use Rattle.std.proofs.lemmas.Bool.{false≢true, and_parts, and_from, cases_eq, cases_lt, eq-eqb, eqb-true, ne_eqb, lt-ltb, le-ltb, ltb-true, or_cases}
+use Rattle.std.proofs.lemmas.Bool.{false≢true, and_parts, and_from, cases_lt, eq-eqb}
+use Rattle.std.proofs.lemmas.Bool.{eqb-true, lt-ltb, le-ltb, ltb-true, or_cases}
 use Rattle.league_core.specs.declared.club_set.ClubSet.{ClubSet}
 use Rattle.league_core.specs.Sums.{has_club}
 use Rattle.league_core.specs.ClubSets.{clubs_in}
-use Rattle.league_core.proofs.ClubSetLemmas.{has_club-clubs_below, passes_below_more, clubs_below-filter_range}
+use Rattle.league_core.proofs.ClubSetLemmas.{has_club-clubs_below, passes_below_more}
 use Rattle.flow_bound.specs.Parts.{side_of, IsPartOf}
 
 -- a club of a set is below 32
@@ -51,61 +54,6 @@ found_all found set test at past is club = is club ∙ by_place (cases_lt club a
     by_place (inr above) =
         ap (λ b. b && (side_of set club && test club)) (le-ltb club at above)
         ∙ ap (λ b. b && test club) (sym (side_of-past set club (omega arith)))
-
-filter-past : (club from count : ℕ) → club < from
-    → filter (λ x. eqb club x) (range_with_len from count) ≡ []
-filter-past club from zero below = refl
-filter-past club from (suc count) below =
-    ap (λ b. cond b (from ∷ filter (λ x. eqb club x) (range_with_len (from + 1) count))
-    (filter (λ x. eqb club x) (range_with_len (from + 1) count))) (ne_eqb club from (λ e. omega
-    arith))
-    ∙ filter-past club (from + 1) count (omega arith)
-
-filter-one : (club from count : ℕ) → from ≤ club → club < from + count
-    → filter (λ x. eqb club x) (range_with_len from count) ≡ club ∷ []
-filter-one club from zero low high = absurd (omega arith)
-filter-one club from (suc count) low high =
-    by_place (cases_eq club from) (λ above. filter-one club (from + 1) count above (omega arith))
-  where
-    by_place : (club ≡ from) ⊎ (club ≢ from)
-        → (from + 1 ≤ club → filter (λ x. eqb club x) (range_with_len (from + 1) count) ≡ club ∷ [])
-        → cond (eqb club from) (from ∷ filter (λ x. eqb club x) (range_with_len (from + 1) count))
-        (filter (λ x. eqb club x) (range_with_len (from + 1) count)) ≡ club ∷ []
-    by_place (inl same) later =
-        ap (λ b. cond b (from ∷ filter (λ x. eqb club x) (range_with_len (from + 1) count))
-        (filter (λ x. eqb club x) (range_with_len (from + 1) count))) (eq-eqb club from same)
-        ∙ ap (λ xs. from ∷ xs) (filter-past club (from + 1) count (omega arith))
-        ∙ ap (λ (n : ℕ). n ∷ []) (sym same)
-    by_place (inr other) later =
-        ap (λ b. cond b (from ∷ filter (λ x. eqb club x) (range_with_len (from + 1) count))
-        (filter (λ x. eqb club x) (range_with_len (from + 1) count))) (ne_eqb club from other)
-        ∙ later (omega arith)
-
--- a set that has one club alone is its list
-pub one_club : (set : ClubSet) (club : ℕ) → club < 32
-    → ((other : ℕ) → side_of set other ≡ eqb club other) → clubs_in set ≡ club ∷ []
-one_club set club within is =
-    clubs_below-filter_range 32 set.bits 32 (λ x. eqb club x) (omega arith)
-    (λ x. is x ∙ below x (cases_eq club x))
-    ∙ filter-one club 0 32 (omega arith) (omega arith)
-  where
-    below : (x : ℕ) → (club ≡ x) ⊎ (club ≢ x) → eqb club x ≡ (ltb x 32 && eqb club x)
-    below x (inl same) = ap (λ b. b && eqb club x) (sym (lt-ltb x 32 (omega arith)))
-    below x (inr other) =
-        ne_eqb club x other
-        ∙ sym (ap (λ b. ltb x 32 && b) (ne_eqb club x other) ∙ and_false (ltb x 32))
-      where
-        and_false : (b : Bool) → (b && false) ≡ false
-        and_false true = refl
-        and_false false = refl
-
--- the set that is made of one club
-pub one_club_added : (none set : ClubSet) (club : ℕ) → club < 32 → clubs_in none ≡ []
-    → ((other : ℕ) → side_of set other ≡ (side_of none other || (true && eqb club other)))
-    → clubs_in set ≡ club ∷ []
-one_club_added none set club within empty is =
-    one_club set club within
-    (λ other. is other ∙ ap (λ clubs. has_club clubs other || eqb club other) empty)
 
 -- a set without a club has none
 pub no_club_left : (set : ClubSet) → clubs_in set ≡ [] → (club : ℕ) → side_of set club ≡ false

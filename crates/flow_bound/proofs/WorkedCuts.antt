@@ -2,6 +2,7 @@
 -- comments, and count from 0 below, as fixtures do.
 use Rattle.std.proofs.Common.{◌≡◌, ℕ, pos, negsuc, List, [], ◌∷◌, Some, None, map, refl}
 use Rattle.league_core.specs.declared.sheet.Sheet.{Sheet}
+use Rattle.league_core.specs.declared.sheet.Order.TheVariants.{HeadFirst}
 use Rattle.league_core.specs.declared.question.Claim.TheVariants.{Inside}
 use Rattle.league_core.specs.declared.question.Question.{Question}
 use Rattle.league_core.specs.Results.{Results}
@@ -20,6 +21,7 @@ sheet = record {
   lines = 1 ∷ [];
   goal_limit = 2;
   budget = 2000;
+  order = HeadFirst;
 }
 
 -- with so many points taken off each club
@@ -44,7 +46,8 @@ floor_off : map (λ off. floor_excess sheet (season off) ask [] (1 ∷ 2 ∷ [])
 unfolding least_points_of most_points_of
 floor_off = refl
 
--- with at least 5 points wished for A, B and C can come to 6 each, but to 9 together, one short of 10
+-- with at least 5 points wished for A, B and C can come to 6 each, but to 9 together, one short of
+-- 10
 ceiling : map (ceiling_excess sheet (season (0 ∷ 0 ∷ 0 ∷ 0 ∷ [])) (record ask { low = pos 5 }) [])
     ((1 ∷ []) ∷ (3 ∷ []) ∷ (1 ∷ 2 ∷ []) ∷ []) ≡ negsuc 0 ∷ pos 2 ∷ pos 1 ∷ []
 unfolding least_points_of most_points_of

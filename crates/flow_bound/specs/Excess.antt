@@ -1,6 +1,7 @@
 -- Cuts: how far a set of rivals goes beyond what the club's own points allow, and which of the sets
 -- that do so is answered. Where many sets would do, the choice is this project's own.
-use Rattle.std.specs.Prelude.{◌≡◌, ℕ, ◌<◌, ℤ, pos, ◌-ℤ◌, ◌≤ℤ◌, ◌<ℤ◌, Bool, true, IsTrue, List, [], ◌∷◌}
+use Rattle.std.specs.Prelude.{◌≡◌, ℕ, ◌<◌, ℤ, pos, ◌-ℤ◌, ◌≤ℤ◌, ◌<ℤ◌, Bool, true, IsTrue, List, []}
+use Rattle.std.specs.Prelude.{◌∷◌}
 use Rattle.std.specs.List.{list_all}
 use Rattle.league_core.specs.declared.sheet.Sheet.{Sheet}
 use Rattle.league_core.specs.declared.question.Question.{Question}
@@ -12,7 +13,8 @@ use Rattle.league_core.specs.ClubSets.{clubs_in}
 use Rattle.league_core.specs.PointRanges.{least_points_of, most_points_of, own_most, own_least}
 use Rattle.league_core.specs.Reasons.{times}
 
--- how many more points the clubs must have together than if each had the most of the question's club
+-- how many more points the clubs must have together than if each had the most of the question's
+-- club
 abbrev pub floor_excess : Sheet → Results → Question → List Literal → List ℕ → ℤ
 floor_excess sheet season question zone clubs =
     least_points_of sheet season zone clubs -ℤ times clubs (own_most sheet season question zone)

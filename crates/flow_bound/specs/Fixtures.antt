@@ -1,5 +1,6 @@
 -- What a fixture adds to the excess of a set, by the sides that are in the set.
-use Rattle.std.specs.Prelude.{◌≡◌, ℕ, ℤ, pos, ◌+ℤ◌, ◌-ℤ◌, ◌≤ℤ◌, neg_ℤ, ◌≤◌, Bool, ◌&&◌, if◌then◌else◌, List}
+use Rattle.std.specs.Prelude.{◌≡◌, ℕ, ℤ, pos, ◌+ℤ◌, ◌-ℤ◌, ◌≤ℤ◌, neg_ℤ, ◌≤◌, Bool, ◌&&◌}
+use Rattle.std.specs.Prelude.{if◌then◌else◌, List}
 use Rattle.league_core.specs.declared.sheet.Sheet.{Sheet}
 use Rattle.league_core.specs.declared.season.Score.{Score}
 use Rattle.league_core.specs.declared.zone.Literal.{Literal}
@@ -9,7 +10,6 @@ use Rattle.league_core.specs.Options.{options_in}
 use Rattle.league_core.specs.Reasons.{times}
 use Rattle.score_box.specs.declared.cell.Cell.{Cell}
 use Rattle.score_box.specs.Cells.{IsCellOf}
-use Rattle.score_box.specs.Points.{least_of_three, most_of_three}
 use Rattle.flow_bound.specs.declared.cut.Cut.{Cut}
 use Rattle.flow_bound.specs.declared.cut.Cut.TheVariants.{Floor, Ceiling}
 use Rattle.flow_bound.specs.declared.worth.Worth.{Worth}
@@ -25,15 +25,15 @@ end_of Floor range = range.least
 end_of Ceiling range = pos 0 -ℤ range.greatest
 
 -- what the sides add that count: each alone, and both beyond that
-abbrev pub worth_of : Worth → Bool → Bool → ℤ
-worth_of worth home away =
+abbrev pub worth_of_sides : Worth → Bool → Bool → ℤ
+worth_of_sides worth home away =
     (if home then worth.home else pos 0) +ℤ (if away then worth.away else pos 0)
     +ℤ pos (if home && away then worth.surplus else 0)
 
 -- what the options of a cell add
 pub record IsWorthOf (cut : Cut) (cell : Cell) (worth : Worth) : Type 0 where
   pub value : (options : List Score) → IsCellOf cell options → (home away : Bool)
-      → end_of cut (range_of (points_of_sides home away) options) ≡ worth_of worth home away
+      → end_of cut (range_of (points_of_sides home away) options) ≡ worth_of_sides worth home away
   pub home_least : neg_ℤ (pos 3) ≤ℤ worth.home
   pub home_most : worth.home ≤ℤ pos 3
   pub away_least : neg_ℤ (pos 3) ≤ℤ worth.away
@@ -46,13 +46,3 @@ abbrev pub excess_over : Cut → Sheet → Results → List Literal → ℤ → 
 excess_over cut sheet season zone level clubs =
     end_of cut (points_range sheet season (options_in sheet season zone) clubs)
     +ℤ times clubs level
-
--- the least, or the most with the sign turned, of the outcomes that may come
-abbrev pub IsFloorWorth : Bool → Bool → Bool → Worth → Type 0
-IsFloorWorth wins draws losses worth =
-    (home away : Bool) → pos (least_of_three wins draws losses home away) ≡ worth_of worth home away
-
-abbrev pub IsCeilingWorth : Bool → Bool → Bool → Worth → Type 0
-IsCeilingWorth wins draws losses worth =
-    (home away : Bool) → pos 0 -ℤ pos (most_of_three wins draws losses home away) ≡ worth_of worth
-    home away

@@ -1,6 +1,7 @@
 -- The clubs of a set by their places in it, and pairs in a part of the clubs, by which of their
 -- clubs a side has.
 use Rattle.std.specs.Prelude.{◌≡◌, ℕ, ◌<◌, Bool, true, ◌&&◌, not, List, length, slice_index}
+use Rattle.league_core.specs.Limits.{set_width}
 use Rattle.league_core.specs.declared.club_set.ClubSet.{ClubSet}
 use Rattle.league_core.specs.ClubSets.{clubs_in}
 use Rattle.flow_bound.specs.declared.tally.Pair.{Pair}
@@ -8,7 +9,7 @@ use Rattle.flow_bound.specs.Parts.{has_both, side_of}
 
 -- each club of the set has its place among the set's clubs
 pub record IsNumbering (set : ClubSet) (places : List ℕ) : Type 0 where
-  pub long : length places ≡ 32
+  pub long : length places ≡ set_width
   pub within : (club : ℕ) → side_of set club ≡ true → slice_index places club < length (clubs_in
       set)
   pub back : (club : ℕ) → side_of set club ≡ true

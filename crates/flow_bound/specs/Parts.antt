@@ -1,7 +1,10 @@
 -- The excess of a set in parts: what each club adds alone, and what each two clubs add that still
 -- meet, where both are in the set. Sets are tests of clubs here, and clubs are numbered below 32.
-use Rattle.std.specs.Prelude.{◌≡◌, ◌≢◌, ◌⊎◌, ℕ, zero, suc, ◌+◌, ◌*◌, ◌<◌, ◌≤◌, ℤ, pos, neg_ℤ, ◌+ℤ◌, ◌≤ℤ◌, ◌<ℤ◌, Bool, true, ◌&&◌, if◌then◌else◌, List, [], ◌∷◌, length, sum_by, slice_index_or}
+use Rattle.std.specs.Prelude.{◌≡◌, ◌≢◌, ◌⊎◌, ℕ, zero, suc, ◌+◌, ◌*◌, ◌<◌, ◌≤◌, ℤ, pos, neg_ℤ, ◌+ℤ◌}
+use Rattle.std.specs.Prelude.{◌≤ℤ◌, ◌<ℤ◌, Bool, true, ◌&&◌, if◌then◌else◌, List, [], ◌∷◌, length}
+use Rattle.std.specs.Prelude.{sum_by, slice_index_or}
 use Rattle.std.specs.List.{All}
+use Rattle.league_core.specs.Limits.{most_fixtures, set_width}
 use Rattle.league_core.specs.declared.club_set.ClubSet.{ClubSet}
 use Rattle.league_core.specs.Sums.{has_club}
 use Rattle.league_core.specs.ClubSets.{clubs_in}
@@ -18,7 +21,7 @@ entry table club = slice_index_or table club (pos 0)
 
 -- the entries of the clubs of a side, added
 abbrev pub sum_of_side : List ℤ → (ℕ → Bool) → ℤ
-sum_of_side table side = sum_below 32 (λ club. if side club then entry table club else pos 0)
+sum_of_side table side = sum_below set_width (λ club. if side club then entry table club else pos 0)
 
 -- the surplus of the pairs that pass a test, added
 abbrev pub sum_of_pairs : (Pair → Bool) → List Pair → ℕ
@@ -44,10 +47,22 @@ in_both side other club = side club && other club
 abbrev pub side_of : ClubSet → ℕ → Bool
 side_of set club = has_club (clubs_in set) club
 
+-- the most credits to the entries of a table: each fixture may credit both its clubs
+abbrev pub most_credits : ℕ
+most_credits = most_fixtures + most_fixtures
+
+-- the least that an entry comes to: points taken off, and what fixtures add to it
+abbrev pub least_entry : ℤ
+least_entry = neg_ℤ (pos 30000)
+
+-- the most that it comes to: a level of 32 bits, and what fixtures add to it
+abbrev pub most_entry : ℤ
+most_entry = pos 2147600000
+
 -- a table of all clubs, with entries far from the ends of their type: those of a window or of
 -- points, after so many credits of three points at most
-pub record IsTable (credits : ℕ) (table : List ℤ) : Type 0 where
-  pub long : length table ≡ 32
+pub record IsClubTable (credits : ℕ) (table : List ℤ) : Type 0 where
+  pub long : length table ≡ set_width
   pub least : (club : ℕ) → neg_ℤ (pos (20000 + 3 * credits)) ≤ℤ entry table club
   pub most : (club : ℕ) → entry table club ≤ℤ pos (2147500000 + 3 * credits)
 
@@ -90,7 +105,7 @@ abbrev pub NoneOver : List ℤ → (ℕ → Bool) → Type 0
 NoneOver table whole = (club : ℕ) → whole club ≡ true → entry table club ≤ℤ pos 0
 
 -- the set that is answered, club alone or together
-abbrev pub IsAnswer : List ℤ → List Pair → (ℕ → Bool) → ClubSet → Type 0
-IsAnswer table pairs whole set =
+abbrev pub IsAnsweredSet : List ℤ → List Pair → (ℕ → Bool) → ClubSet → Type 0
+IsAnsweredSet table pairs whole set =
     ((club : ℕ) × IsFirstOver table whole club × (clubs_in set ≡ club ∷ []))
     ⊎ (NoneOver table whole × IsLeastBest table pairs whole (side_of set))

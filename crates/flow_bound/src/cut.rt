@@ -6,7 +6,9 @@ ghost use Rattle.std.specs.Prelude.{IfOk, IfSome, IsTrue, length};
 ghost use Rattle.league_core.specs.declared.club_set.ClubSet.{ClubSet};
 ghost use Rattle.league_core.specs.declared.zone.Reason.TheVariants.{Low, High};
 ghost use Rattle.league_core.specs.ClubSets.{clubs_in};
-ghost use Rattle.league_core.specs.Options.{has_finish};
+ghost use Rattle.league_core.specs.Limits.{most_points};
+ghost use Rattle.score_box.specs.Points.{most_taken_off};
+ghost use Rattle.score_box.specs.Settings.{HasFinish, HasReason};
 ghost use Rattle.league_core.specs.PointRanges.{own_least, own_most};
 ghost use Rattle.league_core.specs.Reasons.{has_reason};
 ghost use Rattle.league_core.specs.Zones.{marked_after, marked_before};
@@ -37,12 +39,10 @@ pub fn low_cut(
     zone_box: &ZoneBox,
     question: &Question,
 ) -> Result<Option<ClubSet>, OutOfMemory>
-    requires has_finish { IsTrue
-        (has_finish zone_box.now.sheet zone_box.now.season zone_box.now.zone) }
+    requires has_finish { HasFinish zone_box.now }
     requires of_sheet { question.now.club < length zone_box.now.sheet.clubs }
-    ensures found { IfOk result (λ answer. IfSome answer (λ set. IsTrue
-        (has_reason zone_box.now.sheet zone_box.now.season question.now zone_box.now.zone
-        (Low set)))) }
+    ensures found { IfOk result (λ answer. IfSome answer (λ set.
+        HasReason zone_box.now question.now (Low set))) }
     ensures absent { IfOk result (λ answer. answer ≡ None → (set : ClubSet) →
         has_reason zone_box.now.sheet zone_box.now.season question.now zone_box.now.zone (Low set)
         ≡ false) }
@@ -67,12 +67,10 @@ pub fn high_cut(
     zone_box: &ZoneBox,
     question: &Question,
 ) -> Result<Option<ClubSet>, OutOfMemory>
-    requires has_finish { IsTrue
-        (has_finish zone_box.now.sheet zone_box.now.season zone_box.now.zone) }
+    requires has_finish { HasFinish zone_box.now }
     requires of_sheet { question.now.club < length zone_box.now.sheet.clubs }
-    ensures found { IfOk result (λ answer. IfSome answer (λ set. IsTrue
-        (has_reason zone_box.now.sheet zone_box.now.season question.now zone_box.now.zone
-        (High set)))) }
+    ensures found { IfOk result (λ answer. IfSome answer (λ set.
+        HasReason zone_box.now question.now (High set))) }
     ensures absent { IfOk result (λ answer. answer ≡ None → (set : ClubSet) →
         has_reason zone_box.now.sheet zone_box.now.season question.now zone_box.now.zone (High set)
         ≡ false) }
@@ -92,12 +90,11 @@ pub fn high_cut(
 
 /// The most points of the question's club in its window.
 fn own_most(zone_box: &ZoneBox, question: &Question) -> i32
-    requires has_finish { IsTrue
-        (has_finish zone_box.now.sheet zone_box.now.season zone_box.now.zone) }
+    requires has_finish { HasFinish zone_box.now }
     requires of_sheet { question.now.club < length zone_box.now.sheet.clubs }
     ensures value { result
         ≡ own_most zone_box.now.sheet zone_box.now.season question.now zone_box.now.zone }
-    ensures within { result ≤ℤ pos 1800 }
+    ensures within { result ≤ℤ most_points }
 {
     let most = zone_box.high_points(own_club(zone_box, question));
     question.high.min(most)
@@ -105,12 +102,11 @@ fn own_most(zone_box: &ZoneBox, question: &Question) -> i32
 
 /// The least points of the question's club in its window.
 fn own_least(zone_box: &ZoneBox, question: &Question) -> i32
-    requires has_finish { IsTrue
-        (has_finish zone_box.now.sheet zone_box.now.season zone_box.now.zone) }
+    requires has_finish { HasFinish zone_box.now }
     requires of_sheet { question.now.club < length zone_box.now.sheet.clubs }
     ensures value { result
         ≡ own_least zone_box.now.sheet zone_box.now.season question.now zone_box.now.zone }
-    ensures within { neg_ℤ (pos 8160) ≤ℤ result }
+    ensures within { neg_ℤ most_taken_off ≤ℤ result }
 {
     let least = zone_box.low_points(own_club(zone_box, question));
     question.low.max(least)
@@ -123,7 +119,7 @@ fn own_club(zone_box: &ZoneBox, question: &Question) -> ClubSet
 {
     // A sheet within its limits has no more clubs than a set can have.
     let _sheet = zone_box.sheet();
-    ClubSet::empty().with_if(true, question.club)
+    ClubSet::single(question.club)
 }
 
 impl Cut {

@@ -4,7 +4,8 @@
 //! exceed what they have if each stays within the most of that club. A ceiling cut is a set of
 //! rivals, all marked before the club, that cannot all come up to its least. Both are sought in the
 //! same way: the excess of a set is what its clubs add alone, and what each two of them that still
-//! meet add beyond that (`tally`). Clubs that no set needs are dropped (`peel`), and the rest is one
+//! meet add beyond that (`tally`). Clubs that no set needs are dropped (`peel`), and the rest is
+//! one
 //! minimum cut (`network`). Read `specs/Excess.antt` first.
 #![tactic(auto)]
 

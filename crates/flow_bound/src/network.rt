@@ -1,6 +1,7 @@
 //! The least set of greatest excess, by one minimum cut.
 //!
-//! Each club that is left is a node. A pair is an arc from its home club to its away club, and its surplus is
+//! Each club that is left is a node. A pair is an arc from its home club to its away club, and its
+//! surplus is
 //! put to the home club's weight: a side that has the home club alone cuts the arc and so loses it
 //! again. A club of positive weight hangs on the source, one of negative weight on the sink:
 //!
@@ -8,31 +9,37 @@
 //!
 //! A cut takes from the positive weights just the excess of the clubs on its source side.
 
-ghost use Rattle.std.specs.Prelude.{◌≡◌, ◌<◌, ◌≤◌, ◌+◌, ◌≤ℤ◌, ◌+ℤ◌, ◌-ℤ◌, ◌&&◌, ℕ, true, pos, neg_ℤ, Bool, if◌then◌else◌, length, None, IfOk, MatchOption, IsTrue};
+ghost use Rattle.std.specs.Prelude.{◌≡◌, ◌<◌, ◌≤◌, ◌+◌, ◌*◌, ◌≤ℤ◌, ◌+ℤ◌, ◌-ℤ◌, ◌&&◌, ℕ, true, pos};
+ghost use Rattle.std.specs.Prelude.{neg_ℤ, Bool, if◌then◌else◌, length, None, IfOk, MatchOption};
+ghost use Rattle.std.specs.Prelude.{IsTrue};
 ghost use Rattle.league_core.specs.ClubSets.{clubs_in};
 ghost use Rattle.flow_net.specs.Cut.{IsCut, capacity_of, marked};
-ghost use Rattle.flow_bound.specs.Parts.{ArePairs, HasNoExcess, IsLeastBest, IsTable, entry, in_both, side_of, sum_of_pairs, sum_of_side};
+ghost use Rattle.league_core.specs.Limits.{most_fixtures, set_width};
+ghost use Rattle.flow_bound.specs.Parts.{most_credits, most_entry};
+ghost use Rattle.flow_bound.specs.Parts.{ArePairs, HasNoExcess, IsLeastBest, IsClubTable, entry};
+ghost use Rattle.flow_bound.specs.Parts.{in_both, side_of, sum_of_pairs, sum_of_side};
 ghost use Rattle.flow_bound.specs.Network.{IsNumbering, has_home_in, parts_pair_in, through};
 
 use crate::places::{Places, places_of};
-use crate::table::{Table, credit};
+use crate::table::{Table, WIDTH, credit};
 use crate::tally::{Pair, Tally};
 use flow_net::Net;
+use league_core::limits::SET_WIDTH;
 use league_core::{ClubSet, OutOfMemory};
 use std::alloc::Global;
 
 impl Tally {
     /// The least of the sets of greatest excess among these clubs, or none where no set has any.
     pub fn greatest(&self, alloc: Global, rest: ClubSet) -> Result<Option<ClubSet>, OutOfMemory>
-        requires alone { IsTable 1200 self.now.alone }
-        requires pairs { ArePairs 600 self.now.pairs.items }
+        requires alone { IsClubTable most_credits self.now.alone }
+        requires pairs { ArePairs most_fixtures self.now.pairs.items }
         ensures { IfOk result (λ answer. MatchOption answer
             (HasNoExcess self.now.alone self.now.pairs.items (side_of rest))
             (λ set. IsLeastBest self.now.alone self.now.pairs.items (side_of rest) (side_of set))) }
     {
         let places = places_of(rest);
         let source = u16::from(rest.len());
-        let mut net = Net::new(alloc, source + 2, 32 + self.pairs.len())?;
+        let mut net = Net::new(alloc, source + 2, WIDTH + self.pairs.len())?;
         let goal = add_clubs(&mut net, &self.weights(rest), rest, &places, source);
         add_pairs(&mut net, self.pairs.as_slice(), rest, &places);
         let flow = net.max_flow(alloc, source, source + 1)?;
@@ -46,12 +53,12 @@ impl Tally {
     /// Each club's own entry with the surplus of its pairs at home, where only clubs of `rest`
     /// count.
     fn weights(&self, rest: ClubSet) -> Table
-        requires alone { IsTable 1200 self.now.alone }
-        requires pairs { ArePairs 600 self.now.pairs.items }
+        requires alone { IsClubTable most_credits self.now.alone }
+        requires pairs { ArePairs most_fixtures self.now.pairs.items }
         ensures sums { (side : ℕ → Bool) → sum_of_side result side
             ≡ sum_of_side self.now.alone side
             +ℤ pos (sum_of_pairs (has_home_in (side_of rest) side) self.now.pairs.items) }
-        ensures sized { IsTable 1800 result }
+        ensures sized { IsClubTable 1800 result }
     {
         let mut weights = self.alone;
         let pairs = self.pairs.as_slice();
@@ -65,11 +72,11 @@ impl Tally {
 /// Adds the surplus of a pair of the set to the entry of its home club.
 fn credit_home(table: &mut Table, pair: Pair, set: ClubSet)
     requires small { pair.surplus ≤ 3 }
-    requires sized { (credits : ℕ) × (credits < 3000) × IsTable credits table.old }
+    requires sized { (credits : ℕ) × (credits < 5 * most_fixtures) × IsClubTable credits table.old }
     ensures sums { (side : ℕ → Bool) → sum_of_side table.new side
         ≡ sum_of_side table.old side
         +ℤ pos (if has_home_in (side_of set) side pair then pair.surplus else 0) }
-    ensures sized { (credits : ℕ) → IsTable credits table.old → IsTable (credits + 1) table.new }
+    ensures sized { (credits : ℕ) → IsClubTable credits table.old → IsClubTable (credits + 1) table.new }
 {
     if !set.has(pair.home) || !set.has(pair.away) {
         return;
@@ -77,25 +84,26 @@ fn credit_home(table: &mut Table, pair: Pair, set: ClubSet)
     credit(table, pair.home, i64::from(pair.surplus));
 }
 
-/// Adds an arc for each club of the set, and answers the positive weights together. The source comes
+/// Adds an arc for each club of the set, and answers the positive weights together. The source
+/// comes
 /// after the clubs, and the sink after the source.
 fn add_clubs(net: &mut Net, weights: &Table, set: ClubSet, places: &Places, source: u16) -> u64
     requires empty { length net.old.arcs ≡ 0 }
-    requires room { 32 ≤ net.old.room }
+    requires room { set_width ≤ net.old.room }
     requires nodes { net.old.nodes ≡ source + 2 }
-    requires few { source ≤ 32 }
+    requires few { source ≤ set_width }
     requires clubs { source ≡ length (clubs_in set) }
     requires numbered { IsNumbering set places.now }
-    requires sized { IsTable 1800 weights.now }
+    requires sized { IsClubTable 1800 weights.now }
     ensures cut { (side : ℕ → Bool) → IsCut source (source + 1) side
         → pos (capacity_of side net.new.arcs)
         +ℤ sum_of_side weights.now (in_both (side_of set) (through places.now side)) ≡ pos result }
-    ensures count { length net.new.arcs ≤ 32 }
+    ensures count { length net.new.arcs ≤ set_width }
     ensures nodes { net.new.nodes ≡ net.old.nodes }
     ensures room { net.new.room ≡ net.old.room }
 {
     let mut total = 0;
-    for club in 0..32 {
+    for club in 0..SET_WIDTH {
         let place = club as usize;
         total += add_club(net, set, club, places[place], source, weights[place]);
     }
@@ -107,15 +115,15 @@ fn add_clubs(net: &mut Net, weights: &Table, set: ClubSet, places: &Places, sour
 fn add_club(net: &mut Net, set: ClubSet, club: u8, node: u16, source: u16, weight: i64) -> u64
     requires room { length net.old.arcs < net.old.room }
     requires nodes { net.old.nodes ≡ source + 2 }
-    requires few { source ≤ 32 }
+    requires few { source ≤ set_width }
     requires node { side_of set club ≡ true → node < source }
-    requires least { neg_ℤ (pos 2147600000) ≤ℤ weight }
-    requires most { weight ≤ℤ pos 2147600000 }
+    requires least { neg_ℤ most_entry ≤ℤ weight }
+    requires most { weight ≤ℤ most_entry }
     ensures cut { (side : ℕ → Bool) → IsCut source (source + 1) side
         → pos (capacity_of side net.new.arcs)
         +ℤ (if side_of set club && side node then weight else pos 0)
         ≡ pos (capacity_of side net.old.arcs) +ℤ pos result }
-    ensures within { result ≤ 2147600000 }
+    ensures within { pos result ≤ℤ most_entry }
     ensures count { length net.new.arcs ≤ length net.old.arcs + 1 }
     ensures nodes { net.new.nodes ≡ net.old.nodes }
     ensures room { net.new.room ≡ net.old.room }
@@ -178,7 +186,7 @@ fn clubs_of(marks: &[bool], set: ClubSet, places: &Places) -> ClubSet
         ≡ in_both (side_of set) (through places.now (marked marks.now)) club }
 {
     let mut found = ClubSet::empty();
-    for club in 0..32 {
+    for club in 0..SET_WIDTH {
         let keep = set.has(club) && marks[places[club as usize] as usize];
         found = found.with_if(keep, club);
     }

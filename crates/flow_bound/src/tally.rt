@@ -1,20 +1,25 @@
 //! The excess of every set in parts: what each club adds alone, and what each two clubs that still
 //! meet add beyond that where both are in the set.
 
-ghost use Rattle.std.specs.Prelude.{◌≡◌, ◌≢◌, ℕ, ◌+◌, ◌<◌, ◌≤◌, ◌+ℤ◌, ◌≤ℤ◌, pos, neg_ℤ, Bool, IsTrue, List, length, if◌then◌else◌};
+ghost use Rattle.std.specs.Prelude.{◌≡◌, ◌≢◌, ℕ, ◌+◌, ◌^◌, ◌<◌, ◌≤◌, ◌+ℤ◌, ◌≤ℤ◌, pos, neg_ℤ, Bool};
+ghost use Rattle.std.specs.Prelude.{IsTrue, List, length, if◌then◌else◌};
 ghost use Rattle.league_core.specs.declared.season.Score.{Score};
 ghost use Rattle.league_core.specs.declared.club_set.ClubSet.{ClubSet};
 ghost use Rattle.league_core.specs.ClubSets.{clubs_in};
-ghost use Rattle.league_core.specs.Options.{has_finish};
+ghost use Rattle.league_core.specs.Limits.{most_fixtures, set_width};
 ghost use Rattle.league_core.specs.PointRanges.{range_of, points_of_sides};
 ghost use Rattle.score_box.specs.Cells.{IsCellOf, IsEmptyCell};
-ghost use Rattle.flow_bound.specs.Parts.{ArePairs, IsPartOf, IsTable, excess_in, has_both, side_of, sum_of_pairs};
+ghost use Rattle.score_box.specs.Points.{most_taken_off};
+ghost use Rattle.score_box.specs.Settings.{HasFinish};
+ghost use Rattle.flow_bound.specs.Parts.{ArePairs, IsPartOf, IsClubTable, excess_in, most_credits};
+ghost use Rattle.flow_bound.specs.Parts.{has_both, side_of, sum_of_pairs};
 ghost use Rattle.flow_bound.specs.Fixtures.{end_of, excess_over};
 
 use crate::cut::Cut;
 use crate::table::{Table, credit, level_table};
 use crate::worth::Worth;
 use arrayvec::ArrayVec;
+use league_core::limits::MOST_FIXTURES;
 use league_core::{ClubSet, Fixture};
 use score_box::{Cell, ZoneBox};
 
@@ -27,27 +32,31 @@ pub struct Pair {
     pub surplus: u8,
 }
 
+/// The pairs of a sheet: at most one for each fixture.
+pub type Pairs = ArrayVec<Pair, MOST_PAIRS>;
+
+const MOST_PAIRS: usize = MOST_FIXTURES as usize;
+
 /// What each club adds to the excess of a set alone, and what its pairs add.
 #[derive(Drop)]
 pub struct Tally {
     pub alone: Table,
-    pub pairs: ArrayVec<Pair, 600>,
+    pub pairs: Pairs,
 }
 
 impl Tally {
     /// The parts of the excess over a level, for the sets of marked clubs. One walk over the
     /// fixtures.
     pub fn of(zone_box: &ZoneBox, marked: ClubSet, cut: Cut, level: i64) -> Tally
-        requires has_finish { IsTrue
-            (has_finish zone_box.now.sheet zone_box.now.season zone_box.now.zone) }
-        requires least { neg_ℤ (pos 8160) ≤ℤ level }
-        requires most { level ≤ℤ pos 2147483648 }
+        requires has_finish { HasFinish zone_box.now }
+        requires least { neg_ℤ most_taken_off ≤ℤ level }
+        requires most { level ≤ℤ pos (2 ^ 31) }
         ensures excess { (set : ClubSet) → IsPartOf (side_of set) (side_of marked)
             → excess_in result.alone result.pairs.items (side_of set)
             ≡ excess_over cut zone_box.now.sheet zone_box.now.season zone_box.now.zone level
             (clubs_in set) }
-        ensures alone { IsTable 1200 result.alone }
-        ensures pairs { ArePairs 600 result.pairs.items }
+        ensures alone { IsClubTable most_credits result.alone }
+        ensures pairs { ArePairs most_fixtures result.pairs.items }
     {
         let fixtures = zone_box.sheet().fixtures.as_slice();
         let mut tally = Tally {
@@ -64,18 +73,18 @@ impl Tally {
     /// Adds what one fixture adds.
     fn add(&mut self, fixture: Fixture, cell: &Cell, marked: ClubSet, cut: Cut)
         requires apart { fixture.home ≢ fixture.away }
-        requires in_range { (fixture.home < 32) × (fixture.away < 32) }
+        requires in_range { (fixture.home < set_width) × (fixture.away < set_width) }
         requires some { ¬ IsEmptyCell cell.now }
-        requires alone { (fixtures : ℕ) × (fixtures < 600)
-            × IsTable (fixtures + fixtures) self.old.alone
+        requires alone { (fixtures : ℕ) × (fixtures < most_fixtures)
+            × IsClubTable (fixtures + fixtures) self.old.alone
             × ArePairs fixtures self.old.pairs.items }
         ensures excess { (side : ℕ → Bool) → IsPartOf side (side_of marked)
             → (options : List Score) → IsCellOf cell.now options
             → excess_in self.new.alone self.new.pairs.items side
             ≡ excess_in self.old.alone self.old.pairs.items side +ℤ end_of cut
             (range_of (points_of_sides (side fixture.home) (side fixture.away)) options) }
-        ensures alone { (credits : ℕ) → IsTable credits self.old.alone
-            → IsTable (credits + 2) self.new.alone }
+        ensures alone { (credits : ℕ) → IsClubTable credits self.old.alone
+            → IsClubTable (credits + 2) self.new.alone }
         ensures pairs { (fixtures : ℕ) → ArePairs fixtures self.old.pairs.items
             → ArePairs (fixtures + 1) self.new.pairs.items }
     {
@@ -97,10 +106,10 @@ impl Tally {
 }
 
 /// Adds a pair of marked clubs, where its match adds something.
-fn push_pair(pairs: &mut ArrayVec<Pair, 600>, pair: Pair, marked: ClubSet)
+fn push_pair(pairs: &mut Pairs, pair: Pair, marked: ClubSet)
     requires apart { pair.home ≢ pair.away }
     requires small { pair.surplus ≤ 3 }
-    requires room { (fixtures : ℕ) × (fixtures < 600) × ArePairs fixtures pairs.old.items }
+    requires room { (fixtures : ℕ) × (fixtures < most_fixtures) × ArePairs fixtures pairs.old.items }
     ensures sums { (side : ℕ → Bool) → IsPartOf side (side_of marked)
         → sum_of_pairs (has_both side) pairs.new.items
         ≡ sum_of_pairs (has_both side) pairs.old.items

@@ -1,11 +1,10 @@
-//! What one fixture adds to the excess of a set, by the outcomes that its cell has left.
+//! What one fixture adds to the excess of a set, by the points that its cell leaves.
 
-ghost use Rattle.std.specs.Prelude.{◌≡◌, pos, ◌-ℤ◌, ◌≤ℤ◌, ◌≤◌, neg_ℤ, ◌||◌, if◌then◌else◌, true};
 ghost use Rattle.score_box.specs.Cells.{IsEmptyCell};
-ghost use Rattle.flow_bound.specs.Fixtures.{IsWorthOf, IsCeilingWorth, IsFloorWorth};
+ghost use Rattle.flow_bound.specs.Fixtures.{IsWorthOf};
 
 use crate::cut::Cut;
-use score_box::Cell;
+use score_box::{Cell, MatchPoints};
 
 /// What a fixture adds where one of its clubs is in the set, and what it adds beyond that where
 /// both are. For a ceiling cut the points are counted with the sign turned.
@@ -21,66 +20,20 @@ impl Worth {
         requires { ¬ IsEmptyCell cell.now }
         ensures { IsWorthOf cut cell.now result }
     {
-        let wins = cell.home_wins().is_some();
-        let draws = cell.draws().is_some();
-        let losses = cell.away_wins().is_some();
+        let home = MatchPoints::of(cell, true, false);
+        let away = MatchPoints::of(cell, false, true);
+        let both = MatchPoints::of(cell, true, true);
         match cut {
-            Cut::Floor => Worth::floor(wins, draws, losses),
-            Cut::Ceiling => Worth::ceiling(wins, draws, losses),
+            Cut::Floor => Worth {
+                home: i64::from(home.least),
+                away: i64::from(away.least),
+                surplus: both.least - (home.least + away.least),
+            },
+            Cut::Ceiling => Worth {
+                home: -i64::from(home.most),
+                away: -i64::from(away.most),
+                surplus: home.most + away.most - both.most,
+            },
         }
-    }
-
-    fn floor(wins: bool, draws: bool, losses: bool) -> Worth
-        requires { (wins || draws || losses) ≡ true }
-        ensures value { IsFloorWorth wins draws losses result }
-        ensures small { result.surplus ≤ 3 }
-    {
-        let home = least_alone(losses, draws);
-        let away = least_alone(wins, draws);
-        let both = if draws { 2 } else { 3 };
-        Worth {
-            home: i64::from(home),
-            away: i64::from(away),
-            surplus: both - home - away,
-        }
-    }
-
-    fn ceiling(wins: bool, draws: bool, losses: bool) -> Worth
-        requires { (wins || draws || losses) ≡ true }
-        ensures value { IsCeilingWorth wins draws losses result }
-        ensures small { result.surplus ≤ 3 }
-    {
-        let home = most_alone(wins, draws);
-        let away = most_alone(losses, draws);
-        let both = if wins || losses { 3 } else { 2 };
-        Worth {
-            home: -i64::from(home),
-            away: -i64::from(away),
-            surplus: home + away - both,
-        }
-    }
-}
-
-fn least_alone(may_lose: bool, may_draw: bool) -> u8
-    ensures { result ≡ (if may_lose then 0 else if may_draw then 1 else 3) }
-{
-    if may_lose {
-        0
-    } else if may_draw {
-        1
-    } else {
-        3
-    }
-}
-
-fn most_alone(may_win: bool, may_draw: bool) -> u8
-    ensures { result ≡ (if may_win then 3 else if may_draw then 1 else 0) }
-{
-    if may_win {
-        3
-    } else if may_draw {
-        1
-    } else {
-        0
     }
 }

@@ -8,8 +8,8 @@ ghost use Rattle.league_core.specs.Zones.{is_zone_of, is_test_of};
 
 use crate::{high_cut, low_cut};
 use league_core::{
-    Club, ClubSet, Event, Fixture, Listing, Literal, Name, OutOfMemory, Question, Score, Season,
-    Sheet, Test, Zone,
+    Club, ClubSet, Event, Fixture, Listing, Literal, Name, Order, OutOfMemory, Question, Score,
+    Season, Sheet, Test, Zone,
 };
 use score_box::ZoneBox;
 use std::alloc::Global;
@@ -56,6 +56,7 @@ fn six_clubs(alloc: Global, fixtures: Vec<Fixture>) -> Result<Sheet, OutOfMemory
         lines: Listing::new(alloc),
         goal_limit: 3,
         budget: 2000,
+        order: Order::HeadFirst,
     })
 }
 

@@ -1,4 +1,5 @@
-//! The cut that is to be answered, by a search through all sets of marked clubs, with sums by trying
+//! The cut that is to be answered, by a search through all sets of marked clubs, with sums by
+//! trying
 //! every score.
 
 use crate::tests::league::Match;

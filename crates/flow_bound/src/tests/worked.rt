@@ -27,7 +27,8 @@ fn after(club: u8) -> Literal {
     }
 }
 
-/// B and C have 3 points each and still play each other, A can have 3. Either of B and C may stay at
+/// B and C have 3 points each and still play each other, A can have 3. Either of B and C may stay
+/// at
 /// 3; together they have at least 8, and twice 3 is 6.
 #[test]
 fn two_rivals_that_play_each_other_have_too_many(rt: HostRuntime) -> Result<(), Fail> {
@@ -47,7 +48,8 @@ fn two_rivals_that_play_each_other_have_too_many(rt: HostRuntime) -> Result<(), 
     Ok(())
 }
 
-/// A has 2 points and can have 5, B and C have 4 each and still play each other: at least 10 together,
+/// A has 2 points and can have 5, B and C have 4 each and still play each other: at least 10
+/// together,
 /// which is just twice 5.
 #[test]
 fn as_many_as_allowed_is_no_cut(rt: HostRuntime) -> Result<(), Fail> {

@@ -7,7 +7,9 @@ use Rattle.league_core.specs.ClubSets.{clubs_in}
 use Rattle.league_core.specs.PointRanges.{own_least}
 use Rattle.league_core.specs.Zones.{marked_before}
 use Rattle.flow_bound.specs.Excess.{ceiling_excess}
-use Rattle.flow_bound.proofs.CutLemmas.{GivesExcess, chosen_found, ceiling_excess-is, ceiling_fails, ceiling_found, nothing_exceeds, ceiling_unmarked}
+use Rattle.flow_bound.proofs.ChosenLemmas.{GivesExcess}
+use Rattle.flow_bound.proofs.CutLemmas.{chosen_found, ceiling_excess-is, ceiling_fails}
+use Rattle.flow_bound.proofs.CutLemmas.{ceiling_found, nothing_exceeds, ceiling_unmarked}
 use Rattle.flow_bound.proofs.SetLemmas.{no_club_left}
 use Rattle.flow_bound.proofs.cut.high_cut.Goals as goal
 

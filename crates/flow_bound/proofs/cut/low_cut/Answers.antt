@@ -7,7 +7,9 @@ use Rattle.league_core.specs.ClubSets.{clubs_in}
 use Rattle.league_core.specs.PointRanges.{own_most}
 use Rattle.league_core.specs.Zones.{marked_after}
 use Rattle.flow_bound.specs.Excess.{floor_excess}
-use Rattle.flow_bound.proofs.CutLemmas.{GivesExcess, chosen_found, floor_excess-is, floor_fails, floor_found, nothing_exceeds, floor_unmarked}
+use Rattle.flow_bound.proofs.ChosenLemmas.{GivesExcess}
+use Rattle.flow_bound.proofs.CutLemmas.{chosen_found, floor_excess-is, floor_fails, floor_found}
+use Rattle.flow_bound.proofs.CutLemmas.{nothing_exceeds, floor_unmarked}
 use Rattle.flow_bound.proofs.SetLemmas.{no_club_left}
 use Rattle.flow_bound.proofs.cut.low_cut.Goals as goal
 

@@ -1,7 +1,8 @@
 -- The next club has its arc, or none where it is not in the set.
 use mir.Syntax.{w64}
 use mir.Val.{to_z, of_z}
-use Rattle.std.proofs.Common.{◌≡◌, ℕ, pos, ◌+ℤ◌, Bool, cond, List, [], ◌∷◌, length, refl, ap, subst, ◌∙◌, arith}
+use Rattle.std.proofs.Common.{◌≡◌, ℕ, pos, ◌+ℤ◌, Bool, cond, List, [], ◌∷◌, length, refl, ap, subst}
+use Rattle.std.proofs.Common.{◌∙◌, arith}
 use Rattle.std.proofs.lemmas.Int.{ints}
 use Rattle.flow_net.specs.declared.arcs.Arc.{Arc}
 use Rattle.flow_net.specs.Cut.{capacity_of}
@@ -50,7 +51,7 @@ loop-club-preserved c = record {
         c.loop-club.invariant.cut side
             cut,
       );
-  within = omega (arith, c.add_club-total.ensures.within, c.loop-club.invariant.within);
+  within = omega (arith, ints, c.add_club-total.ensures.within, c.loop-club.invariant.within);
   count = omega (arith, c.add_club-total.ensures.count, c.loop-club.invariant.count);
   nodes = c.add_club-total.ensures.nodes ∙ c.loop-club.invariant.nodes;
   room = c.add_club-total.ensures.room ∙ c.loop-club.invariant.room;

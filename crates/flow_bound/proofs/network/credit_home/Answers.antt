@@ -4,7 +4,7 @@ use mir.Val.{to_z, of_z}
 use Rattle.std.proofs.Common.{◌≡◌, true, sym, ◌∙◌, arith}
 use Rattle.std.proofs.lemmas.Int.{ints}
 use Rattle.flow_bound.specs.Parts.{side_of}
-use Rattle.flow_bound.proofs.PartLemmas.{home_credited, IsTable-surplus}
+use Rattle.flow_bound.proofs.PartLemmas.{home_credited, IsClubTable-surplus}
 use Rattle.flow_bound.proofs.SetLemmas.{side_of-lt}
 use Rattle.flow_bound.proofs.network.credit_home.Goals as goal
 
@@ -26,7 +26,7 @@ returns-clause-sums c side =
 
 pub returns-clause-sized : goal.returns-clause-sized
 returns-clause-sized c credits is =
-    IsTable-surplus credits c.args.table.now c.credit.new.table c.args.pair.home
+    IsClubTable-surplus credits c.args.table.now c.credit.new.table c.args.pair.home
     c.args.pair.surplus (to_z w64 (of_z w64 c.from.result)) is
     (side_of-lt c.args.set c.args.pair.home (sym c.has.ensures ∙ c.if-not-has.false))
     c.requires.small (omega (arith, ints, c.from.ensures)) c.credit.ensures

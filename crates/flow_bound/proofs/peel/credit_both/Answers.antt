@@ -3,8 +3,8 @@ use mir.Syntax.{w64}
 use mir.Val.{to_z, of_z}
 use Rattle.std.proofs.Common.{◌≡◌, ◌+◌, ℕ, true, sym, subst, ◌∙◌, arith}
 use Rattle.std.proofs.lemmas.Int.{ints}
-use Rattle.flow_bound.specs.Parts.{IsTable, side_of}
-use Rattle.flow_bound.proofs.PartLemmas.{home_credited, away_credited, IsTable-surplus}
+use Rattle.flow_bound.specs.Parts.{IsClubTable, side_of}
+use Rattle.flow_bound.proofs.PartLemmas.{home_credited, away_credited, IsClubTable-surplus}
 use Rattle.flow_bound.proofs.SetLemmas.{side_of-lt}
 use Rattle.flow_bound.proofs.peel.credit_both.Goals as goal
 
@@ -37,13 +37,15 @@ returns-clause-sized c credits is =
     let pair = c.args.pair in
     let home = sym c.has.ensures ∙ c.if-not-has.false in
     let away = sym c.has-else-not-has.ensures ∙ c.if-not-has-2.false in
-    let first = IsTable-surplus credits c.args.table.now c.credit.new.table pair.home pair.surplus
+    let first = IsClubTable-surplus credits c.args.table.now c.credit.new.table pair.home
+    pair.surplus
     (to_z w64 (of_z w64 c.from-surplus.result)) is (side_of-lt c.args.set pair.home home)
     c.requires.small
     (omega (arith, ints, c.from-surplus.ensures)) c.credit.ensures in
     let both : credits + 1 + 1 ≡ credits + 2 = omega arith in
-    subst (λ (n : ℕ). IsTable n c.credit-2.new.table) both
-    (IsTable-surplus (credits + 1) c.credit.new.table c.credit-2.new.table pair.away pair.surplus
+    subst (λ (n : ℕ). IsClubTable n c.credit-2.new.table) both
+    (IsClubTable-surplus
+    (credits + 1) c.credit.new.table c.credit-2.new.table pair.away pair.surplus
     (to_z w64 (of_z w64 c.from-surplus.result)) first (side_of-lt c.args.set pair.away away)
     c.requires.small
     (omega (arith, ints, c.from-surplus.ensures)) c.credit-2.ensures)

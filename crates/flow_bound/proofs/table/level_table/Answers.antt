@@ -1,7 +1,8 @@
 -- The next club's entry is written, and those behind it are still the level.
 use mir.Syntax.{w64}
 use mir.Val.{to_z, of_z}
-use Rattle.std.proofs.Common.{◌≡◌, ◌<◌, pos, ◌-ℤ◌, ◌≤ℤ◌, neg_ℤ, length, set, slice_index, refl, sym, ap, ◌∙◌, inl, inr, arith}
+use Rattle.std.proofs.Common.{◌≡◌, ◌<◌, pos, ◌-ℤ◌, ◌≤ℤ◌, neg_ℤ, length, set, slice_index, refl, sym}
+use Rattle.std.proofs.Common.{ap, ◌∙◌, inl, inr, arith}
 use Rattle.std.proofs.lemmas.Int.{ints}
 use Rattle.std.proofs.lemmas.Bool.{cases_eq, cases_lt}
 use Rattle.std.proofs.lemmas.List.{get_or-replicate, get_or_past, length-set}

@@ -1,12 +1,14 @@
 -- The entries of both clubs and the pair grow by what the fixture is worth.
 use mir.Syntax.{w64}
 use mir.Val.{to_z, of_z}
-use Rattle.std.proofs.Common.{◌≡◌, ℕ, ◌+◌, pos, ◌+ℤ◌, neg_ℤ, ◌≤ℤ◌, false, refl, sym, ap, subst, ◌∙◌, arith}
+use Rattle.std.proofs.Common.{◌≡◌, ℕ, ◌+◌, pos, ◌+ℤ◌, neg_ℤ, ◌≤ℤ◌, false, refl, sym, ap, subst, ◌∙◌}
+use Rattle.std.proofs.Common.{arith}
 use Rattle.std.proofs.lemmas.Int.{ints}
 use Rattle.flow_bound.specs.declared.tally.Pair.{Pair}
-use Rattle.flow_bound.specs.Parts.{IsTable, excess_in, side_of}
-use Rattle.flow_bound.proofs.PartLemmas.{IsTable-amount, not_part}
-use Rattle.flow_bound.proofs.FixtureLemmas.{fixture_added, no_side}
+use Rattle.flow_bound.specs.Parts.{IsClubTable, excess_in, side_of}
+use Rattle.flow_bound.proofs.PartLemmas.{IsClubTable-amount, not_part}
+use Rattle.flow_bound.proofs.FixtureLemmas.{fixture_added}
+use Rattle.flow_bound.proofs.WorthLemmas.{no_side}
 use Rattle.flow_bound.proofs.tally.Tally.add.Goals as goal
 
 pub returns-then-not-away-clause-excess : goal.returns-then-not-away-clause-excess
@@ -42,7 +44,7 @@ credit-requires-2-clause-least c =
       c.of-worth.ensures.home_least,
       c.of-worth.ensures.home_most,
     ) in
-    let middle = IsTable-amount (c.requires.alone.0 + c.requires.alone.0) c.args.self.now.alone
+    let middle = IsClubTable-amount (c.requires.alone.0 + c.requires.alone.0) c.args.self.now.alone
     c.credit.new.table c.args.fixture.home home c.requires.alone.2 c.requires.in_range.0 least most
     c.credit.ensures in
     omega (arith, ints, c.requires.alone.1, middle.least c.args.fixture.away)
@@ -62,7 +64,7 @@ credit-requires-2-clause-most c =
       c.of-worth.ensures.home_least,
       c.of-worth.ensures.home_most,
     ) in
-    let middle = IsTable-amount (c.requires.alone.0 + c.requires.alone.0) c.args.self.now.alone
+    let middle = IsClubTable-amount (c.requires.alone.0 + c.requires.alone.0) c.args.self.now.alone
     c.credit.new.table c.args.fixture.home home c.requires.alone.2 c.requires.in_range.0 least most
     c.credit.ensures in
     omega (arith, ints, c.requires.alone.1, middle.most c.args.fixture.away)
@@ -126,9 +128,11 @@ returns-clause-alone c credits is =
       c.of-worth.ensures.away_least,
       c.of-worth.ensures.away_most,
     ) in
-    let middle = IsTable-amount credits c.args.self.now.alone c.credit.new.table c.args.fixture.home
+    let middle = IsClubTable-amount credits c.args.self.now.alone c.credit.new.table
+    c.args.fixture.home
     home is c.requires.in_range.0 least most c.credit.ensures in
     let both : credits + 1 + 1 ≡ credits + 2 = omega arith in
-    subst (λ (n : ℕ). IsTable n c.credit-2.new.table) both
-    (IsTable-amount (credits + 1) c.credit.new.table c.credit-2.new.table c.args.fixture.away away
+    subst (λ (n : ℕ). IsClubTable n c.credit-2.new.table) both
+    (IsClubTable-amount
+    (credits + 1) c.credit.new.table c.credit-2.new.table c.args.fixture.away away
     middle c.requires.in_range.1 least_away most_away c.credit-2.ensures)

@@ -3,18 +3,11 @@ use Rattle.std.proofs.Common.{inl}
 use Rattle.flow_bound.specs.Parts.{side_of}
 use Rattle.flow_bound.proofs.ChoiceLemmas.{answer_of_rest}
 use Rattle.flow_bound.proofs.PeelLemmas.{none_left}
-use Rattle.flow_bound.proofs.SetLemmas.{no_club_left, one_club_added, side_of-lt}
+use Rattle.flow_bound.proofs.SetLemmas.{no_club_left}
 use Rattle.flow_bound.proofs.tally.Tally.choose.Goals as goal
 
 pub returns-in-Some : goal.returns-in-Some
-returns-in-Some c =
-    let low = side_of-lt c.args.marked c.in-Some.club c.in-Some.ensures.among in
-    inl (
-      c.in-Some.club,
-      c.in-Some.ensures,
-      one_club_added c.empty.result c.with_if.result
-          c.in-Some.club low c.empty.ensures c.with_if.ensures,
-    )
+returns-in-Some c = inl (c.in-Some.club, c.in-Some.ensures, c.single.ensures)
 
 pub returns-then-is_empty : goal.returns-then-is_empty
 returns-then-is_empty c =

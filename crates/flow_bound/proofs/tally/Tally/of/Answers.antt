@@ -1,7 +1,8 @@
 -- Each fixture is one of the sheet, has an option, and adds the end of its range.
 use mir.Syntax.{w64}
 use mir.Val.{to_z, of_z}
-use Rattle.std.proofs.Common.{◌≡◌, ◌≢◌, ℕ, ◌+◌, ◌<◌, pos, ◌-ℤ◌, List, [], length, get_or, slice_index, sym, ap, subst, ◌∙◌, arith}
+use Rattle.std.proofs.Common.{◌≡◌, ◌≢◌, ℕ, ◌+◌, ◌<◌, pos, ◌-ℤ◌, List, [], length, get_or}
+use Rattle.std.proofs.Common.{slice_index, sym, ap, subst, ◌∙◌, arith}
 use Rattle.std.proofs.lemmas.Int.{ints}
 use Rattle.league_core.specs.declared.sheet.Sheet.{Sheet}
 use Rattle.league_core.specs.declared.sheet.Fixture.{Fixture}
@@ -10,10 +11,12 @@ use Rattle.league_core.specs.ClubSets.{clubs_in}
 use Rattle.league_core.specs.Options.{options_in}
 use Rattle.league_core.specs.PointRanges.{points_together, range_from}
 use Rattle.league_core.proofs.OptionLemmas.{length-options_from}
-use Rattle.flow_bound.specs.Parts.{IsTable, entry, side_of}
+use Rattle.flow_bound.specs.Parts.{IsClubTable, entry, side_of}
 use Rattle.flow_bound.specs.Fixtures.{counted, end_of, excess_over}
-use Rattle.flow_bound.proofs.FixtureLemmas.{cell_of_option, excess_over-is, fixture_of_sheet, level_is, option_at, range_end, range_next}
-use Rattle.flow_bound.proofs.PartLemmas.{ArePairs-more, ArePairs-none, IsTable-more, excess_in-none}
+use Rattle.flow_bound.proofs.FixtureLemmas.{cell_of_option, excess_over-is, fixture_of_sheet}
+use Rattle.flow_bound.proofs.FixtureLemmas.{level_is, option_at, range_end, range_next}
+use Rattle.flow_bound.proofs.PartLemmas.{ArePairs-more, ArePairs-none, IsClubTable-more}
+use Rattle.flow_bound.proofs.PartLemmas.{excess_in-none}
 use Rattle.flow_bound.proofs.tally.Tally.of.Goals as goal
 
 pub loop-fixture-init : goal.loop-fixture-init
@@ -99,7 +102,8 @@ loop-fixture-preserved c =
           let added = c.add.ensures.excess (side_of set) part (get_or options i [])
           c.cell-cell.ensures in
           omega (arith, ints, c.loop-fixture.invariant.excess set part);
-      alone = subst (λ (n : ℕ). IsTable n c.add.new.self.alone) next (c.add.ensures.alone (i + i)
+      alone = subst (λ (n : ℕ). IsClubTable n c.add.new.self.alone) next
+          (c.add.ensures.alone (i + i)
           c.loop-fixture.invariant.alone);
       pairs = c.add.ensures.pairs i c.loop-fixture.invariant.pairs;
     }
@@ -124,7 +128,7 @@ pub returns-clause-alone : goal.returns-clause-alone
 returns-clause-alone c =
     let i = c.loop-fixture.fixture in
     let slice = ap length c.as_slice-fixtures.ensures in
-    IsTable-more (i + i) 1200 c.loop-fixture.tally.alone (omega (
+    IsClubTable-more (i + i) 1200 c.loop-fixture.tally.alone (omega (
       arith,
       c.loop-fixture.auto.fixture-end,
       c.sheet.ensures.limits.most_fixtures,

@@ -3,7 +3,7 @@ use Rattle.std.proofs.Common.{◌≡◌, ℕ, ◌+◌, ◌*◌, ◌<◌, cond, s
 use Rattle.std.proofs.lemmas.Int.{ints}
 use Rattle.std.proofs.lemmas.List.Sums.{sum_by_more}
 use Rattle.flow_bound.specs.declared.tally.Pair.{Pair}
-use Rattle.flow_bound.specs.Parts.{IsTable, side_of}
+use Rattle.flow_bound.specs.Parts.{IsClubTable, side_of}
 use Rattle.flow_bound.specs.Network.{has_away_in, has_home_in}
 use Rattle.flow_bound.proofs.tally.Tally.reach.Goals as goal
 
@@ -23,6 +23,6 @@ loop-pair-preserved c = record {
   sized =
       let i = c.loop-pair.pair-index in
       let next : 1200 + 2 * i + 2 ≡ 1200 + 2 * (i + 1) = omega arith in
-      subst (λ (n : ℕ). IsTable n c.credit_both.new.table) next
+      subst (λ (n : ℕ). IsClubTable n c.credit_both.new.table) next
       (c.credit_both.ensures.sized (1200 + 2 * i) c.loop-pair.invariant.sized);
 }

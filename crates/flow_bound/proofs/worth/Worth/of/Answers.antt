@@ -1,39 +1,42 @@
--- The outcomes that the cell has are those of its options.
-use Rattle.std.proofs.Common.{◌≡◌, true, ◌||◌, sym, subst}
-use Rattle.flow_bound.specs.declared.cut.Cut.{Cut}
-use Rattle.flow_bound.specs.Fixtures.{IsCeilingWorth, IsFloorWorth, IsWorthOf}
-use Rattle.flow_bound.proofs.FixtureLemmas.{ceiling_is, floor_is, same_outcomes, some_outcome}
+-- The points of both sides lie beyond those of each alone.
+use mir.Syntax.{w64}
+use mir.Val.{to_z, of_z}
+use Rattle.std.proofs.Common.{◌≡◌, pos, ◌-ℤ◌, refl, arith}
+use Rattle.std.proofs.lemmas.Int.{ints}
+use Rattle.flow_bound.proofs.WorthLemmas.{sides_add_up, floor_worth, ceiling_worth}
 use Rattle.flow_bound.proofs.worth.Worth.of.Goals as goal
 
-pub floor-requires : goal.floor-requires
-floor-requires c =
-    same_outcomes (λ w d l. (w || d || l) ≡ true) _ _ _ _ _ _ c.is_some-wins.ensures
-    c.is_some-draws.ensures c.is_some-losses.ensures
-    (some_outcome c.args.cell.now c.home_wins.result c.draws.result c.away_wins.result
-    c.home_wins.ensures.goals c.draws.ensures.goals c.away_wins.ensures.goals c.requires)
+pub overflow_sub-result : goal.overflow_sub-result
+overflow_sub-result c =
+    (sides_add_up c.args.cell.now c.of-home.result c.of-away.result c.of-both.result
+    c.of-home.ensures c.of-away.ensures c.of-both.ensures c.requires).least
 
-pub ceiling-requires : goal.ceiling-requires
-ceiling-requires c =
-    same_outcomes (λ w d l. (w || d || l) ≡ true) _ _ _ _ _ _ c.is_some-wins.ensures
-    c.is_some-draws.ensures c.is_some-losses.ensures
-    (some_outcome c.args.cell.now c.home_wins.result c.draws.result c.away_wins.result
-    c.home_wins.ensures.goals c.draws.ensures.goals c.away_wins.ensures.goals c.requires)
+pub overflow_sub-result-in-Ceiling-3 : goal.overflow_sub-result-in-Ceiling-3
+overflow_sub-result-in-Ceiling-3 c =
+    (sides_add_up c.args.cell.now c.of-home.result c.of-away.result c.of-both.result
+    c.of-home.ensures c.of-away.ensures c.of-both.ensures c.requires).most
 
 pub returns-in-Floor : goal.returns-in-Floor
 returns-in-Floor c =
-    subst (λ (cut : Cut). IsWorthOf cut c.args.cell.now c.floor.result) (sym c.in-Floor.is)
-    (floor_is c.args.cell.now c.home_wins.result c.draws.result c.away_wins.result c.floor.result
-    c.home_wins.ensures.goals c.draws.ensures.goals c.away_wins.ensures.goals c.requires
-    (same_outcomes (λ w d l. IsFloorWorth w d l c.floor.result) _ _ _ _ _ _
-    (sym c.is_some-wins.ensures) (sym c.is_some-draws.ensures) (sym c.is_some-losses.ensures)
-    c.floor.ensures.value) c.floor.ensures.small)
+    let home : to_z w64 (of_z w64 c.from.result) ≡ pos c.of-home.result.least =
+    omega (arith, ints, c.from.ensures, c.of-home.ensures.in_order, c.of-home.ensures.at_most) in
+    let away : to_z w64 (of_z w64 c.from-in-Floor.result) ≡ pos c.of-away.result.least = omega (
+      arith,
+      ints,
+      c.from-in-Floor.ensures,
+      c.of-away.ensures.in_order,
+      c.of-away.ensures.at_most,
+    ) in
+    floor_worth c.args.cut c.args.cell.now c.of-home.result c.of-away.result c.of-both.result _
+    c.in-Floor.is c.of-home.ensures c.of-away.ensures c.of-both.ensures c.requires home away refl
 
 pub returns-in-Ceiling : goal.returns-in-Ceiling
 returns-in-Ceiling c =
-    subst (λ (cut : Cut). IsWorthOf cut c.args.cell.now c.ceiling.result) (sym c.in-Ceiling.is)
-    (ceiling_is c.args.cell.now c.home_wins.result c.draws.result c.away_wins.result
-    c.ceiling.result
-    c.home_wins.ensures.goals c.draws.ensures.goals c.away_wins.ensures.goals c.requires
-    (same_outcomes (λ w d l. IsCeilingWorth w d l c.ceiling.result) _ _ _ _ _ _
-    (sym c.is_some-wins.ensures) (sym c.is_some-draws.ensures) (sym c.is_some-losses.ensures)
-    c.ceiling.ensures.value) c.ceiling.ensures.small)
+    let home : to_z w64 (of_z w64 (pos 0 -ℤ to_z w64 (of_z w64 c.from-in-Ceiling.result)))
+    ≡ pos 0 -ℤ pos c.of-home.result.most =
+    omega (arith, ints, c.from-in-Ceiling.ensures, c.of-home.ensures.at_most) in
+    let away : to_z w64 (of_z w64 (pos 0 -ℤ to_z w64 (of_z w64 c.from-in-Ceiling-2.result)))
+    ≡ pos 0 -ℤ pos c.of-away.result.most =
+    omega (arith, ints, c.from-in-Ceiling-2.ensures, c.of-away.ensures.at_most) in
+    ceiling_worth c.args.cut c.args.cell.now c.of-home.result c.of-away.result c.of-both.result _
+    c.in-Ceiling.is c.of-home.ensures c.of-away.ensures c.of-both.ensures c.requires home away refl
