@@ -7,8 +7,8 @@ ghost use Rattle.league_core.specs.HeadToHead.{by_first_difference};
 ghost use Rattle.league_core.specs.Ahead.{overall_of};
 ghost use Rattle.tie_criteria.specs.Parts.{tail_parts};
 
-use crate::measure::{Matches, Measure};
-use crate::sums::sum;
+use crate::measure::Matches;
+use crate::sums::sums_of;
 use league_core::{Season, Sheet};
 use std::cmp::Ordering;
 
@@ -53,13 +53,13 @@ pub fn tail_of(sheet: &Sheet, season: &Season, club: u8) -> Tail
     requires in_range { club < length sheet.now.clubs }
     ensures { tail_parts result ≡ overall_of sheet.now season.now club }
 {
-    let all = Matches::All;
+    let sums = sums_of(sheet, season, Matches::All, club);
     Tail {
-        difference: sum(sheet, season, Measure::Difference, all, club),
-        scored: sum(sheet, season, Measure::Goals, all, club),
-        away_scored: sum(sheet, season, Measure::AwayGoals, all, club),
-        wins: sum(sheet, season, Measure::Wins, all, club),
-        away_wins: sum(sheet, season, Measure::AwayWins, all, club),
+        difference: sums.difference,
+        scored: sums.goals,
+        away_scored: sums.away_goals,
+        wins: sums.wins,
+        away_wins: sums.away_wins,
         rank: sheet.clubs.as_slice()[club as usize].rank,
     }
 }

@@ -7,8 +7,8 @@ ghost use Rattle.league_core.specs.ClubSets.{clubs_in};
 ghost use Rattle.tie_criteria.specs.Parts.{triple_parts, goal_parts};
 ghost use Rattle.tie_criteria.specs.Records.{record_at, IsBounded, GrowsBy};
 
-use crate::measure::{Matches, Measure, match_points};
-use crate::sums::sum;
+use crate::measure::{Matches, match_points};
+use crate::sums::sums_of;
 use league_core::{ClubSet, Season, Sheet};
 use std::cmp::Ordering;
 
@@ -64,11 +64,11 @@ pub fn triple_of(sheet: &Sheet, season: &Season, group: ClubSet, club: u8) -> Tr
     requires league { IsLeague sheet.now season.now }
     ensures { triple_parts result ≡ head_to_head_of sheet.now season.now (clubs_in group) club }
 {
-    let matches = Matches::Among(group);
+    let sums = sums_of(sheet, season, Matches::Among(group), club);
     Triple {
-        points: sum(sheet, season, Measure::Points, matches, club),
-        difference: sum(sheet, season, Measure::Difference, matches, club),
-        scored: sum(sheet, season, Measure::Goals, matches, club),
+        points: sums.points,
+        difference: sums.difference,
+        scored: sums.goals,
     }
 }
 
