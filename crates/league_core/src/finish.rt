@@ -100,7 +100,33 @@ mod tests {
     use crate::listing::{Listing, Name};
     use crate::season::Event;
     use crate::sheet::Order;
+    use std::alloc::Global;
     use std::test::Fail;
+
+    /// Two matches, both won 2:0 at home.
+    fn both_won(alloc: Global) -> Result<Season, Fail> {
+        let mut season = Season::unplayed(alloc, 2, 2).ok().ok_or("room")?;
+        let score = Score { home: 2, away: 0 };
+        season.apply(&Event::Set { fixture: 0, score });
+        season.apply(&Event::Set { fixture: 1, score });
+        Ok(season)
+    }
+
+    /// The second one alone is played.
+    fn second_won(alloc: Global) -> Result<Season, Fail> {
+        let mut season = Season::unplayed(alloc, 2, 2).ok().ok_or("room")?;
+        let score = Score { home: 2, away: 0 };
+        season.apply(&Event::Set { fixture: 1, score });
+        Ok(season)
+    }
+
+    /// The first one is drawn.
+    fn first_drawn(alloc: Global) -> Result<Season, Fail> {
+        let mut season = Season::unplayed(alloc, 2, 2).ok().ok_or("room")?;
+        let score = Score { home: 0, away: 0 };
+        season.apply(&Event::Set { fixture: 0, score });
+        Ok(season)
+    }
 
     #[test]
     fn a_result_can_end_a_kept_finish(rt: HostRuntime) -> Result<(), Fail> {
@@ -114,21 +140,11 @@ mod tests {
             budget: 1,
             order: Order::HeadFirst,
         };
-        let mut season = Season::unplayed(alloc, 2, 2).ok().ok_or("room")?;
-        let mut kept = season.copy(alloc).ok().ok_or("room")?;
-        let score = Score { home: 2, away: 0 };
-        kept.apply(&Event::Set { fixture: 0, score });
-        kept.apply(&Event::Set { fixture: 1, score });
-        let finish = Finish::of_season(kept).ok().ok_or("played")?;
-        assert!(rt; finish.is_of(&sheet, &season));
-        season.apply(&Event::Set { fixture: 1, score });
-        assert!(rt; finish.is_of(&sheet, &season));
-        let other = Score { home: 0, away: 0 };
-        season.apply(&Event::Set {
-            fixture: 0,
-            score: other,
-        });
-        assert!(rt; !finish.is_of(&sheet, &season));
+        let finish = Finish::of_season(both_won(alloc)?).ok().ok_or("played")?;
+        let unplayed = Season::unplayed(alloc, 2, 2).ok().ok_or("room")?;
+        assert!(rt; finish.is_of(&sheet, &unplayed));
+        assert!(rt; finish.is_of(&sheet, &second_won(alloc)?));
+        assert!(rt; !finish.is_of(&sheet, &first_drawn(alloc)?));
         Ok(())
     }
 }
