@@ -1,5 +1,7 @@
 -- The text of a line in range has printed characters alone.
-use Rattle.std.proofs.Common.{◌≡◌, ℕ, suc, ◌+◌, ◌<◌, ◌≤◌, ◌%◌, ◌^◌, ℤ, pos, negsuc, Bool, true, ◌&&◌, nat_lt, nat_le, List, [], ◌∷◌, ◌++◌, map, decimal, refl, ◌∙◌, arith}
+use Rattle.std.proofs.Common.{◌≡◌, ℕ, suc, ◌+◌, ◌<◌, ◌≤◌, ◌%◌, ◌^◌, ℤ, pos, negsuc, Bool, true}
+use Rattle.std.proofs.Common.{◌&&◌, nat_lt, nat_le, List, [], ◌∷◌, ◌++◌, map, decimal, refl, ◌∙◌}
+use Rattle.std.proofs.Common.{arith}
 use Rattle.std.specs.Prelude.{int_le}
 use Rattle.std.specs.List.{list_all, join_with_byte}
 use Rattle.std.specs.Fmt.{signed_decimal}
@@ -20,8 +22,12 @@ use Rattle.league_core.specs.declared.zone.Reason.{Reason}
 use Rattle.league_core.specs.declared.zone.Reason.TheVariants.{Count, Window, Low, High, Tie}
 use Rattle.cert_text.specs.declared.proof_line.ProofLine.{ProofLine}
 use Rattle.cert_text.specs.declared.proof_line.ProofLine.TheVariants as line
-use Rattle.cert_text.specs.Lines.{Part, word, whole, points, clubs, number_in_text, claim_word, test_parts, reason_parts, parts_of, array_text, part_text, is_printed, text_of_line}
-use Rattle.cert_text.specs.Ranges.{is_fixture_number, is_club_number, is_goal_bound, are_points, is_test_in_range, is_set_in_range, is_reason_in_range, is_in_range}
+use Rattle.cert_text.specs.Lines.{Part, word, whole, points, clubs, number_in_text, claim_word}
+use Rattle.cert_text.specs.Lines.{test_parts, reason_parts, parts_of, array_text, part_text}
+use Rattle.cert_text.specs.Lines.{is_printed, text_of_proof_line}
+use Rattle.cert_text.specs.Ranges.{is_fixture_number, is_club_number, is_goal_bound, are_points}
+use Rattle.cert_text.specs.Ranges.{is_test_in_range, is_set_in_range, is_reason_in_range}
+use Rattle.cert_text.specs.Ranges.{is_in_range}
 
 is_printed-from : (byte : ℕ) → 32 ≤ byte → byte < 127 → is_printed byte ≡ true
 is_printed-from byte low high =
@@ -30,31 +36,40 @@ is_printed-from byte low high =
 one_printed : (byte : ℕ) → 32 ≤ byte → byte < 127 → list_all is_printed (byte ∷ []) ≡ true
 one_printed byte low high = and_from (is_printed byte) true (is_printed-from byte low high) refl
 
-both_printed : (xs ys : List ℕ) → list_all is_printed xs ≡ true → list_all is_printed ys ≡ true → list_all is_printed (xs ++ ys) ≡ true
+both_printed : (xs ys : List ℕ) → list_all is_printed xs ≡ true → list_all is_printed ys ≡ true
+    → list_all is_printed (xs ++ ys) ≡ true
 both_printed xs ys first second =
-    list_all-append is_printed xs ys ∙ and_from (list_all is_printed xs) (list_all is_printed ys) first second
+    list_all-append is_printed xs ys
+    ∙ and_from (list_all is_printed xs) (list_all is_printed ys) first second
 
 -- digits are printed
 decimal_printed : (n : ℕ) → n < 2 ^ 64 → list_all is_printed (decimal n) ≡ true
 decimal_printed = decimal_by_steps (λ n ds. list_all is_printed ds ≡ true)
     (λ n small. one_printed (48 + n) (omega arith) (omega arith))
-    (λ n ds large printed. both_printed ds ((48 + n % 10) ∷ []) printed (one_printed (48 + n % 10) (omega arith) (omega arith)))
+    (λ n ds large printed. both_printed ds ((48 + n % 10) ∷ []) printed
+    (one_printed (48 + n % 10) (omega arith) (omega arith)))
 
 small_printed : (n : ℕ) → n < 10000 → list_all is_printed (decimal n) ≡ true
 small_printed n small = decimal_printed n (omega arith)
 
 -- printed items with commas between them are printed
-items_printed : {X : Type 0} (text : X → List ℕ) (known : X → Bool) → ((x : X) → known x ≡ true → list_all is_printed (text x) ≡ true) → (xs : List X) → list_all known xs ≡ true → list_all is_printed (join_with_byte 44 (map text xs)) ≡ true
+items_printed : {X : Type 0} (text : X → List ℕ) (known : X → Bool)
+    → ((x : X) → known x ≡ true → list_all is_printed (text x) ≡ true) → (xs : List X)
+    → list_all known xs ≡ true → list_all is_printed (join_with_byte 44 (map text xs)) ≡ true
 items_printed text known each [] all = refl
 items_printed text known each (x ∷ []) all = each x (and_parts (known x) true all).0
 items_printed text known each (x ∷ next ∷ xs) all =
     let parts = and_parts (known x) (list_all known (next ∷ xs)) all in
-    both_printed (text x) (44 ∷ join_with_byte 44 (map text (next ∷ xs))) (each x parts.0) (items_printed text known each (next ∷ xs) parts.1)
+    both_printed (text x) (44 ∷ join_with_byte 44 (map text (next ∷ xs))) (each x parts.0)
+    (items_printed text known each (next ∷ xs) parts.1)
 
 -- and so is their array
-array_printed : {X : Type 0} (text : X → List ℕ) (known : X → Bool) → ((x : X) → known x ≡ true → list_all is_printed (text x) ≡ true) → (xs : List X) → list_all known xs ≡ true → list_all is_printed (array_text (map text xs)) ≡ true
+array_printed : {X : Type 0} (text : X → List ℕ) (known : X → Bool)
+    → ((x : X) → known x ≡ true → list_all is_printed (text x) ≡ true) → (xs : List X)
+    → list_all known xs ≡ true → list_all is_printed (array_text (map text xs)) ≡ true
 array_printed text known each xs all =
-    both_printed (91 ∷ join_with_byte 44 (map text xs)) (93 ∷ []) (items_printed text known each xs all) refl
+    both_printed (91 ∷ join_with_byte 44 (map text xs)) (93 ∷ [])
+    (items_printed text known each xs all) refl
 
 -- a part whose word is printed and whose numbers are small
 abbrev is_small_part : Part → Bool
@@ -77,21 +92,25 @@ points_printed (negsuc n) within =
     small : (k : ℕ) → int_le (negsuc 98) (negsuc k) ≡ true → suc k < 10000
     small k h = grind (arith, ints)
 
-part_printed : (part : Part) → is_small_part part ≡ true → list_all is_printed (part_text part) ≡ true
+part_printed : (part : Part) → is_small_part part ≡ true
+    → list_all is_printed (part_text part) ≡ true
 part_printed (word name) small = both_printed (34 ∷ name) (34 ∷ []) small refl
 part_printed (whole n) small = small_printed n (ltb-true n 10000 small)
 part_printed (points n) small = points_printed n small
 part_printed (clubs list) small =
-    array_printed (λ club. decimal (number_in_text club)) is_club_number (λ club known. club_printed club (ltb-true club 24 known)) list small
+    array_printed (λ club. decimal (number_in_text club)) is_club_number
+    (λ club known. club_printed club (ltb-true club 24 known)) list small
   where
-    club_printed : (club : ℕ) → club < 24 → list_all is_printed (decimal (number_in_text club)) ≡ true
+    club_printed : (club : ℕ) → club < 24
+        → list_all is_printed (decimal (number_in_text club)) ≡ true
     club_printed club below = small_printed (number_in_text club) (omega arith)
 
 small_claim : (claim : Claim) → list_all is_printed (claim_word claim) ≡ true
 small_claim Inside = refl
 small_claim Outside = refl
 
-small_fixture : (fixture : ℕ) → is_fixture_number fixture ≡ true → nat_lt (number_in_text fixture) 10000 ≡ true
+small_fixture : (fixture : ℕ) → is_fixture_number fixture ≡ true
+    → nat_lt (number_in_text fixture) 10000 ≡ true
 small_fixture fixture known =
     let below = ltb-true fixture 600 known in
     lt-ltb (number_in_text fixture) 10000 (omega arith)
@@ -113,50 +132,69 @@ alone b e = and_from b true e refl
 pair : (a b : Bool) → a ≡ true → b ≡ true → (a && (b && true)) ≡ true
 pair a b first second = and_from a (b && true) first (alone b second)
 
-small_test : (test : Test) → is_test_in_range test ≡ true → list_all is_small_part (test_parts test) ≡ true
-small_test (Home fixture) known = alone (nat_lt (number_in_text fixture) 10000) (small_fixture fixture known)
-small_test (Draw fixture) known = alone (nat_lt (number_in_text fixture) 10000) (small_fixture fixture known)
+small_test : (test : Test) → is_test_in_range test ≡ true
+    → list_all is_small_part (test_parts test) ≡ true
+small_test (Home fixture) known = alone (nat_lt (number_in_text fixture) 10000)
+    (small_fixture fixture known)
+small_test (Draw fixture) known = alone (nat_lt (number_in_text fixture) 10000)
+    (small_fixture fixture known)
 small_test (HomeMost fixture most) known =
     let parts = and_parts (is_fixture_number fixture) (is_goal_bound most) known in
-    pair (nat_lt (number_in_text fixture) 10000) (nat_lt most 10000) (small_fixture fixture parts.0) (small_goals most 98 (omega arith) parts.1)
+    pair (nat_lt (number_in_text fixture) 10000) (nat_lt most 10000)
+    (small_fixture fixture parts.0) (small_goals most 98 (omega arith) parts.1)
 small_test (AwayMost fixture most) known =
     let parts = and_parts (is_fixture_number fixture) (is_goal_bound most) known in
-    pair (nat_lt (number_in_text fixture) 10000) (nat_lt most 10000) (small_fixture fixture parts.0) (small_goals most 98 (omega arith) parts.1)
+    pair (nat_lt (number_in_text fixture) 10000) (nat_lt most 10000)
+    (small_fixture fixture parts.0) (small_goals most 98 (omega arith) parts.1)
 small_test (Rival club) known = alone (nat_lt (number_in_text club) 10000) (small_club club known)
 
-small_set : (set : ClubSet) → is_set_in_range set ≡ true → (list_all is_club_number (clubs_in set) && true) ≡ true
+small_set : (set : ClubSet) → is_set_in_range set ≡ true
+    → (list_all is_club_number (clubs_in set) && true) ≡ true
 small_set set known =
-    alone (list_all is_club_number (clubs_in set)) (and_parts (has_member (clubs_in set)) (list_all is_club_number (clubs_in set)) known).1
+    alone (list_all is_club_number (clubs_in set))
+    (and_parts (has_member (clubs_in set)) (list_all is_club_number (clubs_in set)) known).1
 
-small_reason : (reason : Reason) → is_reason_in_range reason ≡ true → list_all is_small_part (reason_parts reason) ≡ true
+small_reason : (reason : Reason) → is_reason_in_range reason ≡ true
+    → list_all is_small_part (reason_parts reason) ≡ true
 small_reason Count known = refl
 small_reason Window known = refl
 small_reason (Low set) known = small_set set known
 small_reason (High set) known = small_set set known
 small_reason Tie known = refl
 
-small_score : (fixture : ℕ) (score : Score) → (is_fixture_number fixture && is_score score) ≡ true → (nat_lt (number_in_text fixture) 10000 && (nat_lt score.home 10000 && (nat_lt score.away 10000 && true))) ≡ true
+small_score : (fixture : ℕ) (score : Score) → (is_fixture_number fixture && is_score score) ≡ true
+    → (nat_lt (number_in_text fixture) 10000
+    && (nat_lt score.home 10000 && (nat_lt score.away 10000 && true))) ≡ true
 small_score fixture score known =
     let parts = and_parts (is_fixture_number fixture) (is_score score) known in
     let goals = and_parts (nat_le score.home 99) (nat_le score.away 99) parts.1 in
-    and_from (nat_lt (number_in_text fixture) 10000) (nat_lt score.home 10000 && (nat_lt score.away 10000 && true)) (small_fixture fixture parts.0)
-    (pair (nat_lt score.home 10000) (nat_lt score.away 10000) (small_goals score.home 99 (omega arith) goals.0) (small_goals score.away 99 (omega arith) goals.1))
+    and_from (nat_lt (number_in_text fixture) 10000)
+    (nat_lt score.home 10000 && (nat_lt score.away 10000 && true)) (small_fixture fixture parts.0)
+    (pair (nat_lt score.home 10000) (nat_lt score.away 10000)
+    (small_goals score.home 99 (omega arith) goals.0)
+    (small_goals score.away 99 (omega arith) goals.1))
 
 small_line : (x : ProofLine) → is_in_range x ≡ true → list_all is_small_part (parts_of x) ≡ true
-small_line (line.Tree claim) known = alone (list_all is_printed (claim_word claim)) (small_claim claim)
-small_line (line.Spent claim) known = alone (list_all is_printed (claim_word claim)) (small_claim claim)
+small_line (line.Tree claim) known = alone (list_all is_printed (claim_word claim))
+    (small_claim claim)
+small_line (line.Spent claim) known = alone (list_all is_printed (claim_word claim))
+    (small_claim claim)
 small_line (line.SpentWindow claim low high) known =
     let ends = and_parts (are_points low) (are_points high) known in
-    and_from (list_all is_printed (claim_word claim)) (are_points low && (are_points high && true)) (small_claim claim) (pair (are_points low) (are_points high) ends.0 ends.1)
+    and_from (list_all is_printed (claim_word claim)) (are_points low && (are_points high && true))
+    (small_claim claim) (pair (are_points low) (are_points high) ends.0 ends.1)
 small_line (line.Split test) known = small_test test known
 small_line (line.NewSplit test) known = small_test test known
 small_line (line.Leaf reason) known = small_reason reason known
 small_line (line.NewLeaf reason) known = small_reason reason known
 small_line line.OpenLeaf known = refl
-small_line (line.Finish claim) known = alone (list_all is_printed (claim_word claim)) (small_claim claim)
+small_line (line.Finish claim) known = alone (list_all is_printed (claim_word claim))
+    (small_claim claim)
 small_line (line.Score fixture score) known = small_score fixture score known
 small_line (line.Lots lots) known = alone (list_all is_club_number lots.list) known
 
 -- the text of a line in range is printed
-pub line_printed : (x : ProofLine) → is_in_range x ≡ true → list_all is_printed (text_of_line x) ≡ true
-line_printed x known = array_printed part_text is_small_part part_printed (parts_of x) (small_line x known)
+pub line_printed : (x : ProofLine) → is_in_range x ≡ true
+    → list_all is_printed (text_of_proof_line x) ≡ true
+line_printed x known = array_printed part_text is_small_part part_printed (parts_of x)
+    (small_line x known)

@@ -1,7 +1,9 @@
 -- The text of each proof line: one JSON array without a space, of words, numbers and lists of
--- clubs. Clubs and fixtures count from 1 in texts, and from 0 in types. The forms are this project's
+-- clubs. Clubs and fixtures count from 1 in texts, and from 0 in types. The forms are this
+-- project's
 -- own.
-use Rattle.std.specs.Prelude.{ℕ, ◌+◌, ℤ, Bool, ◌&&◌, nat_le, nat_lt, List, [], ◌∷◌, ◌++◌, map, codes, decimal}
+use Rattle.std.specs.Prelude.{ℕ, ◌+◌, ℤ, Bool, ◌&&◌, nat_le, nat_lt, List, [], ◌∷◌, ◌++◌, map}
+use Rattle.std.specs.Prelude.{codes, decimal}
 use Rattle.std.specs.List.{join_with_byte}
 use Rattle.std.specs.Fmt.{signed_decimal}
 use Rattle.league_core.specs.declared.question.Claim.{Claim}
@@ -25,10 +27,12 @@ pub data Part : Type 0 where
 abbrev pub number_in_text : ℕ → ℕ
 number_in_text number = number + 1
 
+-- the word of a claim
 abbrev pub claim_word : Claim → List ℕ
 claim_word Inside = codes "inside"
 claim_word Outside = codes "outside"
 
+-- a test says its kind, then its fixture or its club, then a bound on goals where it has one
 abbrev pub test_parts : Test → List Part
 test_parts (Home fixture) = word (codes "home") ∷ whole (number_in_text fixture) ∷ []
 test_parts (Draw fixture) = word (codes "draw") ∷ whole (number_in_text fixture) ∷ []
@@ -38,6 +42,7 @@ test_parts (AwayMost fixture most) =
     word (codes "ag") ∷ whole (number_in_text fixture) ∷ whole most ∷ []
 test_parts (Rival club) = word (codes "rival") ∷ whole (number_in_text club) ∷ []
 
+-- a reason says its kind, then the clubs of its set where it has one
 abbrev pub reason_parts : Reason → List Part
 reason_parts Count = word (codes "count") ∷ []
 reason_parts Window = word (codes "window") ∷ []
@@ -73,8 +78,8 @@ part_text (points number) = signed_decimal number
 part_text (clubs list) = array_text (map (λ club. decimal (number_in_text club)) list)
 
 -- the one text of a proof line
-abbrev pub text_of_line : ProofLine → List ℕ
-text_of_line line = array_text (map part_text (parts_of line))
+abbrev pub text_of_proof_line : ProofLine → List ℕ
+text_of_proof_line line = array_text (map part_text (parts_of line))
 
 -- a space or a printed character of ASCII: it ends no line, and is one character of UTF-8
 abbrev pub is_printed : ℕ → Bool

@@ -1,25 +1,26 @@
 -- Which proof lines have a form: the ranges of their numbers, whatever the sheet and the question.
 -- They are the greatest that a league may have.
-use Rattle.std.specs.Prelude.{ℕ, ℤ, pos, negsuc, Bool, true, ◌&&◌, nat_lt, nat_le, int_le}
+use Rattle.std.specs.Prelude.{ℕ, ℤ, Bool, true, ◌&&◌, nat_lt, nat_le, int_le}
 use Rattle.std.specs.List.{list_all}
 use Rattle.league_core.specs.declared.club_set.ClubSet.{ClubSet}
 use Rattle.league_core.specs.declared.zone.Test.{Test}
 use Rattle.league_core.specs.declared.zone.Test.TheVariants.{Home, Draw, HomeMost, AwayMost, Rival}
 use Rattle.league_core.specs.declared.zone.Reason.{Reason}
 use Rattle.league_core.specs.declared.zone.Reason.TheVariants.{Count, Window, Low, High, Tie}
+use Rattle.league_core.specs.Limits.{most_clubs, most_fixtures, least_points, most_points}
 use Rattle.league_core.specs.Results.{is_score}
 use Rattle.league_core.specs.ClubSets.{clubs_in}
 use Rattle.league_core.specs.Reasons.{has_member}
 use Rattle.cert_text.specs.declared.proof_line.ProofLine.{ProofLine}
 use Rattle.cert_text.specs.declared.proof_line.ProofLine.TheVariants as line
 
--- one of at most 600 fixtures
+-- a fixture that a sheet may have
 abbrev pub is_fixture_number : ℕ → Bool
-is_fixture_number fixture = nat_lt fixture 600
+is_fixture_number fixture = nat_lt fixture most_fixtures
 
--- one of at most 24 clubs
+-- a club that a sheet may have
 abbrev pub is_club_number : ℕ → Bool
-is_club_number club = nat_lt club 24
+is_club_number club = nat_lt club most_clubs
 
 -- a bound on the goals of a side that a score of at most 99 can miss
 abbrev pub is_goal_bound : ℕ → Bool
@@ -27,8 +28,9 @@ is_goal_bound most = nat_le most 98
 
 -- points that a club can have
 abbrev pub are_points : ℤ → Bool
-are_points points = int_le (negsuc 98) points && int_le points (pos 1800)
+are_points points = int_le least_points points && int_le points most_points
 
+-- the numbers of a test are such as a fixture, a club and a bound on goals have
 abbrev pub is_test_in_range : Test → Bool
 is_test_in_range (Home fixture) = is_fixture_number fixture
 is_test_in_range (Draw fixture) = is_fixture_number fixture
@@ -40,6 +42,7 @@ is_test_in_range (Rival club) = is_club_number club
 abbrev pub is_set_in_range : ClubSet → Bool
 is_set_in_range set = has_member (clubs_in set) && list_all is_club_number (clubs_in set)
 
+-- the set of a cut is such as a cut has
 abbrev pub is_reason_in_range : Reason → Bool
 is_reason_in_range Count = true
 is_reason_in_range Window = true

@@ -11,6 +11,6 @@ abbrev pub text_of_row : List (List ℕ) → List ℕ
 text_of_row fields = row_text default_writer fields
 
 -- read by csv's defaults, the text is one record of these fields, and nothing is left
-abbrev pub ReadsAs : List ℕ → List (List ℕ) → Type 0
-ReadsAs text fields =
+abbrev pub ReadsBack : List ℕ → List (List ℕ) → Type 0
+ReadsBack text fields =
     next_record default_config st.StartRecord [] [] text ≡ Some (fields, st.StartRecord, [])

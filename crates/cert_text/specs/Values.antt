@@ -10,6 +10,7 @@ use Rattle.cert_text.specs.Lines.{Part, word, whole, points, clubs, number_in_te
 abbrev pub clubs_value : List ℕ → Data
 clubs_value list = array (items_of (map (λ club. number (unsigned (number_in_text club))) list))
 
+-- a part as a JSON value: a string, a number, or an array of clubs
 abbrev pub part_value : Part → Data
 part_value (word name) = string name
 part_value (whole n) = number (unsigned n)

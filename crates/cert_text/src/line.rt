@@ -3,7 +3,7 @@
 ghost use Rattle.std.specs.Prelude.{◌≡◌, Some, IfOk, IsTrue};
 ghost use Rattle.std.specs.List.{list_all};
 ghost use Rattle.serde_json.specs.Read.{read};
-ghost use Rattle.cert_text.specs.Lines.{parts_of, text_of_line, is_printed};
+ghost use Rattle.cert_text.specs.Lines.{parts_of, text_of_proof_line, is_printed};
 ghost use Rattle.cert_text.specs.Ranges.{is_in_range};
 ghost use Rattle.cert_text.specs.Values.{parts_value};
 
@@ -16,7 +16,7 @@ use std::alloc::Global;
 /// JSON it is the array of the line's parts.
 pub fn write_line(alloc: Global, line: &ProofLine) -> Result<Vec<u8>, OutOfMemory>
     requires in_range { IsTrue (is_in_range line.now) }
-    ensures text { IfOk result (λ text. text.items ≡ text_of_line line.now) }
+    ensures text { IfOk result (λ text. text.items ≡ text_of_proof_line line.now) }
     ensures printed { IfOk result (λ text. IsTrue (list_all is_printed text.items)) }
     ensures json { IfOk result (λ text. read text.items ≡ Some (parts_value (parts_of line.now))) }
 {

@@ -2,7 +2,7 @@
 
 ghost use Rattle.std.specs.Prelude.{◌≡◌, ◌<◌, length, map, IfOk};
 ghost use Rattle.csv.specs.Records.{fields_of};
-ghost use Rattle.cert_text.specs.Rows.{text_of_row, ReadsAs};
+ghost use Rattle.cert_text.specs.Rows.{text_of_row, ReadsBack};
 
 use csv::{ByteRecord, WriterBuilder};
 use league_core::OutOfMemory;
@@ -15,7 +15,7 @@ pub fn write_row(alloc: Global, fields: &[Vec<u8>]) -> Result<Vec<u8>, OutOfMemo
     ensures text { IfOk result
         (λ row. row.items ≡ text_of_row (map (λ field. field.items) fields.now)) }
     ensures reads_back { IfOk result
-        (λ row. ReadsAs row.items (map (λ field. field.items) fields.now)) }
+        (λ row. ReadsBack row.items (map (λ field. field.items) fields.now)) }
 {
     let gathered = gathered(alloc, fields)?;
     let row = written(alloc, &gathered)?;

@@ -1,4 +1,5 @@
-//! Rows against the texts that Python's csv module writes for them with a line feed at the end; each
+//! Rows against the texts that Python's csv module writes for them with a line feed at the end;
+//! each
 //! is read back by csv.
 
 use crate::write_row;

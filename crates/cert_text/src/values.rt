@@ -9,6 +9,7 @@ ghost use Rattle.cert_text.specs.Values as values;
 ghost use Rattle.cert_text.specs.Values.{parts_value};
 
 use crate::proof_line::ProofLine;
+use league_core::limits::SET_WIDTH;
 use league_core::{Claim, ClubSet, Reason, Test};
 use serde_json::{Value, json};
 use std::alloc::{AllocError, Global};
@@ -97,7 +98,7 @@ fn listed(alloc: Global, set: ClubSet) -> Result<Vec<u8>, AllocError>
     ensures { IfOk result (λ clubs. clubs.items ≡ clubs_in set) }
 {
     let mut clubs = Vec::new(alloc);
-    for club in 0..32 {
+    for club in 0..SET_WIDTH {
         if set.has(club) {
             clubs.push(club)?;
         }

@@ -7,7 +7,7 @@ use Rattle.league_core.specs.declared.season.Score.{Score}
 use Rattle.cert_text.specs.declared.proof_line.ProofLine.{ProofLine}
 use Rattle.cert_text.specs.declared.proof_line.ProofLine.TheVariants as line
 use Rattle.cert_text.specs.Rows.{text_of_row}
-use Rattle.cert_text.specs.Lines.{text_of_line}
+use Rattle.cert_text.specs.Lines.{text_of_proof_line}
 use Rattle.fixture_sheet.specs.Faults.{code_of as sheet_code_of}
 use Rattle.result_log.specs.Faults.{code_of as feed_code_of}
 use Rattle.futmax_main.specs.declared.word.Word.{Word}
@@ -70,7 +70,7 @@ place_row name standing =
 
 -- a proof line alone on its row
 abbrev pub line_row : ProofLine → List ℕ
-line_row shown = text_of_line shown ++ 10 ∷ []
+line_row shown = text_of_proof_line shown ++ 10 ∷ []
 
 -- `["finish",CLAIM]`
 abbrev pub finish_row : Claim → List ℕ

@@ -18,10 +18,12 @@ returns-clause-text c =
 
 pub returns-clause-printed : goal.returns-clause-printed
 returns-clause-printed c =
-    ap (list_all is_printed) (returns-clause-text c) ∙ line_printed c.args.line.now c.requires.in_range
+    ap (list_all is_printed) (returns-clause-text c)
+    ∙ line_printed c.args.line.now c.requires.in_range
 
 pub returns-clause-json : goal.returns-clause-json
 returns-clause-json c =
     let is = c.in_ok-value.ensures in
-    let within : depth (view c.in_ok-value.value) ≤ max_depth = rw is (shallow (parts_of c.args.line.now)) in
+    let within : depth (view c.in_ok-value.value) ≤ max_depth = rw is (shallow
+    (parts_of c.args.line.now)) in
     c.in_ok-to_vec.ensures.reads_back within ∙ ap Some is

@@ -11,9 +11,12 @@ pub loop-club-preserved : goal.loop-club-preserved
 loop-club-preserved c =
     elim c.if-has.branch [
       | then-has+in_ok-push w ↦
-          next_listed c.args.set.bits c.loop-club.club c.loop-club.clubs.items c.if-has.clubs.items (omega arith) c.loop-club.invariant
-          (sym c.has.ensures ∙ w.if-has.true) (ap (λ v. v.items) w.clubs-is ∙ w.in_ok-push.ensures.items)
+          next_listed c.args.set.bits c.loop-club.club c.loop-club.clubs.items c.if-has.clubs.items
+          (omega arith) c.loop-club.invariant
+          (sym c.has.ensures ∙ w.if-has.true)
+          (ap (λ v. v.items) w.clubs-is ∙ w.in_ok-push.ensures.items)
       | else-has w ↦
-          passed_over c.args.set.bits c.loop-club.club c.loop-club.clubs.items c.if-has.clubs.items (omega arith) c.loop-club.invariant
+          passed_over c.args.set.bits c.loop-club.club c.loop-club.clubs.items c.if-has.clubs.items
+          (omega arith) c.loop-club.invariant
           (sym c.has.ensures ∙ w.if-has.false) (ap (λ v. v.items) w.clubs-is)
     ]
