@@ -20,6 +20,7 @@ use Rattle.std.proofs.lemmas.Map.Views.{any-filter_same}
 use Rattle.league_core.specs.declared.club_set.ClubSet.{ClubSet}
 use Rattle.league_core.specs.Sums.{has_club}
 use Rattle.league_core.specs.ClubSets.{clubs_below, clubs_in}
+use Rattle.std.proofs.Math.Bool.{and-true, and-false, or-false}
 
 and_comm : (a b : Bool) → (a && b) ≡ (b && a)
 and_comm true true = refl
@@ -101,25 +102,13 @@ pub filter_true : (xs : List ℕ) → filter (λ _. true) xs ≡ xs
 filter_true [] = refl
 filter_true (x ∷ xs) = ap (λ ys. x ∷ ys) (filter_true xs)
 
-or_false : (b : Bool) → (b || false) ≡ b
-or_false true = refl
-or_false false = refl
-
-and_false : (b : Bool) → (b && false) ≡ false
-and_false true = refl
-and_false false = refl
-
-and_true : (b : Bool) → (b && true) ≡ b
-and_true true = refl
-and_true false = refl
-
 -- two sets with the same clubs have one list
 pub clubs_below-same : (count bits other : ℕ)
     → ((x : ℕ) → has_club (clubs_below count bits) x ≡ has_club (clubs_below count other) x)
     → clubs_below count bits ≡ clubs_below count other
 clubs_below-same count bits other same =
     clubs_below-filter count bits other (λ _. true)
-    (λ x. same x ∙ sym (and_true (has_club (clubs_below count other) x)))
+    (λ x. same x ∙ sym (and-true (has_club (clubs_below count other) x)))
     ∙ filter_true (clubs_below count other)
 
 -- of a run of numbers, those below a limit are its front
@@ -243,7 +232,7 @@ has_club-with_bit bits club x within =
         ≡ bit_at bits x = bit_at_set_other w32 bits club within x other in
         let differs : eqb club x ≡ false = ne_eqb club x (λ e. other (sym e)) in
         ap (λ bit. ltb x 32 && eqb bit 1) kept
-        ∙ sym (or_false (ltb x 32 && eqb (bit_at bits x) 1))
+        ∙ sym (or-false (ltb x 32 && eqb (bit_at bits x) 1))
         ∙ ap (λ b. (ltb x 32 && eqb (bit_at bits x) 1) || b) (sym differs)
 
 -- the clubs of either of two sets
@@ -342,7 +331,7 @@ passes_below_more p k x = by_place (cases_order x k) where
       let is_k : eqb k x ≡ true = eq-eqb k x (sym same) in
       ap (λ b. (b && p x) || (p k && eqb k x)) not_below
       ∙ ap (λ b. p k && b) is_k
-      ∙ and_true (p k)
+      ∙ and-true (p k)
       ∙ ap p (sym same)
       ∙ ap (λ b. b && p x) (sym here)
   by_place (inr (inl below)) =
@@ -351,8 +340,8 @@ passes_below_more p k x = by_place (cases_order x k) where
       let not_k : eqb k x ≡ false = ne_eqb k x (λ e. omega arith) in
       ap (λ b. (b && p x) || (p k && eqb k x)) still
       ∙ ap (λ b. p x || (p k && b)) not_k
-      ∙ ap (λ b. p x || b) (and_false (p k))
-      ∙ or_false (p x)
+      ∙ ap (λ b. p x || b) (and-false (p k))
+      ∙ or-false (p x)
       ∙ ap (λ b. b && p x) (sym here)
   by_place (inr (inr above)) =
       let not_here : ltb x (k + 1) ≡ false = le-ltb x (k + 1) (omega arith) in
@@ -360,7 +349,7 @@ passes_below_more p k x = by_place (cases_order x k) where
       let not_k : eqb k x ≡ false = ne_eqb k x (λ e. omega arith) in
       ap (λ b. (b && p x) || (p k && eqb k x)) not_below
       ∙ ap (λ b. p k && b) not_k
-      ∙ and_false (p k)
+      ∙ and-false (p k)
       ∙ ap (λ b. b && p x) (sym not_here)
 
 and_under : (a b c : Bool) → (a && ((a && b) && c)) ≡ ((a && b) && c)
@@ -401,7 +390,7 @@ length-fewer set whole missed within among out =
     omega (arith, ap length list)
   where
     kept : (b c : Bool) → (b ≡ true → c ≡ true) → b ≡ (c && b)
-    kept true c sub = sym (and_true c ∙ sub refl)
+    kept true c sub = sym (and-true c ∙ sub refl)
     kept false true sub = refl
     kept false false sub = refl
 

@@ -52,7 +52,8 @@ within_pieces i j pieces size below within =
 abbrev row_of : ℕ → ℕ → List Score
 row_of limit home = map (score_of home) (range_with_len 0 (limit + 1))
 
-length-scores_up_to : (limit : ℕ) → length (scores_up_to limit) ≡ (limit + 1) * (limit + 1)
+-- so many goals on either side
+pub length-scores_up_to : (limit : ℕ) → length (scores_up_to limit) ≡ (limit + 1) * (limit + 1)
 length-scores_up_to limit =
     length-pieces (row_of limit) (limit + 1)
     (λ home. length-map-range_with_len (score_of home) 0 (limit + 1))

@@ -20,10 +20,7 @@ use Rattle.league_core.specs.Options.{options_of, options_from, options_in, has_
 use Rattle.league_core.specs.Trees.{Tree, open_leaf, lent_leaf, refuted_leaf, branch, NodesMeet}
 use Rattle.league_core.specs.Splits.{have_both_finish, is_proper, IsProperNode}
 use Rattle.league_core.proofs.OptionLemmas.{has_score-options_of}
-
-pub and_true : (b : Bool) → (b && true) ≡ b
-and_true true = refl
-and_true false = refl
+use Rattle.std.proofs.Math.Bool.{and-true}
 
 -- what all of a zone pass and the new literal passes, the half passes
 pub list_all-with : (p : Literal → Bool) (zone : List Literal) (test : Test) (holds : Bool)
@@ -31,7 +28,7 @@ pub list_all-with : (p : Literal → Bool) (zone : List Literal) (test : Test) (
     (list_all p zone && p (record { test = test; yes = holds }))
 list_all-with p zone test holds =
     list_all-append p zone (record { test = test; yes = holds } ∷ [])
-    ∙ ap (λ b. list_all p zone && b) (and_true (p (record { test = test; yes = holds })))
+    ∙ ap (λ b. list_all p zone && b) (and-true (p (record { test = test; yes = holds })))
 
 -- a literal on another fixture takes no option away
 pub options_of-off : (limit : ℕ) (zone : List Literal) (test : Test) (holds : Bool) (fixture : ℕ)
@@ -43,7 +40,7 @@ options_of-off limit zone test holds fixture played off =
     list_all-with (meets_literal fixture score) zone test holds
     ∙ ap (λ b. meets zone fixture score && b)
     (or_left (not (is_on fixture test)) (is_as_said holds (passes test score)) (ap not off))
-    ∙ and_true (meets zone fixture score)) (endings limit played)
+    ∙ and-true (meets zone fixture score)) (endings limit played)
 
 -- a test on none of the fixtures from one on leaves all their options
 pub options_from-off : (limit : ℕ) (zone : List Literal) (test : Test) (holds : Bool)

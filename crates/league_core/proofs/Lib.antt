@@ -1,6 +1,7 @@
 -- Lemmas on one notion each: results, logs, comparisons, lists of clubs, sets of clubs, standings,
 -- the ranking, places, lots, finishes, points and verdicts, options, boxes, proposed finishes,
 -- ranges of points, trees, lent leaves, trees as lists, halves of a zone.
+pub mod PlainLemmas
 pub mod ResultsLemmas
 pub mod LogLemmas
 pub mod ScoreCodeLemmas

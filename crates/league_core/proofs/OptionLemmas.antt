@@ -18,6 +18,7 @@ use Rattle.league_core.specs.Finishes.{same_score, may_end, may_all_end, IsFinis
 use Rattle.league_core.specs.Options.{score_of, scores_up_to, endings, meets_literal, meets}
 use Rattle.league_core.specs.Options.{options_of, options_from, has_score, takes_option}
 use Rattle.league_core.specs.Options.{take_options, IsInBox}
+use Rattle.league_core.proofs.PlainLemmas.{eqb-swap}
 use Rattle.league_core.proofs.ResultsLemmas.{scores_decided}
 use Rattle.league_core.proofs.ClubSetLemmas.{has_club-range}
 
@@ -43,10 +44,7 @@ any-row score home (away ∷ goals) =
   where
     in_row : (b : Bool) (m n : ℕ) (rest : Bool)
         → ((b && (m == n)) || (b && rest)) ≡ (b && ((n == m) || rest))
-    in_row true m n rest = ap (λ c. c || rest) (turned m n)
-      where
-        turned : (m n : ℕ) → (m == n) ≡ (n == m)
-        turned m n = grind (arith, nat_tests)
+    in_row true m n rest = ap (λ c. c || rest) (eqb-swap m n)
     in_row false m n rest = refl
 
 -- the scores with one of a list of goals on either side

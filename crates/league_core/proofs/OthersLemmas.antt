@@ -13,6 +13,7 @@ use Rattle.league_core.specs.Sums.{has_club}
 use Rattle.league_core.specs.Ranking.{lot_of}
 use Rattle.league_core.specs.LotsFor.{others_of}
 use Rattle.league_core.proofs.ClubLemmas.{range_has}
+use Rattle.std.proofs.Math.Bool.{not-not}
 
 -- what a list has not stands in what follows it
 pub lot_of-absent : (lots more : List ℕ) (club : ℕ) → has_club lots club ≡ false
@@ -81,11 +82,7 @@ one_of from (suc count) club low high =
 pub length-others_of : (clubs club : ℕ) → club < clubs → length (others_of clubs club) + 1 ≡ clubs
 length-others_of clubs club below =
     let both = length-filter_both (λ (other : ℕ). not (other == club))
-    (λ (other : ℕ). other == club) (λ other. twice (other == club)) (range_with_len 0 clubs) in
+    (λ (other : ℕ). other == club) (λ other. sym (not-not (other == club))) (range_with_len 0 clubs) in
     let one = one_of 0 clubs club (omega arith) (omega arith) in
     let all = length-range_with_len 0 clubs in
     omega arith
-  where
-    twice : (b : Bool) → b ≡ not (not b)
-    twice true = refl
-    twice false = refl

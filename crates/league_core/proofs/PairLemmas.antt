@@ -6,7 +6,7 @@ use Rattle.std.proofs.Common.{ap, ◌∙◌, subst, inl, inr, arith}
 use Rattle.std.specs.List.{list_any}
 use Rattle.std.proofs.Math.Bool.{and-true, or-false}
 use Rattle.std.proofs.lemmas.Int.{ints}
-use Rattle.std.proofs.lemmas.Bool.{and_parts, cases_eq, eq-eqb, ne_eqb, true≢false}
+use Rattle.std.proofs.lemmas.Bool.{not-true, and_parts, cases_eq, eq-eqb, ne_eqb, true≢false}
 use Rattle.std.proofs.lemmas.Bool.Decides.{nat_tests}
 use Rattle.league_core.specs.declared.sheet.Sheet.{Sheet}
 use Rattle.league_core.specs.declared.sheet.Fixture.{Fixture}
@@ -50,14 +50,10 @@ total_of-one x number (club ∷ clubs) different =
         → not (list_any (nat_eq club) clubs) ≡ true → has_club clubs x ≡ false
     absent club clubs x same none =
         ap (λ (test : ℕ → Bool). list_any test clubs) (λ i other. turned club other x same i)
-        ∙ not_true (list_any (nat_eq club) clubs) none
+        ∙ not-true (list_any (nat_eq club) clubs) none
       where
         turned : (club other x : ℕ) → club ≡ x → (other == x) ≡ nat_eq club other
         turned club other x same = grind (arith, nat_tests)
-
-        not_true : (b : Bool) → not b ≡ true → b ≡ false
-        not_true true h = sym h
-        not_true false h = refl
 
 -- a home match of the club counts against the one rival that is away
 home_pair : (worth : Worth) (club : ℕ) (match : Fixture) (score : Score) → match.home ≡ club

@@ -2,7 +2,7 @@
 -- the
 -- two sides of each match, and what is taken off a set is taken off its clubs.
 use Rattle.std.proofs.Common.{◌≡◌, ℕ, zero, suc, ◌+◌, ◌<◌, ◌≤◌, ◌≢◌, ◌⊎◌, ℤ, pos, ◌+ℤ◌, ◌≤ℤ◌, Bool}
-use Rattle.std.proofs.Common.{true, false, ◌&&◌, ◌||◌, eqb, ltb, cond, List, [], ◌∷◌, ◌++◌, length}
+use Rattle.std.proofs.Common.{true, false, ◌&&◌, eqb, ltb, cond, List, [], ◌∷◌, ◌++◌, length}
 use Rattle.std.proofs.Common.{get_or, drop, refl, sym, ap, ◌∙◌, inl, inr, arith, add-one}
 use Rattle.std.specs.Int.{int_min, int_max, bit_at}
 use Rattle.std.proofs.lemmas.Int.{ints, clamps}
@@ -18,6 +18,7 @@ use Rattle.league_core.specs.PointRanges.{one_value, added, range_of, range_from
 use Rattle.league_core.specs.PointRanges.{points_together, points_of_sides}
 use Rattle.league_core.proofs.OptionLemmas.{same_score-true, has_score-first}
 use Rattle.league_core.proofs.ClubSetLemmas.{has_club-clubs_below, clubs_below-suc}
+use Rattle.std.proofs.lemmas.Bool.{or_right}
 
 -- the lesser of two numbers, and the greater, is one of them
 least_is_one : (x y : ℤ) → (int_min x y ≡ x) ⊎ (int_min x y ≡ y)
@@ -78,11 +79,7 @@ Reaches value options number = (score : Score) × (has_score options score ≡ t
 reaches_later : (value : Score → ℤ) (first : Score) (options : List Score) (number other : ℤ)
     → other ≡ number → Reaches value options number → Reaches value (first ∷ options) other
 reaches_later value first options number other same there =
-    (there.0, or_later _ (has_score options there.0) there.1, there.2 ∙ sym same)
-  where
-    or_later : (a b : Bool) → b ≡ true → (a || b) ≡ true
-    or_later true b h = refl
-    or_later false b h = h
+    (there.0, or_right _ (has_score options there.0) there.1, there.2 ∙ sym same)
 
 reaches_first : (value : Score → ℤ) (first : Score) (options : List Score) (other : ℤ)
     → other ≡ value first → Reaches value (first ∷ options) other

@@ -1,6 +1,6 @@
 -- Trees, their nodes and their leaves: facts of all nodes, how many nodes there are, and what the
 -- leaves say of the whole tree.
-use Rattle.std.proofs.Common.{◌≡◌, ℕ, ◌+◌, ◌*◌, ◌≤◌, Bool, true, false, ◌&&◌, ◌||◌, ◌==◌, cond}
+use Rattle.std.proofs.Common.{◌≡◌, ℕ, ◌+◌, ◌*◌, ◌≤◌, true, false, ◌&&◌, ◌||◌, ◌==◌}
 use Rattle.std.proofs.Common.{List, [], ◌++◌, map, filter, length, refl, sym, ap, ◌∙◌, inl, inr}
 use Rattle.std.proofs.Common.{arith, length-append}
 use Rattle.std.specs.List.{list_any, list_all, All}
@@ -18,6 +18,7 @@ use Rattle.league_core.specs.Trees.{is_refuted}
 use Rattle.league_core.specs.Leaves.{Leaf, leaves_from, is_open_leaf, is_lent_under}
 use Rattle.league_core.specs.Leaves.{is_refuted_leaf}
 use Rattle.league_core.specs.Lending.{lent_zones}
+use Rattle.league_core.proofs.PlainLemmas.{one_if-most}
 
 -- a fact of each node gives what it implies there
 pub NodesMeet-weaker : (Fact Other : List Literal → TreeNode → Type 0)
@@ -101,17 +102,9 @@ length-leaves_from (branch test fresh yes_half no_half) zone =
 pub new_count-le : (tree : Tree) → new_count tree ≤ node_count tree
 new_count-le open_leaf = omega arith
 new_count-le (lent_leaf number) = omega arith
-new_count-le (refuted_leaf reason fresh) = one_at_most fresh
-  where
-    one_at_most : (b : Bool) → cond {A = ℕ} b 1 0 ≤ 1
-    one_at_most true = omega arith
-    one_at_most false = omega arith
+new_count-le (refuted_leaf reason fresh) = one_if-most fresh
 new_count-le (branch test fresh yes_half no_half) =
-    omega (arith, one_at_most fresh, new_count-le yes_half, new_count-le no_half)
-  where
-    one_at_most : (b : Bool) → cond {A = ℕ} b 1 0 ≤ 1
-    one_at_most true = omega arith
-    one_at_most false = omega arith
+    omega (arith, one_if-most fresh, new_count-le yes_half, new_count-le no_half)
 
 -- the zones of the leaves are the tree's zones
 pub zones-leaves_from : (tree : Tree) (zone : List Literal)

@@ -1,14 +1,13 @@
 -- How many finishes a zone has: what a test of a score takes of them, and that a test of a rival
 -- takes none.
 use Rattle.std.proofs.Common.{◌≡◌, ℕ, suc, ◌+◌, ◌*◌, ◌<◌, ◌≤◌, Bool, true, false, not, ◌&&◌, ◌||◌}
-use Rattle.std.proofs.Common.{◌==◌, nat_lt, List, [], ◌∷◌, length, filter, map, Option, Some, None}
-use Rattle.std.proofs.Common.{refl, sym, ap, ◌∙◌, inl, inr, arith, length-append}
+use Rattle.std.proofs.Common.{◌==◌, nat_lt, List, [], ◌∷◌, length, filter, Option, Some, None}
+use Rattle.std.proofs.Common.{refl, sym, ap, ◌∙◌, inl, inr, arith}
 use Rattle.std.specs.List.{list_all}
 use Rattle.std.proofs.Math.Nat.{add-mul, mul-add}
 use Rattle.std.proofs.lemmas.Nat.{mul-le}
 use Rattle.std.proofs.lemmas.Bool.{false≢true, eq-eqb, ne_eqb, cases_eq, ltb-true}
 use Rattle.std.proofs.lemmas.List.Sums.{length-filter}
-use Rattle.std.proofs.lemmas.List.{length-map}
 use Rattle.league_core.specs.declared.sheet.Sheet.{Sheet}
 use Rattle.league_core.specs.declared.season.Score.{Score}
 use Rattle.league_core.specs.declared.question.Question.{Question}
@@ -19,10 +18,10 @@ use Rattle.league_core.specs.Results.{Results}
 use Rattle.league_core.specs.Seasons.{IsSeasonOf}
 use Rattle.league_core.specs.FinishList.{ways_to_end, ways_to_finish}
 use Rattle.league_core.specs.Zones.{passes, is_on, is_of_score, with_test}
-use Rattle.league_core.specs.Options.{scores_up_to, endings, meets_literal, meets, options_of}
+use Rattle.league_core.specs.Options.{endings, meets_literal, meets, options_of}
 use Rattle.league_core.specs.Options.{options_from, options_in, has_option, has_finish}
 use Rattle.league_core.specs.Splits.{is_proper}
-use Rattle.league_core.proofs.FinishListLemmas.{length-finishes_of}
+use Rattle.league_core.proofs.FinishListLemmas.{length-scores_up_to}
 use Rattle.reason_laws.specs.Weights.{choices, finishes_in}
 use Rattle.league_core.proofs.HalfLemmas.{list_all-with, options_of-off, options_from-off}
 use Rattle.reason_laws.proofs.HalfMarkLemmas.{proper_names}
@@ -158,21 +157,7 @@ finishes_divided sheet season question zone (AwayMost fixture most) is_season of
 finishes_divided sheet season question zone (Rival club) is_season of_score proper =
     absurd (false≢true of_score)
 
--- the scores up to the goal limit are so many
-length-scores_up_to : (limit : ℕ) → length (scores_up_to limit) ≡ (limit + 1) * (limit + 1)
-length-scores_up_to limit =
-    let alone = λ (ended : Option Score). ended ∷ [] in
-    let ends = map Some (scores_up_to limit) in
-    let finishes = length-finishes_of limit (None ∷ []) in
-    omega (
-      arith,
-      finishes,
-      length-append (map alone ends) [],
-      length-map ends alone,
-      length-map
-          (scores_up_to limit) Some,
-    )
-
+-- a fixture has as many endings as there are ways to end it
 length-endings : (limit : ℕ) (played : Option Score)
     → length (endings limit played) ≡ ways_to_end limit played
 length-endings limit None = length-scores_up_to limit

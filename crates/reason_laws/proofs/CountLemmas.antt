@@ -7,6 +7,7 @@ use Rattle.std.proofs.lemmas.List.Elements.{filter_agree}
 use Rattle.std.proofs.lemmas.List.Filters.{length-filter_both}
 use Rattle.std.proofs.lemmas.List.FromFn.{length-range_with_len}
 use Rattle.league_core.proofs.OthersLemmas.{length-others_of}
+use Rattle.std.proofs.Math.Bool.{not-not}
 
 -- the first of a list counts one, or none
 pub count_by-cons : {X : Type 0} (test : X → Bool) (x : X) (xs : List X)
@@ -66,7 +67,7 @@ pub count_by-one : (clubs club : ℕ) → club < clubs
     → count_by (λ other. other == club) (range_with_len 0 clubs) ≡ 1
 count_by-one clubs club below =
     let both = length-filter_both (λ (other : ℕ). not (other == club))
-    (λ (other : ℕ). other == club) (λ other. twice (other == club)) (range_with_len 0 clubs) in
+    (λ (other : ℕ). other == club) (λ other. sym (not-not (other == club))) (range_with_len 0 clubs) in
     omega (
       arith,
       both,
@@ -74,10 +75,6 @@ count_by-one clubs club below =
       length-others_of clubs club below,
       length-filter (λ (other : ℕ). other == club) (range_with_len 0 clubs),
     )
-  where
-    twice : (b : Bool) → b ≡ not (not b)
-    twice true = refl
-    twice false = refl
 
 -- a filter that keeps each
 pub filter-all : {X : Type 0} (xs : List X) → filter (λ x. true) xs ≡ xs

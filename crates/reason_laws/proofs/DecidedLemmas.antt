@@ -46,6 +46,7 @@ use Rattle.league_core.proofs.BoxLemmas.{box_is_finish}
 use Rattle.reason_laws.proofs.SureOrderLemmas.{points_fixed}
 use Rattle.reason_laws.proofs.SingleLemmas.{single_fixed, order_is}
 use Rattle.reason_laws.proofs.RivalCountLemmas.{count_by-rivals, count_by-both}
+use Rattle.league_core.proofs.PlainLemmas.{int_lt-false}
 
 -- who comes before a club that is drawn first comes before it without the lots
 first_less : (order : Ordering) (i j : ℕ) → j ≡ 0
@@ -158,16 +159,13 @@ in_window sheet season question zone finish single box fails =
     (points_fixed sheet season zone question.club (single_fixed sheet season zone single)) in
     let sides = or_parts (int_lt range.greatest question.low) (int_lt question.high
     range.least) fails in
-    let low = not_under range.greatest question.low sides.0 in
-    let high = not_under question.high range.least sides.1 in
+    let low = int_lt-false range.greatest question.low sides.0 in
+    let high = int_lt-false question.high range.least sides.1 in
     and_from (int_le question.low (points_of sheet finish question.club))
     (int_le (points_of sheet finish question.club) question.high)
     (at_most question.low (points_of sheet finish question.club) (omega (arith, ints)))
     (at_most (points_of sheet finish question.club) question.high (omega (arith, ints)))
   where
-    not_under : (a b : ℤ) → int_lt a b ≡ false → b ≤ℤ a
-    not_under a b h = grind (arith, ints)
-
     at_most : (a b : ℤ) → a ≤ℤ b → int_le a b ≡ true
     at_most a b h = grind (arith, ints)
 

@@ -20,23 +20,18 @@ use Rattle.league_core.specs.Ranking.{ranks_before}
 use Rattle.league_core.specs.Zones.{is_of_rival, is_test_true}
 use Rattle.league_core.specs.Zones.{is_as_said, is_literal_true, are_literals_true}
 use Rattle.league_core.specs.Zones.{marked_before, marked_after}
+use Rattle.league_core.proofs.PlainLemmas.{lt-int_lt}
 
 -- the first comparison says which of two numbers is the greater
 pub ahead_is : (x y : ℤ) → y <ℤ x → int_cmp y x ≡ Less
 ahead_is x y below =
-    ap (λ b. cond b Less (cond (int_lt x y) Greater Equal)) (under y x below)
-  where
-    under : (a b : ℤ) → a <ℤ b → int_lt a b ≡ true
-    under a b h = grind (arith, ints)
+    ap (λ b. cond b Less (cond (int_lt x y) Greater Equal)) (lt-int_lt y x below)
 
 pub behind_is : (x y : ℤ) → x <ℤ y → int_cmp y x ≡ Greater
 behind_is x y below =
     ap (λ b. cond b Less (cond (int_lt x y) Greater Equal)) (not_under x y below)
-    ∙ ap (λ b. cond b Greater Equal) (under x y below)
+    ∙ ap (λ b. cond b Greater Equal) (lt-int_lt x y below)
   where
-    under : (a b : ℤ) → a <ℤ b → int_lt a b ≡ true
-    under a b h = grind (arith, ints)
-
     not_under : (a b : ℤ) → a <ℤ b → int_lt b a ≡ false
     not_under a b h = grind (arith, ints)
 

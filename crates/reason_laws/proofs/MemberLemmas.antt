@@ -1,5 +1,5 @@
 -- Members of a zone: their scores are options there, and their sums lie in the ranges.
-use Rattle.std.proofs.Common.{◌≡◌, ℕ, suc, ◌+◌, ℤ, pos, ◌+ℤ◌, ◌-ℤ◌, ◌*ℤ◌, ◌≤ℤ◌, Bool, true}
+use Rattle.std.proofs.Common.{◌≡◌, ℕ, suc, ◌+◌, ℤ, pos, ◌-ℤ◌, ◌*ℤ◌, ◌≤ℤ◌, Bool, true}
 use Rattle.std.proofs.Common.{not, List, [], ◌∷◌, length, get_or, slice_index}
 use Rattle.std.proofs.Common.{Option, Some, None, refl, sym, ap, ◌∙◌, inl, inr, arith}
 use Rattle.std.specs.List.{list_all}
@@ -24,6 +24,7 @@ use Rattle.league_core.specs.PointRanges.{most_points_of}
 use Rattle.league_core.proofs.OptionLemmas.{has_score-options_of}
 use Rattle.league_core.proofs.SumLemmas.{total_of-sum_over}
 use Rattle.league_core.proofs.PointRangeLemmas.{range_bounds}
+use Rattle.league_core.proofs.PlainLemmas.{times-suc}
 
 -- a test of a fixture is true exactly where the fixture's score passes
 test_at : (sheet : Sheet) (club : ℕ) (finish : Results) (lots : List ℕ) (test : Test) (fixture : ℕ)
@@ -158,10 +159,6 @@ points_in_box sheet season zone finish clubs box =
     let same = ap (λ ds. total_of (λ club. pos (slice_index ds club)) clubs) box.deductions in
     (omega (arith, ints), omega (arith, ints))
 
--- so many clubs and one more
-one_more : (n : ℕ) (points : ℤ) → pos (suc n) *ℤ points ≡ points +ℤ (pos n *ℤ points)
-one_more n points = omega (arith, ints)
-
 -- where each of some clubs has at most so many points, or at least, so have they together
 pub total_at_most : (value : ℕ → ℤ) (most : ℤ) (test : ℕ → Bool) (clubs : List ℕ)
     → ((club : ℕ) → test club ≡ true → value club ≤ℤ most) → list_all test clubs ≡ true
@@ -171,7 +168,7 @@ total_at_most value most test (club ∷ clubs) each all =
     let parts = and_parts (test club) (list_all test clubs) all in
     let here = each club parts.0 in
     let rest = total_at_most value most test clubs each parts.1 in
-    omega (arith, ints, one_more (length clubs) most)
+    omega (arith, ints, times-suc (length clubs) most)
 
 pub total_at_least : (value : ℕ → ℤ) (least : ℤ) (test : ℕ → Bool) (clubs : List ℕ)
     → ((club : ℕ) → test club ≡ true → least ≤ℤ value club) → list_all test clubs ≡ true
@@ -181,4 +178,4 @@ total_at_least value least test (club ∷ clubs) each all =
     let parts = and_parts (test club) (list_all test clubs) all in
     let here = each club parts.0 in
     let rest = total_at_least value least test clubs each parts.1 in
-    omega (arith, ints, one_more (length clubs) least)
+    omega (arith, ints, times-suc (length clubs) least)

@@ -1,6 +1,6 @@
 -- Ranges that are compared: what two of them say of any two numbers in them, and what lists of them
 -- say of lists of numbers.
-use Rattle.std.proofs.Common.{◌≡◌, ℤ, ◌≤ℤ◌, ◌<ℤ◌, Bool, true, false, ◌&&◌, ◌||◌}
+use Rattle.std.proofs.Common.{◌≡◌, ℤ, ◌≤ℤ◌, Bool, true, false, ◌&&◌, ◌||◌}
 use Rattle.std.proofs.Common.{cond, List, [], ◌∷◌, length, Ordering, Less, Equal, Greater}
 use Rattle.std.proofs.Common.{is_eq, refl, sym, ap, ◌∙◌, subst, inl, inr, arith}
 use Rattle.std.specs.Prelude.{int_lt}
@@ -17,6 +17,7 @@ use Rattle.league_core.specs.SureOrder.{has_one_value, sure_by_range, sure_then,
 use Rattle.league_core.specs.SureOrder.{is_apart}
 use Rattle.league_core.proofs.OrderingLemmas.{then-equal}
 use Rattle.reason_laws.proofs.MarkedOrderLemmas.{ahead_is, behind_is}
+use Rattle.league_core.proofs.PlainLemmas.{int_lt-true, int_lt-false}
 
 -- how the rival surely stands against the club is how the two compare; where that is unknown
 -- nothing is said
@@ -48,12 +49,6 @@ AreInRanges (range ∷ ranges) [] = ⊥
 AreInRanges (range ∷ ranges) (number ∷ numbers) = IsInRange range number
     × AreInRanges ranges numbers
 
-pub under : (a b : ℤ) → int_lt a b ≡ true → a <ℤ b
-under a b h = grind (arith, ints)
-
-pub not_under : (a b : ℤ) → int_lt a b ≡ false → b ≤ℤ a
-not_under a b h = grind (arith, ints)
-
 pub one_value_is : (range : Range) → has_one_value range ≡ true → range.least ≡ range.greatest
 one_value_is range one = (Decides-int_eq range.least range.greatest).0 one
 
@@ -73,17 +68,17 @@ range_agrees rival club x y in_rival in_club =
         → Agrees (cond above Above (cond below Below (cond level Level Unknown)))
         (greater_first x y)
     by_tests true below level a b c =
-        let more = under club.greatest rival.least a in
+        let more = int_lt-true club.greatest rival.least a in
         ahead_is x y (omega (arith, ints))
     by_tests false true level a b c =
-        let fewer = under rival.greatest club.least b in
+        let fewer = int_lt-true rival.greatest club.least b in
         behind_is x y (omega (arith, ints))
     by_tests false false true a b c =
         let both = and_parts (has_one_value rival) (has_one_value club) c in
         let mine = one_value_is rival both.0 in
         let theirs = one_value_is club both.1 in
-        let at_least = not_under club.greatest rival.least a in
-        let at_most = not_under rival.greatest club.least b in
+        let at_least = int_lt-false club.greatest rival.least a in
+        let at_most = int_lt-false rival.greatest club.least b in
         same_is x y (omega (arith, ints))
     by_tests false false false a b c = tt
 
@@ -125,8 +120,8 @@ apart_differ (rival ∷ rivals) (club ∷ clubs) (x ∷ xs) (y ∷ ys) in_rivals
     missed here equal =
         elim (or_cases (int_lt club.greatest rival.least)
         (int_lt rival.greatest club.least) here) as (λ _. ⊥) [
-          | inl above ↦ let more = under club.greatest rival.least above in omega
+          | inl above ↦ let more = int_lt-true club.greatest rival.least above in omega
               (arith, ints, in_rivals.0, in_clubs.0)
-          | inr below ↦ let fewer = under rival.greatest club.least below in omega
+          | inr below ↦ let fewer = int_lt-true rival.greatest club.least below in omega
               (arith, ints, in_rivals.0, in_clubs.0)
         ]

@@ -1,6 +1,6 @@
 -- Reasons are sound: where one holds, the question holds at no member of the zone. Here are the
 -- counts of marked rivals, the window and both cuts.
-use Rattle.std.proofs.Common.{◌≡◌, ℕ, ◌-◌, ◌<◌, ◌≤◌, ℤ, ◌≤ℤ◌, ◌<ℤ◌, Bool, true, false}
+use Rattle.std.proofs.Common.{◌≡◌, ℕ, ◌-◌, ◌<◌, ◌≤◌, ℤ, ◌≤ℤ◌, Bool, true, false}
 use Rattle.std.proofs.Common.{not, ◌&&◌, nat_le, List, [], ◌∷◌, length}
 use Rattle.std.proofs.Common.{count_by, sym, ap, ◌∙◌, inl, inr, arith}
 use Rattle.std.specs.Prelude.{int_lt, int_le}
@@ -30,6 +30,7 @@ use Rattle.reason_laws.proofs.MemberLemmas.{total_at_least}
 use Rattle.reason_laws.proofs.MarkedOrderLemmas.{points_before, points_not_before}
 use Rattle.reason_laws.proofs.MarkedOrderLemmas.{before_is, after_is}
 use Rattle.reason_laws.proofs.RivalCountLemmas.{count_by-front, count_by-three, count_by-own}
+use Rattle.league_core.proofs.PlainLemmas.{int_lt-true}
 
 -- with too many rivals before the club its place is not inside the line, with too many behind it is
 pub too_many_says : (sheet : Sheet) (question : Question) (finish : Results) (lots : List ℕ)
@@ -82,9 +83,6 @@ holds_parts sheet question finish lots holds =
     at_most : (a b : ℤ) → int_le a b ≡ true → a ≤ℤ b
     at_most a b h = grind (arith, ints)
 
-under : (a b : ℤ) → int_lt a b ≡ true → a <ℤ b
-under a b h = grind (arith, ints)
-
 -- no member of a zone that marks too many rivals
 pub count_says : (sheet : Sheet) (season : Results) (question : Question) (zone : List Literal)
     (finish : Results) (lots : List ℕ) → question.club < length sheet.clubs
@@ -118,9 +116,9 @@ window_says sheet season question zone finish lots member reason holds =
     elim (or_cases (int_lt (most_points_of sheet season zone (question.club ∷ [])) question.low)
     (int_lt question.high (least_points_of sheet season zone (question.club ∷ [])))
     reason) as (λ _. ⊥) [
-      | inl low ↦ let h = under (most_points_of sheet season zone (question.club ∷ []))
+      | inl low ↦ let h = int_lt-true (most_points_of sheet season zone (question.club ∷ []))
           question.low low in omega (arith, ints)
-      | inr high ↦ let h = under question.high
+      | inr high ↦ let h = int_lt-true question.high
           (least_points_of sheet season zone (question.club ∷ [])) high in omega (arith, ints)
     ]
 
@@ -138,7 +136,7 @@ floor_says sheet season question zone clubs finish lots member reason holds =
     (int_lt (times clubs (own_most sheet season question zone))
     (least_points_of sheet season zone clubs)) reason in
     let marks = and_parts (has_member clubs) (list_all (marked_after zone) clubs) halves.0 in
-    let more = under (times clubs (own_most sheet season question zone))
+    let more = int_lt-true (times clubs (own_most sheet season question zone))
     (least_points_of sheet season zone clubs) halves.1 in
     let below : points_of sheet finish question.club ≤ℤ own_most sheet season question zone = omega
     (arith, ints, clamps) in
@@ -168,7 +166,7 @@ ceiling_says sheet season question zone clubs finish lots member reason holds =
     (int_lt (most_points_of sheet season zone clubs)
     (times clubs (own_least sheet season question zone))) reason in
     let marks = and_parts (has_member clubs) (list_all (marked_before zone) clubs) halves.0 in
-    let fewer = under (most_points_of sheet season zone clubs) (times clubs
+    let fewer = int_lt-true (most_points_of sheet season zone clubs) (times clubs
     (own_least sheet season question zone)) halves.1 in
     let above : own_least sheet season question zone ≤ℤ points_of sheet finish question.club =
     omega (arith, ints, clamps) in

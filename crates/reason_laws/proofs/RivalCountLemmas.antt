@@ -13,6 +13,7 @@ use Rattle.std.proofs.Common.{ap, ◌∙◌, arith}
 use Rattle.std.specs.List.{list_all}
 use Rattle.std.proofs.lemmas.Bool.{false≢true, and_parts}
 use Rattle.std.proofs.lemmas.Bool.{eqb-true, eqb-false}
+use Rattle.league_core.proofs.PlainLemmas.{one_if-most}
 
 -- the first of a list counts where it passes
 pub count_by-cons : (test : ℕ → Bool) (club : ℕ) (clubs : List ℕ)
@@ -73,11 +74,7 @@ count_by-three back before club (other ∷ clubs) apart itself =
     by_test (other == club) (back other) refl refl rest ahead own
   where
     some_before : cond {A = ℕ} (before other) 1 0 ≤ 1
-    some_before = at_most_one (before other)
-      where
-        at_most_one : (b : Bool) → cond {A = ℕ} b 1 0 ≤ 1
-        at_most_one true = omega arith
-        at_most_one false = omega arith
+    some_before = one_if-most (before other)
 
     by_test : (is_own passes : Bool) → (other == club) ≡ is_own → back other ≡ passes
         → count_by back (filter (λ x. not (x == club)) clubs) + count_by before clubs
