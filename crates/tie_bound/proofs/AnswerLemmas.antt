@@ -1,7 +1,10 @@
 -- Tables of answers: a step at each club in turn, and what the steps of the sure order say.
-use Rattle.std.proofs.Common.{◌≡◌, ◌≢◌, ◌⊎◌, inl, inr, ℕ, ◌+◌, ◌<◌, ◌≤◌, ℤ, pos, neg_ℤ, ◌+ℤ◌, ◌-ℤ◌, Bool, true, ◌&&◌, ◌||◌, eqb, List, [], ◌∷◌, length, set, slice_index, refl, sym, ap, ◌∙◌, arith}
+use Rattle.std.proofs.Common.{◌≡◌, ◌≢◌, ◌⊎◌, inl, inr, ℕ, ◌+◌, ◌<◌, ◌≤◌, ℤ, pos, neg_ℤ, ◌+ℤ◌, ◌-ℤ◌}
+use Rattle.std.proofs.Common.{Bool, true, ◌&&◌, ◌||◌, eqb, List, [], ◌∷◌, length, set, slice_index}
+use Rattle.std.proofs.Common.{refl, sym, ap, ◌∙◌, arith}
 use Rattle.std.specs.List.{list_all}
-use Rattle.std.proofs.lemmas.Bool.{false≢true, cases_eq, eq-eqb, or_cases, or_left, or_right, and_parts, and_from, eqb-true}
+use Rattle.std.proofs.lemmas.Bool.{false≢true, cases_eq, eq-eqb, or_cases, or_left, or_right}
+use Rattle.std.proofs.lemmas.Bool.{and_parts, and_from, eqb-true}
 use Rattle.std.proofs.lemmas.Int.{ints}
 use Rattle.std.proofs.lemmas.List.{get_or-set_same, get_or-set_other}
 use Rattle.league_core.specs.declared.sheet.Sheet.{Sheet}
@@ -11,14 +14,21 @@ use Rattle.league_core.specs.declared.sure.Sure.TheVariants.{Above, Below, Level
 use Rattle.league_core.specs.Results.{Results}
 use Rattle.league_core.specs.Sums.{has_club, match_points, worth_to, worth_among}
 use Rattle.league_core.specs.Ahead.{rank_of}
-use Rattle.league_core.specs.PointRanges.{Range, one_value, added, range_from, points_together, deducted_from, points_range}
-use Rattle.league_core.specs.SureOrder.{sure_by_range, sure_by_ranges, sure_then, sure_by_points, is_level, is_apart, record_ranges, overall_ranges}
-use Rattle.tie_criteria.specs.declared.measure.Measure.TheVariants.{Points, Difference, Goals, AwayGoals, Wins, AwayWins}
+use Rattle.league_core.specs.PointRanges.{Range, one_value, added, range_from, points_together}
+use Rattle.league_core.specs.PointRanges.{deducted_from, points_range}
+use Rattle.league_core.specs.SureOrder.{sure_by_range, sure_by_ranges, sure_then, sure_by_points}
+use Rattle.league_core.specs.SureOrder.{is_level, is_apart, record_ranges, overall_ranges}
+use Rattle.league_core.specs.SureOrder.{first_sum_ranges}
+use Rattle.tie_criteria.specs.declared.measure.Measure.TheVariants.{Points, Difference, Goals}
+use Rattle.tie_criteria.specs.declared.measure.Measure.TheVariants.{AwayGoals, Wins, AwayWins}
+use Rattle.tie_bound.specs.declared.parts.Parts.{Parts}
 use Rattle.tie_bound.specs.declared.sums.Sums.{Sums}
 use Rattle.tie_bound.specs.Spans.{as_range}
 use Rattle.tie_bound.specs.Sums.{sums_at}
 use Rattle.tie_bound.specs.Tables.{AreSums}
-use Rattle.tie_bound.specs.Answers.{record_of, overall_of, by_table, by_overall_table, is_sure_by, answer_at}
+use Rattle.tie_bound.specs.Answers.{record_of, first_sums_of, ranges_of, overall_of, by_table}
+use Rattle.tie_bound.specs.Answers.{by_overall_table, is_sure_by}
+use Rattle.tie_bound.specs.Answers.{answer_at}
 
 -- the answers below a number have gone on, the others are as they were
 pub record HasGoneOn (next : ℕ → Sure) (old now : List Sure) (bound : ℕ) : Type 0 where
@@ -28,20 +38,26 @@ pub record HasGoneOn (next : ℕ → Sure) (old now : List Sure) (bound : ℕ) :
 pub gone_on_none : (next : ℕ → Sure) (old : List Sure) → HasGoneOn next old old 0
 gone_on_none next old = record { done = λ k below. absurd (omega arith); left = λ k above. refl }
 
-pub gone_on_more : (next : ℕ → Sure) (old now : List Sure) (bound : ℕ) (answer : Sure) → bound < length now → HasGoneOn next old now bound → answer ≡ sure_then (answer_at now bound) (next bound) → HasGoneOn next old (set now bound answer) (bound + 1)
+pub gone_on_more : (next : ℕ → Sure) (old now : List Sure) (bound : ℕ) (answer : Sure)
+    → bound < length now → HasGoneOn next old now bound
+    → answer ≡ sure_then (answer_at now bound) (next bound)
+    → HasGoneOn next old (set now bound answer) (bound + 1)
 gone_on_more next old now bound answer within gone is = record {
   done = λ k below. at k below (cases_eq k bound);
-  left = λ k above. get_or-set_other now bound k answer Unknown (λ e. absurd (omega arith)) ∙ gone.left k (omega arith);
+  left = λ k above. get_or-set_other now bound k answer Unknown (λ e. absurd (omega arith))
+      ∙ gone.left k (omega arith);
 }
   where
-    at : (k : ℕ) → k < bound + 1 → (k ≡ bound) ⊎ (k ≢ bound) → answer_at (set now bound answer) k ≡ sure_then (answer_at old k) (next k)
+    at : (k : ℕ) → k < bound + 1 → (k ≡ bound) ⊎ (k ≢ bound)
+        → answer_at (set now bound answer) k ≡ sure_then (answer_at old k) (next k)
     at k below (inl same) =
         ap (answer_at (set now bound answer)) same
         ∙ get_or-set_same now bound answer Unknown within
         ∙ is
         ∙ ap (λ a. sure_then a (next bound)) (gone.left bound (omega arith))
         ∙ ap (λ n. sure_then (answer_at old n) (next n)) (sym same)
-    at k below (inr other) = get_or-set_other now bound k answer Unknown other ∙ gone.done k (omega arith)
+    at k below (inr other) = get_or-set_other now bound k answer Unknown other
+        ∙ gone.done k (omega arith)
 
 -- steps one after the other
 pub sure_then-assoc : (a b c : Sure) → sure_then (sure_then a b) c ≡ sure_then a (sure_then b c)
@@ -63,34 +79,54 @@ is_level-then Level b = refl
 is_level-then Unknown b = refl
 
 -- the points of one club
-pub points_range-one : (sheet : Sheet) (season : Results) (options : List (List Score)) (club : ℕ) → points_range sheet season options (club ∷ []) ≡ added (range_from (worth_to match_points club) sheet.fixtures options) (one_value (pos 0 -ℤ pos (slice_index season.deductions club)))
+pub points_range-one : (sheet : Sheet) (season : Results) (options : List (List Score)) (club : ℕ)
+    → points_range sheet season options (club ∷ []) ≡ added
+    (range_from (worth_to match_points club) sheet.fixtures options)
+    (one_value (pos 0 -ℤ pos (slice_index season.deductions club)))
 points_range-one sheet season options club =
-    let alone : points_together (club ∷ []) ≡ worth_to match_points club = λ i match score. without (worth_to match_points club match score) i in
-    ap (λ v. added (range_from v sheet.fixtures options) (one_value (pos 0 -ℤ deducted_from season (club ∷ [])))) alone
-    ∙ ap (λ n. added (range_from (worth_to match_points club) sheet.fixtures options) (one_value (pos 0 -ℤ n))) (without (pos (slice_index season.deductions club)))
+    let alone : points_together (club ∷ []) ≡ worth_to match_points club = λ i match score. without
+    (worth_to match_points club match score) i in
+    ap (λ v. added (range_from v sheet.fixtures options)
+    (one_value (pos 0 -ℤ deducted_from season (club ∷ [])))) alone
+    ∙ ap (λ n. added (range_from (worth_to match_points club) sheet.fixtures options)
+    (one_value (pos 0 -ℤ n))) (without (pos (slice_index season.deductions club)))
   where
     without : (n : ℤ) → (n +ℤ pos 0) ≡ n
     without n = omega (arith, ints)
 
 -- the records and the sums of a table are those of its club
-pub record_of-is : (sheet : Sheet) (options : List (List Score)) (group : List ℕ) (table : List Sums) (club : ℕ) → AreSums (worth_among group) sheet.fixtures options table → record_of (sums_at table club) ≡ record_ranges sheet options group club
+pub record_of-is : (sheet : Sheet) (options : List (List Score)) (group : List ℕ)
+    (table : List Sums) (club : ℕ) → AreSums (worth_among group) sheet.fixtures options table
+    → record_of (sums_at table club) ≡ record_ranges sheet options group club
 record_of-is sheet options group table club are =
     let points = are.each club Points in
     let difference = are.each club Difference in
     let goals = are.each club Goals in
     (λ j. points j ∷ difference j ∷ goals j ∷ [])
 
-pub overall_of-is : (sheet : Sheet) (options : List (List Score)) (table : List Sums) (club : ℕ) → AreSums worth_to sheet.fixtures options table → overall_of (sums_at table club) (rank_of sheet club) ≡ overall_ranges sheet options club
+pub first_sums_of-is : (sheet : Sheet) (options : List (List Score)) (table : List Sums) (club : ℕ)
+    → AreSums worth_to sheet.fixtures options table
+    → first_sums_of (sums_at table club) ≡ first_sum_ranges sheet options club
+first_sums_of-is sheet options table club are =
+    let difference = are.each club Difference in
+    let goals = are.each club Goals in
+    (λ j. difference j ∷ goals j ∷ [])
+
+pub overall_of-is : (sheet : Sheet) (options : List (List Score)) (table : List Sums) (club : ℕ)
+    → AreSums worth_to sheet.fixtures options table
+    → overall_of (sums_at table club) (rank_of sheet club) ≡ overall_ranges sheet options club
 overall_of-is sheet options table club are =
     let difference = are.each club Difference in
     let goals = are.each club Goals in
     let away_goals = are.each club AwayGoals in
     let wins = are.each club Wins in
     let away_wins = are.each club AwayWins in
-    (λ j. difference j ∷ goals j ∷ away_goals j ∷ wins j ∷ away_wins j ∷ one_value (neg_ℤ (pos (rank_of sheet club))) ∷ [])
+    (λ j. difference j ∷ goals j ∷ away_goals j ∷ wins j ∷ away_wins j ∷ one_value
+    (neg_ℤ (pos (rank_of sheet club))) ∷ [])
 
 -- what all clubs of a list pass each of them passes, and the other way round
-pub each_club : (test : ℕ → Bool) (clubs : List ℕ) (club : ℕ) → list_all test clubs ≡ true → has_club clubs club ≡ true → test club ≡ true
+pub each_club : (test : ℕ → Bool) (clubs : List ℕ) (club : ℕ) → list_all test clubs ≡ true
+    → has_club clubs club ≡ true → test club ≡ true
 each_club test [] club all has = absurd (false≢true has)
 each_club test (first ∷ clubs) club all has =
     let both = and_parts (test first) (list_all test clubs) all in
@@ -99,58 +135,99 @@ each_club test (first ∷ clubs) club all has =
       | inr later ↦ each_club test clubs club both.1 later
     ]
 
-pub all_clubs : (test : ℕ → Bool) (clubs : List ℕ) → ((club : ℕ) → has_club clubs club ≡ true → test club ≡ true) → list_all test clubs ≡ true
+pub all_clubs : (test : ℕ → Bool) (clubs : List ℕ)
+    → ((club : ℕ) → has_club clubs club ≡ true → test club ≡ true) → list_all test clubs ≡ true
 all_clubs test [] each = refl
 all_clubs test (first ∷ clubs) each =
     and_from (test first) (list_all test clubs)
     (each first (or_left (eqb first first) (has_club clubs first) (eq-eqb first first refl)))
-    (all_clubs test clubs (λ club has. each club (or_right (eqb first club) (has_club clubs club) has)))
+    (all_clubs test clubs (λ club has. each club
+    (or_right (eqb first club) (has_club clubs club) has)))
 
 -- the test of one club by the sums that were read from the table
-pub is_sure_by-read : (table : List Sums) (club other : ℕ) (sums own : Sums) (sure : Bool) → sums ≡ sums_at table other → own ≡ sums_at table club → sure ≡ (is_level (sure_by_ranges (record_of sums) (record_of own)) || is_apart (record_of sums) (record_of own)) → sure ≡ is_sure_by table club other
-is_sure_by-read table club other sums own sure sums_are own_is is =
+pub is_sure_by-read : (parts : Parts) (table : List Sums) (club other : ℕ) (sums own : Sums)
+    (sure : Bool) → sums ≡ sums_at table other → own ≡ sums_at table club
+    → sure ≡ (is_level (sure_by_ranges (ranges_of parts sums) (ranges_of parts own))
+    || is_apart (ranges_of parts sums) (ranges_of parts own))
+    → sure ≡ is_sure_by parts table club other
+is_sure_by-read parts table club other sums own sure sums_are own_is is =
     is
-    ∙ ap (λ (s : Sums). is_level (sure_by_ranges (record_of s) (record_of own)) || is_apart (record_of s) (record_of own)) sums_are
-    ∙ ap (λ (s : Sums). is_level (sure_by_ranges (record_of (sums_at table other)) (record_of s)) || is_apart (record_of (sums_at table other)) (record_of s)) own_is
+    ∙ ap (λ (s : Sums). is_level (sure_by_ranges (ranges_of parts s) (ranges_of parts own))
+    || is_apart (ranges_of parts s) (ranges_of parts own)) sums_are
+    ∙ ap (λ (s : Sums).
+    is_level (sure_by_ranges (ranges_of parts (sums_at table other)) (ranges_of parts s))
+    || is_apart (ranges_of parts (sums_at table other)) (ranges_of parts s)) own_is
 
 -- the answers by the sums that were read
-pub by_table-read : (table : List Sums) (club rival : ℕ) (sums own : Sums) → sums ≡ sums_at table rival → own ≡ sums_at table club → sure_by_ranges (record_of sums) (record_of own) ≡ by_table table club rival
-by_table-read table club rival sums own sums_are own_is =
-    ap (λ (s : Sums). sure_by_ranges (record_of s) (record_of own)) sums_are
-    ∙ ap (λ (s : Sums). sure_by_ranges (record_of (sums_at table rival)) (record_of s)) own_is
+pub by_table-read : (parts : Parts) (table : List Sums) (club rival : ℕ) (sums own : Sums)
+    → sums ≡ sums_at table rival → own ≡ sums_at table club
+    → sure_by_ranges (ranges_of parts sums) (ranges_of parts own) ≡ by_table parts table club rival
+by_table-read parts table club rival sums own sums_are own_is =
+    ap (λ (s : Sums). sure_by_ranges (ranges_of parts s) (ranges_of parts own)) sums_are
+    ∙ ap (λ (s : Sums). sure_by_ranges (ranges_of parts (sums_at table rival)) (ranges_of parts s))
+    own_is
 
-pub by_overall_table-read : (sheet : Sheet) (table : List Sums) (club rival : ℕ) (sums own : Sums) (rank own_rank : ℕ) → sums ≡ sums_at table rival → own ≡ sums_at table club → rank ≡ rank_of sheet rival → own_rank ≡ rank_of sheet club → sure_by_ranges (overall_of sums rank) (overall_of own own_rank) ≡ by_overall_table sheet table club rival
-by_overall_table-read sheet table club rival sums own rank own_rank sums_are own_is rank_is own_rank_is =
+pub by_overall_table-read : (sheet : Sheet) (table : List Sums) (club rival : ℕ) (sums own : Sums)
+    (rank own_rank : ℕ) → sums ≡ sums_at table rival → own ≡ sums_at table club
+    → rank ≡ rank_of sheet rival → own_rank ≡ rank_of sheet club
+    → sure_by_ranges (overall_of sums rank) (overall_of own own_rank) ≡ by_overall_table sheet table
+    club rival
+by_overall_table-read sheet table club rival sums own rank own_rank sums_are own_is rank_is
+    own_rank_is =
     ap (λ (s : Sums). sure_by_ranges (overall_of s rank) (overall_of own own_rank)) sums_are
-    ∙ ap (λ (n : ℕ). sure_by_ranges (overall_of (sums_at table rival) n) (overall_of own own_rank)) rank_is
-    ∙ ap (λ (s : Sums). sure_by_ranges (overall_of (sums_at table rival) (rank_of sheet rival)) (overall_of s own_rank)) own_is
-    ∙ ap (λ (n : ℕ). sure_by_ranges (overall_of (sums_at table rival) (rank_of sheet rival)) (overall_of (sums_at table club) n)) own_rank_is
+    ∙ ap (λ (n : ℕ). sure_by_ranges (overall_of (sums_at table rival) n) (overall_of own own_rank))
+    rank_is
+    ∙ ap (λ (s : Sums). sure_by_ranges (overall_of (sums_at table rival) (rank_of sheet rival))
+    (overall_of s own_rank)) own_is
+    ∙ ap (λ (n : ℕ). sure_by_ranges (overall_of (sums_at table rival) (rank_of sheet rival))
+    (overall_of (sums_at table club) n)) own_rank_is
 
 -- a step at one club, from the answer that stood there
-pub next_is : (old next : ℕ → Sure) (answer first second : Sure) (k : ℕ) → answer ≡ sure_then first second → first ≡ old k → second ≡ next k → answer ≡ sure_then (old k) (next k)
+pub next_is : (old next : ℕ → Sure) (answer first second : Sure) (k : ℕ)
+    → answer ≡ sure_then first second → first ≡ old k → second ≡ next k
+    → answer ≡ sure_then (old k) (next k)
 next_is old next answer first second k is first_is second_is =
     is ∙ ap (λ a. sure_then a second) first_is ∙ ap (sure_then (old k)) second_is
 
 -- the answer by points, from the points of both that were found
-pub by_points-read : (sheet : Sheet) (season : Results) (options : List (List Score)) (table : List Sums) (rival club : ℕ) (points own : Range) → AreSums worth_to sheet.fixtures options table → points ≡ added (as_range (sums_at table rival).points) (one_value (pos 0 -ℤ pos (slice_index season.deductions rival))) → own ≡ added (as_range (sums_at table club).points) (one_value (pos 0 -ℤ pos (slice_index season.deductions club))) → sure_by_range points own ≡ sure_by_points sheet season options rival club
+pub by_points-read : (sheet : Sheet) (season : Results) (options : List (List Score))
+    (table : List Sums) (rival club : ℕ) (points own : Range)
+    → AreSums worth_to sheet.fixtures options table
+    → points ≡ added (as_range (sums_at table rival).points)
+    (one_value (pos 0 -ℤ pos (slice_index season.deductions rival)))
+    → own ≡ added (as_range (sums_at table club).points)
+    (one_value (pos 0 -ℤ pos (slice_index season.deductions club)))
+    → sure_by_range points own ≡ sure_by_points sheet season options rival club
 by_points-read sheet season options table rival club points own are points_are own_are =
     ap (λ r. sure_by_range r own) (whole rival points points_are)
     ∙ ap (sure_by_range (points_range sheet season options (rival ∷ []))) (whole club own own_are)
   where
-    whole : (x : ℕ) (range : Range) → range ≡ added (as_range (sums_at table x).points) (one_value (pos 0 -ℤ pos (slice_index season.deductions x))) → range ≡ points_range sheet season options (x ∷ [])
+    whole : (x : ℕ) (range : Range) → range ≡ added (as_range (sums_at table x).points)
+        (one_value (pos 0 -ℤ pos (slice_index season.deductions x)))
+        → range ≡ points_range sheet season options (x ∷ [])
     whole x range is =
         is
-        ∙ ap (λ r. added r (one_value (pos 0 -ℤ pos (slice_index season.deductions x)))) (are.each x Points)
+        ∙ ap (λ r. added r (one_value (pos 0 -ℤ pos (slice_index season.deductions x))))
+        (are.each x Points)
         ∙ sym (points_range-one sheet season options x)
 
 -- the points of a club by the sums and the season that were read
-pub points-read : (read season : Results) (table : List Sums) (club : ℕ) (sums : Sums) → read ≡ season → sums ≡ sums_at table club → added (as_range sums.points) (one_value (pos 0 -ℤ pos (slice_index read.deductions club))) ≡ added (as_range (sums_at table club).points) (one_value (pos 0 -ℤ pos (slice_index season.deductions club)))
+pub points-read : (read season : Results) (table : List Sums) (club : ℕ) (sums : Sums)
+    → read ≡ season → sums ≡ sums_at table club
+    → added (as_range sums.points) (one_value (pos 0 -ℤ pos (slice_index read.deductions club))) ≡
+    added (as_range (sums_at table club).points)
+    (one_value (pos 0 -ℤ pos (slice_index season.deductions club)))
 points-read read season table club sums season_is sums_are =
-    ap (λ (s : Sums). added (as_range s.points) (one_value (pos 0 -ℤ pos (slice_index read.deductions club)))) sums_are
-    ∙ ap (λ (r : Results). added (as_range (sums_at table club).points) (one_value (pos 0 -ℤ pos (slice_index r.deductions club)))) season_is
+    ap (λ (s : Sums). added (as_range s.points)
+    (one_value (pos 0 -ℤ pos (slice_index read.deductions club)))) sums_are
+    ∙ ap (λ (r : Results). added (as_range (sums_at table club).points)
+    (one_value (pos 0 -ℤ pos (slice_index r.deductions club)))) season_is
 
 -- one answer more
-pub answers_more : (wanted : ℕ → Sure) (now : List Sure) (bound : ℕ) (answer : Sure) → bound < length now → ((k : ℕ) → k < bound → answer_at now k ≡ wanted k) → answer ≡ wanted bound → (k : ℕ) → k < bound + 1 → answer_at (set now bound answer) k ≡ wanted k
+pub answers_more : (wanted : ℕ → Sure) (now : List Sure) (bound : ℕ) (answer : Sure)
+    → bound < length now → ((k : ℕ) → k < bound → answer_at now k ≡ wanted k)
+    → answer ≡ wanted bound → (k : ℕ) → k < bound + 1
+    → answer_at (set now bound answer) k ≡ wanted k
 answers_more wanted now bound answer within so_far is k below = at (cases_eq k bound)
   where
     at : (k ≡ bound) ⊎ (k ≢ bound) → answer_at (set now bound answer) k ≡ wanted k

@@ -1,8 +1,8 @@
 -- Cells whose scores have one outcome: which it is, and which goals it leaves to each side.
-use Rattle.std.proofs.Common.{◌≡◌, ◌<◌, ◌⊎◌, Bool, true, false, ◌&&◌, ◌||◌, List, [], ◌∷◌, Option}
+use Rattle.std.proofs.Common.{◌≡◌, ◌<◌, ◌⊎◌, Bool, true, false, List, [], ◌∷◌, Option}
 use Rattle.std.proofs.Common.{Some, None, is_some, refl, sym, ap, ◌∙◌, inl, inr, arith}
-use Rattle.std.proofs.lemmas.Bool.{false≢true, ltb-true, eqb-true, or_cases, or_left, or_right}
-use Rattle.std.proofs.lemmas.Bool.{and_parts, and_from, false_from_ne_true}
+use Rattle.std.proofs.lemmas.Bool.{false≢true, ltb-true, eqb-true, or_cases, or_right}
+use Rattle.std.proofs.lemmas.Bool.{false_from_ne_true}
 use Rattle.league_core.specs.declared.season.Score.{Score}
 use Rattle.league_core.specs.Finishes.{same_score}
 use Rattle.league_core.specs.Options.{is_home_win, is_draw, is_away_win, same_outcome, has_score}
@@ -87,11 +87,14 @@ none_of_three cell home draw away score =
 -- a cell has one outcome exactly where its fixture's options have one
 pub one_outcome_of : (cell : Cell) (options : List Score) → IsCellOf cell options
     → has_one_outcome options ≡ true → HasOneOutcome cell
-one_outcome_of cell [] is one score other allowed other_allowed = absurd (false≢true (sym (is score) ∙ allowed))
+one_outcome_of cell [] is one score other allowed other_allowed = absurd
+    (false≢true (sym (is score) ∙ allowed))
 one_outcome_of cell (first ∷ options) is one score other allowed other_allowed =
     same_outcome-joined first score other
-    (with_first score (or_cases (same_score score first) (has_score options score) (sym (is score) ∙ allowed)))
-    (with_first other (or_cases (same_score other first) (has_score options other) (sym (is other) ∙ other_allowed)))
+    (with_first score (or_cases (same_score score first) (has_score options score)
+    (sym (is score) ∙ allowed)))
+    (with_first other (or_cases (same_score other first) (has_score options other)
+    (sym (is other) ∙ other_allowed)))
   where
     with_first : (s : Score) → (same_score s first ≡ true) ⊎ (has_score options s ≡ true)
         → same_outcome first s ≡ true
@@ -111,7 +114,8 @@ outcome_of_cell cell (first ∷ options) is one =
 
 -- where all scores are of one kind, they have one outcome
 one_kind : (cell : Cell) (test : Score → Bool)
-    → ((score other : Score) → test score ≡ true → test other ≡ true → same_outcome score other ≡ true)
+    → ((score other : Score) → test score ≡ true → test other ≡ true
+    → same_outcome score other ≡ true)
     → ((score : Score) → allows cell score ≡ true → test score ≡ true) → HasOneOutcome cell
 one_kind cell test same all score other allowed other_allowed =
     same score other (all score allowed) (all other other_allowed)
@@ -119,25 +123,32 @@ one_kind cell test same all score other allowed other_allowed =
 -- none of the cell's scores is of the kind
 none_at : (cell : Cell) (test : Score → Bool) (score : Score) → AllowsNone cell test
     → allows cell score ≡ true → test score ≡ true → ⊥
-none_at cell test score none allowed passed = none score (record { allowed = allowed; passed = passed })
+none_at cell test score none allowed passed = none score
+    (record { allowed = allowed; passed = passed })
 
 only_home_wins : (cell : Cell) → AllowsNone cell is_draw → AllowsNone cell is_away_win
     → HasOneOutcome cell
 only_home_wins cell draw away =
     one_kind cell is_home_win same_outcome-home
-    (λ score allowed. outcome_cases {P = is_home_win score ≡ true} score (λ h. h) (λ d. absurd (none_at cell is_draw score draw allowed d)) (λ a. absurd (none_at cell is_away_win score away allowed a)))
+    (λ score allowed. outcome_cases {P = is_home_win score ≡ true} score (λ h. h)
+    (λ d. absurd (none_at cell is_draw score draw allowed d))
+    (λ a. absurd (none_at cell is_away_win score away allowed a)))
 
 only_draws : (cell : Cell) → AllowsNone cell is_home_win → AllowsNone cell is_away_win
     → HasOneOutcome cell
 only_draws cell home away =
     one_kind cell is_draw same_outcome-draw
-    (λ score allowed. outcome_cases {P = is_draw score ≡ true} score (λ h. absurd (none_at cell is_home_win score home allowed h)) (λ d. d) (λ a. absurd (none_at cell is_away_win score away allowed a)))
+    (λ score allowed. outcome_cases {P = is_draw score ≡ true} score
+    (λ h. absurd (none_at cell is_home_win score home allowed h)) (λ d. d)
+    (λ a. absurd (none_at cell is_away_win score away allowed a)))
 
 only_away_wins : (cell : Cell) → AllowsNone cell is_home_win → AllowsNone cell is_draw
     → HasOneOutcome cell
 only_away_wins cell home draw =
     one_kind cell is_away_win same_outcome-away
-    (λ score allowed. outcome_cases {P = is_away_win score ≡ true} score (λ h. absurd (none_at cell is_home_win score home allowed h)) (λ d. absurd (none_at cell is_draw score draw allowed d)) (λ a. a))
+    (λ score allowed. outcome_cases {P = is_away_win score ≡ true} score
+    (λ h. absurd (none_at cell is_home_win score home allowed h))
+    (λ d. absurd (none_at cell is_draw score draw allowed d)) (λ a. a))
 
 -- two scores of two kinds have no one outcome
 home_and_draw : (cell : Cell) (home draw : Score) → HasOneOutcome cell
@@ -165,19 +176,23 @@ draw_and_away cell draw away one d a =
 -- one outcome at most exactly where no two of the three have a score
 pub decided : (cell : Cell) (home draws away : Option Goals) → Says cell is_home_win home
     → Says cell is_draw draws → Says cell is_away_win away
-    → (at_most_one (is_some home) (is_some draws) (is_some away) ≡ true → HasOneOutcome cell) × (HasOneOutcome cell → at_most_one (is_some home) (is_some draws) (is_some away) ≡ true)
+    → (at_most_one (is_some home) (is_some draws) (is_some away) ≡ true → HasOneOutcome cell)
+    × (HasOneOutcome cell → at_most_one (is_some home) (is_some draws) (is_some away) ≡ true)
 decided cell (Some h) (Some d) away hs ds aws = (
   λ e. absurd (false≢true e),
-  λ one. absurd (home_and_draw cell hs.home_least.0 ds.home_least.0 one hs.home_least.1 ds.home_least.1),
+  λ one. absurd (home_and_draw cell hs.home_least.0 ds.home_least.0 one hs.home_least.1
+      ds.home_least.1),
 )
 decided cell (Some h) None (Some a) hs ds aws = (
   λ e. absurd (false≢true e),
-  λ one. absurd (home_and_away cell hs.home_least.0 aws.home_least.0 one hs.home_least.1 aws.home_least.1),
+  λ one. absurd (home_and_away cell hs.home_least.0 aws.home_least.0 one hs.home_least.1
+      aws.home_least.1),
 )
 decided cell (Some h) None None hs ds aws = (λ e. only_home_wins cell ds aws, λ one. refl)
 decided cell None (Some d) (Some a) hs ds aws = (
   λ e. absurd (false≢true e),
-  λ one. absurd (draw_and_away cell ds.home_least.0 aws.home_least.0 one ds.home_least.1 aws.home_least.1),
+  λ one. absurd (draw_and_away cell ds.home_least.0 aws.home_least.0 one ds.home_least.1
+      aws.home_least.1),
 )
 decided cell None (Some d) None hs ds aws = (λ e. only_draws cell hs aws, λ one. refl)
 decided cell None None (Some a) hs ds aws = (λ e. only_away_wins cell hs ds, λ one. refl)

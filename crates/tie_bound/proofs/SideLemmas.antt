@@ -1,8 +1,8 @@
 -- The sums that a match leaves to one of its sides, by the outcome that all its scores have.
-use Rattle.std.proofs.Common.{◌≡◌, ℕ, ◌+◌, ◌<◌, ◌≤◌, ◌⊎◌, ℤ, pos, ◌-ℤ◌, Bool, true, false, not}
-use Rattle.std.proofs.Common.{◌==◌, nat_lt, cond, [], refl, sym, ap, ◌∙◌, subst, inl, inr, arith}
+use Rattle.std.proofs.Common.{◌≡◌, ◌+◌, ◌<◌, ◌≤◌, ◌⊎◌, pos, ◌-ℤ◌, Bool, true, false, not}
+use Rattle.std.proofs.Common.{nat_lt, cond, [], refl, sym, ap, ◌∙◌, inl, inr, arith}
 use Rattle.std.proofs.lemmas.Int.{ints}
-use Rattle.std.proofs.lemmas.Bool.{lt-ltb, le-ltb, eq-eqb, ne_eqb, cases_lt}
+use Rattle.std.proofs.lemmas.Bool.{lt-ltb, le-ltb, ne_eqb, cases_lt}
 use Rattle.league_core.specs.declared.season.Score.{Score}
 use Rattle.league_core.specs.Sums.{match_points, goal_difference, goals, away_goals, wins}
 use Rattle.league_core.specs.Sums.{away_wins}
@@ -27,13 +27,15 @@ use Rattle.tie_bound.specs.Sides.{goals_by, to_side, AreGoalsOf, Wins as WinsAll
 use Rattle.tie_bound.specs.Sides.{Loses as LosesAll, AreSumsOf}
 use Rattle.tie_bound.proofs.ExtentLemmas.{goals_extent, near_extent, worth_near, no_options}
 
--- two wins of one side have one outcome, so a cell that has the one and lies round the other has both
+-- two wins of one side have one outcome, so a cell that has the one and lies round the other has
+-- both
 home_win_in : (cell : Cell) (won score : Score) → allows cell won ≡ true → won.away < won.home
     → score.away < score.home → IsInRanges cell score → allows cell score ≡ true
 home_win_in cell won score allowed wins win ranges =
     let kept = (ranges_of cell won allowed).1 in
     let outcome : (s : Score) → s.away < s.home → keeps_outcome cell s ≡ cell.home_win =
-    λ s h. ap (λ b. cond b cell.home_win (cond (is_draw s) cell.draw cell.away_win)) (lt-ltb s.away s.home h) in
+    λ s h. ap (λ b. cond b cell.home_win (cond (is_draw s) cell.draw cell.away_win))
+    (lt-ltb s.away s.home h) in
     allows_from cell score ranges (outcome score win ∙ sym (outcome won wins) ∙ kept)
 
 away_win_in : (cell : Cell) (won score : Score) → allows cell won ≡ true → won.home < won.away
@@ -42,7 +44,8 @@ away_win_in cell won score allowed wins win ranges =
     let kept = (ranges_of cell won allowed).1 in
     let outcome : (s : Score) → s.home < s.away → keeps_outcome cell s ≡ cell.away_win =
     λ s h.
-    ap (λ b. cond b cell.home_win (cond (is_draw s) cell.draw cell.away_win)) (le-ltb s.away s.home (omega arith))
+    ap (λ b. cond b cell.home_win (cond (is_draw s) cell.draw cell.away_win))
+    (le-ltb s.away s.home (omega arith))
     ∙ ap (λ b. cond b cell.draw cell.away_win) (ne_eqb s.home s.away (λ e. absurd (omega arith))) in
     allows_from cell score ranges (outcome score win ∙ sym (outcome won wins) ∙ kept)
 
@@ -50,7 +53,8 @@ away_win_in cell won score allowed wins win ranges =
 closest_by : (b : Bool) (winner loser : GoalSpan) (range : Range) → nat_lt loser.most winner.least
     ≡ b → IsMargin winner loser range → range.least ≡ cond b (pos winner.least -ℤ pos loser.most)
     (pos 1)
-closest_by b winner loser range test margin = margin.closest ∙ ap (λ t. cond t (pos winner.least -ℤ pos loser.most) (pos 1)) test
+closest_by b winner loser range test margin = margin.closest
+    ∙ ap (λ t. cond t (pos winner.least -ℤ pos loser.most) (pos 1)) test
 
 -- the margins of home wins
 home_margin : (cell : Cell) (own other : GoalSpan) (range : Range) → WinsAll cell false
@@ -65,7 +69,8 @@ home_margin cell own other range all_won own_goals other_goals margin =
     high : Score
     high = other_goals.most.0
 
-    widest : (score : Score) × (allows cell score ≡ true) × ((pos score.home -ℤ pos score.away) ≡ range.greatest)
+    widest : (score : Score) × (allows cell score ≡ true)
+        × ((pos score.home -ℤ pos score.away) ≡ range.greatest)
     widest =
         let most = own_goals.most.0 in
         let least = other_goals.least.0 in
@@ -73,12 +78,24 @@ home_margin cell own other range all_won own_goals other_goals margin =
         let least_in = (ranges_of cell least other_goals.least.1).0 in
         let beats = all_won most own_goals.most.1 in
         let above = other_goals.within most own_goals.most.1 in
-        let inside : IsInRanges cell (score_of most.home least.away) = record { home_least = most_in.home_least; home_most = most_in.home_most; away_least = least_in.away_least; away_most = least_in.away_most } in
-        let reach : least.away < most.home = omega (arith, other_goals.least.2) in
-        (score_of most.home least.away, home_win_in cell most (score_of most.home least.away) own_goals.most.1 beats reach inside, omega (arith, ints, own_goals.most.2, other_goals.least.2, margin.widest))
+        let inside : IsInRanges cell (score_of most.home least.away) = record {
+          home_least = most_in.home_least;
+          home_most = most_in.home_most;
+          away_least =
+              least_in.away_least;
+          away_most = least_in.away_most;
+        } in
+        let reach : least.away < most.home = omega (arith, other_goals.least.2) in (
+          score_of most.home least.away,
+          home_win_in cell most (score_of most.home least.away)
+              own_goals.most.1 beats reach inside,
+          omega
+              (arith, ints, own_goals.most.2, other_goals.least.2, margin.widest),
+        )
 
     within : (score : Score) → allows cell score ≡ true
-        → (own.least ≤ score.home) × (score.home ≤ own.most) × (other.least ≤ score.away) × (score.away ≤ other.most) × (score.away < score.home)
+        → (own.least ≤ score.home) × (score.home ≤ own.most) × (other.least ≤ score.away)
+        × (score.away ≤ other.most) × (score.away < score.home)
     within score is =
         let mine = own_goals.within score is in
         let theirs = other_goals.within score is in
@@ -87,25 +104,52 @@ home_margin cell own other range all_won own_goals other_goals margin =
     by_gap : (other.most < own.least) ⊎ (own.least ≤ other.most) → IsExtent (allows cell)
         (to_side goal_difference false) range
     by_gap (inl gap) =
-        let closest : range.least ≡ (pos own.least -ℤ pos other.most) = closest_by true own other range (lt-ltb other.most own.least gap) margin in
+        let closest : range.least ≡ (pos own.least -ℤ pos other.most) = closest_by true own other
+        range (lt-ltb other.most own.least gap) margin in
         let low_in = (ranges_of cell low own_goals.least.1).0 in
         let high_in = (ranges_of cell high other_goals.most.1).0 in
-        let inside : IsInRanges cell (score_of low.home high.away) = record { home_least = low_in.home_least; home_most = low_in.home_most; away_least = high_in.away_least; away_most = high_in.away_most } in
+        let inside : IsInRanges cell (score_of low.home high.away) = record {
+          home_least = low_in.home_least;
+          home_most = low_in.home_most;
+          away_least =
+              high_in.away_least;
+          away_most = high_in.away_most;
+        } in
         let reach : high.away < low.home = omega (arith, own_goals.least.2, other_goals.most.2) in
         record {
-          within = λ score is. let w = within score is in (omega (arith, ints), omega (arith, ints, margin.widest));
-          least = (score_of low.home high.away, home_win_in cell low (score_of low.home high.away) own_goals.least.1 (all_won low own_goals.least.1) reach inside, omega (arith, ints, own_goals.least.2, other_goals.most.2));
+          within = λ score is. let w = within score is
+              in (omega (arith, ints), omega (arith, ints, margin.widest));
+          least = (
+            score_of low.home high.away,
+            home_win_in cell low (score_of low.home high.away)
+                own_goals.least.1 (all_won low own_goals.least.1) reach inside,
+            omega
+                (arith, ints, own_goals.least.2, other_goals.most.2),
+          );
           greatest = widest;
         }
     by_gap (inr overlap) =
-        let closest : range.least ≡ pos 1 = closest_by false own other range (le-ltb other.most own.least overlap) margin in
+        let closest : range.least ≡ pos 1 = closest_by false own other range
+        (le-ltb other.most own.least overlap) margin in
         let low_in = (ranges_of cell low own_goals.least.1).0 in
         let high_in = (ranges_of cell high other_goals.most.1).0 in
         let beats = all_won high other_goals.most.1 in
-        let inside : IsInRanges cell (score_of (high.away + 1) high.away) = record { home_least = omega (arith, own_goals.least.2, other_goals.most.2); home_most = omega arith; away_least = high_in.away_least; away_most = high_in.away_most } in
+        let inside : IsInRanges cell (score_of (high.away + 1) high.away) = record {
+          home_least = omega (arith, own_goals.least.2, other_goals.most.2);
+          home_most = omega
+              arith;
+          away_least = high_in.away_least;
+          away_most = high_in.away_most;
+        } in
         record {
-          within = λ score is. let w = within score is in (omega (arith, ints), omega (arith, ints, margin.widest));
-          least = (score_of (high.away + 1) high.away, home_win_in cell high (score_of (high.away + 1) high.away) other_goals.most.1 beats (omega arith) inside, omega (arith, ints));
+          within = λ score is. let w = within score is
+              in (omega (arith, ints), omega (arith, ints, margin.widest));
+          least = (
+            score_of (high.away + 1) high.away,
+            home_win_in cell high
+                (score_of (high.away + 1) high.away) other_goals.most.1 beats (omega arith) inside,
+            omega (arith, ints),
+          );
           greatest = widest;
         }
 
@@ -122,7 +166,8 @@ away_margin cell own other range all_won own_goals other_goals margin =
     high : Score
     high = other_goals.most.0
 
-    widest : (score : Score) × (allows cell score ≡ true) × ((pos score.away -ℤ pos score.home) ≡ range.greatest)
+    widest : (score : Score) × (allows cell score ≡ true)
+        × ((pos score.away -ℤ pos score.home) ≡ range.greatest)
     widest =
         let most = own_goals.most.0 in
         let least = other_goals.least.0 in
@@ -130,12 +175,24 @@ away_margin cell own other range all_won own_goals other_goals margin =
         let least_in = (ranges_of cell least other_goals.least.1).0 in
         let beats = all_won most own_goals.most.1 in
         let above = other_goals.within most own_goals.most.1 in
-        let inside : IsInRanges cell (score_of least.home most.away) = record { away_least = most_in.away_least; away_most = most_in.away_most; home_least = least_in.home_least; home_most = least_in.home_most } in
-        let reach : least.home < most.away = omega (arith, other_goals.least.2) in
-        (score_of least.home most.away, away_win_in cell most (score_of least.home most.away) own_goals.most.1 beats reach inside, omega (arith, ints, own_goals.most.2, other_goals.least.2, margin.widest))
+        let inside : IsInRanges cell (score_of least.home most.away) = record {
+          away_least = most_in.away_least;
+          away_most = most_in.away_most;
+          home_least =
+              least_in.home_least;
+          home_most = least_in.home_most;
+        } in
+        let reach : least.home < most.away = omega (arith, other_goals.least.2) in (
+          score_of least.home most.away,
+          away_win_in cell most (score_of least.home most.away)
+              own_goals.most.1 beats reach inside,
+          omega
+              (arith, ints, own_goals.most.2, other_goals.least.2, margin.widest),
+        )
 
     within : (score : Score) → allows cell score ≡ true
-        → (own.least ≤ score.away) × (score.away ≤ own.most) × (other.least ≤ score.home) × (score.home ≤ other.most) × (score.home < score.away)
+        → (own.least ≤ score.away) × (score.away ≤ own.most) × (other.least ≤ score.home)
+        × (score.home ≤ other.most) × (score.home < score.away)
     within score is =
         let mine = own_goals.within score is in
         let theirs = other_goals.within score is in
@@ -144,25 +201,52 @@ away_margin cell own other range all_won own_goals other_goals margin =
     by_gap : (other.most < own.least) ⊎ (own.least ≤ other.most) → IsExtent (allows cell)
         (to_side goal_difference true) range
     by_gap (inl gap) =
-        let closest : range.least ≡ (pos own.least -ℤ pos other.most) = closest_by true own other range (lt-ltb other.most own.least gap) margin in
+        let closest : range.least ≡ (pos own.least -ℤ pos other.most) = closest_by true own other
+        range (lt-ltb other.most own.least gap) margin in
         let low_in = (ranges_of cell low own_goals.least.1).0 in
         let high_in = (ranges_of cell high other_goals.most.1).0 in
-        let inside : IsInRanges cell (score_of high.home low.away) = record { away_least = low_in.away_least; away_most = low_in.away_most; home_least = high_in.home_least; home_most = high_in.home_most } in
+        let inside : IsInRanges cell (score_of high.home low.away) = record {
+          away_least = low_in.away_least;
+          away_most = low_in.away_most;
+          home_least =
+              high_in.home_least;
+          home_most = high_in.home_most;
+        } in
         let reach : high.home < low.away = omega (arith, own_goals.least.2, other_goals.most.2) in
         record {
-          within = λ score is. let w = within score is in (omega (arith, ints), omega (arith, ints, margin.widest));
-          least = (score_of high.home low.away, away_win_in cell low (score_of high.home low.away) own_goals.least.1 (all_won low own_goals.least.1) reach inside, omega (arith, ints, own_goals.least.2, other_goals.most.2));
+          within = λ score is. let w = within score is
+              in (omega (arith, ints), omega (arith, ints, margin.widest));
+          least = (
+            score_of high.home low.away,
+            away_win_in cell low (score_of high.home low.away)
+                own_goals.least.1 (all_won low own_goals.least.1) reach inside,
+            omega
+                (arith, ints, own_goals.least.2, other_goals.most.2),
+          );
           greatest = widest;
         }
     by_gap (inr overlap) =
-        let closest : range.least ≡ pos 1 = closest_by false own other range (le-ltb other.most own.least overlap) margin in
+        let closest : range.least ≡ pos 1 = closest_by false own other range
+        (le-ltb other.most own.least overlap) margin in
         let low_in = (ranges_of cell low own_goals.least.1).0 in
         let high_in = (ranges_of cell high other_goals.most.1).0 in
         let beats = all_won high other_goals.most.1 in
-        let inside : IsInRanges cell (score_of high.home (high.home + 1)) = record { away_least = omega (arith, own_goals.least.2, other_goals.most.2); away_most = omega arith; home_least = high_in.home_least; home_most = high_in.home_most } in
+        let inside : IsInRanges cell (score_of high.home (high.home + 1)) = record {
+          away_least = omega (arith, own_goals.least.2, other_goals.most.2);
+          away_most = omega
+              arith;
+          home_least = high_in.home_least;
+          home_most = high_in.home_most;
+        } in
         record {
-          within = λ score is. let w = within score is in (omega (arith, ints), omega (arith, ints, margin.widest));
-          least = (score_of high.home (high.home + 1), away_win_in cell high (score_of high.home (high.home + 1)) other_goals.most.1 beats (omega arith) inside, omega (arith, ints));
+          within = λ score is. let w = within score is
+              in (omega (arith, ints), omega (arith, ints, margin.widest));
+          least = (
+            score_of high.home (high.home + 1),
+            away_win_in cell high
+                (score_of high.home (high.home + 1)) other_goals.most.1 beats (omega arith) inside,
+            omega (arith, ints),
+          );
           greatest = widest;
         }
 
@@ -176,38 +260,47 @@ pub record IsMatchOf (cell : Cell) (away : Bool) (own other : GoalSpan) : Type 0
 -- ranges that the scores of a cell reach, measure by measure, are the sums of the side
 sums_from : (cell : Cell) (away : Bool) (own other : GoalSpan) (sums : Sums)
     → IsMatchOf cell away own other
-    → ((measure : Measure) → IsExtent (allows cell) (to_side (worth_of measure) away) (range_by sums measure))
+    → ((measure : Measure) → IsExtent (allows cell) (to_side (worth_of measure) away)
+    (range_by sums measure))
     → AreSumsOf cell away sums
 sums_from cell away own other sums match extents = record {
-  each = λ options is measure. extent-is (allows cell) (to_side (worth_of measure) away) (range_by sums measure) options (extents measure) is;
+  each = λ options is measure. extent-is (allows cell) (to_side (worth_of measure) away)
+      (range_by sums measure) options (extents measure) is;
   near = λ measure.
       near_extent cell (to_side (worth_of measure) away) (range_by sums measure) (extents measure)
       (λ score is.
       let mine = match.own_goals.within score is in
       let theirs = match.other_goals.within score is in
-      worth_near measure (goals_by away score) (goals_by (not away) score) away (omega (arith, match.own_few)) (omega (arith, match.other_few)));
+      worth_near measure (goals_by away score) (goals_by (not away) score) away
+      (omega (arith, match.own_few)) (omega (arith, match.other_few)));
 }
 
 -- away goals count for the away side alone
-away_goals_extent : (cell : Cell) (away : Bool) (goals : GoalSpan) → AreGoalsOf cell away goals → IsExtent (allows cell) (to_side away_goals away) (cond away (record { least = pos goals.least; greatest = pos goals.most }) (one_value (pos 0)))
+away_goals_extent : (cell : Cell) (away : Bool) (goals : GoalSpan) → AreGoalsOf cell away goals
+    → IsExtent (allows cell) (to_side away_goals away)
+    (cond away (record { least = pos goals.least; greatest = pos goals.most }) (one_value (pos 0)))
 away_goals_extent cell true own are = goals_extent cell true own are
 away_goals_extent cell false own are =
-    one_extent (allows cell) (to_side away_goals false) (pos 0) are.least.0 are.least.1 (λ score is. refl)
+    one_extent (allows cell) (to_side away_goals false) (pos 0) are.least.0 are.least.1
+    (λ score is. refl)
 
 -- a win counts as an away win for the away side alone
 away_win_extent : (cell : Cell) (away : Bool) (score : Score) → allows cell score ≡ true
     → WinsAll cell away → IsExtent (allows cell) (to_side away_wins away)
     (cond away (one_value (pos 1)) (one_value (pos 0)))
 away_win_extent cell true score allowed all_won =
-    one_extent (allows cell) (to_side away_wins true) (pos 1) score allowed (λ s is. one_away_win s.away s.home (all_won s is))
+    one_extent (allows cell) (to_side away_wins true) (pos 1) score allowed
+    (λ s is. one_away_win s.away s.home (all_won s is))
 away_win_extent cell false score allowed all_won =
     one_extent (allows cell) (to_side away_wins false) (pos 0) score allowed (λ s is. refl)
 
 margin_extent : (cell : Cell) (away : Bool) (own other : GoalSpan) (range : Range)
     → WinsAll cell away → AreGoalsOf cell away own → AreGoalsOf cell (not away) other
     → IsMargin own other range → IsExtent (allows cell) (to_side goal_difference away) range
-margin_extent cell true own other range all_won own_goals other_goals margin = away_margin cell own other range all_won own_goals other_goals margin
-margin_extent cell false own other range all_won own_goals other_goals margin = home_margin cell own other range all_won own_goals other_goals margin
+margin_extent cell true own other range all_won own_goals other_goals margin = away_margin cell own
+    other range all_won own_goals other_goals margin
+margin_extent cell false own other range all_won own_goals other_goals margin = home_margin cell own
+    other range all_won own_goals other_goals margin
 
 -- a defeat is the other side's win
 lost_extent : (cell : Cell) (away : Bool) (own other : GoalSpan) (range : Range)
@@ -215,10 +308,12 @@ lost_extent : (cell : Cell) (away : Bool) (own other : GoalSpan) (range : Range)
     → IsMargin other own range → IsExtent (allows cell) (to_side goal_difference away)
     (negated range)
 lost_extent cell true own other range loses own_goals other_goals margin =
-    negated_extent (allows cell) (to_side goal_difference false) (to_side goal_difference true) range (λ score. omega (arith, ints))
+    negated_extent (allows cell) (to_side goal_difference false) (to_side goal_difference true)
+    range (λ score. omega (arith, ints))
     (home_margin cell other own range loses other_goals own_goals margin)
 lost_extent cell false own other range loses own_goals other_goals margin =
-    negated_extent (allows cell) (to_side goal_difference true) (to_side goal_difference false) range (λ score. omega (arith, ints))
+    negated_extent (allows cell) (to_side goal_difference true) (to_side goal_difference false)
+    range (λ score. omega (arith, ints))
     (away_margin cell other own range loses other_goals own_goals margin)
 
 -- what the code gives for a side that wins, draws or loses with these goals
@@ -226,7 +321,8 @@ pub record AreWon (own other : GoalSpan) (away : Bool) (sums : Sums) : Type 0 wh
   pub points : as_range sums.points ≡ one_value (pos 3)
   pub difference : IsMargin own other (as_range sums.difference)
   pub goals : as_range sums.goals ≡ record { least = pos own.least; greatest = pos own.most }
-  pub away_goals : as_range sums.away_goals ≡ cond away (record { least = pos own.least; greatest = pos own.most }) (one_value (pos 0))
+  pub away_goals : as_range sums.away_goals ≡ cond away
+      (record { least = pos own.least; greatest = pos own.most }) (one_value (pos 0))
   pub wins : as_range sums.wins ≡ one_value (pos 1)
   pub away_wins : as_range sums.away_wins ≡ cond away (one_value (pos 1)) (one_value (pos 0))
 
@@ -234,22 +330,26 @@ pub record AreDrawn (own : GoalSpan) (away : Bool) (sums : Sums) : Type 0 where
   pub points : as_range sums.points ≡ one_value (pos 1)
   pub difference : as_range sums.difference ≡ one_value (pos 0)
   pub goals : as_range sums.goals ≡ record { least = pos own.least; greatest = pos own.most }
-  pub away_goals : as_range sums.away_goals ≡ cond away (record { least = pos own.least; greatest = pos own.most }) (one_value (pos 0))
+  pub away_goals : as_range sums.away_goals ≡ cond away
+      (record { least = pos own.least; greatest = pos own.most }) (one_value (pos 0))
   pub wins : as_range sums.wins ≡ one_value (pos 0)
   pub away_wins : as_range sums.away_wins ≡ one_value (pos 0)
 
 pub record AreLost (own other : GoalSpan) (away : Bool) (sums : Sums) : Type 0 where
   pub points : as_range sums.points ≡ one_value (pos 0)
-  pub difference : (range : Range) × IsMargin other own range × (as_range sums.difference ≡ negated range)
+  pub difference : (range : Range) × IsMargin other own range
+      × (as_range sums.difference ≡ negated range)
   pub goals : as_range sums.goals ≡ record { least = pos own.least; greatest = pos own.most }
-  pub away_goals : as_range sums.away_goals ≡ cond away (record { least = pos own.least; greatest = pos own.most }) (one_value (pos 0))
+  pub away_goals : as_range sums.away_goals ≡ cond away
+      (record { least = pos own.least; greatest = pos own.most }) (one_value (pos 0))
   pub wins : as_range sums.wins ≡ one_value (pos 0)
   pub away_wins : as_range sums.away_wins ≡ one_value (pos 0)
 
 pub won_sums : (cell : Cell) (away : Bool) (own other : GoalSpan) (sums : Sums)
     → IsMatchOf cell away own other → WinsAll cell away → AreWon own other away sums
     → AreSumsOf cell away sums
-won_sums cell away own other sums match wins_all are = sums_from cell away own other sums match extents
+won_sums cell away own other sums match wins_all are = sums_from cell away own other sums match
+    extents
   where
     some : Score
     some = match.own_goals.least.0
@@ -259,12 +359,25 @@ won_sums cell away own other sums match wins_all are = sums_from cell away own o
 
     extents : (measure : Measure) → IsExtent (allows cell) (to_side (worth_of measure) away)
         (range_by sums measure)
-    extents Points = extent_at (allows cell) (to_side match_points away) (as_range sums.points) (one_value (pos 3)) are.points (one_extent (allows cell) (to_side match_points away) (pos 3) some allowed (λ score is. points_won (goals_by away score) (goals_by (not away) score) away (wins_all score is)))
-    extents Difference = margin_extent cell away own other (as_range sums.difference) wins_all match.own_goals match.other_goals are.difference
-    extents Goals = extent_at (allows cell) (to_side goals away) (as_range sums.goals) (record { least = pos own.least; greatest = pos own.most }) are.goals (goals_extent cell away own match.own_goals)
-    extents AwayGoals = extent_at (allows cell) (to_side away_goals away) (as_range sums.away_goals) (cond away (record { least = pos own.least; greatest = pos own.most }) (one_value (pos 0))) are.away_goals (away_goals_extent cell away own match.own_goals)
-    extents Wins = extent_at (allows cell) (to_side wins away) (as_range sums.wins) (one_value (pos 1)) are.wins (one_extent (allows cell) (to_side wins away) (pos 1) some allowed (λ score is. one_win (goals_by away score) (goals_by (not away) score) away (wins_all score is)))
-    extents AwayWins = extent_at (allows cell) (to_side away_wins away) (as_range sums.away_wins) (cond away (one_value (pos 1)) (one_value (pos 0))) are.away_wins (away_win_extent cell away some allowed wins_all)
+    extents Points = extent_at (allows cell) (to_side match_points away) (as_range sums.points)
+        (one_value (pos 3)) are.points (one_extent (allows cell) (to_side match_points away) (pos 3)
+        some allowed (λ score is. points_won (goals_by away score) (goals_by (not away) score) away
+        (wins_all score is)))
+    extents Difference = margin_extent cell away own other (as_range sums.difference) wins_all
+        match.own_goals match.other_goals are.difference
+    extents Goals = extent_at (allows cell) (to_side goals away) (as_range sums.goals)
+        (record { least = pos own.least; greatest = pos own.most }) are.goals
+        (goals_extent cell away own match.own_goals)
+    extents AwayGoals = extent_at (allows cell) (to_side away_goals away) (as_range sums.away_goals)
+        (cond away (record { least = pos own.least; greatest = pos own.most }) (one_value (pos 0)))
+        are.away_goals (away_goals_extent cell away own match.own_goals)
+    extents Wins = extent_at (allows cell) (to_side wins away) (as_range sums.wins)
+        (one_value (pos 1)) are.wins (one_extent (allows cell) (to_side wins away) (pos 1) some
+        allowed (λ score is. one_win (goals_by away score) (goals_by (not away) score) away
+        (wins_all score is)))
+    extents AwayWins = extent_at (allows cell) (to_side away_wins away) (as_range sums.away_wins)
+        (cond away (one_value (pos 1)) (one_value (pos 0))) are.away_wins
+        (away_win_extent cell away some allowed wins_all)
 
 -- in a draw the other side has the same goals
 pub drawn_match : (cell : Cell) (away : Bool) (own : GoalSpan) → own.most ≤ 255 → DrawsAll cell away
@@ -272,7 +385,8 @@ pub drawn_match : (cell : Cell) (away : Bool) (own : GoalSpan) → own.most ≤ 
 drawn_match cell away own few draws are = record {
   own_goals = are;
   other_goals = record {
-    within = λ score is. let between = are.within score is in let level = draws score is in (omega arith, omega arith);
+    within = λ score is. let between = are.within score is in let level = draws score is
+        in (omega arith, omega arith);
     least = (are.least.0, are.least.1, sym (draws are.least.0 are.least.1) ∙ are.least.2);
     most = (are.most.0, are.most.1, sym (draws are.most.0 are.most.1) ∙ are.most.2);
   };
@@ -283,7 +397,8 @@ drawn_match cell away own few draws are = record {
 pub drawn_sums : (cell : Cell) (away : Bool) (own other : GoalSpan) (sums : Sums)
     → IsMatchOf cell away own other → DrawsAll cell away → AreDrawn own away sums
     → AreSumsOf cell away sums
-drawn_sums cell away own other sums match draws are = sums_from cell away own other sums match extents
+drawn_sums cell away own other sums match draws are = sums_from cell away own other sums match
+    extents
   where
     some : Score
     some = match.own_goals.least.0
@@ -297,17 +412,34 @@ drawn_sums cell away own other sums match draws are = sums_from cell away own ot
 
     extents : (measure : Measure) → IsExtent (allows cell) (to_side (worth_of measure) away)
         (range_by sums measure)
-    extents Points = extent_at (allows cell) (to_side match_points away) (as_range sums.points) (one_value (pos 1)) are.points (one_extent (allows cell) (to_side match_points away) (pos 1) some allowed (λ score is. points_drawn (goals_by away score) (goals_by (not away) score) away (draws score is)))
-    extents Difference = extent_at (allows cell) (to_side goal_difference away) (as_range sums.difference) (one_value (pos 0)) are.difference (one_extent (allows cell) (to_side goal_difference away) (pos 0) some allowed no_difference)
-    extents Goals = extent_at (allows cell) (to_side goals away) (as_range sums.goals) (record { least = pos own.least; greatest = pos own.most }) are.goals (goals_extent cell away own match.own_goals)
-    extents AwayGoals = extent_at (allows cell) (to_side away_goals away) (as_range sums.away_goals) (cond away (record { least = pos own.least; greatest = pos own.most }) (one_value (pos 0))) are.away_goals (away_goals_extent cell away own match.own_goals)
-    extents Wins = extent_at (allows cell) (to_side wins away) (as_range sums.wins) (one_value (pos 0)) are.wins (one_extent (allows cell) (to_side wins away) (pos 0) some allowed (λ score is. let level = draws score is in no_win (goals_by away score) (goals_by (not away) score) away (omega arith)))
-    extents AwayWins = extent_at (allows cell) (to_side away_wins away) (as_range sums.away_wins) (one_value (pos 0)) are.away_wins (one_extent (allows cell) (to_side away_wins away) (pos 0) some allowed (λ score is. let level = draws score is in no_away_win (goals_by away score) (goals_by (not away) score) away (omega arith)))
+    extents Points = extent_at (allows cell) (to_side match_points away) (as_range sums.points)
+        (one_value (pos 1)) are.points (one_extent (allows cell) (to_side match_points away) (pos 1)
+        some allowed (λ score is. points_drawn (goals_by away score) (goals_by (not away) score)
+        away (draws score is)))
+    extents Difference = extent_at (allows cell) (to_side goal_difference away)
+        (as_range sums.difference) (one_value (pos 0)) are.difference
+        (one_extent (allows cell) (to_side goal_difference away) (pos 0) some allowed no_difference)
+    extents Goals = extent_at (allows cell) (to_side goals away) (as_range sums.goals)
+        (record { least = pos own.least; greatest = pos own.most }) are.goals
+        (goals_extent cell away own match.own_goals)
+    extents AwayGoals = extent_at (allows cell) (to_side away_goals away) (as_range sums.away_goals)
+        (cond away (record { least = pos own.least; greatest = pos own.most }) (one_value (pos 0)))
+        are.away_goals (away_goals_extent cell away own match.own_goals)
+    extents Wins = extent_at (allows cell) (to_side wins away) (as_range sums.wins)
+        (one_value (pos 0)) are.wins (one_extent (allows cell) (to_side wins away) (pos 0) some
+        allowed (λ score is. let level = draws score is in no_win (goals_by away score)
+        (goals_by (not away) score) away (omega arith)))
+    extents AwayWins = extent_at (allows cell) (to_side away_wins away) (as_range sums.away_wins)
+        (one_value (pos 0)) are.away_wins
+        (one_extent (allows cell) (to_side away_wins away) (pos 0) some allowed
+        (λ score is. let level = draws score is in no_away_win (goals_by away score)
+        (goals_by (not away) score) away (omega arith)))
 
 pub lost_sums : (cell : Cell) (away : Bool) (own other : GoalSpan) (sums : Sums)
     → IsMatchOf cell away own other → LosesAll cell away → AreLost own other away sums
     → AreSumsOf cell away sums
-lost_sums cell away own other sums match loses are = sums_from cell away own other sums match extents
+lost_sums cell away own other sums match loses are = sums_from cell away own other sums match
+    extents
   where
     some : Score
     some = match.own_goals.least.0
@@ -317,17 +449,35 @@ lost_sums cell away own other sums match loses are = sums_from cell away own oth
 
     extents : (measure : Measure) → IsExtent (allows cell) (to_side (worth_of measure) away)
         (range_by sums measure)
-    extents Points = extent_at (allows cell) (to_side match_points away) (as_range sums.points) (one_value (pos 0)) are.points (one_extent (allows cell) (to_side match_points away) (pos 0) some allowed (λ score is. points_lost (goals_by away score) (goals_by (not away) score) away (loses score is)))
-    extents Difference = extent_at (allows cell) (to_side goal_difference away) (as_range sums.difference) (negated are.difference.0) are.difference.2 (lost_extent cell away own other are.difference.0 loses match.own_goals match.other_goals are.difference.1)
-    extents Goals = extent_at (allows cell) (to_side goals away) (as_range sums.goals) (record { least = pos own.least; greatest = pos own.most }) are.goals (goals_extent cell away own match.own_goals)
-    extents AwayGoals = extent_at (allows cell) (to_side away_goals away) (as_range sums.away_goals) (cond away (record { least = pos own.least; greatest = pos own.most }) (one_value (pos 0))) are.away_goals (away_goals_extent cell away own match.own_goals)
-    extents Wins = extent_at (allows cell) (to_side wins away) (as_range sums.wins) (one_value (pos 0)) are.wins (one_extent (allows cell) (to_side wins away) (pos 0) some allowed (λ score is. let below = loses score is in no_win (goals_by away score) (goals_by (not away) score) away (omega arith)))
-    extents AwayWins = extent_at (allows cell) (to_side away_wins away) (as_range sums.away_wins) (one_value (pos 0)) are.away_wins (one_extent (allows cell) (to_side away_wins away) (pos 0) some allowed (λ score is. let below = loses score is in no_away_win (goals_by away score) (goals_by (not away) score) away (omega arith)))
+    extents Points = extent_at (allows cell) (to_side match_points away) (as_range sums.points)
+        (one_value (pos 0)) are.points (one_extent (allows cell) (to_side match_points away) (pos 0)
+        some allowed (λ score is. points_lost (goals_by away score) (goals_by (not away) score) away
+        (loses score is)))
+    extents Difference = extent_at (allows cell) (to_side goal_difference away)
+        (as_range sums.difference) (negated are.difference.0) are.difference.2
+        (lost_extent cell away own other are.difference.0 loses match.own_goals match.other_goals
+        are.difference.1)
+    extents Goals = extent_at (allows cell) (to_side goals away) (as_range sums.goals)
+        (record { least = pos own.least; greatest = pos own.most }) are.goals
+        (goals_extent cell away own match.own_goals)
+    extents AwayGoals = extent_at (allows cell) (to_side away_goals away) (as_range sums.away_goals)
+        (cond away (record { least = pos own.least; greatest = pos own.most }) (one_value (pos 0)))
+        are.away_goals (away_goals_extent cell away own match.own_goals)
+    extents Wins = extent_at (allows cell) (to_side wins away) (as_range sums.wins)
+        (one_value (pos 0)) are.wins (one_extent (allows cell) (to_side wins away) (pos 0) some
+        allowed (λ score is. let below = loses score is in no_win (goals_by away score)
+        (goals_by (not away) score) away (omega arith)))
+    extents AwayWins = extent_at (allows cell) (to_side away_wins away) (as_range sums.away_wins)
+        (one_value (pos 0)) are.away_wins
+        (one_extent (allows cell) (to_side away_wins away) (pos 0) some allowed
+        (λ score is. let below = loses score is in no_away_win (goals_by away score)
+        (goals_by (not away) score) away (omega arith)))
 
 -- where no score is open, the match adds nothing
 pub none_sums : (cell : Cell) (away : Bool) → IsEmptyCell cell → AreSumsOf cell away no_sums
 none_sums cell away empty = record {
-  each = λ options is measure. sym (ap (range_of (to_side (worth_of measure) away)) (no_options cell options is empty) ∙ nothing measure);
+  each = λ options is measure. sym (ap (range_of (to_side (worth_of measure) away))
+      (no_options cell options is empty) ∙ nothing measure);
   near = near;
 }
   where
@@ -341,7 +491,12 @@ none_sums cell away empty = record {
     nothing AwayWins = refl
 
     zero : IsNear 255 (one_value (pos 0))
-    zero = record { least_above = omega (arith, ints); least_below = omega (arith, ints); greatest_above = omega (arith, ints); greatest_below = omega (arith, ints) }
+    zero = record {
+      least_above = omega (arith, ints);
+      least_below = omega (arith, ints);
+      greatest_above = omega (arith, ints);
+      greatest_below = omega (arith, ints);
+    }
 
     near : (measure : Measure) → IsNear 255 (range_by no_sums measure)
     near Points = zero

@@ -1,5 +1,7 @@
 -- Tables of the clubs' sums: what a match adds to them, and what they are in the end.
-use Rattle.std.proofs.Common.{◌≡◌, ◌≢◌, ◌⊎◌, inl, inr, ℕ, ◌+◌, ◌*◌, ◌<◌, ◌≤◌, pos, Bool, true, false, not, ◌&&◌, eqb, cond, nat_lt, List, [], ◌∷◌, length, get_or, set, drop, sym, ap, refl, ◌∙◌, subst, arith}
+use Rattle.std.proofs.Common.{◌≡◌, ◌≢◌, ◌⊎◌, inl, inr, ℕ, ◌+◌, ◌*◌, ◌<◌, ◌≤◌, pos, Bool, true}
+use Rattle.std.proofs.Common.{false, not, ◌&&◌, eqb, cond, nat_lt, List, [], ◌∷◌, length, get_or}
+use Rattle.std.proofs.Common.{set, drop, sym, ap, refl, ◌∙◌, subst, arith}
 use Rattle.std.specs.List.{list_all}
 use Rattle.std.specs.Int.{int_min, int_max}
 use Rattle.std.proofs.lemmas.Bool.{cases_eq, eq-eqb, ne_eqb, and_parts, and_from, ltb-true}
@@ -12,7 +14,8 @@ use Rattle.league_core.specs.Sums.{has_club, Worth, worth_to, worth_among}
 use Rattle.league_core.specs.PointRanges.{Range, one_value, added, range_of, range_from}
 use Rattle.league_core.proofs.PointRangeLemmas.{range_of-same, range_from-more, range_from-all}
 use Rattle.tie_criteria.specs.declared.measure.Measure.{Measure}
-use Rattle.tie_criteria.specs.declared.measure.Measure.TheVariants.{Points, Difference, Goals, AwayGoals, Wins, AwayWins}
+use Rattle.tie_criteria.specs.declared.measure.Measure.TheVariants.{Points, Difference, Goals}
+use Rattle.tie_criteria.specs.declared.measure.Measure.TheVariants.{AwayGoals, Wins, AwayWins}
 use Rattle.tie_criteria.specs.Measures.{worth_of}
 use Rattle.score_box.specs.declared.cell.Cell.{Cell}
 use Rattle.score_box.specs.Cells.{IsCellOf}
@@ -23,19 +26,24 @@ use Rattle.tie_bound.specs.Sides.{to_side, AreSumsOf}
 use Rattle.tie_bound.specs.Tables.{Value}
 
 -- ranges are one where both ends are
-pub same_range : (range other : Range) → range.least ≡ other.least → range.greatest ≡ other.greatest → range ≡ other
+pub same_range : (range other : Range) → range.least ≡ other.least → range.greatest ≡ other.greatest
+    → range ≡ other
 same_range range other least greatest = λ j. record { least = least j; greatest = greatest j }
 
 pub added-none : (range : Range) → added range (one_value (pos 0)) ≡ range
-added-none range = same_range (added range (one_value (pos 0))) range (omega (arith, ints)) (omega (arith, ints))
+added-none range = same_range (added range (one_value (pos 0))) range (omega (arith, ints))
+    (omega (arith, ints))
 
 pub none-added : (range : Range) → added (one_value (pos 0)) range ≡ range
-none-added range = same_range (added (one_value (pos 0)) range) range (omega (arith, ints)) (omega (arith, ints))
+none-added range = same_range (added (one_value (pos 0)) range) range (omega (arith, ints))
+    (omega (arith, ints))
 
 pub added-assoc : (a b c : Range) → added (added a b) c ≡ added a (added b c)
-added-assoc a b c = same_range (added (added a b) c) (added a (added b c)) (omega (arith, ints)) (omega (arith, ints))
+added-assoc a b c = same_range (added (added a b) c) (added a (added b c)) (omega (arith, ints))
+    (omega (arith, ints))
 
-near_added : (bound more : ℕ) (range other : Range) → IsNear bound range → IsNear more other → IsNear (bound + more) (added range other)
+near_added : (bound more : ℕ) (range other : Range) → IsNear bound range → IsNear more other
+    → IsNear (bound + more) (added range other)
 near_added bound more range other near other_near = record {
   least_above = omega (arith, ints);
   least_below = omega (arith, ints);
@@ -52,67 +60,107 @@ near_in bound more range fewer near = record {
 }
 
 pub wider : (bound more : ℕ) (sums : Sums) → bound ≤ more → AreNear bound sums → AreNear more sums
-wider bound more sums fewer near measure = near_in bound more (range_by sums measure) fewer (near measure)
+wider bound more sums fewer near measure = near_in bound more (range_by sums measure) fewer
+    (near measure)
 
 -- a value of nothing leaves nothing
 pub range_of-none : (options : List Score) → range_of (λ score. pos 0) options ≡ one_value (pos 0)
 range_of-none [] = refl
 range_of-none (score ∷ []) = refl
-range_of-none (score ∷ other ∷ options) = ap (λ (r : Range). record { least = int_min (pos 0) r.least; greatest = int_max (pos 0) r.greatest }) (range_of-none (other ∷ options))
+range_of-none (score ∷ other ∷ options) = ap
+    (λ (r : Range). record {
+      least = int_min (pos 0) r.least;
+      greatest = int_max (pos 0) r.greatest;
+    }) (range_of-none (other ∷ options))
 
-same_sums : (options : List Score) (sums : Sums) → GrowsBy (λ measure. range_of (λ score. pos 0) options) sums sums
+same_sums : (options : List Score) (sums : Sums)
+    → GrowsBy (λ measure. range_of (λ score. pos 0) options) sums sums
 same_sums options sums = record {
-  sums = λ measure. sym (ap (added (range_by sums measure)) (range_of-none options) ∙ added-none (range_by sums measure));
+  sums = λ measure. sym (ap (added (range_by sums measure)) (range_of-none options)
+      ∙ added-none (range_by sums measure));
   near = λ bound near. wider bound (bound + 255) sums (omega arith) near;
 }
 
 -- the sums of a club that played the match on this side
-pub side_grows : (cell : Cell) (away : Bool) (options : List Score) (sums old new : Sums) → AreSumsOf cell away sums → IsCellOf cell options → ((measure : Measure) → range_by new measure ≡ added (range_by old measure) (range_by sums measure)) → GrowsBy (λ measure. range_of (to_side (worth_of measure) away) options) old new
+pub side_grows : (cell : Cell) (away : Bool) (options : List Score) (sums old new : Sums)
+    → AreSumsOf cell away sums → IsCellOf cell options
+    → ((measure : Measure) → range_by new measure ≡ added (range_by old measure)
+    (range_by sums measure)) → GrowsBy
+    (λ measure. range_of (to_side (worth_of measure) away) options) old new
 side_grows cell away options sums old new are is grown = record {
   sums = λ measure. grown measure ∙ ap (added (range_by old measure)) (are.each options is measure);
   near = λ bound near measure.
       let P : Range → Type 0 = λ r. IsNear (bound + 255) r in
-      subst P (sym (grown measure)) (near_added bound 255 (range_by old measure) (range_by sums measure) (near measure) (are.near measure));
+      subst P (sym (grown measure)) (near_added bound 255 (range_by old measure)
+      (range_by sums measure) (near measure) (are.near measure));
 }
 
-grows_at : (value : Measure → Range) (old old' new new' : Sums) → old ≡ old' → new ≡ new' → GrowsBy value old new → GrowsBy value old' new'
+grows_at : (value : Measure → Range) (old old' new new' : Sums) → old ≡ old' → new ≡ new'
+    → GrowsBy value old new → GrowsBy value old' new'
 grows_at value old old' new new' p q grows =
     let P : Sums → Type 0 = λ s. GrowsBy value s new in
     let Q : Sums → Type 0 = λ s. GrowsBy value old' s in
     subst Q q (subst P p grows)
 
 -- the sums of two clubs change, those of the home side and those of the away side
-pub table_grows : (table : List Sums) (match : Fixture) (options : List Score) (home away : Sums) → match.home ≢ match.away → match.home < length table → match.away < length table → GrowsBy (λ measure. range_of (to_side (worth_of measure) false) options) (sums_at table match.home) home → GrowsBy (λ measure. range_of (to_side (worth_of measure) true) options) (sums_at table match.away) away → (club : ℕ) → GrowsBy (λ measure. range_of (worth_to (worth_of measure) club match) options) (sums_at table club) (sums_at (set (set table match.home home) match.away away) club)
+pub table_grows : (table : List Sums) (match : Fixture) (options : List Score) (home away : Sums)
+    → match.home ≢ match.away → match.home < length table → match.away < length table
+    → GrowsBy (λ measure. range_of (to_side (worth_of measure) false) options)
+    (sums_at table match.home) home → GrowsBy
+    (λ measure. range_of (to_side (worth_of measure) true) options) (sums_at table match.away) away
+    → (club : ℕ) → GrowsBy (λ measure. range_of (worth_to (worth_of measure) club match) options)
+    (sums_at table club) (sums_at (set (set table match.home home) match.away away) club)
 table_grows table match options home away differ home_in away_in home_grows away_grows club =
     by_home (cases_eq match.home club)
   where
     sides : Bool → Bool → Measure → Range
-    sides at_home at_away measure = range_of (λ score. cond at_home (to_side (worth_of measure) false score) (cond at_away (to_side (worth_of measure) true score) (pos 0))) options
+    sides at_home at_away measure = range_of
+        (λ score. cond at_home (to_side (worth_of measure) false score)
+        (cond at_away (to_side (worth_of measure) true score) (pos 0))) options
 
     long : match.away < length (set table match.home home)
     long = omega (arith, length-set table match.home home)
 
-    by_away : (match.home ≢ club) → (match.away ≡ club) ⊎ (match.away ≢ club) → GrowsBy (λ measure. range_of (worth_to (worth_of measure) club match) options) (sums_at table club) (sums_at (set (set table match.home home) match.away away) club)
+    by_away : (match.home ≢ club) → (match.away ≡ club) ⊎ (match.away ≢ club)
+        → GrowsBy (λ measure. range_of (worth_to (worth_of measure) club match) options)
+        (sums_at table club) (sums_at (set (set table match.home home) match.away away) club)
     by_away not_home (inl same) =
         let is_home : eqb match.home club ≡ false = ne_eqb match.home club not_home in
         let is_away : eqb match.away club ≡ true = eq-eqb match.away club same in
         let new : away ≡ sums_at (set (set table match.home home) match.away away) club =
-        sym (ap (λ (k : ℕ). get_or (set (set table match.home home) match.away away) k no_sums) (sym same)
+        sym (ap (λ (k : ℕ). get_or (set (set table match.home home) match.away away) k no_sums)
+        (sym same)
         ∙ get_or-set_same (set table match.home home) match.away away no_sums long) in
-        let P : Bool → Type 0 = λ b. GrowsBy (sides b (eqb match.away club)) (sums_at table club) (sums_at (set (set table match.home home) match.away away) club) in
-        let Q : Bool → Type 0 = λ b. GrowsBy (sides false b) (sums_at table club) (sums_at (set (set table match.home home) match.away away) club) in
-        subst P (sym is_home) (subst Q (sym is_away) (grows_at (λ measure. range_of (to_side (worth_of measure) true) options) (sums_at table match.away) (sums_at table club) away (sums_at (set (set table match.home home) match.away away) club) (ap (sums_at table) same) new away_grows))
+        let P : Bool → Type 0 = λ b. GrowsBy (sides b (eqb match.away club)) (sums_at table club)
+        (sums_at (set (set table match.home home) match.away away) club) in
+        let Q : Bool → Type 0 = λ b. GrowsBy (sides false b) (sums_at table club)
+        (sums_at (set (set table match.home home) match.away away) club) in
+        subst P (sym is_home) (subst Q (sym is_away)
+        (grows_at (λ measure. range_of (to_side (worth_of measure) true) options)
+        (sums_at table match.away) (sums_at table club) away
+        (sums_at (set (set table match.home home) match.away away) club)
+        (ap (sums_at table) same) new away_grows))
     by_away not_home (inr not_away) =
         let is_home : eqb match.home club ≡ false = ne_eqb match.home club not_home in
         let is_away : eqb match.away club ≡ false = ne_eqb match.away club not_away in
-        let new : sums_at table club ≡ sums_at (set (set table match.home home) match.away away) club =
-        sym (get_or-set_other (set table match.home home) match.away club away no_sums (λ e. not_away (sym e))
+        let new : sums_at table club ≡ sums_at (set (set table match.home home) match.away away)
+        club =
+        sym (get_or-set_other (set table match.home home) match.away club away no_sums
+        (λ e. not_away (sym e))
         ∙ get_or-set_other table match.home club home no_sums (λ e. not_home (sym e))) in
-        let P : Bool → Type 0 = λ b. GrowsBy (sides b (eqb match.away club)) (sums_at table club) (sums_at (set (set table match.home home) match.away away) club) in
-        let Q : Bool → Type 0 = λ b. GrowsBy (sides false b) (sums_at table club) (sums_at (set (set table match.home home) match.away away) club) in
-        subst P (sym is_home) (subst Q (sym is_away) (grows_at (λ measure. range_of (λ score. pos 0) options) (sums_at table club) (sums_at table club) (sums_at table club) (sums_at (set (set table match.home home) match.away away) club) refl new (same_sums options (sums_at table club))))
+        let P : Bool → Type 0 = λ b. GrowsBy (sides b (eqb match.away club)) (sums_at table club)
+        (sums_at (set (set table match.home home) match.away away) club) in
+        let Q : Bool → Type 0 = λ b. GrowsBy (sides false b) (sums_at table club)
+        (sums_at (set (set table match.home home) match.away away) club) in
+        subst P (sym is_home) (subst Q (sym is_away)
+        (grows_at (λ measure. range_of (λ score. pos 0) options) (sums_at table club)
+        (sums_at table club) (sums_at table club)
+        (sums_at (set (set table match.home home) match.away away) club) refl new
+        (same_sums options (sums_at table club))))
 
-    by_home : (match.home ≡ club) ⊎ (match.home ≢ club) → GrowsBy (λ measure. range_of (worth_to (worth_of measure) club match) options) (sums_at table club) (sums_at (set (set table match.home home) match.away away) club)
+    by_home : (match.home ≡ club) ⊎ (match.home ≢ club)
+        → GrowsBy (λ measure. range_of (worth_to (worth_of measure) club match) options)
+        (sums_at table club) (sums_at (set (set table match.home home) match.away away) club)
     by_home (inl same) =
         let is_home : eqb match.home club ≡ true = eq-eqb match.home club same in
         let other : club ≢ match.away = λ e. differ (same ∙ e) in
@@ -120,24 +168,42 @@ table_grows table match options home away differ home_in away_in home_grows away
         sym (get_or-set_other (set table match.home home) match.away club away no_sums other
         ∙ ap (λ (k : ℕ). get_or (set table match.home home) k no_sums) (sym same)
         ∙ get_or-set_same table match.home home no_sums home_in) in
-        let P : Bool → Type 0 = λ b. GrowsBy (sides b (eqb match.away club)) (sums_at table club) (sums_at (set (set table match.home home) match.away away) club) in
-        subst P (sym is_home) (grows_at (λ measure. range_of (to_side (worth_of measure) false) options) (sums_at table match.home) (sums_at table club) home (sums_at (set (set table match.home home) match.away away) club) (ap (sums_at table) same) new home_grows)
+        let P : Bool → Type 0 = λ b. GrowsBy (sides b (eqb match.away club)) (sums_at table club)
+        (sums_at (set (set table match.home home) match.away away) club) in
+        subst P (sym is_home) (grows_at (λ measure. range_of (to_side (worth_of measure) false)
+        options) (sums_at table match.home) (sums_at table club) home
+        (sums_at (set (set table match.home home) match.away away) club)
+        (ap (sums_at table) same) new home_grows)
     by_home (inr not_home) = by_away not_home (cases_eq match.away club)
 
 -- a match that counts in a group is worth what it is worth anywhere, another nothing
-pub counted_grows : (group : List ℕ) (match : Fixture) (options : List Score) (club : ℕ) (old new : Sums) → (has_club group match.home && has_club group match.away) ≡ true → GrowsBy (λ measure. range_of (worth_to (worth_of measure) club match) options) old new → GrowsBy (λ measure. range_of (worth_among group (worth_of measure) club match) options) old new
+pub counted_grows : (group : List ℕ) (match : Fixture) (options : List Score) (club : ℕ)
+    (old new : Sums) → (has_club group match.home && has_club group match.away) ≡ true
+    → GrowsBy (λ measure. range_of (worth_to (worth_of measure) club match) options) old new
+    → GrowsBy (λ measure. range_of (worth_among group (worth_of measure) club match) options) old
+    new
 counted_grows group match options club old new counts grows =
-    let P : Bool → Type 0 = λ b. GrowsBy (λ measure. range_of (λ score. cond b (worth_to (worth_of measure) club match score) (pos 0)) options) old new in
+    let P : Bool → Type 0 = λ b. GrowsBy
+    (λ measure. range_of (λ score. cond b (worth_to (worth_of measure) club match score) (pos 0))
+    options) old new in
     subst P (sym counts) grows
 
-pub uncounted_grows : (group : List ℕ) (match : Fixture) (options : List Score) (club : ℕ) (sums : Sums) → (has_club group match.home && has_club group match.away) ≡ false → GrowsBy (λ measure. range_of (worth_among group (worth_of measure) club match) options) sums sums
+pub uncounted_grows : (group : List ℕ) (match : Fixture) (options : List Score) (club : ℕ)
+    (sums : Sums) → (has_club group match.home && has_club group match.away) ≡ false
+    → GrowsBy (λ measure. range_of (worth_among group (worth_of measure) club match) options) sums
+    sums
 uncounted_grows group match options club sums counts =
-    let P : Bool → Type 0 = λ b. GrowsBy (λ measure. range_of (λ score. cond b (worth_to (worth_of measure) club match score) (pos 0)) options) sums sums in
+    let P : Bool → Type 0 = λ b. GrowsBy
+    (λ measure. range_of (λ score. cond b (worth_to (worth_of measure) club match score) (pos 0))
+    options) sums sums in
     subst P (sym counts) (same_sums options sums)
 
 -- the sums so far: with what is left of the matches they are the whole
-pub record IsSoFar (matches : List Fixture) (options : List (List Score)) (value : Value) (i club : ℕ) (sums : Sums) : Type 0 where
-  pub whole : (measure : Measure) → added (range_by sums measure) (range_from (value (worth_of measure) club) (drop i matches) (drop i options)) ≡ range_from (value (worth_of measure) club) matches options
+pub record IsSoFar (matches : List Fixture) (options : List (List Score)) (value : Value)
+    (i club : ℕ) (sums : Sums) : Type 0 where
+  pub whole : (measure : Measure) → added (range_by sums measure)
+      (range_from (value (worth_of measure) club) (drop i matches) (drop i options)) ≡ range_from
+      (value (worth_of measure) club) matches options
   pub near : AreNear (255 * i) sums
 
 -- a table without a match
@@ -149,10 +215,12 @@ no_sums-is AwayGoals = refl
 no_sums-is Wins = refl
 no_sums-is AwayWins = refl
 
-pub so_far_none : (matches : List Fixture) (options : List (List Score)) (value : Value) (club : ℕ) → IsSoFar matches options value 0 club no_sums
+pub so_far_none : (matches : List Fixture) (options : List (List Score)) (value : Value) (club : ℕ)
+    → IsSoFar matches options value 0 club no_sums
 so_far_none matches options value club = record {
   whole = λ measure.
-      ap (λ r. added r (range_from (value (worth_of measure) club) matches options)) (no_sums-is measure)
+      ap (λ r. added r (range_from (value (worth_of measure) club) matches options))
+      (no_sums-is measure)
       ∙ none-added (range_from (value (worth_of measure) club) matches options);
   near = λ measure.
       let P : Range → Type 0 = λ r. IsNear 0 r in
@@ -164,7 +232,11 @@ so_far_none matches options value club = record {
       });
 }
 
-pub so_far_more : (matches : List Fixture) (options : List (List Score)) (value : Value) (i club : ℕ) (d : Fixture) (old new : Sums) → i < length matches → i < length options → IsSoFar matches options value i club old → GrowsBy (λ measure. range_of (value (worth_of measure) club (get_or matches i d)) (get_or options i [])) old new → IsSoFar matches options value (i + 1) club new
+pub so_far_more : (matches : List Fixture) (options : List (List Score)) (value : Value)
+    (i club : ℕ) (d : Fixture) (old new : Sums) → i < length matches → i < length options
+    → IsSoFar matches options value i club old
+    → GrowsBy (λ measure. range_of (value (worth_of measure) club (get_or matches i d))
+    (get_or options i [])) old new → IsSoFar matches options value (i + 1) club new
 so_far_more matches options value i club d old new in_matches in_options so_far grows =
     let bound : 255 * i + 255 ≡ 255 * (i + 1) = omega arith in
     record {
@@ -174,28 +246,42 @@ so_far_more matches options value i club d old new in_matches in_options so_far 
           let rest = range_from v (drop (i + 1) matches) (drop (i + 1) options) in
           ap (λ r. added r rest) (grows.sums measure)
           ∙ added-assoc (range_by old measure) here rest
-          ∙ ap (added (range_by old measure)) (sym (range_from-more v matches options i d in_matches in_options))
+          ∙ ap (added (range_by old measure))
+          (sym (range_from-more v matches options i d in_matches in_options))
           ∙ so_far.whole measure;
       near = subst (λ (n : ℕ). AreNear n new) bound (grows.near (255 * i) so_far.near);
     }
 
 -- after the last match they are the whole
-pub so_far_all : (matches : List Fixture) (options : List (List Score)) (value : Value) (i club : ℕ) (sums : Sums) (measure : Measure) → length matches ≤ i → IsSoFar matches options value i club sums → range_by sums measure ≡ range_from (value (worth_of measure) club) matches options
+pub so_far_all : (matches : List Fixture) (options : List (List Score)) (value : Value) (i club : ℕ)
+    (sums : Sums) (measure : Measure) → length matches ≤ i
+    → IsSoFar matches options value i club sums
+    → range_by sums measure ≡ range_from (value (worth_of measure) club) matches options
 so_far_all matches options value i club sums measure past so_far =
-    sym (ap (added (range_by sums measure)) (range_from-all (value (worth_of measure) club) matches options i past) ∙ added-none (range_by sums measure))
+    sym (ap (added (range_by sums measure))
+    (range_from-all (value (worth_of measure) club) matches options i past)
+    ∙ added-none (range_by sums measure))
     ∙ so_far.whole measure
 
 -- in the group of all clubs every match counts
-pub among_all : (group : List ℕ) (clubs : ℕ) (worth : Worth) (club : ℕ) (matches : List Fixture) (options : List (List Score)) → ((x : ℕ) → x < clubs → has_club group x ≡ true) → list_all (is_fixture clubs) matches ≡ true → range_from (worth_among group worth club) matches options ≡ range_from (worth_to worth club) matches options
+pub among_all : (group : List ℕ) (clubs : ℕ) (worth : Worth) (club : ℕ) (matches : List Fixture)
+    (options : List (List Score)) → ((x : ℕ) → x < clubs → has_club group x ≡ true)
+    → list_all (is_fixture clubs) matches ≡ true
+    → range_from (worth_among group worth club) matches options ≡ range_from (worth_to worth club)
+    matches options
 among_all group clubs worth club [] options has are = refl
 among_all group clubs worth club (match ∷ matches) [] has are = refl
 among_all group clubs worth club (match ∷ matches) (o ∷ options) has are =
     let here = and_parts (is_fixture clubs match) (list_all (is_fixture clubs) matches) are in
-    let ends = and_parts (nat_lt match.home clubs && nat_lt match.away clubs) (not (eqb match.home match.away)) here.0 in
+    let ends = and_parts (nat_lt match.home clubs && nat_lt match.away clubs)
+    (not (eqb match.home match.away)) here.0 in
     let both = and_parts (nat_lt match.home clubs) (nat_lt match.away clubs) ends.0 in
     let counts : (has_club group match.home && has_club group match.away) ≡ true =
-    and_from (has_club group match.home) (has_club group match.away) (has match.home (ltb-true match.home clubs both.0)) (has match.away (ltb-true match.away clubs both.1)) in
+    and_from (has_club group match.home) (has_club group match.away)
+    (has match.home (ltb-true match.home clubs both.0))
+    (has match.away (ltb-true match.away clubs both.1)) in
     ap (λ r. added r (range_from (worth_among group worth club) matches options))
     (range_of-same (worth_among group worth club match) (worth_to worth club match) o
     (λ score. ap (λ b. cond b (worth_to worth club match score) (pos 0)) counts))
-    ∙ ap (added (range_of (worth_to worth club match) o)) (among_all group clubs worth club matches options has here.1)
+    ∙ ap (added (range_of (worth_to worth club match) o))
+    (among_all group clubs worth club matches options has here.1)

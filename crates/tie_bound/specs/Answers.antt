@@ -1,11 +1,17 @@
 -- Tables of answers: what is sure of each club against one club.
-use Rattle.std.specs.Prelude.{◌≡◌, ℕ, ◌<◌, Bool, true, false, ◌||◌, List, [], ◌∷◌, pos, neg_ℤ, length, slice_index_or}
+use Rattle.std.specs.Prelude.{◌≡◌, ℕ, ◌<◌, Bool, true, false, ◌&&◌, ◌||◌, nat_lt, List, [], ◌∷◌}
+use Rattle.std.specs.Prelude.{pos, neg_ℤ}
+use Rattle.std.specs.Prelude.{length, slice_index_or}
 use Rattle.league_core.specs.declared.sheet.Sheet.{Sheet}
 use Rattle.league_core.specs.declared.sure.Sure.{Sure}
 use Rattle.league_core.specs.declared.sure.Sure.TheVariants.{Above, Below, Level, Unknown}
+use Rattle.league_core.specs.Sums.{has_club}
 use Rattle.league_core.specs.Ahead.{rank_of}
 use Rattle.league_core.specs.PointRanges.{Range, one_value}
-use Rattle.league_core.specs.SureOrder.{sure_by_ranges, sure_then, is_above, is_below, is_level, is_apart}
+use Rattle.league_core.specs.SureOrder.{sure_by_ranges, sure_then, is_above, is_below, is_level}
+use Rattle.league_core.specs.SureOrder.{is_apart}
+use Rattle.tie_bound.specs.declared.parts.Parts.{Parts}
+use Rattle.tie_bound.specs.declared.parts.Parts.TheVariants.{Record, FirstSums}
 use Rattle.tie_bound.specs.declared.sums.Sums.{Sums}
 use Rattle.tie_bound.specs.Spans.{as_range}
 use Rattle.tie_bound.specs.Sums.{sums_at}
@@ -14,7 +20,16 @@ use Rattle.tie_bound.specs.Sums.{sums_at}
 abbrev pub record_of : Sums → List Range
 record_of sums = as_range sums.points ∷ as_range sums.difference ∷ as_range sums.goals ∷ []
 
--- the ranges of what decides after it, from the sums over all matches and the fixed rank
+-- those of difference and goals, from the sums over all matches
+abbrev pub first_sums_of : Sums → List Range
+first_sums_of sums = as_range sums.difference ∷ as_range sums.goals ∷ []
+
+-- the ranges of the parts that are compared
+abbrev pub ranges_of : Parts → Sums → List Range
+ranges_of Record sums = record_of sums
+ranges_of FirstSums sums = first_sums_of sums
+
+-- the ranges of what decides last, from the sums over all matches and the fixed rank
 abbrev pub overall_of : Sums → ℕ → List Range
 overall_of sums rank =
     as_range sums.difference
@@ -25,10 +40,10 @@ overall_of sums rank =
     ∷ one_value (neg_ℤ (pos rank))
     ∷ []
 
--- a rival's record against the club's, by a table of sums over the matches of a group
-abbrev pub by_table : List Sums → ℕ → ℕ → Sure
-by_table table club rival =
-    sure_by_ranges (record_of (sums_at table rival)) (record_of (sums_at table club))
+-- a rival against the club in these parts, by a table of sums
+abbrev pub by_table : Parts → List Sums → ℕ → ℕ → Sure
+by_table parts table club rival =
+    sure_by_ranges (ranges_of parts (sums_at table rival)) (ranges_of parts (sums_at table club))
 
 -- its sums over all matches, and its rank, against the club's
 abbrev pub by_overall_table : Sheet → List Sums → ℕ → ℕ → Sure
@@ -36,11 +51,11 @@ by_overall_table sheet table club rival =
     sure_by_ranges (overall_of (sums_at table rival) (rank_of sheet rival))
     (overall_of (sums_at table club) (rank_of sheet club))
 
--- it is sure whether a club of the group has the club's record there
-abbrev pub is_sure_by : List Sums → ℕ → ℕ → Bool
-is_sure_by table club other =
-    is_level (by_table table club other)
-    || is_apart (record_of (sums_at table other)) (record_of (sums_at table club))
+-- it is sure whether a club has the club's parts
+abbrev pub is_sure_by : Parts → List Sums → ℕ → ℕ → Bool
+is_sure_by parts table club other =
+    is_level (by_table parts table club other)
+    || is_apart (ranges_of parts (sums_at table other)) (ranges_of parts (sums_at table club))
 
 -- the answer at a club's number
 abbrev pub answer_at : List Sure → ℕ → Sure
@@ -50,6 +65,11 @@ answer_at answers club = slice_index_or answers club Unknown
 abbrev pub GoesOn : (ℕ → Sure) → List Sure → List Sure → Type 0
 GoesOn next old new =
     (club : ℕ) → club < length old → answer_at new club ≡ sure_then (answer_at old club) (next club)
+
+-- the group is all clubs, out of so many, that are level so far
+abbrev pub AreLevelIn : ℕ → List Sure → List ℕ → Type 0
+AreLevelIn clubs answers group =
+    (club : ℕ) → has_club group club ≡ (nat_lt club clubs && is_level (answer_at answers club))
 
 -- the answer is the wanted one
 abbrev pub is_answer : Sure → Sure → Bool

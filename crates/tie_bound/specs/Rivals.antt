@@ -14,5 +14,9 @@ pub record AreRivalsIn (box : Setting) (club : ℕ) (rivals : Rivals) : Type 0 w
   pub all : clubs_in rivals.all ≡ rivals_of box.sheet club
   pub before : IsSetOf rivals.before (marked_before box.zone)
   pub after : IsSetOf rivals.after (marked_after box.zone)
-  pub above : (rival : ℕ) → rival < length box.sheet.clubs → has_club (clubs_in rivals.above) rival ≡ is_above (sure_order box.sheet box.season box.zone rival club)
-  pub below : (rival : ℕ) → rival < length box.sheet.clubs → has_club (clubs_in rivals.below) rival ≡ is_below (sure_order box.sheet box.season box.zone rival club)
+  pub above : (rival : ℕ) → rival < length box.sheet.clubs
+      → has_club (clubs_in rivals.above) rival ≡ is_above
+      (sure_order box.sheet box.season box.zone rival club)
+  pub below : (rival : ℕ) → rival < length box.sheet.clubs
+      → has_club (clubs_in rivals.below) rival ≡ is_below
+      (sure_order box.sheet box.season box.zone rival club)

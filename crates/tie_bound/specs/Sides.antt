@@ -32,25 +32,31 @@ HasOneOutcome cell =
     (score other : Score) → allows cell score ≡ true → allows cell other ≡ true
     → same_outcome score other ≡ true
 
--- the goals of a side over the scores of a cell: all lie between these ends, and each end is reached
+-- the goals of a side over the scores of a cell: all lie between these ends, and each end is
+-- reached
 pub record AreGoalsOf (cell : Cell) (away : Bool) (goals : GoalSpan) : Type 0 where
-  pub within : (score : Score) → allows cell score ≡ true → (goals.least ≤ goals_by away score) × (goals_by away score ≤ goals.most)
+  pub within : (score : Score) → allows cell score ≡ true → (goals.least ≤ goals_by away score)
+      × (goals_by away score ≤ goals.most)
   pub least : (score : Score) × (allows cell score ≡ true) × (goals_by away score ≡ goals.least)
   pub most : (score : Score) × (allows cell score ≡ true) × (goals_by away score ≡ goals.most)
 
 -- the side wins at all scores of the cell
 abbrev pub Wins : Cell → Bool → Type 0
-Wins cell away = (score : Score) → allows cell score ≡ true → goals_by (not away) score < goals_by away score
+Wins cell away = (score : Score) → allows cell score ≡ true
+    → goals_by (not away) score < goals_by away score
 
 -- it draws at all of them
 abbrev pub Draws : Cell → Bool → Type 0
-Draws cell away = (score : Score) → allows cell score ≡ true → goals_by away score ≡ goals_by (not away) score
+Draws cell away = (score : Score) → allows cell score ≡ true
+    → goals_by away score ≡ goals_by (not away) score
 
 -- it loses at all of them
 abbrev pub Loses : Cell → Bool → Type 0
-Loses cell away = (score : Score) → allows cell score ≡ true → goals_by away score < goals_by (not away) score
+Loses cell away = (score : Score) → allows cell score ≡ true
+    → goals_by away score < goals_by (not away) score
 
 -- the sums that the options of a cell leave to a side
 pub record AreSumsOf (cell : Cell) (away : Bool) (sums : Sums) : Type 0 where
-  pub each : (options : List Score) → IsCellOf cell options → (measure : Measure) → range_by sums measure ≡ range_of (to_side (worth_of measure) away) options
+  pub each : (options : List Score) → IsCellOf cell options → (measure : Measure)
+      → range_by sums measure ≡ range_of (to_side (worth_of measure) away) options
   pub near : AreNear 255 sums

@@ -17,5 +17,6 @@ pub record IsNear (bound : ℕ) (range : Range) : Type 0 where
 
 -- by how much a winner with these goals can beat a loser with those: by one goal at least
 pub record IsMargin (winner loser : GoalSpan) (range : Range) : Type 0 where
-  pub closest : range.least ≡ (if nat_lt loser.most winner.least then pos winner.least -ℤ pos loser.most else pos 1)
+  pub closest : range.least ≡ (if nat_lt loser.most winner.least then pos winner.least -ℤ pos
+      loser.most else pos 1)
   pub widest : range.greatest ≡ (pos winner.most -ℤ pos loser.least)

@@ -2,7 +2,8 @@
 use Rattle.std.specs.Prelude.{◌≡◌, ℕ, ◌+◌, pos, List, slice_index_or}
 use Rattle.league_core.specs.PointRanges.{Range, added}
 use Rattle.tie_criteria.specs.declared.measure.Measure.{Measure}
-use Rattle.tie_criteria.specs.declared.measure.Measure.TheVariants.{Points, Difference, Goals, AwayGoals, Wins, AwayWins}
+use Rattle.tie_criteria.specs.declared.measure.Measure.TheVariants.{Points, Difference, Goals}
+use Rattle.tie_criteria.specs.declared.measure.Measure.TheVariants.{AwayGoals, Wins, AwayWins}
 use Rattle.tie_bound.specs.declared.span.Span.{Span}
 use Rattle.tie_bound.specs.declared.sums.Sums.{Sums}
 use Rattle.tie_bound.specs.Spans.{as_range, IsNear}
@@ -22,7 +23,14 @@ nothing = record { least = pos 0; greatest = pos 0 }
 
 -- the sums of a club without a match
 abbrev pub no_sums : Sums
-no_sums = record { points = nothing; difference = nothing; goals = nothing; away_goals = nothing; wins = nothing; away_wins = nothing }
+no_sums = record {
+  points = nothing;
+  difference = nothing;
+  goals = nothing;
+  away_goals = nothing;
+  wins = nothing;
+  away_wins = nothing;
+}
 
 -- the sums at a club's number
 abbrev pub sums_at : List Sums → ℕ → Sums
@@ -34,5 +42,6 @@ AreNear bound sums = (measure : Measure) → IsNear bound (range_by sums measure
 
 -- each sum grows by what a match adds to it
 pub record GrowsBy (value : Measure → Range) (old new : Sums) : Type 0 where
-  pub sums : (measure : Measure) → range_by new measure ≡ added (range_by old measure) (value measure)
+  pub sums : (measure : Measure) → range_by new measure ≡ added (range_by old measure)
+      (value measure)
   pub near : (bound : ℕ) → AreNear bound old → AreNear (bound + 255) new

@@ -16,8 +16,11 @@ abbrev pub Value : Type 0
 Value = Worth → ℕ → Fixture → Score → ℤ
 
 -- the table has each club's ranges over these fixtures, no number of them far from zero
-pub record AreSums (value : Value) (fixtures : List Fixture) (options : List (List Score)) (table : List Sums) : Type 0 where
-  pub each : (club : ℕ) (measure : Measure) → range_by (sums_at table club) measure ≡ range_from (value (worth_of measure) club) fixtures options
+pub record AreSums (value : Value) (fixtures : List Fixture) (options : List (List Score))
+    (table : List Sums) : Type 0 where
+  pub each : (club : ℕ) (measure : Measure)
+      → range_by (sums_at table club) measure ≡ range_from (value (worth_of measure) club) fixtures
+      options
   pub near : (club : ℕ) → AreNear 153000 (sums_at table club)
 
 -- each club's sums grow by what the options of the match are worth to it

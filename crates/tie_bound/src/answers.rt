@@ -1,7 +1,8 @@
 //! Tables of answers, one for each club against one club, and the steps that carry them on. Where
 //! an earlier step decides, a later one leaves the answer as it is.
 
-ghost use Rattle.std.specs.Prelude.{◌≡◌, ◌<◌, ◌≤◌, ◌-ℤ◌, ◌≤ℤ◌, ◌&&◌, ◌||◌, ℕ, pos, nat_lt, length, slice_index};
+ghost use Rattle.std.specs.Prelude.{◌≡◌, ◌<◌, ◌≤◌, ◌-ℤ◌, ◌≤ℤ◌, ◌&&◌, ◌||◌, ℕ, pos, nat_lt, length};
+ghost use Rattle.std.specs.Prelude.{slice_index};
 ghost use Rattle.std.specs.List.{list_all};
 ghost use Rattle.league_core.specs.declared.sure.Sure.TheVariants.{Unknown};
 ghost use Rattle.league_core.specs.Sums.{has_club, worth_to};
@@ -13,9 +14,11 @@ ghost use Rattle.tie_bound.specs.Spans.{as_range, IsNear};
 ghost use Rattle.tie_bound.specs.Sums.{sums_at};
 ghost use Rattle.tie_bound.specs.Boxes.{options_in_box};
 ghost use Rattle.tie_bound.specs.Tables.{AreSums};
-ghost use Rattle.tie_bound.specs.Answers.{record_of, by_table, by_overall_table, is_sure_by, answer_at, is_answer, GoesOn};
+ghost use Rattle.tie_bound.specs.Answers.{ranges_of, by_table, by_overall_table, is_sure_by};
+ghost use Rattle.tie_bound.specs.Answers.{answer_at, is_answer, GoesOn};
 
-use crate::order::{are_apart, by_overall, by_record, by_span, is_answer, then};
+use crate::order::{are_apart, by_overall, by_parts, by_span, is_answer, then};
+use crate::parts::Parts;
 use crate::span::Span;
 use crate::sums::{Sums, sums_at};
 use league_core::{ClubSet, Season, Sheet, Sure};
@@ -57,14 +60,14 @@ fn deducted(deductions: &[u8], club: u8) -> i32
     i32::from(deductions.get(club as usize).copied().unwrap_or(0))
 }
 
-/// Takes the head-to-head records of a group, by the sums over its matches.
-pub fn take_records(answers: &mut [Sure], table: &[Sums], club: u8)
+/// Takes these parts, by a table of sums.
+pub fn take_parts(answers: &mut [Sure], parts: Parts, table: &[Sums], club: u8)
     requires { length answers.old ≤ 32 }
-    ensures { GoesOn (by_table table.now club) answers.old answers.new }
+    ensures { GoesOn (by_table parts table.now club) answers.old answers.new }
 {
     let own = sums_at(table, club);
     for rival in 0..answers.len() {
-        let next = by_record(&sums_at(table, rival as u8), &own);
+        let next = by_parts(parts, &sums_at(table, rival as u8), &own);
         answers[rival] = then(answers[rival], next);
     }
 }
@@ -116,23 +119,23 @@ pub fn those_that_are(answers: &[Sure], wanted: Sure, clubs: u8) -> ClubSet
     found
 }
 
-/// Of each club of the group it is sure whether it has the club's record there, by the sums over
-/// the group's matches.
-pub fn are_all_sure(table: &[Sums], group: ClubSet, club: u8) -> bool
-    ensures { result ≡ list_all (is_sure_by table.now club) (clubs_in group) }
+/// Of each club of the group it is sure whether it has the club's parts, by a table of sums.
+pub fn are_all_sure(parts: Parts, table: &[Sums], group: ClubSet, club: u8) -> bool
+    ensures { result ≡ list_all (is_sure_by parts table.now club) (clubs_in group) }
 {
     let own = sums_at(table, club);
     for other in 0..32 {
-        if group.has(other) && !is_sure(&sums_at(table, other), &own) {
+        if group.has(other) && !is_sure(parts, &sums_at(table, other), &own) {
             return false;
         }
     }
     true
 }
 
-fn is_sure(other: &Sums, club: &Sums) -> bool
-    ensures { result ≡ (is_level (sure_by_ranges (record_of other.now) (record_of club.now))
-        || is_apart (record_of other.now) (record_of club.now)) }
+fn is_sure(parts: Parts, other: &Sums, club: &Sums) -> bool
+    ensures { result
+        ≡ (is_level (sure_by_ranges (ranges_of parts other.now) (ranges_of parts club.now))
+        || is_apart (ranges_of parts other.now) (ranges_of parts club.now)) }
 {
-    is_answer(Sure::Level, by_record(other, club)) || are_apart(other, club)
+    is_answer(Sure::Level, by_parts(parts, other, club)) || are_apart(parts, other, club)
 }

@@ -11,7 +11,9 @@ mod answers;
 mod fixtures;
 mod order;
 mod outcomes;
+mod parts;
 mod rivals;
+mod rounds;
 mod sides;
 mod span;
 mod sums;
@@ -21,6 +23,7 @@ mod table;
 mod tests;
 mod tie;
 
+pub use league_core::Sure;
 pub use outcomes::has_one_outcome;
 pub use sure::judge;
 pub use tie::tie_reason;

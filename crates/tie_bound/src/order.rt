@@ -4,8 +4,10 @@ ghost use Rattle.std.specs.Prelude.{◌≡◌, ◌||◌, int_lt, neg_ℤ, pos};
 ghost use Rattle.league_core.specs.PointRanges.{one_value};
 ghost use Rattle.league_core.specs.SureOrder.{sure_by_range, sure_by_ranges, sure_then, is_apart};
 ghost use Rattle.tie_bound.specs.Spans.{as_range};
-ghost use Rattle.tie_bound.specs.Answers.{record_of, overall_of, is_answer};
+ghost use Rattle.tie_bound.specs.Answers.{record_of, first_sums_of, ranges_of, overall_of};
+ghost use Rattle.tie_bound.specs.Answers.{is_answer};
 
+use crate::parts::Parts;
 use crate::span::Span;
 use crate::sums::Sums;
 use league_core::Sure;
@@ -37,14 +39,32 @@ pub fn then(first: Sure, next: Sure) -> Sure
     }
 }
 
+/// These parts of the two clubs, one after the other.
+pub fn by_parts(parts: Parts, rival: &Sums, club: &Sums) -> Sure
+    ensures { result ≡ sure_by_ranges (ranges_of parts rival.now) (ranges_of parts club.now) }
+{
+    match parts {
+        Parts::Record => by_record(rival, club),
+        Parts::FirstSums => by_first_sums(rival, club),
+    }
+}
+
 /// The head-to-head records, by the sums over the matches of a group: points, then goal difference,
 /// then goals.
-pub fn by_record(rival: &Sums, club: &Sums) -> Sure
+fn by_record(rival: &Sums, club: &Sums) -> Sure
     ensures { result ≡ sure_by_ranges (record_of rival.now) (record_of club.now) }
 {
     let by_goals = by_span(rival.goals, club.goals);
     let by_difference = then(by_span(rival.difference, club.difference), by_goals);
     then(by_span(rival.points, club.points), by_difference)
+}
+
+/// Goal difference, then goals, by the sums over all matches.
+fn by_first_sums(rival: &Sums, club: &Sums) -> Sure
+    ensures { result ≡ sure_by_ranges (first_sums_of rival.now) (first_sums_of club.now) }
+{
+    let by_goals = by_span(rival.goals, club.goals);
+    then(by_span(rival.difference, club.difference), by_goals)
 }
 
 /// What decides after the head-to-head, by the sums over all matches, then the fixed ranks.
@@ -67,13 +87,16 @@ fn rank_span(rank: u16) -> Span
     Span::only(-i32::from(rank))
 }
 
-/// One part of the records is surely different.
-pub fn are_apart(rival: &Sums, club: &Sums) -> bool
-    ensures { result ≡ is_apart (record_of rival.now) (record_of club.now) }
+/// One of these parts is surely different.
+pub fn are_apart(parts: Parts, rival: &Sums, club: &Sums) -> bool
+    ensures { result ≡ is_apart (ranges_of parts rival.now) (ranges_of parts club.now) }
 {
-    lie_apart(rival.points, club.points)
-        || lie_apart(rival.difference, club.difference)
-        || lie_apart(rival.goals, club.goals)
+    let sums_apart = lie_apart(rival.difference, club.difference)
+        || lie_apart(rival.goals, club.goals);
+    match parts {
+        Parts::Record => lie_apart(rival.points, club.points) || sums_apart,
+        Parts::FirstSums => sums_apart,
+    }
 }
 
 fn lie_apart(rival: Span, club: Span) -> bool

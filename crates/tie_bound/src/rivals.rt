@@ -1,7 +1,6 @@
 //! The rivals of a club, and how they are marked and judged, as sets.
 
-ghost use Rattle.std.specs.Prelude.{◌≡◌, ◌<◌, ◌≤◌, ◌&&◌, ℕ, IsTrue, length};
-ghost use Rattle.league_core.specs.Sums.{has_club};
+ghost use Rattle.std.specs.Prelude.{◌≡◌, ◌≤◌, IsTrue, length};
 ghost use Rattle.league_core.specs.ClubSets.{clubs_in};
 ghost use Rattle.league_core.specs.Zones.{rivals_of};
 ghost use Rattle.tie_bound.specs.Boxes.{have_one_outcome};
@@ -51,12 +50,4 @@ fn rivals_of(sheet: &Sheet, club: u8) -> ClubSet
         found = found.with_if(other != club, other);
     }
     found
-}
-
-/// The clubs of both sets.
-pub fn common(set: ClubSet, other: ClubSet) -> ClubSet
-    ensures { (club : ℕ) → has_club (clubs_in result) club
-        ≡ (has_club (clubs_in set) club && has_club (clubs_in other) club) }
-{
-    set.without(set.without(other))
 }

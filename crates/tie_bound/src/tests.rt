@@ -1,12 +1,7 @@
-//! Zones worked by hand, in which each step decides once or is left open, and drawn zones against
-//! the ranking of all their finishes with all lots.
+//! Zones worked by hand, in which the two orders of the criteria differ, and the reason in one
+//! zone.
 
 mod asked;
-mod drawn;
-mod draws;
-mod groups;
 mod leagues;
-mod overall;
-mod records;
-mod rows;
+mod orders;
 mod zones;

@@ -12,7 +12,7 @@ ghost use Rattle.tie_bound.specs.Boxes.{have_one_outcome};
 ghost use Rattle.tie_bound.specs.Rivals.{AreRivalsIn};
 
 use crate::outcomes::has_one_outcome;
-use crate::rivals::{Rivals, common};
+use crate::rivals::Rivals;
 use league_core::{Claim, Question};
 use score_box::ZoneBox;
 
@@ -46,11 +46,11 @@ fn are_too_many(zone_box: &ZoneBox, question: &Question, rivals: &Rivals) -> boo
 {
     match question.claim {
         Claim::Inside => {
-            let front = common(rivals.all, rivals.before.union(rivals.above));
+            let front = rivals.all.intersection(rivals.before.union(rivals.above));
             question.line <= front.len()
         }
         Claim::Outside => {
-            let back = common(rivals.all, rivals.after.union(rivals.below));
+            let back = rivals.all.intersection(rivals.after.union(rivals.below));
             let clubs = zone_box.sheet().clubs.len() as u8;
             clubs.saturating_sub(question.line) <= back.len()
         }
@@ -64,7 +64,7 @@ fn is_one_wrong(zone_box: &ZoneBox, question: &Question, rivals: &Rivals) -> boo
         (is_surely_wrong zone_box.now.sheet zone_box.now.season question.now zone_box.now.zone)
         (rivals_of zone_box.now.sheet question.now.club) }
 {
-    let ahead = common(rivals.after, rivals.above);
-    let behind = common(rivals.before, rivals.below);
-    !common(rivals.all, ahead.union(behind)).is_empty()
+    let ahead = rivals.after.intersection(rivals.above);
+    let behind = rivals.before.intersection(rivals.below);
+    !rivals.all.intersection(ahead.union(behind)).is_empty()
 }

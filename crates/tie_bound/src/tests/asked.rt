@@ -5,40 +5,62 @@
 use super::leagues::{Game, are_fixtures, fixtures_of, four_clubs};
 use super::zones::{is_of_sheet, zone_of};
 use crate::tie_reason;
-use league_core::{Claim, Question, Season};
+use league_core::Order::{HeadFirst, OverallFirst};
+use league_core::{Claim, Order, Question, Season};
 use score_box::ZoneBox;
 use std::alloc::Global;
 use std::process::Abort;
 use std::test::Fail;
 
-/// The outcome of B and C and the goals of each, the marks of rivals, the club, line and side that
-/// is asked for, and whether the reason holds.
-type Asked = (char, (u8, u8), &'static [(u8, bool)], u8, u8, Claim, bool);
+/// The order of the criteria, the outcome of B and C and the goals of each, the marks of rivals,
+/// the
+/// line and side that is asked for A, and whether the reason holds.
+type Asked = (
+    Order,
+    char,
+    (u8, u8),
+    &'static [(u8, bool)],
+    u8,
+    Claim,
+    bool,
+);
 
 // Worked by hand. A has five points like B and C, D has none.
-const ROWS: [Asked; 13] = [
-    ('D', (0, 0), &[], 0, 1, Claim::Inside, true),
-    ('D', (1, 1), &[], 0, 1, Claim::Inside, true),
-    // After either draw the ranges of goals meet.
-    ('D', (0, 1), &[], 0, 1, Claim::Inside, false),
+const ROWS: [Asked; 9] = [
+    (HeadFirst, 'D', (1, 1), &[], 1, Claim::Inside, true),
+    (OverallFirst, 'D', (1, 1), &[], 1, Claim::Inside, true),
+    // After either draw the ranges of goals meet; the difference is three against one.
+    (HeadFirst, 'D', (0, 1), &[], 1, Claim::Inside, false),
+    (OverallFirst, 'D', (0, 1), &[], 1, Claim::Inside, true),
     // Two rivals are ahead, the line has three places.
-    ('D', (0, 0), &[], 0, 2, Claim::Inside, true),
-    ('D', (0, 0), &[], 0, 3, Claim::Inside, false),
-    // B is surely ahead, and marked behind; D is surely behind, and marked ahead.
-    ('D', (0, 0), &[(1, false)], 0, 3, Claim::Inside, true),
-    ('D', (0, 0), &[(3, true)], 0, 3, Claim::Inside, true),
-    ('D', (0, 0), &[(3, false)], 0, 3, Claim::Inside, false),
+    (HeadFirst, 'D', (0, 0), &[], 3, Claim::Inside, false),
+    // B is surely ahead, and marked behind.
+    (
+        HeadFirst,
+        'D',
+        (0, 0),
+        &[(1, false)],
+        3,
+        Claim::Inside,
+        true,
+    ),
     // A marked rival counts where the order is open, and not where an outcome is.
-    ('D', (0, 1), &[(1, true)], 0, 1, Claim::Inside, true),
-    ('-', (0, 1), &[(1, true)], 0, 1, Claim::Inside, false),
-    // D alone is surely behind A, so that A is among the first three, and not surely among two.
-    ('D', (0, 0), &[], 0, 3, Claim::Outside, true),
-    ('D', (0, 0), &[], 0, 2, Claim::Outside, false),
-    ('D', (0, 0), &[(1, false)], 0, 2, Claim::Outside, true),
+    (HeadFirst, 'D', (0, 1), &[(1, true)], 1, Claim::Inside, true),
+    (
+        HeadFirst,
+        '-',
+        (0, 1),
+        &[(1, true)],
+        1,
+        Claim::Inside,
+        false,
+    ),
+    // D alone is surely behind A, so that A is among the first three.
+    (HeadFirst, 'D', (0, 0), &[], 3, Claim::Outside, true),
 ];
 
 fn check(rt: &impl Abort, alloc: Global, asked: &Asked) -> Result<(), Fail> {
-    let (outcome, goals, marks, club, line, claim, wanted) = *asked;
+    let (order, outcome, goals, marks, line, claim, wanted) = *asked;
     let games: [Game; 6] = [
         (0, 1, 'D', (0, 0), (0, 0)),
         (0, 2, 'D', (0, 0), (0, 0)),
@@ -49,13 +71,13 @@ fn check(rt: &impl Abort, alloc: Global, asked: &Asked) -> Result<(), Fail> {
     ];
     let fixtures = fixtures_of(alloc, &games)?;
     assert!(rt; are_fixtures(&fixtures) && fixtures.len() <= 600);
-    let sheet = four_clubs(alloc, &[1, 2, 3, 4], fixtures)?;
+    let sheet = four_clubs(alloc, order, fixtures)?;
     let season = Season::unplayed(alloc, 4, games.len())?;
     let zone = zone_of(alloc, &games, marks)?;
     assert!(rt; is_of_sheet(&sheet, &zone));
     let zone_box = ZoneBox::of(alloc, &sheet, &season, &zone)?;
     let question = Question {
-        club,
+        club: 0,
         line,
         claim,
         low: -99,

@@ -4,7 +4,7 @@ ghost use Rattle.std.specs.Prelude.{◌≡◌, ◌≤◌, IsTrue, IfOk, length};
 ghost use Rattle.std.specs.List.{list_all};
 ghost use Rattle.league_core.specs.Sheets.{IsWithinLimits, is_fixture};
 
-use league_core::{Club, Fixture, Listing, Name, OutOfMemory, Sheet};
+use league_core::{Club, Fixture, Listing, Name, Order, OutOfMemory, Sheet};
 use std::alloc::Global;
 
 /// Home and away club; H, D or A for the outcome, another letter for none; the least and the most
@@ -20,11 +20,7 @@ fn club(alloc: Global, text: &str, rank: u16) -> Result<Club, OutOfMemory>
     })
 }
 
-pub fn four_clubs(
-    alloc: Global,
-    ranks: &[u16; 4],
-    fixtures: Vec<Fixture>,
-) -> Result<Sheet, OutOfMemory>
+pub fn four_clubs(alloc: Global, order: Order, fixtures: Vec<Fixture>) -> Result<Sheet, OutOfMemory>
     requires fixtures { IsTrue (list_all (is_fixture 4) fixtures.items) }
     requires few { length fixtures.items ≤ 600 }
     ensures limits { IfOk result (λ sheet. IsWithinLimits sheet) }
@@ -32,10 +28,10 @@ pub fn four_clubs(
     ensures matches { IfOk result (λ sheet. sheet.fixtures ≡ fixtures.items) }
 {
     let mut clubs = Listing::new(alloc);
-    clubs.push(club(alloc, "A", ranks[0].clamp(1, 999))?)?;
-    clubs.push(club(alloc, "B", ranks[1].clamp(1, 999))?)?;
-    clubs.push(club(alloc, "C", ranks[2].clamp(1, 999))?)?;
-    clubs.push(club(alloc, "D", ranks[3].clamp(1, 999))?)?;
+    clubs.push(club(alloc, "A", 1)?)?;
+    clubs.push(club(alloc, "B", 2)?)?;
+    clubs.push(club(alloc, "C", 3)?)?;
+    clubs.push(club(alloc, "D", 4)?)?;
     Ok(Sheet {
         name: Name::new(String::from_str(alloc, "Group")?),
         clubs,
@@ -43,6 +39,7 @@ pub fn four_clubs(
         lines: Listing::new(alloc),
         goal_limit: 9,
         budget: 1,
+        order,
     })
 }
 

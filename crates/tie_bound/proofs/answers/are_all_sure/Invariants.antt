@@ -7,4 +7,5 @@ use Rattle.tie_bound.proofs.answers.are_all_sure.Given as goal
 -- of the clubs passed each one of the group is sure
 abbrev pub invariant-loop-other : goal.invariant-loop-other
 invariant-loop-other l =
-    (x : ℕ) → x < l.other → has_club (clubs_in l.group) x ≡ true → is_sure_by l.table l.club x ≡ true
+    (x : ℕ) → x < l.other → has_club (clubs_in l.group) x ≡ true
+    → is_sure_by l.parts l.table l.club x ≡ true

@@ -26,9 +26,17 @@ loop-rival-preserved c =
     let rival = c.loop-rival.rival in
     let answer =
     c.by_span.ensures
-    ∙ by_points-read box.sheet box.season (options_in_box box) table rival club (as_range c.points_of-points.result) (as_range c.points_of-own.result) c.requires
-    (c.points_of-points.ensures ∙ points-read c.season-season.result.now box.season table rival c.sums_at-in-loop-rival.result c.season-season.ensures.season c.sums_at-in-loop-rival.ensures)
-    (c.points_of-own.ensures ∙ points-read c.season-season.result.now box.season table club c.sums_at.result c.season-season.ensures.season c.sums_at.ensures) in
+    ∙ by_points-read box.sheet box.season (options_in_box box) table rival club
+    (as_range c.points_of-points.result) (as_range c.points_of-own.result) c.requires
+    (c.points_of-points.ensures ∙ points-read c.season-season.result.now box.season table rival
+    c.sums_at-in-loop-rival.result c.season-season.ensures.season
+    c.sums_at-in-loop-rival.ensures)
+    (c.points_of-own.ensures ∙ points-read c.season-season.result.now box.season table club
+    c.sums_at.result c.season-season.ensures.season c.sums_at.ensures) in
     let now = c.loop-rival.answers in
-    let within : rival < length now = omega (arith, c.loop-rival.invariant.1) in
-    (answers_more (λ k. sure_by_points box.sheet box.season (options_in_box box) k club) now rival c.by_span.result within c.loop-rival.invariant.0 answer, length-set now rival c.by_span.result ∙ c.loop-rival.invariant.1)
+    let within : rival < length now = omega (arith, c.loop-rival.invariant.1) in (
+      answers_more (λ k. sure_by_points box.sheet box.season (options_in_box box) k club) now rival
+          c.by_span.result within c.loop-rival.invariant.0 answer,
+      length-set now rival
+          c.by_span.result ∙ c.loop-rival.invariant.1,
+    )

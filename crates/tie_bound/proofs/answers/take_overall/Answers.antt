@@ -13,6 +13,12 @@ loop-rival-preserved c =
     let now = c.loop-rival.answers in
     let rival = c.loop-rival.rival in
     let within : rival < length now = omega arith in
-    let next = c.by_overall-next.ensures ∙ by_overall_table-read sheet table club rival c.sums_at.result c.sums_at-own.result c.rank_of-rank.result c.rank_of-own_rank.result c.sums_at.ensures c.sums_at-own.ensures c.rank_of-rank.ensures c.rank_of-own_rank.ensures in
-    gone_on_more (by_overall_table sheet table club) c.args.answers.now now rival c.then.result within c.loop-rival.invariant
-    (next_is (answer_at now) (by_overall_table sheet table club) c.then.result _ c.by_overall-next.result rival c.then.ensures (get_or_default now rival _ Unknown within) next)
+    let next = c.by_overall-next.ensures
+    ∙ by_overall_table-read sheet table club rival c.sums_at.result c.sums_at-own.result
+    c.rank_of-rank.result c.rank_of-own_rank.result c.sums_at.ensures c.sums_at-own.ensures
+    c.rank_of-rank.ensures c.rank_of-own_rank.ensures in
+    gone_on_more (by_overall_table sheet table club) c.args.answers.now now rival c.then.result
+    within c.loop-rival.invariant
+    (next_is (answer_at now) (by_overall_table sheet table club) c.then.result _
+    c.by_overall-next.result rival c.then.ensures (get_or_default now rival _ Unknown within)
+    next)

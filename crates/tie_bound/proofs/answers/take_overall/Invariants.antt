@@ -4,4 +4,5 @@ use Rattle.tie_bound.proofs.answers.take_overall.Given as goal
 
 -- the answers passed have gone on, the others are as they were
 abbrev pub invariant-loop-rival : goal.invariant-loop-rival
-invariant-loop-rival l = HasGoneOn (by_overall_table l.sheet l.overall l.club) l.fn.answers l.answers l.rival
+invariant-loop-rival l = HasGoneOn (by_overall_table l.sheet l.overall l.club) l.fn.answers
+    l.answers l.rival

@@ -7,4 +7,5 @@ use Rattle.tie_bound.proofs.answers.those_that_are.Given as goal
 -- the clubs found are those passed that have the wanted answer
 abbrev pub invariant-loop-club : goal.invariant-loop-club
 invariant-loop-club l =
-    (x : ℕ) → has_club (clubs_in l.found) x ≡ (nat_lt x l.club && is_answer l.wanted (answer_at l.answers x))
+    (x : ℕ) → has_club (clubs_in l.found) x ≡
+    (nat_lt x l.club && is_answer l.wanted (answer_at l.answers x))

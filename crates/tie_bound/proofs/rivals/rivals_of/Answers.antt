@@ -6,5 +6,6 @@ pub returns : goal.returns
 returns c =
     let clubs = length c.args.sheet.now.clubs in
     let last : c.loop-other.other ≡ clubs = omega (arith, c.len-other-end.ensures) in
-    clubs_below-filter_range 32 c.loop-other.found.bits clubs (λ x. not (x == c.args.club)) (omega arith)
+    clubs_below-filter_range 32 c.loop-other.found.bits clubs (λ x. not (x == c.args.club))
+    (omega arith)
     (λ x. c.loop-other.invariant x ∙ ap (λ n. nat_lt x n && not (x == c.args.club)) last)

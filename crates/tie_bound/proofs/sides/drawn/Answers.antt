@@ -7,7 +7,16 @@ use Rattle.tie_bound.proofs.sides.drawn.Goals as goal
 pub returns : goal.returns
 returns c = λ cell draws own.
     let away = c.args.away in
-    let sums : Sums = record { points = c.only.result; difference = c.only-2.result; goals = c.span.result; away_goals = c.only_if.result; wins = c.only-3.result; away_wins = c.only-4.result } in
+    let sums : Sums = record {
+      points = c.only.result;
+      difference = c.only-2.result;
+      goals =
+          c.span.result;
+      away_goals = c.only_if.result;
+      wins = c.only-3.result;
+      away_wins =
+          c.only-4.result;
+    } in
     drawn_sums cell away c.args.own c.args.own sums
     (drawn_match cell away c.args.own (omega arith) draws own)
     draws
@@ -15,7 +24,8 @@ returns c = λ cell draws own.
       points = c.only.ensures;
       difference = c.only-2.ensures;
       goals = c.span.ensures;
-      away_goals = c.only_if.ensures ∙ ap (λ (r : Range). cond away r (one_value (pos 0))) c.span-2.ensures;
+      away_goals = c.only_if.ensures ∙ ap (λ (r : Range). cond away r (one_value (pos 0)))
+          c.span-2.ensures;
       wins = c.only-3.ensures;
       away_wins = c.only-4.ensures;
     })

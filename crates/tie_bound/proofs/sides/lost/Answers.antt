@@ -8,15 +8,30 @@ use Rattle.tie_bound.proofs.sides.lost.Goals as goal
 pub returns : goal.returns
 returns c = λ cell loses own other.
     let away = c.args.away in
-    let sums : Sums = record { points = c.only.result; difference = c.negated.result; goals = c.span.result; away_goals = c.only_if.result; wins = c.only-2.result; away_wins = c.only-3.result } in
+    let sums : Sums = record {
+      points = c.only.result;
+      difference = c.negated.result;
+      goals =
+          c.span.result;
+      away_goals = c.only_if.result;
+      wins = c.only-2.result;
+      away_wins =
+          c.only-3.result;
+    } in
     lost_sums cell away c.args.own c.args.other sums
-    (record { own_goals = own; other_goals = other; own_few = omega arith; other_few = omega arith })
+    (record {
+      own_goals = own;
+      other_goals = other;
+      own_few = omega arith;
+      other_few = omega arith;
+    })
     loses
     (record {
       points = c.only.ensures;
       difference = (as_range c.margin.result, c.margin.ensures, c.negated.ensures);
       goals = c.span.ensures;
-      away_goals = c.only_if.ensures ∙ ap (λ (r : Range). cond away r (one_value (pos 0))) c.span-2.ensures;
+      away_goals = c.only_if.ensures ∙ ap (λ (r : Range). cond away r (one_value (pos 0)))
+          c.span-2.ensures;
       wins = c.only-2.ensures;
       away_wins = c.only-3.ensures;
     })

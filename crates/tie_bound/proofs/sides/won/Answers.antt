@@ -7,15 +7,31 @@ use Rattle.tie_bound.proofs.sides.won.Goals as goal
 pub returns : goal.returns
 returns c = λ cell wins own other.
     let away = c.args.away in
-    let sums : Sums = record { points = c.only.result; difference = c.margin.result; goals = c.span.result; away_goals = c.only_if.result; wins = c.only-2.result; away_wins = c.only_if-2.result } in
+    let sums : Sums = record {
+      points = c.only.result;
+      difference = c.margin.result;
+      goals =
+          c.span.result;
+      away_goals = c.only_if.result;
+      wins = c.only-2.result;
+      away_wins =
+          c.only_if-2.result;
+    } in
     won_sums cell away c.args.own c.args.other sums
-    (record { own_goals = own; other_goals = other; own_few = omega arith; other_few = omega arith })
+    (record {
+      own_goals = own;
+      other_goals = other;
+      own_few = omega arith;
+      other_few = omega arith;
+    })
     wins
     (record {
       points = c.only.ensures;
       difference = c.margin.ensures;
       goals = c.span.ensures;
-      away_goals = c.only_if.ensures ∙ ap (λ (r : Range). cond away r (one_value (pos 0))) c.span-2.ensures;
+      away_goals = c.only_if.ensures ∙ ap (λ (r : Range). cond away r (one_value (pos 0)))
+          c.span-2.ensures;
       wins = c.only-2.ensures;
-      away_wins = c.only_if-2.ensures ∙ ap (λ (r : Range). cond away r (one_value (pos 0))) c.only-3.ensures;
+      away_wins = c.only_if-2.ensures ∙ ap (λ (r : Range). cond away r (one_value (pos 0)))
+          c.only-3.ensures;
     })

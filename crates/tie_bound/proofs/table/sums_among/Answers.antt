@@ -9,7 +9,8 @@ none_at : (clubs club : ℕ) → sums_at (replicate clubs no_sums) club ≡ no_s
 none_at clubs club =
     elim (cases_lt club clubs) as (λ _. sums_at (replicate clubs no_sums) club ≡ no_sums) [
       | inl within ↦ get_or-replicate clubs club no_sums no_sums within
-      | inr past ↦ get_or_past (replicate clubs no_sums) club no_sums (omega (arith, length-replicate {A = Sums}))
+      | inr past ↦ get_or_past (replicate clubs no_sums) club no_sums
+          (omega (arith, length-replicate {A = Sums}))
     ]
 
 pub add_all-requires-clause-none : goal.add_all-requires-clause-none

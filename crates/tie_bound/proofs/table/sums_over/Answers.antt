@@ -15,7 +15,8 @@ pub returns : goal.returns
 returns c =
     let box = c.args.zone_box.now in
     let clubs = length box.sheet.clubs in
-    let many : c.len.result ≡ clubs = c.len.ensures ∙ ap (λ (s : Sheet). length s.clubs) c.sheet.ensures.sheet in
+    let many : c.len.result ≡ clubs = c.len.ensures
+    ∙ ap (λ (s : Sheet). length s.clubs) c.sheet.ensures.sheet in
     let all : (x : ℕ) → x < clubs → has_club (clubs_in c.first.result) x ≡ true =
     λ x within.
     ap (λ xs. has_club xs x) c.first.ensures
@@ -23,10 +24,12 @@ returns c =
     ∙ has_club-range clubs x
     ∙ lt-ltb x clubs within in
     let Are : Sheet → Type 0 = λ s. list_all (is_fixture (length s.clubs)) s.fixtures ≡ true in
-    let fixtures : Are box.sheet = subst Are c.sheet.ensures.sheet c.sheet.ensures.limits.fixtures in
+    let fixtures : Are box.sheet = subst Are c.sheet.ensures.sheet
+    c.sheet.ensures.limits.fixtures in
     record {
       each = λ club measure.
           c.sums_among.ensures.each club measure
-          ∙ among_all (clubs_in c.first.result) clubs (worth_of measure) club box.sheet.fixtures (options_in_box box) all fixtures;
+          ∙ among_all (clubs_in c.first.result) clubs (worth_of measure) club box.sheet.fixtures
+          (options_in_box box) all fixtures;
       near = c.sums_among.ensures.near;
     }

@@ -12,14 +12,18 @@ returns-in-Inside c =
     let box = c.args.zone_box.now in
     let question = c.args.question.now in
     let rivals = c.args.rivals.now in
-    let front = λ (rival : ℕ). marked_before box.zone rival || is_surely_above box.sheet box.season question box.zone rival in
-    let back = λ (rival : ℕ). marked_after box.zone rival || is_surely_below box.sheet box.season question box.zone rival in
-    let found = common-is box.sheet question.club rivals.all.bits c.common-front.result.bits (has_club (clubs_in c.union.result)) front c.requires.all c.common-front.ensures
+    let front = λ (rival : ℕ). marked_before box.zone rival || is_surely_above box.sheet box.season
+    question box.zone rival in
+    let back = λ (rival : ℕ). marked_after box.zone rival || is_surely_below box.sheet box.season
+    question box.zone rival in
+    let found = common-is box.sheet question.club rivals.all.bits c.intersection-front.result.bits
+    (has_club (clubs_in c.union.result)) front c.requires.all c.intersection-front.ensures
     (λ x within.
     c.union.ensures x
     ∙ ap (λ b. b || has_club (clubs_in rivals.above) x) (c.requires.before x)
     ∙ ap (λ b. marked_before box.zone x || b) (c.requires.above x within)) in
-    ap (nat_le question.line) (c.len.ensures ∙ count-is box.sheet question.club c.common-front.result.bits front found)
+    ap (nat_le question.line) (c.len.ensures
+    ∙ count-is box.sheet question.club c.intersection-front.result.bits front found)
     ∙ sym (ap (too_many box.sheet question front back) c.in-Inside.is)
 
 pub returns-in-Outside : goal.returns-in-Outside
@@ -27,15 +31,22 @@ returns-in-Outside c =
     let box = c.args.zone_box.now in
     let question = c.args.question.now in
     let rivals = c.args.rivals.now in
-    let front = λ (rival : ℕ). marked_before box.zone rival || is_surely_above box.sheet box.season question box.zone rival in
-    let back = λ (rival : ℕ). marked_after box.zone rival || is_surely_below box.sheet box.season question box.zone rival in
-    let found = common-is box.sheet question.club rivals.all.bits c.common-back.result.bits (has_club (clubs_in c.union-in-Outside.result)) back c.requires.all c.common-back.ensures
+    let front = λ (rival : ℕ). marked_before box.zone rival || is_surely_above box.sheet box.season
+    question box.zone rival in
+    let back = λ (rival : ℕ). marked_after box.zone rival || is_surely_below box.sheet box.season
+    question box.zone rival in
+    let found = common-is box.sheet question.club rivals.all.bits c.intersection-back.result.bits
+    (has_club (clubs_in c.union-in-Outside.result)) back c.requires.all c.intersection-back.ensures
     (λ x within.
     c.union-in-Outside.ensures x
     ∙ ap (λ b. b || has_club (clubs_in rivals.below) x) (c.requires.after x)
     ∙ ap (λ b. marked_after box.zone x || b) (c.requires.below x within)) in
     let left : c.saturating_sub.result ≡ length box.sheet.clubs - question.line =
-    c.saturating_sub.ensures ∙ ap (λ n. n - question.line) (c.len-clubs.ensures ∙ ap (λ (s : Sheet). length s.clubs) c.sheet.ensures.sheet) in
+    c.saturating_sub.ensures ∙ ap (λ n. n - question.line)
+    (c.len-clubs.ensures ∙ ap (λ (s : Sheet). length s.clubs) c.sheet.ensures.sheet) in
     ap (λ n. nat_le n c.len-in-Outside.result) left
-    ∙ ap (nat_le (length box.sheet.clubs - question.line)) (c.len-in-Outside.ensures ∙ count-is box.sheet question.club c.common-back.result.bits back found)
+    ∙ ap (nat_le (length box.sheet.clubs - question.line))
+    (c.len-in-Outside.ensures ∙ count-is box.sheet question.club c.intersection-back.result.bits
+    back
+    found)
     ∙ sym (ap (too_many box.sheet question front back) c.in-Outside.is)

@@ -12,14 +12,21 @@ returns c =
     let question = c.args.question.now in
     let rivals = c.args.rivals.now in
     let wrong = is_surely_wrong box.sheet box.season question box.zone in
-    let found = common-is box.sheet question.club rivals.all.bits c.common.result.bits (has_club (clubs_in c.union.result)) wrong c.requires.all c.common.ensures
+    let found = common-is box.sheet question.club rivals.all.bits c.intersection.result.bits
+    (has_club (clubs_in c.union.result)) wrong c.requires.all c.intersection.ensures
     (λ x within.
     c.union.ensures x
-    ∙ ap (λ b. b || has_club (clubs_in c.common-behind.result) x) (c.common-ahead.ensures x)
-    ∙ ap (λ b. (b && has_club (clubs_in rivals.above) x) || has_club (clubs_in c.common-behind.result) x) (c.requires.after x)
-    ∙ ap (λ b. (marked_after box.zone x && b) || has_club (clubs_in c.common-behind.result) x) (c.requires.above x within)
-    ∙ ap (λ b. (marked_after box.zone x && is_surely_above box.sheet box.season question box.zone x) || b)
-    (c.common-behind.ensures x
+    ∙ ap (λ b. b || has_club (clubs_in c.intersection-behind.result) x)
+    (c.intersection-ahead.ensures x)
+    ∙ ap (λ b. (b && has_club (clubs_in rivals.above) x) || has_club
+    (clubs_in c.intersection-behind.result) x) (c.requires.after x)
+    ∙ ap (λ b. (marked_after box.zone x && b) || has_club (clubs_in c.intersection-behind.result) x)
+    (c.requires.above x within)
+    ∙ ap (λ b. (marked_after box.zone x && is_surely_above box.sheet box.season question box.zone x)
+    || b)
+    (c.intersection-behind.ensures x
     ∙ ap (λ b. b && has_club (clubs_in rivals.below) x) (c.requires.before x)
     ∙ ap (λ b. marked_before box.zone x && b) (c.requires.below x within))) in
-    any-is c.is_empty.result wrong (rivals_of box.sheet question.club) (clubs_in c.common.result) found c.is_empty.ensures.0 c.is_empty.ensures.1
+    any-is c.is_empty.result wrong (rivals_of box.sheet question.club)
+    (clubs_in c.intersection.result)
+    found c.is_empty.ensures.0 c.is_empty.ensures.1

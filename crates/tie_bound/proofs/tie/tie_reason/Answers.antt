@@ -3,7 +3,8 @@
 use Rattle.std.proofs.Common.{◌&&◌, ◌||◌, sym, ap, ◌∙◌}
 use Rattle.std.specs.List.{list_any}
 use Rattle.league_core.specs.Zones.{rivals_of}
-use Rattle.league_core.specs.Reasons.{has_reason, refutes_by_tie, are_too_many_sure, is_surely_wrong}
+use Rattle.league_core.specs.Reasons.{has_reason, refutes_by_tie, are_too_many_sure}
+use Rattle.league_core.specs.Reasons.{is_surely_wrong}
 use Rattle.tie_bound.proofs.tie.tie_reason.Goals as goal
 
 pub returns-then-has_one_outcome : goal.returns-then-has_one_outcome
@@ -11,7 +12,8 @@ unfolding has_reason
 returns-then-has_one_outcome c =
     let box = c.args.zone_box.now in
     let question = c.args.question.now in
-    let sure = are_too_many_sure box.sheet box.season question box.zone || list_any (is_surely_wrong box.sheet box.season question box.zone) (rivals_of box.sheet question.club) in
+    let sure = are_too_many_sure box.sheet box.season question box.zone || list_any
+    (is_surely_wrong box.sheet box.season question box.zone) (rivals_of box.sheet question.club) in
     c.is_refuted.ensures
     ∙ sym (ap (λ b. b && sure) (sym c.has_one_outcome.ensures ∙ c.if-has_one_outcome.true))
     ∙ sym (ap (λ b. b && refutes_by_tie box.sheet box.season question box.zone) c.requires)
@@ -21,7 +23,8 @@ unfolding has_reason
 returns-else-has_one_outcome c =
     let box = c.args.zone_box.now in
     let question = c.args.question.now in
-    let sure = are_too_many_sure box.sheet box.season question box.zone || list_any (is_surely_wrong box.sheet box.season question box.zone) (rivals_of box.sheet question.club) in
+    let sure = are_too_many_sure box.sheet box.season question box.zone || list_any
+    (is_surely_wrong box.sheet box.season question box.zone) (rivals_of box.sheet question.club) in
     c.if-has_one_outcome.false
     ∙ sym (ap (λ b. b && sure) (sym c.has_one_outcome.ensures ∙ c.if-has_one_outcome.false))
     ∙ sym (ap (λ b. b && refutes_by_tie box.sheet box.season question box.zone) c.requires)

@@ -1,7 +1,8 @@
 -- Each sum by itself.
 use Rattle.std.proofs.Common.{◌≡◌}
 use Rattle.tie_criteria.specs.declared.measure.Measure.{Measure}
-use Rattle.tie_criteria.specs.declared.measure.Measure.TheVariants.{Points, Difference, Goals, AwayGoals, Wins, AwayWins}
+use Rattle.tie_criteria.specs.declared.measure.Measure.TheVariants.{Points, Difference, Goals}
+use Rattle.tie_criteria.specs.declared.measure.Measure.TheVariants.{AwayGoals, Wins, AwayWins}
 use Rattle.league_core.specs.PointRanges.{added}
 use Rattle.tie_bound.specs.declared.sums.Sums.{Sums}
 use Rattle.tie_bound.specs.Sums.{range_by}
@@ -44,16 +45,32 @@ pub plus-requires-6-clause-other_near : goal.plus-requires-6-clause-other_near
 plus-requires-6-clause-other_near c = c.requires.other_near AwayWins
 
 -- a fact of each of the six measures is one of every measure
-each_measure : (P : Measure → Type 0) → P Points → P Difference → P Goals → P AwayGoals → P Wins → P AwayWins → (measure : Measure) → P measure
+each_measure : (P : Measure → Type 0) → P Points → P Difference → P Goals → P AwayGoals → P Wins
+    → P AwayWins → (measure : Measure) → P measure
 each_measure P points difference goals_range away_range wins_range away_wins_range Points = points
-each_measure P points difference goals_range away_range wins_range away_wins_range Difference = difference
-each_measure P points difference goals_range away_range wins_range away_wins_range Goals = goals_range
-each_measure P points difference goals_range away_range wins_range away_wins_range AwayGoals = away_range
+each_measure P points difference goals_range away_range wins_range away_wins_range Difference =
+    difference
+each_measure P points difference goals_range away_range wins_range away_wins_range Goals =
+    goals_range
+each_measure P points difference goals_range away_range wins_range away_wins_range AwayGoals =
+    away_range
 each_measure P points difference goals_range away_range wins_range away_wins_range Wins = wins_range
-each_measure P points difference goals_range away_range wins_range away_wins_range AwayWins = away_wins_range
+each_measure P points difference goals_range away_range wins_range away_wins_range AwayWins =
+    away_wins_range
 
 pub returns : goal.returns
 returns c =
-    let sums : Sums = record { points = c.plus.result; difference = c.plus-2.result; goals = c.plus-3.result; away_goals = c.plus-4.result; wins = c.plus-5.result; away_wins = c.plus-6.result } in
-    each_measure (λ measure. range_by sums measure ≡ added (range_by c.args.self.now measure) (range_by c.args.other.now measure))
-    c.plus.ensures c.plus-2.ensures c.plus-3.ensures c.plus-4.ensures c.plus-5.ensures c.plus-6.ensures
+    let sums : Sums = record {
+      points = c.plus.result;
+      difference = c.plus-2.result;
+      goals =
+          c.plus-3.result;
+      away_goals = c.plus-4.result;
+      wins = c.plus-5.result;
+      away_wins =
+          c.plus-6.result;
+    } in
+    each_measure (λ measure. range_by sums measure ≡ added (range_by c.args.self.now measure)
+    (range_by c.args.other.now measure))
+    c.plus.ensures c.plus-2.ensures c.plus-3.ensures c.plus-4.ensures c.plus-5.ensures
+    c.plus-6.ensures

@@ -1,0 +1,196 @@
+-- What tables of sums say of clubs is what the ranges of the definition say, step by step.
+use Rattle.std.proofs.Common.{◌≡◌, ◌⊎◌, inl, inr, ℕ, ◌<◌, ◌≤◌, Bool, true, false, ◌&&◌, ◌||◌, ltb}
+use Rattle.std.proofs.Common.{List, length, sym, ap, ◌∙◌, arith}
+use Rattle.std.specs.List.{list_all}
+use Rattle.std.proofs.lemmas.Bool.{cases_lt, le-ltb}
+use Rattle.league_core.specs.declared.sheet.Sheet.{Sheet}
+use Rattle.league_core.specs.declared.sheet.Order.TheVariants.{OverallFirst}
+use Rattle.league_core.specs.declared.season.Score.{Score}
+use Rattle.league_core.specs.declared.sure.Sure.{Sure}
+use Rattle.league_core.specs.declared.sure.Sure.TheVariants.{Unknown}
+use Rattle.league_core.specs.Sums.{worth_to, worth_among}
+use Rattle.league_core.specs.Ahead.{rank_of}
+use Rattle.league_core.specs.SureOrder.{sure_by_ranges, sure_then, sure_by_points, is_level}
+use Rattle.league_core.specs.SureOrder.{is_apart, record_ranges, overall_ranges, first_sum_ranges}
+use Rattle.league_core.specs.SureOrder.{by_record_ranges, by_overall_ranges, by_first_sum_ranges}
+use Rattle.league_core.specs.SureOrder.{is_surely_in, is_surely_out, are_all_sure}
+use Rattle.league_core.specs.SureOrder.{is_surely_level_overall, is_surely_apart_overall}
+use Rattle.league_core.specs.SureOrder.{are_all_sure_overall, surely_level_overall, sure_in}
+use Rattle.league_core.specs.SureOrder.{sure_by, level_on_points, sure_order}
+use Rattle.league_core.specs.ClubSets.{clubs_below}
+use Rattle.league_core.proofs.ClubSetLemmas.{clubs_below-filter_range}
+use Rattle.score_box.specs.Settings.{Setting}
+use Rattle.tie_bound.specs.declared.parts.Parts.TheVariants.{Record, FirstSums}
+use Rattle.tie_bound.specs.declared.sums.Sums.{Sums}
+use Rattle.tie_bound.specs.Sums.{sums_at}
+use Rattle.tie_bound.specs.Boxes.{options_in_box}
+use Rattle.tie_bound.specs.Tables.{AreSums}
+use Rattle.tie_bound.specs.Answers.{record_of, first_sums_of, overall_of, by_table}
+use Rattle.tie_bound.specs.Answers.{by_overall_table, is_sure_by, answer_at, AreLevelIn, GoesOn}
+use Rattle.tie_bound.proofs.AnswerLemmas.{sure_then-assoc, record_of-is, overall_of-is}
+use Rattle.tie_bound.proofs.AnswerLemmas.{first_sums_of-is}
+use Rattle.tie_bound.proofs.RoundLemmas.{Taken}
+
+-- a step that goes on at all clubs of a table
+taken_by : (step next : ℕ → Sure) (answers taken : List Sure) → length answers ≡ 24
+    → GoesOn step answers taken → ((rival : ℕ) → step rival ≡ next rival)
+    → Taken next answers taken
+taken_by step next answers taken long goes same rival within =
+    goes rival (omega arith) ∙ ap (sure_then (answer_at answers rival)) (same rival)
+
+-- the records by the table of a group
+pub taken_records : (sheet : Sheet) (options : List (List Score)) (club : ℕ) (group : List ℕ)
+    (table : List Sums) (answers taken : List Sure)
+    → AreSums (worth_among group) sheet.fixtures options table → length answers ≡ 24
+    → GoesOn (by_table Record table club) answers taken
+    → Taken (λ rival. by_record_ranges sheet options group rival club) answers taken
+taken_records sheet options club group table answers taken are long goes =
+    taken_by (by_table Record table club) (λ rival. by_record_ranges sheet options group rival club)
+    answers taken long goes (λ rival.
+    ap (λ rs. sure_by_ranges rs (record_of (sums_at table club)))
+    (record_of-is sheet options group table rival are)
+    ∙ ap (sure_by_ranges (record_ranges sheet options group rival))
+    (record_of-is sheet options group table club are))
+
+-- difference and goals by the table of all matches
+pub taken_first_sums : (sheet : Sheet) (options : List (List Score)) (club : ℕ)
+    (table : List Sums) (answers taken : List Sure)
+    → AreSums worth_to sheet.fixtures options table → length answers ≡ 24
+    → GoesOn (by_table FirstSums table club) answers taken
+    → Taken (λ rival. by_first_sum_ranges sheet options rival club) answers taken
+taken_first_sums sheet options club table answers taken are long goes =
+    taken_by (by_table FirstSums table club)
+    (λ rival. by_first_sum_ranges sheet options rival club) answers taken long goes (λ rival.
+    ap (λ rs. sure_by_ranges rs (first_sums_of (sums_at table club)))
+    (first_sums_of-is sheet options table rival are)
+    ∙ ap (sure_by_ranges (first_sum_ranges sheet options rival))
+    (first_sums_of-is sheet options table club are))
+
+-- the sums over all matches, and the ranks
+pub taken_overall : (sheet read : Sheet) (options : List (List Score)) (club : ℕ)
+    (table : List Sums) (taken last : List Sure) → read ≡ sheet
+    → AreSums worth_to sheet.fixtures options table → length taken ≡ 24
+    → GoesOn (by_overall_table read table club) taken last
+    → Taken (λ rival. by_overall_ranges sheet options rival club) taken last
+taken_overall sheet read options club table taken last same are long goes =
+    taken_by (by_overall_table read table club)
+    (λ rival. by_overall_ranges sheet options rival club) taken last long goes (λ rival.
+    ap (λ s. by_overall_table s table club rival) same
+    ∙ ap (λ rs. sure_by_ranges rs (overall_of (sums_at table club) (rank_of sheet club)))
+    (overall_of-is sheet options table rival are)
+    ∙ ap (sure_by_ranges (overall_ranges sheet options rival))
+    (overall_of-is sheet options table club are))
+
+-- it is sure by the table of a group who shares the club's record there
+pub all_sure-records : (sheet : Sheet) (options : List (List Score)) (group : List ℕ)
+    (table : List Sums) (club : ℕ) → AreSums (worth_among group) sheet.fixtures options table
+    → list_all (is_sure_by Record table club) group ≡ are_all_sure sheet options group club
+all_sure-records sheet options group table club are =
+    ap (λ test. list_all test group) (λ i other. same other i)
+  where
+    same : (other : ℕ) → is_sure_by Record table club other
+        ≡ (is_surely_in sheet options group club other
+        || is_surely_out sheet options group club other)
+    same other =
+        ap (λ rs. is_level (sure_by_ranges rs (record_of (sums_at table club)))
+        || is_apart rs (record_of (sums_at table club)))
+        (record_of-is sheet options group table other are)
+        ∙ ap (λ rs. is_level (sure_by_ranges (record_ranges sheet options group other) rs)
+        || is_apart (record_ranges sheet options group other) rs)
+        (record_of-is sheet options group table club are)
+
+-- and by the table of all matches who shares the club's difference and goals
+pub all_sure-first_sums : (sheet : Sheet) (options : List (List Score)) (group : List ℕ)
+    (table : List Sums) (club : ℕ) → AreSums worth_to sheet.fixtures options table
+    → list_all (is_sure_by FirstSums table club) group
+    ≡ are_all_sure_overall sheet options group club
+all_sure-first_sums sheet options group table club are =
+    ap (λ test. list_all test group) (λ i other. same other i)
+  where
+    same : (other : ℕ) → is_sure_by FirstSums table club other
+        ≡ (is_surely_level_overall sheet options club other
+        || is_surely_apart_overall sheet options club other)
+    same other =
+        ap (λ rs. is_level (sure_by_ranges rs (first_sums_of (sums_at table club)))
+        || is_apart rs (first_sums_of (sums_at table club)))
+        (first_sums_of-is sheet options table other are)
+        ∙ ap (λ rs. is_level (sure_by_ranges (first_sum_ranges sheet options other) rs)
+        || is_apart (first_sum_ranges sheet options other) rs)
+        (first_sums_of-is sheet options table club are)
+
+-- with difference and goals first: nothing more is sure where it is not sure who shares them
+abbrev after_first_sums : Sheet → List (List Score) → List ℕ → ℕ → ℕ → Bool → Sure
+after_first_sums sheet options group rival club sure =
+    elim sure [
+      | false ↦ Unknown
+      | true ↦ sure_in sheet options (surely_level_overall sheet options group club) rival club
+    ]
+
+pub overall_first_open : (sheet : Sheet) (options : List (List Score)) (club : ℕ) (group : List ℕ)
+    (answers taken last : List Sure) → are_all_sure_overall sheet options group club ≡ false
+    → Taken (λ rival. by_first_sum_ranges sheet options rival club) answers taken
+    → Taken (λ rival. Unknown) taken last
+    → Taken (λ rival. sure_by OverallFirst sheet options group rival club) answers last
+overall_first_open sheet options club group answers taken last not_sure takes lasts rival within =
+    let first = by_first_sum_ranges sheet options rival club in
+    lasts rival within
+    ∙ ap (λ a. sure_then a Unknown) (takes rival within)
+    ∙ sure_then-assoc (answer_at answers rival) first Unknown
+    ∙ sym (ap (λ b. sure_then (answer_at answers rival)
+    (sure_then first (after_first_sums sheet options group rival club b))) not_sure)
+
+-- and else the criteria are taken among the clubs that share them
+pub overall_first_sure : (sheet : Sheet) (options : List (List Score)) (club : ℕ)
+    (group level : List ℕ) (answers taken last : List Sure)
+    → are_all_sure_overall sheet options group club ≡ true
+    → level ≡ surely_level_overall sheet options group club
+    → Taken (λ rival. by_first_sum_ranges sheet options rival club) answers taken
+    → Taken (λ rival. sure_in sheet options level rival club) taken last
+    → Taken (λ rival. sure_by OverallFirst sheet options group rival club) answers last
+overall_first_sure sheet options club group level answers taken last sure is takes lasts rival
+    within =
+    let first = by_first_sum_ranges sheet options rival club in
+    lasts rival within
+    ∙ ap (λ g. sure_then (answer_at taken rival) (sure_in sheet options g rival club)) is
+    ∙ ap (λ a. sure_then a (after_first_sums sheet options group rival club true))
+    (takes rival within)
+    ∙ sure_then-assoc (answer_at answers rival) first
+    (after_first_sums sheet options group rival club true)
+    ∙ sym (ap (λ b. sure_then (answer_at answers rival)
+    (sure_then first (after_first_sums sheet options group rival club b))) sure)
+
+-- by points and then by the criteria within the group of all clubs on the club's points
+pub sure_order-is : (box : Setting) (club bits : ℕ) (answers last : List Sure)
+    → length box.sheet.clubs ≤ 24
+    → ((rival : ℕ) → rival < 24 → answer_at answers rival
+    ≡ sure_by_points box.sheet box.season (options_in_box box) rival club)
+    → AreLevelIn (length box.sheet.clubs) answers (clubs_below 32 bits)
+    → Taken (λ rival. sure_by box.sheet.order box.sheet (options_in_box box) (clubs_below 32 bits)
+    rival club) answers last → (rival : ℕ) → rival < 24
+    → answer_at last rival ≡ sure_order box.sheet box.season box.zone rival club
+unfolding sure_order
+sure_order-is box club bits answers last few by_points level takes rival within =
+    takes rival within
+    ∙ ap (λ a. sure_then a (sure_by box.sheet.order box.sheet (options_in_box box)
+    (clubs_below 32 bits) rival
+    club)) (by_points rival within)
+    ∙ ap (λ g. sure_then (sure_by_points box.sheet box.season (options_in_box box) rival club)
+    (sure_by box.sheet.order box.sheet (options_in_box box) g rival club)) same
+  where
+    on_points : (x : ℕ) → (x < length box.sheet.clubs) ⊎ (length box.sheet.clubs ≤ x)
+        → (ltb x (length box.sheet.clubs) && is_level (answer_at answers x))
+        ≡ (ltb x (length box.sheet.clubs)
+        && is_level (sure_by_points box.sheet box.season (options_in_box box) x club))
+    on_points x (inl below) =
+        ap (λ a. ltb x (length box.sheet.clubs) && is_level a) (by_points x (omega arith))
+    on_points x (inr past) =
+        ap (λ b. b && is_level (answer_at answers x)) (le-ltb x (length box.sheet.clubs) past)
+        ∙ sym (ap (λ b. b && is_level (sure_by_points box.sheet box.season (options_in_box box) x
+        club))
+        (le-ltb x (length box.sheet.clubs) past))
+
+    same : clubs_below 32 bits ≡ level_on_points box.sheet box.season (options_in_box box) club
+    same =
+        clubs_below-filter_range 32 bits (length box.sheet.clubs)
+        (λ x. is_level (sure_by_points box.sheet box.season (options_in_box box) x club))
+        (omega arith) (λ x. level x ∙ on_points x (cases_lt x (length box.sheet.clubs)))
