@@ -15,4 +15,5 @@ returns c =
     let points = near_is 153000 c.sums_of-sums.result.points (omega arith)
     (c.sums_of-sums.ensures.near Points) ∙ c.sums_of-sums.ensures.sums Points in
     let fits : FitsSigned w32 c.less.result = search rules in
-    to_z-of_z w32 c.less.result fits ∙ c.less.ensures ∙ (λ i. points i -ℤ pos (c.deducted.ensures i))
+    to_z-of_z w32 c.less.result fits ∙ c.less.ensures
+    ∙ (λ i. points i -ℤ pos (c.deducted.ensures i))

@@ -42,12 +42,18 @@ returns-clause-sums c =
     let worth : Measure → ℤ = λ measure. if_played
     (value_in c.args.matches (worth_of measure) c.args.club) c.args.fixture c.args.score in
     each_measure (λ measure. sum_by new measure ≡ (sum_by old measure +ℤ worth measure))
-    (grown_sum old.points c.grown.result (worth Points) (c.requires Points) c.grown.ensures.sum c.grown.ensures.near)
-    (grown_sum old.difference c.grown-2.result (worth Difference) (c.requires Difference) c.grown-2.ensures.sum c.grown-2.ensures.near)
-    (grown_sum old.goals c.grown-3.result (worth Goals) (c.requires Goals) c.grown-3.ensures.sum c.grown-3.ensures.near)
-    (grown_sum old.away_goals c.grown-4.result (worth AwayGoals) (c.requires AwayGoals) c.grown-4.ensures.sum c.grown-4.ensures.near)
-    (grown_sum old.wins c.grown-5.result (worth Wins) (c.requires Wins) c.grown-5.ensures.sum c.grown-5.ensures.near)
-    (grown_sum old.away_wins c.grown-6.result (worth AwayWins) (c.requires AwayWins) c.grown-6.ensures.sum c.grown-6.ensures.near)
+    (grown_sum old.points c.grown.result (worth Points)
+    (c.requires Points) c.grown.ensures.sum c.grown.ensures.near)
+    (grown_sum old.difference c.grown-2.result (worth Difference)
+    (c.requires Difference) c.grown-2.ensures.sum c.grown-2.ensures.near)
+    (grown_sum old.goals c.grown-3.result (worth Goals)
+    (c.requires Goals) c.grown-3.ensures.sum c.grown-3.ensures.near)
+    (grown_sum old.away_goals c.grown-4.result (worth AwayGoals)
+    (c.requires AwayGoals) c.grown-4.ensures.sum c.grown-4.ensures.near)
+    (grown_sum old.wins c.grown-5.result (worth Wins)
+    (c.requires Wins) c.grown-5.ensures.sum c.grown-5.ensures.near)
+    (grown_sum old.away_wins c.grown-6.result (worth AwayWins)
+    (c.requires AwayWins) c.grown-6.ensures.sum c.grown-6.ensures.near)
 
 pub returns-clause-near : goal.returns-clause-near
 returns-clause-near c =
