@@ -1,5 +1,6 @@
 -- What chosen arcs carry together.
-use Rattle.std.proofs.Common.{◌≡◌, ℕ, zero, suc, ◌+◌, ◌*◌, ◌<◌, ◌≤◌, Bool, false, List, [], ◌∷◌, length, get_or, take, sym, ap, ◌∙◌, inl, inr, arith, add-one}
+use Rattle.std.proofs.Common.{◌≡◌, ℕ, zero, suc, ◌+◌, ◌*◌, ◌<◌, ◌≤◌, Bool, false, List, [], ◌∷◌}
+use Rattle.std.proofs.Common.{length, get_or, take, sym, ap, ◌∙◌, inl, inr, arith, add-one}
 use Rattle.std.proofs.lemmas.Bool.{cases_eq, cases_Bool, ne_eqb, eq-eqb}
 use Rattle.std.proofs.lemmas.List.{take_all}
 use Rattle.flow_net.specs.declared.arcs.Arc.{Arc}

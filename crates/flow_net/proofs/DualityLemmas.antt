@@ -1,19 +1,22 @@
 -- Flow and cut: across any cut goes the value, so no flow is greater than a cut, and a cut that no
 -- step with room leads out of has the value of the flow.
-use Rattle.std.proofs.Common.{◌≡◌, ◌≢◌, ◌==◌, ℕ, zero, suc, ◌+◌, ◌-◌, ◌<◌, ◌≤◌, Bool, true, false, ◌&&◌, not, List, [], ◌∷◌, length, get_or, sym, ap, ◌∙◌, refl, arith}
-use Rattle.std.proofs.lemmas.Bool.{both_ways, eq-eqb, ne_eqb, and_from, and_parts, not-true, true_from_ne_false}
+use Rattle.std.proofs.Common.{◌≡◌, ◌≢◌, ◌==◌, ℕ, zero, suc, ◌+◌, ◌-◌, ◌<◌, ◌≤◌, Bool, true, false}
+use Rattle.std.proofs.Common.{◌&&◌, not, List, [], ◌∷◌, length, get_or, sym, ap, ◌∙◌, refl, arith}
+use Rattle.std.proofs.lemmas.Bool.{both_ways, eq-eqb, ne_eqb, and_from, and_parts, not-true}
+use Rattle.std.proofs.lemmas.Bool.{true_from_ne_false}
 use Rattle.std.proofs.lemmas.Bool.Decides.{nat_tests}
 use Rattle.flow_net.specs.declared.arcs.Arc.{Arc}
 use Rattle.flow_net.specs.declared.arcs.Way.{Way}
 use Rattle.flow_net.specs.declared.arcs.Way.TheVariants.{Along, Against}
-use Rattle.flow_net.specs.Flow.{IsFlow, IsWhole, arc_at, carried, enters, leaves}
+use Rattle.flow_net.specs.Flow.{IsFlow, IsWholeFlow, arc_at, carried, enters, leaves}
 use Rattle.flow_net.specs.Cut.{IsCut, IsLeastCut, NoFlowExceedsACut, capacity_of, crosses, marked}
 use Rattle.flow_net.specs.Way.{head_of, room_of, tail_of}
 use Rattle.flow_net.specs.Graph.{HasEnds}
 use Rattle.flow_net.specs.declared.search.Reach.{Reach}
-use Rattle.flow_net.specs.Search.{IsClosed, IsSearch, reach_at}
+use Rattle.flow_net.specs.Search.{IsClosed, IsSearch, reached_at}
 use Rattle.flow_net.proofs.ShareLemmas.{share}
-use Rattle.flow_net.proofs.CapacityLemmas.{carried-le-limit, carried_full, carried_none, full_from_carried, none_from_carried}
+use Rattle.flow_net.proofs.CapacityLemmas.{carried-le-limit, carried_full, carried_none}
+use Rattle.flow_net.proofs.CapacityLemmas.{full_from_carried, none_from_carried}
 use Rattle.flow_net.proofs.SideLemmas.{over-but_one, over-carried}
 
 -- the arc leads into the side
@@ -67,7 +70,7 @@ same_test : (x y : ℕ) → (x == y) ≡ (y == x)
 same_test x y = grind (arith, nat_tests)
 
 module _ (arcs : List Arc) (source sink : ℕ) (flow : List ℕ)
-    (whole : IsWhole arcs source sink flow) where
+    (whole : IsWholeFlow arcs source sink flow) where
   -- what leaves the source, less what comes back to it, is what crosses any cut, less what comes
   -- back over it
   pub across : (side : ℕ → Bool) → IsCut source sink side
@@ -216,18 +219,19 @@ no_flow_exceeds_a_cut arcs source sink flow value side is_flow cut =
     omega (arith, leaves-le_cut arcs source sink flow is_flow.whole side cut, is_flow.sent)
 
 -- what a search reaches lies inside each cut whose capacity is the value
-module _ (arcs : List Arc) (source sink : ℕ) (flow : List ℕ) (whole : IsWhole arcs source sink flow)
+module _ (arcs : List Arc) (source sink : ℕ) (flow : List ℕ)
+    (whole : IsWholeFlow arcs source sink flow)
     (marks : List Bool) (queue : List Reach) (search : IsSearch arcs flow marks queue)
-    (from_source : (reach_at queue 0).node ≡ source) (side : ℕ → Bool)
+    (from_source : (reached_at queue 0).node ≡ source) (side : ℕ → Bool)
     (cut : IsCut source sink side)
     (sent : carried (leaves source) arcs flow ≡ carried (enters source) arcs flow
     + capacity_of side arcs) where
   reached_inside : (count place : ℕ) → place < count → place < length queue
-      → side (reach_at queue place).node ≡ true
+      → side (reached_at queue place).node ≡ true
   reached_inside zero place below in_range = absurd (omega arith)
   reached_inside (suc count) zero below in_range = ap side from_source ∙ cut.has_source
   reached_inside (suc count) (suc place) below in_range =
-      let entry = reach_at queue (suc place) in
+      let entry = reached_at queue (suc place) in
       let reached = search.reached (suc place) (omega arith) in_range in
       let before = reached_inside count entry.before (omega (arith, reached.earlier))
       (omega (arith, reached.earlier)) in
@@ -244,7 +248,7 @@ module _ (arcs : List Arc) (source sink : ℕ) (flow : List ℕ) (whole : IsWhol
 -- the marks of a search that is closed are the least cut
 pub IsLeastCut-from_search : (arcs : List Arc) (source sink : ℕ) (flow : List ℕ) (value : ℕ)
     (marks : List Bool) (queue : List Reach) → IsFlow arcs source sink flow value
-    → IsSearch arcs flow marks queue → (reach_at queue 0).node ≡ source
+    → IsSearch arcs flow marks queue → (reached_at queue 0).node ≡ source
     → IsClosed arcs flow source sink marks → IsLeastCut arcs source sink value (marked marks)
 IsLeastCut-from_search arcs source sink flow value marks queue is_flow search from_source closed =
     record {

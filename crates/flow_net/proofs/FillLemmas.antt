@@ -1,7 +1,10 @@
 -- A whole flow stays whole as more is sent from its source to its sink.
-use Rattle.std.proofs.Common.{◌≡◌, ◌≢◌, ◌==◌, ℕ, zero, suc, ◌+◌, ◌<◌, ◌≤◌, Bool, true, cond, ◌&&◌, Option, None, Some, List, [], ◌∷◌, ◌++◌, length, replicate, sym, ap, ◌∙◌, refl, subst, inl, inr, arith}
+use Rattle.std.proofs.Common.{◌≡◌, ◌≢◌, ◌==◌, ℕ, zero, suc, ◌+◌, ◌<◌, ◌≤◌, Bool, true, cond, ◌&&◌}
+use Rattle.std.proofs.Common.{Option, None, Some, List, [], ◌∷◌, ◌++◌, length, replicate, sym, ap}
+use Rattle.std.proofs.Common.{◌∙◌, refl, subst, inl, inr, arith}
 use Rattle.std.proofs.lemmas.Bool.{and_parts, cases_Bool, cases_eq, eq-eqb, eqb-true, ne_eqb}
-use Rattle.std.proofs.lemmas.List.{get_or-replicate, get_or_append_left, get_or_push, length-replicate, length_push}
+use Rattle.std.proofs.lemmas.List.{get_or-replicate, get_or_append_left, get_or_push}
+use Rattle.std.proofs.lemmas.List.{length-replicate, length_push}
 use Rattle.std.specs.Option.{ForSome}
 use Rattle.flow_net.specs.declared.arcs.Arc.{Arc}
 use Rattle.flow_net.specs.declared.arcs.Way.{Way}
@@ -9,7 +12,7 @@ use Rattle.flow_net.specs.declared.ends.Ends.{Ends}
 use Rattle.flow_net.specs.Way.{tail_of}
 use Rattle.flow_net.specs.Graph.{HasEnds, begins_at}
 use Rattle.flow_net.specs.Network.{start_of}
-use Rattle.flow_net.specs.Flow.{IsWhole, IsWithin, arc_at, carried, enters, leaves}
+use Rattle.flow_net.specs.Flow.{IsWholeFlow, IsWithinArcs, arc_at, carried, enters, leaves}
 use Rattle.flow_net.specs.Moves.{IsMoved}
 use Rattle.flow_net.proofs.ShareLemmas.{share, share-zero}
 use Rattle.flow_net.proofs.ArcLemmas.{arc_at-append, tail_in_range}
@@ -37,9 +40,9 @@ module _ (arcs : List Arc) (source sink : ℕ) (old new : List ℕ) (amount : �
       omega (arith, moved.balance source, at_source, not_at_sink)
 
   -- every other node passes on what it takes, as before
-  pub IsWhole-moved : IsWithin arcs new → IsWhole arcs source sink old
-      → IsWhole arcs source sink new
-  IsWhole-moved within whole = record {
+  pub IsWholeFlow-moved : IsWithinArcs arcs new → IsWholeFlow arcs source sink old
+      → IsWholeFlow arcs source sink new
+  IsWholeFlow-moved within whole = record {
     within = within;
     passed_on = λ node not_source not_sink.
         let no_source : share (source == node) amount ≡ 0 =
@@ -66,9 +69,9 @@ carried_push chosen (first ∷ arcs) (amount ∷ flow) arc same =
     ap (λ n. share (chosen first) amount + n) (carried_push chosen arcs flow arc (omega arith))
 
 -- so a flow stays within the capacities
-pub IsWithin-add : (arcs : List Arc) (flow : List ℕ) (arc : Arc) → IsWithin arcs flow
-    → IsWithin (arcs ++ arc ∷ []) (flow ++ 0 ∷ [])
-IsWithin-add arcs flow arc old = record {
+pub IsWithinArcs-add : (arcs : List Arc) (flow : List ℕ) (arc : Arc) → IsWithinArcs arcs flow
+    → IsWithinArcs (arcs ++ arc ∷ []) (flow ++ 0 ∷ [])
+IsWithinArcs-add arcs flow arc old = record {
   one_each = length_push flow 0 ∙ ap (λ n. n + 1) old.one_each ∙ sym (length_push arcs arc);
   within = λ place below. elim (cases_eq place (length arcs)) [
     | inl last ↦ rw (get_or_push flow 0 0 place (old.one_each ∙ sym last)) (omega arith)
@@ -83,10 +86,11 @@ IsWithin-add arcs flow arc old = record {
 }
 
 -- and stays whole
-pub IsWhole-add : (arcs : List Arc) (source sink : ℕ) (flow : List ℕ) (arc : Arc)
-    → IsWhole arcs source sink flow → IsWhole (arcs ++ arc ∷ []) source sink (flow ++ 0 ∷ [])
-IsWhole-add arcs source sink flow arc old = record {
-  within = IsWithin-add arcs flow arc old.within;
+pub IsWholeFlow-add : (arcs : List Arc) (source sink : ℕ) (flow : List ℕ) (arc : Arc)
+    → IsWholeFlow arcs source sink flow
+    → IsWholeFlow (arcs ++ arc ∷ []) source sink (flow ++ 0 ∷ [])
+IsWholeFlow-add arcs source sink flow arc old = record {
+  within = IsWithinArcs-add arcs flow arc old.within;
   passed_on = λ node not_source not_sink.
       carried_push (leaves node) arcs flow arc old.within.one_each
       ∙ old.passed_on node not_source not_sink
@@ -101,9 +105,9 @@ carried-zeros chosen zero (arc ∷ arcs) = refl
 carried-zeros chosen (suc count) (arc ∷ arcs) =
     omega (arith, share-zero (chosen arc), carried-zeros chosen count arcs)
 
-pub IsWhole-zeros : (arcs : List Arc) (source sink : ℕ)
-    → IsWhole arcs source sink (replicate (length arcs) 0)
-IsWhole-zeros arcs source sink = record {
+pub IsWholeFlow-zeros : (arcs : List Arc) (source sink : ℕ)
+    → IsWholeFlow arcs source sink (replicate (length arcs) 0)
+IsWholeFlow-zeros arcs source sink = record {
   within = record {
     one_each = length-replicate {A = ℕ} (length arcs) 0;
     within = λ place below. rw (get_or-replicate {A = ℕ} (length arcs) place 0 0 below)
@@ -134,19 +138,20 @@ is_between-ends ends source sink passes =
     (eqb-true ends.source source parts.0, eqb-true ends.sink sink parts.1)
 
 -- what is begun with is whole
-pub IsWhole-start_of : (arcs : List Arc) (held : Option Ends) (flow : List ℕ) (source sink : ℕ)
-    → length flow ≡ length arcs → ForSome held (λ ends. IsWhole arcs ends.source ends.sink flow)
-    → IsWhole arcs source sink (start_of held flow source sink)
-IsWhole-start_of arcs None flow source sink same whole = rw same (IsWhole-zeros arcs source sink)
-IsWhole-start_of arcs (Some ends) flow source sink same whole =
+pub IsWholeFlow-start_of : (arcs : List Arc) (held : Option Ends) (flow : List ℕ) (source sink : ℕ)
+    → length flow ≡ length arcs → ForSome held (λ ends. IsWholeFlow arcs ends.source ends.sink flow)
+    → IsWholeFlow arcs source sink (start_of held flow source sink)
+IsWholeFlow-start_of arcs None flow source sink same whole = rw same
+    (IsWholeFlow-zeros arcs source sink)
+IsWholeFlow-start_of arcs (Some ends) flow source sink same whole =
     let start = λ (b : Bool). cond b flow (replicate (length flow) 0) in
     elim (cases_Bool (ends.source == source && ends.sink == sink)) [
       | inl passes ↦
           let parts = is_between-ends ends source sink passes in
-          subst (λ (b : Bool). IsWhole arcs source sink (start b)) (sym passes)
-          (subst (λ (n : ℕ). IsWhole arcs n sink flow) parts.0
-          (subst (λ (n : ℕ). IsWhole arcs ends.source n flow) parts.1 (whole ends refl)))
+          subst (λ (b : Bool). IsWholeFlow arcs source sink (start b)) (sym passes)
+          (subst (λ (n : ℕ). IsWholeFlow arcs n sink flow) parts.0
+          (subst (λ (n : ℕ). IsWholeFlow arcs ends.source n flow) parts.1 (whole ends refl)))
       | inr fails ↦
-          subst (λ (b : Bool). IsWhole arcs source sink (start b)) (sym fails)
-          (rw same (IsWhole-zeros arcs source sink))
+          subst (λ (b : Bool). IsWholeFlow arcs source sink (start b)) (sym fails)
+          (rw same (IsWholeFlow-zeros arcs source sink))
     ]

@@ -1,11 +1,13 @@
 -- What one step over an arc does to what leaves and enters each node.
-use Rattle.std.proofs.Common.{◌≡◌, ◌==◌, ℕ, zero, suc, ◌+◌, ◌-◌, ◌<◌, ◌≤◌, Bool, List, [], ◌∷◌, length, get_or, set, sym, ap, ◌∙◌, refl, subst, inl, inr, arith, get_or-set_same, get_or-set_other}
+use Rattle.std.proofs.Common.{◌≡◌, ◌==◌, ℕ, zero, suc, ◌+◌, ◌-◌, ◌<◌, ◌≤◌, Bool, List, [], ◌∷◌}
+use Rattle.std.proofs.Common.{length, get_or, set, sym, ap, ◌∙◌, refl, subst, inl, inr, arith}
+use Rattle.std.proofs.Common.{get_or-set_same, get_or-set_other}
 use Rattle.std.proofs.lemmas.Bool.{cases_eq}
 use Rattle.std.proofs.lemmas.List.{length-set}
 use Rattle.flow_net.specs.declared.arcs.Arc.{Arc}
 use Rattle.flow_net.specs.declared.arcs.Way.{Way}
 use Rattle.flow_net.specs.declared.arcs.Way.TheVariants.{Along, Against}
-use Rattle.flow_net.specs.Flow.{IsWithin, arc_at, carried, enters, leaves}
+use Rattle.flow_net.specs.Flow.{IsWithinArcs, arc_at, carried, enters, leaves}
 use Rattle.flow_net.specs.Way.{head_of, room_of, sent_over, tail_of}
 use Rattle.flow_net.specs.Moves.{IsMoved}
 use Rattle.flow_net.proofs.ShareLemmas.{share, share-add}
@@ -71,10 +73,11 @@ IsMoved-trans arcs old between new from through to amount first second = record 
 }
 
 -- what is sent over an arc with room keeps within the capacities
-pub IsWithin-step : (way : Way) (arcs : List Arc) (flow : List ℕ) (arc amount : ℕ)
+pub IsWithinArcs-step : (way : Way) (arcs : List Arc) (flow : List ℕ) (arc amount : ℕ)
     → arc < length arcs → amount ≤ room_of way (arc_at arcs arc) (get_or flow arc 0)
-    → IsWithin arcs flow → IsWithin arcs (set flow arc (sent_over way (get_or flow arc 0) amount))
-IsWithin-step way arcs flow arc amount below room old =
+    → IsWithinArcs arcs flow
+    → IsWithinArcs arcs (set flow arc (sent_over way (get_or flow arc 0) amount))
+IsWithinArcs-step way arcs flow arc amount below room old =
     let sent = sent_over way (get_or flow arc 0) amount in
     record {
       one_each = length-set flow arc sent ∙ old.one_each;

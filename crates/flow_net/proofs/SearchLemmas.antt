@@ -1,7 +1,10 @@
 -- A search stays a search as it reaches a node.
-use Rattle.std.proofs.Common.{◌≡◌, ◌≢◌, ℕ, ◌+◌, ◌<◌, ◌≤◌, Bool, true, false, cond, List, [], ◌∷◌, ◌++◌, length, set, sym, ap, ◌∙◌, refl, subst, inl, inr, arith, get_or-set_same, get_or-set_other}
+use Rattle.std.proofs.Common.{◌≡◌, ◌≢◌, ℕ, ◌+◌, ◌<◌, ◌≤◌, Bool, true, false, cond, List, [], ◌∷◌}
+use Rattle.std.proofs.Common.{◌++◌, length, set, sym, ap, ◌∙◌, refl, subst, inl, inr, arith}
+use Rattle.std.proofs.Common.{get_or-set_same, get_or-set_other}
 use Rattle.std.proofs.lemmas.Bool.{cases_eq, cases_lt, both_ways}
-use Rattle.std.proofs.lemmas.List.{get_or_append_left, get_or_past, get_or_push, length_push, length-set}
+use Rattle.std.proofs.lemmas.List.{get_or_append_left, get_or_past, get_or_push, length_push}
+use Rattle.std.proofs.lemmas.List.{length-set}
 use Rattle.std.proofs.lemmas.List.Sums.{sum_by-cons, sum_by-set}
 use Rattle.flow_net.specs.declared.arcs.Arc.{Arc}
 use Rattle.flow_net.specs.declared.arcs.Way.{Way}
@@ -10,7 +13,7 @@ use Rattle.flow_net.specs.declared.search.Reach.{Reach}
 use Rattle.flow_net.specs.Flow.{arc_at}
 use Rattle.flow_net.specs.Cut.{marked}
 use Rattle.flow_net.specs.Way.{head_of}
-use Rattle.flow_net.specs.Search.{IsOpen, IsReached, IsSearch, no_reach, reach_at, mark_count}
+use Rattle.flow_net.specs.Search.{IsOpen, IsReached, IsSearch, no_reach, reached_at, mark_count}
 
 -- one mark counts one
 abbrev one_if : Bool → ℕ
@@ -57,12 +60,12 @@ marked_before marks node at other = get_or-set_other marks node at true false ot
 
 -- the older entries stay at their places
 pub reach_at-append : (queue : List Reach) (reach : Reach) (place : ℕ) → place < length queue
-    → reach_at (queue ++ reach ∷ []) place ≡ reach_at queue place
+    → reached_at (queue ++ reach ∷ []) place ≡ reached_at queue place
 reach_at-append queue reach place below = get_or_append_left queue (reach ∷ []) no_reach place below
 
 -- the new entry is the last
 pub reach_at_push : (queue : List Reach) (reach : Reach) (place : ℕ) → length queue ≡ place
-    → reach_at (queue ++ reach ∷ []) place ≡ reach
+    → reached_at (queue ++ reach ∷ []) place ≡ reach
 reach_at_push queue reach place last = get_or_push queue reach no_reach place last
 
 -- both ends of an arc that served a step are marked
@@ -86,11 +89,11 @@ record IsReachedBy (arcs : List Arc) (flow : List ℕ) (place : ℕ) (entry from
 
 -- they stand in the queue
 IsReached-from : {arcs : List Arc} {flow : List ℕ} (queue : List Reach) (place : ℕ)
-    (entry from : Reach) → entry ≡ reach_at queue place → from ≡ reach_at queue entry.before
+    (entry from : Reach) → entry ≡ reached_at queue place → from ≡ reached_at queue entry.before
     → IsReachedBy arcs flow place entry from → IsReached arcs flow queue place
 IsReached-from {arcs} {flow} queue place entry from here before by =
     let at = subst (λ (f : Reach). IsReachedBy arcs flow place entry f) before by in
-    let Found : Reach → Type 0 = λ e. IsReachedBy arcs flow place e (reach_at queue e.before) in
+    let Found : Reach → Type 0 = λ e. IsReachedBy arcs flow place e (reached_at queue e.before) in
     let found = subst Found here at in
     record { earlier = found.earlier; step = found.step; narrows = found.narrows }
 
@@ -98,15 +101,16 @@ module _ (arcs : List Arc) (flow : List ℕ) (marks : List Bool) (queue : List R
     (old : IsSearch arcs flow marks queue) (free : marked marks reach.node ≡ false)
     (in_range : reach.node < length marks) (earlier : reach.before < length queue)
     (step : IsOpen arcs flow reach.way reach.arc reach.room
-    (reach_at queue reach.before).node reach.node)
-    (narrows : reach.room ≤ (reach_at queue reach.before).room) (wide : 0 < reach.room) where
+    (reached_at queue reach.before).node reach.node)
+    (narrows : reach.room ≤ (reached_at queue reach.before).room) (wide : 0 < reach.room) where
   -- no older step went over the arc of the new one
-  new_arc : (older : ℕ) → 0 < older → older < length queue → (reach_at queue older).arc ≢ reach.arc
+  new_arc : (older : ℕ) → 0 < older → older < length queue
+      → (reached_at queue older).arc ≢ reach.arc
   new_arc older above below same =
-      let entry = reach_at queue older in
+      let entry = reached_at queue older in
       let is_reached = old.reached older above below in
       let end = ends_marked arcs flow marks entry.way reach.way entry.arc entry.room
-      (reach_at queue entry.before).node entry.node is_reached.step
+      (reached_at queue entry.before).node entry.node is_reached.step
       (old.all_marked entry.before (omega (arith, is_reached.earlier)))
       (old.all_marked older below) in
       let at_new : marked marks reach.node ≡ true =
@@ -119,18 +123,18 @@ module _ (arcs : List Arc) (flow : List ℕ) (marks : List Bool) (queue : List R
       → IsReached arcs flow (queue ++ reach ∷ []) place
   IsReached-append place below was =
       let here = sym (reach_at-append queue reach place below) in
-      let before = sym (reach_at-append queue reach (reach_at queue place).before
+      let before = sym (reach_at-append queue reach (reached_at queue place).before
       (omega (arith, was.earlier))) in
-      let at : IsReachedBy arcs flow place (reach_at queue place)
-      (reach_at queue (reach_at queue place).before) =
+      let at : IsReachedBy arcs flow place (reached_at queue place)
+      (reached_at queue (reached_at queue place).before) =
       record { earlier = was.earlier; step = was.step; narrows = was.narrows } in
-      IsReached-from (queue ++ reach ∷ []) place (reach_at queue place)
-      (reach_at queue (reach_at queue place).before) here before at
+      IsReached-from (queue ++ reach ∷ []) place (reached_at queue place)
+      (reached_at queue (reached_at queue place).before) here before at
 
   -- the new entry is reached
   IsReached_push : IsReached arcs flow (queue ++ reach ∷ []) (length queue)
   IsReached_push =
-      IsReached-from (queue ++ reach ∷ []) (length queue) reach (reach_at queue reach.before)
+      IsReached-from (queue ++ reach ∷ []) (length queue) reach (reached_at queue reach.before)
       (sym (reach_at_push queue reach (length queue) refl))
       (sym (reach_at-append queue reach reach.before earlier))
       (record { earlier = earlier; step = step; narrows = narrows })
@@ -148,7 +152,7 @@ module _ (arcs : List Arc) (flow : List ℕ) (marks : List Bool) (queue : List R
           | inr older ↦
               let within : place < length queue = omega (arith, longer) in
               rw (reach_at-append queue reach place within)
-              (marked-set marks reach.node (reach_at queue place).node in_range
+              (marked-set marks reach.node (reached_at queue place).node in_range
               (old.all_marked place within))
         ];
         listed = λ node is_marked. elim (cases_eq node reach.node) [

@@ -1,6 +1,7 @@
 -- What a caller sees of a network: its nodes and arcs, the flow that it holds, and between which
 -- two nodes that flow is whole.
-use Rattle.std.specs.Prelude.{◌==◌, ℕ, Bool, false, ◌&&◌, if◌then◌else◌, Option, None, Some, List, length, replicate}
+use Rattle.std.specs.Prelude.{◌==◌, ℕ, Bool, false, ◌&&◌, if◌then◌else◌, Option, None, Some, List}
+use Rattle.std.specs.Prelude.{length, replicate}
 use Rattle.flow_net.specs.declared.arcs.Arc.{Arc}
 use Rattle.flow_net.specs.declared.ends.Ends.{Ends}
 

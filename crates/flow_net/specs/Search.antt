@@ -1,6 +1,7 @@
 -- What a search from the source has reached: a queue of nodes, each but the first reached by a step
 -- over an arc with room from a node earlier in the queue.
-use Rattle.std.specs.Prelude.{◌≡◌, ◌≢◌, ℕ, ◌-◌, ◌<◌, ◌≤◌, Bool, true, false, if◌then◌else◌, List, length, slice_index, slice_index_or, sum_by, vec_capacity}
+use Rattle.std.specs.Prelude.{◌≡◌, ◌≢◌, ℕ, ◌-◌, ◌<◌, ◌≤◌, Bool, true, false, if◌then◌else◌, List}
+use Rattle.std.specs.Prelude.{length, slice_index, slice_index_or, sum_by, vec_capacity}
 use Rattle.flow_net.specs.declared.arcs.Arc.{Arc}
 use Rattle.flow_net.specs.declared.arcs.Way.{Way}
 use Rattle.flow_net.specs.declared.arcs.Way.TheVariants.{Along}
@@ -16,8 +17,8 @@ abbrev pub no_reach : Reach
 no_reach = record { node = 0; before = 0; arc = 0; way = Along; room = 0 }
 
 -- the entry at a place of the queue
-abbrev pub reach_at : List Reach → ℕ → Reach
-reach_at queue place = slice_index_or queue place no_reach
+abbrev pub reached_at : List Reach → ℕ → Reach
+reached_at queue place = slice_index_or queue place no_reach
 
 -- how many nodes are marked
 abbrev pub mark_count : List Bool → ℕ
@@ -34,11 +35,12 @@ pub record IsOpen (arcs : List Arc) (flow : List ℕ) (way : Way)
 -- an entry after the first was reached from an earlier one, and has room for no more than that
 pub record IsReached (arcs : List Arc) (flow : List ℕ) (queue : List Reach)
     (place : ℕ) : Type 0 where
-  pub earlier : (reach_at queue place).before < place
-  pub step : IsOpen arcs flow (reach_at queue place).way (reach_at queue place).arc
-      (reach_at queue place).room (reach_at queue (reach_at queue place).before).node
-      (reach_at queue place).node
-  pub narrows : (reach_at queue place).room ≤ (reach_at queue (reach_at queue place).before).room
+  pub earlier : (reached_at queue place).before < place
+  pub step : IsOpen arcs flow (reached_at queue place).way (reached_at queue place).arc
+      (reached_at queue place).room (reached_at queue (reached_at queue place).before).node
+      (reached_at queue place).node
+  pub narrows : (reached_at queue place).room ≤
+      (reached_at queue (reached_at queue place).before).room
 
 -- the marks are those of the nodes in the queue, each reached once, and no arc serves two steps
 pub record IsSearch (arcs : List Arc) (flow : List ℕ) (marks : List Bool)
@@ -46,13 +48,13 @@ pub record IsSearch (arcs : List Arc) (flow : List ℕ) (marks : List Bool)
   pub some : 0 < length queue
   pub counted : mark_count marks ≡ length queue
   pub all_marked : (place : ℕ) → place < length queue
-      → marked marks (reach_at queue place).node ≡ true
+      → marked marks (reached_at queue place).node ≡ true
   pub listed : (node : ℕ) → marked marks node ≡ true → (place : ℕ) × (place < length queue)
-      × ((reach_at queue place).node ≡ node)
+      × ((reached_at queue place).node ≡ node)
   pub reached : (place : ℕ) → 0 < place → place < length queue → IsReached arcs flow queue place
-  pub wide : (place : ℕ) → place < length queue → 0 < (reach_at queue place).room
+  pub wide : (place : ℕ) → place < length queue → 0 < (reached_at queue place).room
   pub apart : (older newer : ℕ) → 0 < older → older < newer → newer < length queue
-      → (reach_at queue older).arc ≢ (reach_at queue newer).arc
+      → (reached_at queue older).arc ≢ (reached_at queue newer).arc
 
 -- the search is one of this flow through the graph
 abbrev pub IsSearchOf : Graph → List ℕ → Search → Type 0
@@ -65,7 +67,7 @@ has_reached search node = marked search.reached.items node
 
 -- the node at a place of the queue
 abbrev pub node_at : Search → ℕ → ℕ
-node_at search place = (reach_at search.queue.items place).node
+node_at search place = (reached_at search.queue.items place).node
 
 -- the node reached last
 abbrev pub last_node : Search → ℕ
@@ -78,7 +80,7 @@ pub record IsGrown (old new : Search) : Type 0 where
       → marked new.reached.items node ≡ true
   pub longer : length old.queue.items ≤ length new.queue.items
   pub entries : (place : ℕ) → place < length old.queue.items
-      → reach_at new.queue.items place ≡ reach_at old.queue.items place
+      → reached_at new.queue.items place ≡ reached_at old.queue.items place
   pub capacity : vec_capacity old.queue ≤ vec_capacity new.queue
 
 -- the queue has room for each node

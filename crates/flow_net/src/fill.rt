@@ -3,7 +3,7 @@ ghost use Rattle.std.specs.Prelude.{◌≡◌, ◌≢◌, ◌+◌, ◌<◌, leng
 ghost use Rattle.std.specs.Option.{ForSome};
 ghost use Rattle.flow_net.specs.Cut.{IsLeastCut, marked};
 ghost use Rattle.flow_net.specs.Network.{start_of};
-ghost use Rattle.flow_net.specs.Flow.{IsFlow, IsWhole, carried, enters, leaves};
+ghost use Rattle.flow_net.specs.Flow.{IsFlow, IsWholeFlow, carried, enters, leaves};
 ghost use Rattle.flow_net.specs.Graph.{IsGraph};
 ghost use Rattle.flow_net.specs.Search.{IsClosed, IsSearchOf, IsSized, node_at};
 
@@ -24,11 +24,11 @@ fn restart(held: Option<Ends>, flow: &mut [u32], source: u16, sink: u16)
 /// Goes on from a whole flow until no more can be sent. The search is left where it stuck.
 fn fill(graph: &Graph, flow: &mut [u32], search: &mut Search, source: u16, sink: u16)
     requires graph { IsGraph graph.now }
-    requires whole { IsWhole graph.now.arcs.items source sink flow.old }
+    requires whole { IsWholeFlow graph.now.arcs.items source sink flow.old }
     requires sized { IsSized graph.now.nodes search.old }
     requires source_in_range { source < graph.now.nodes }
     requires apart { source ≢ sink }
-    ensures whole { IsWhole graph.now.arcs.items source sink flow.new }
+    ensures whole { IsWholeFlow graph.now.arcs.items source sink flow.new }
     ensures sized { IsSized graph.now.nodes search.new }
     ensures search { IsSearchOf graph.now flow.new search.new }
     ensures source { node_at search.new 0 ≡ source }
@@ -56,7 +56,7 @@ pub fn greatest(
     requires graph { IsGraph graph.now }
     requires one_each { length flow.old ≡ length graph.now.arcs.items }
     requires held { ForSome held
-        (λ ends. IsWhole graph.now.arcs.items ends.source ends.sink flow.old) }
+        (λ ends. IsWholeFlow graph.now.arcs.items ends.source ends.sink flow.old) }
     requires sized { IsSized graph.now.nodes search.old }
     requires source_in_range { source < graph.now.nodes }
     requires apart { source ≢ sink }

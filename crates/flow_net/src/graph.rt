@@ -1,6 +1,6 @@
 //! The arcs of a network with the lists by which a search finds them.
 ghost use Rattle.std.specs.Prelude.{◌≡◌, ◌<◌, ◌+◌, ◌↔◌, ℕ, [], ◌∷◌, ◌++◌, IfOk, IsTrue, length};
-ghost use Rattle.flow_net.specs.Flow.{IsWhole, IsWithin, arc_at, carried, enters, leaves};
+ghost use Rattle.flow_net.specs.Flow.{IsWholeFlow, IsWithinArcs, arc_at, carried, enters, leaves};
 ghost use Rattle.flow_net.specs.Way.{tail_of};
 ghost use Rattle.flow_net.specs.Lists.{IsNewest};
 ghost use Rattle.flow_net.specs.Graph.{HasEnds, HasRoom, IsGraph, begins_at};
@@ -98,7 +98,7 @@ impl Graph {
     /// Whether no arc carries more than its capacity.
     fn is_within(&self, flow: &[u32]) -> bool
         requires one_each { length flow.now ≡ length self.now.arcs.items }
-        ensures { IsTrue result ↔ IsWithin self.now.arcs.items flow.now }
+        ensures { IsTrue result ↔ IsWithinArcs self.now.arcs.items flow.now }
     {
         for place in 0..self.arcs.len() {
             if flow[place] > self.arcs[place].capacity {
@@ -124,7 +124,7 @@ impl Graph {
     pub fn is_whole(&self, flow: &[u32], source: u16, sink: u16) -> bool
         requires graph { IsGraph self.now }
         requires one_each { length flow.now ≡ length self.now.arcs.items }
-        ensures { IsTrue result ↔ IsWhole self.now.arcs.items source sink flow.now }
+        ensures { IsTrue result ↔ IsWholeFlow self.now.arcs.items source sink flow.now }
     {
         if !self.is_within(flow) {
             return false;

@@ -7,7 +7,7 @@
 ghost use Rattle.std.specs.Prelude.{◌≡◌, ◌≢◌, ◌≤◌, ◌<◌, ◌↔◌, [], ◌∷◌, ◌++◌, None, Some};
 ghost use Rattle.std.specs.Prelude.{IfOk, IsTrue, OnErr, OnOk, length, slice_index};
 ghost use Rattle.std.specs.Bool.{OnFalse, OnTrue};
-ghost use Rattle.flow_net.specs.Flow.{IsFlow, IsWhole};
+ghost use Rattle.flow_net.specs.Flow.{IsFlow, IsWholeFlow};
 ghost use Rattle.flow_net.specs.Cut.{IsLeastCut, marked};
 ghost use Rattle.flow_net.specs.Network.{start_of};
 
@@ -122,7 +122,7 @@ impl Net {
         requires sink_in_range { sink < self.old.nodes }
         requires apart { source ≢ sink }
         requires one_each { length flow.now ≡ length self.old.arcs }
-        ensures whole { IsTrue result ↔ IsWhole self.old.arcs source sink flow.now }
+        ensures whole { IsTrue result ↔ IsWholeFlow self.old.arcs source sink flow.now }
         ensures held { OnTrue result (self.new ≡ record self.old {
           flow = flow.now;
           ends = Some (record { source = source; sink = sink });
@@ -139,8 +139,9 @@ impl Net {
 
     /// Sends as much as can be sent from the source to the sink, and finds the least cut.
     ///
-    /// It goes on from the flow that the net holds where that was started or found for the same
-    /// two nodes; otherwise it begins with nothing on any arc. The net then holds what was found.
+    /// A flow that the net holds for the same two nodes stays as it is where it is greatest
+    /// already.
+    /// The net then holds what was found.
     pub fn max_flow(&mut self, alloc: Global, source: u16, sink: u16) -> Result<Flow, OutOfMemory>
         requires source_in_range { source < self.old.nodes }
         requires sink_in_range { sink < self.old.nodes }

@@ -6,7 +6,7 @@
 //! memory.
 ghost use Rattle.std.specs.Prelude.{◌≡◌, ◌≢◌, ◌<◌, ℕ, List, true, false, IfOk, length, slice_index};
 ghost use Rattle.std.specs.Bool.{OnFalse, OnTrue};
-ghost use Rattle.flow_net.specs.Flow.{IsWithin, arc_at};
+ghost use Rattle.flow_net.specs.Flow.{IsWithinArcs, arc_at};
 ghost use Rattle.flow_net.specs.Way.{head_of, room_of, tail_of};
 ghost use Rattle.flow_net.specs.Graph.{IsGraph};
 ghost use Rattle.flow_net.specs.Moves.{IsMoved};
@@ -80,7 +80,7 @@ impl Search {
         sink: u16,
     ) -> bool
         requires graph { IsGraph graph.now }
-        requires within { IsWithin graph.now.arcs.items flow.now }
+        requires within { IsWithinArcs graph.now.arcs.items flow.now }
         requires sized { IsSized graph.now.nodes self.old }
         requires search { IsSearchOf graph.now flow.now self.old }
         requires place_in_range { place < length self.old.queue.items }
@@ -117,7 +117,7 @@ impl Search {
     /// Looks at the arcs of one way from a place of the queue. True where the sink was reached.
     fn scan(&mut self, graph: &Graph, flow: &[u32], way: Way, place: usize, sink: u16) -> bool
         requires graph { IsGraph graph.now }
-        requires within { IsWithin graph.now.arcs.items flow.now }
+        requires within { IsWithinArcs graph.now.arcs.items flow.now }
         requires sized { IsSized graph.now.nodes self.old }
         requires search { IsSearchOf graph.now flow.now self.old }
         requires place_in_range { place < length self.old.queue.items }
@@ -145,7 +145,7 @@ impl Search {
     /// ends with the sink.
     pub fn find(&mut self, graph: &Graph, flow: &[u32], source: u16, sink: u16) -> bool
         requires graph { IsGraph graph.now }
-        requires within { IsWithin graph.now.arcs.items flow.now }
+        requires within { IsWithinArcs graph.now.arcs.items flow.now }
         requires sized { IsSized graph.now.nodes self.old }
         requires source_in_range { source < graph.now.nodes }
         requires apart { source ≢ sink }
@@ -172,9 +172,9 @@ impl Search {
 
     /// Sends as much to the last node reached as the whole way to it can take, and says how much.
     pub fn send(&self, graph: &Graph, flow: &mut [u32]) -> u32
-        requires within { IsWithin graph.now.arcs.items flow.old }
+        requires within { IsWithinArcs graph.now.arcs.items flow.old }
         requires search { IsSearchOf graph.now flow.old self.now }
-        ensures within { IsWithin graph.now.arcs.items flow.new }
+        ensures within { IsWithinArcs graph.now.arcs.items flow.new }
         ensures some { 0 < result }
         ensures moved { let from = node_at self.now 0 in
             IsMoved graph.now.arcs.items flow.old flow.new from (last_node self.now) result }

@@ -2,7 +2,7 @@ use Rattle.std.proofs.Common.{◌==◌, refl, arith}
 use Rattle.std.proofs.lemmas.Bool.{eq-eqb, ne_eqb}
 use Rattle.flow_net.specs.Cut.{IsCut}
 use Rattle.flow_net.proofs.DualityLemmas.{leaves-le_cut}
-use Rattle.flow_net.proofs.FillLemmas.{IsMoved-between, IsWhole-moved, sent_more}
+use Rattle.flow_net.proofs.FillLemmas.{IsMoved-between, IsWholeFlow-moved, sent_more}
 use Rattle.flow_net.proofs.fill.fill.Goals as goal
 
 pub more-smaller : goal.more-smaller
@@ -12,7 +12,7 @@ more-smaller c =
     let sink = c.args.sink in
     let moved = IsMoved-between arcs c.more.flow c.send.new.flow c.send.result
     c.more-test.ensures.source c.more-test.ensures.found c.send.ensures.moved in
-    let whole = IsWhole-moved arcs source sink c.more.flow c.send.new.flow c.send.result moved
+    let whole = IsWholeFlow-moved arcs source sink c.more.flow c.send.new.flow c.send.result moved
     c.send.ensures.within c.more.invariant.whole in
     let only_source : IsCut source sink (λ node. source == node) =
     record {
@@ -41,7 +41,7 @@ more-preserved c =
     c.requires.apart in
     record {
       sized = c.more-test.ensures.sized;
-      whole = IsWhole-moved arcs source sink c.more.flow c.send.new.flow c.send.result moved
+      whole = IsWholeFlow-moved arcs source sink c.more.flow c.send.new.flow c.send.result moved
           c.send.ensures.within c.more.invariant.whole;
       more = omega (arith, more, c.more.invariant.more);
       first = λ same. absurd (omega (

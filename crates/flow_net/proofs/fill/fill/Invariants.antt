@@ -1,5 +1,5 @@
 use Rattle.std.proofs.Common.{◌≡◌, ◌+◌, ◌-◌, ◌≤◌, ◌==◌}
-use Rattle.flow_net.specs.Flow.{IsWhole, carried, enters, leaves}
+use Rattle.flow_net.specs.Flow.{IsWholeFlow, carried, enters, leaves}
 use Rattle.flow_net.specs.Cut.{capacity_of}
 use Rattle.flow_net.specs.Search.{IsSized}
 use Rattle.flow_net.proofs.fill.fill.Given as goal
@@ -10,7 +10,7 @@ invariant-more l =
     let arcs = l.graph.arcs.items in
     record {
       sized : IsSized l.graph.nodes l.search;
-      whole : IsWhole arcs l.source l.sink l.flow;
+      whole : IsWholeFlow arcs l.source l.sink l.flow;
       more : carried (leaves l.source) arcs l.fn.flow + carried (enters l.source) arcs l.flow
           ≤ carried (leaves l.source) arcs l.flow + carried (enters l.source) arcs l.fn.flow;
       first : carried (leaves l.source) arcs l.flow + carried (enters l.source) arcs l.fn.flow

@@ -1,14 +1,15 @@
 use Rattle.std.proofs.Common.{◌-◌, ◌∙◌, ℕ, List, sym, subst, arith}
-use Rattle.flow_net.specs.Flow.{IsFlow, IsWhole}
+use Rattle.flow_net.specs.Flow.{IsFlow, IsWholeFlow}
 use Rattle.flow_net.proofs.DualityLemmas.{IsFlow-from_whole, IsLeastCut-from_search, sent_closed}
-use Rattle.flow_net.proofs.FillLemmas.{IsWhole-start_of}
+use Rattle.flow_net.proofs.FillLemmas.{IsWholeFlow-start_of}
 use Rattle.flow_net.proofs.fill.greatest.Goals as goal
 
 pub fill-requires-clause-whole : goal.fill-requires-clause-whole
 fill-requires-clause-whole c =
-    subst (λ (flow : List ℕ). IsWhole c.args.graph.now.arcs.items c.args.source c.args.sink flow)
+    subst (λ (flow : List ℕ). IsWholeFlow c.args.graph.now.arcs.items c.args.source c.args.sink
+    flow)
     (sym c.restart.ensures)
-    (IsWhole-start_of c.args.graph.now.arcs.items c.args.held c.args.flow.now c.args.source
+    (IsWholeFlow-start_of c.args.graph.now.arcs.items c.args.held c.args.flow.now c.args.source
     c.args.sink c.requires.one_each c.requires.held)
 
 pub overflow_sub-result : goal.overflow_sub-result

@@ -4,7 +4,8 @@ use Rattle.flow_net.specs.Flow.{carried}
 use Rattle.flow_net.specs.Lists.{IsNewest}
 use Rattle.flow_net.specs.Graph.{begins_at}
 use Rattle.flow_net.proofs.ListsLemmas.{IsNewest-up_to}
-use Rattle.flow_net.proofs.CarriedLemmas.{carried_le, carried_next, carried_newest, le-carried_newest}
+use Rattle.flow_net.proofs.CarriedLemmas.{carried_le, carried_next, carried_newest}
+use Rattle.flow_net.proofs.CarriedLemmas.{le-carried_newest}
 use Rattle.flow_net.proofs.graph.Graph.carried.Goals as goal
 
 pub loop-name-init : goal.loop-name-init

@@ -2,7 +2,7 @@ use Rattle.std.proofs.Common.{◌≡◌, ◌<◌, sym, subst, [], ◌∷◌, ◌
 use Rattle.std.proofs.lemmas.List.{length_push}
 use Rattle.flow_net.specs.declared.arcs.Arc.{Arc}
 use Rattle.flow_net.specs.Network.{Network}
-use Rattle.flow_net.proofs.FillLemmas.{IsWhole-add, IsWithin-add}
+use Rattle.flow_net.proofs.FillLemmas.{IsWholeFlow-add, IsWithinArcs-add}
 use Rattle.flow_net.proofs.network.Net.add_arc.Goals as goal
 
 pub invariant_of-self : goal.invariant_of-self
@@ -21,7 +21,7 @@ invariant_of-self c =
       flow_room = omega (arith, old.flow_room, c.push.ensures.capacity);
       fits = rw c.add.ensures.arcs (omega (arith, length_push arcs arc, room));
       few = old.few;
-      within = rw (items, c.add.ensures.arcs) (IsWithin-add arcs flow arc old.within);
+      within = rw (items, c.add.ensures.arcs) (IsWithinArcs-add arcs flow arc old.within);
       whole = λ ends held. rw (items, c.add.ensures.arcs)
-          (IsWhole-add arcs ends.source ends.sink flow arc (old.whole ends held));
+          (IsWholeFlow-add arcs ends.source ends.sink flow arc (old.whole ends held));
     }

@@ -6,7 +6,7 @@ use Rattle.flow_net.specs.declared.search.Reach.{Reach}
 use Rattle.flow_net.specs.Flow.{arc_at}
 use Rattle.flow_net.specs.Cut.{marked}
 use Rattle.flow_net.specs.Way.{tail_of}
-use Rattle.flow_net.specs.Search.{IsScanned, IsSized, reach_at}
+use Rattle.flow_net.specs.Search.{IsScanned, IsSized, reached_at}
 use Rattle.flow_net.proofs.SearchLemmas.{mark_count-le}
 use Rattle.flow_net.proofs.GrownLemmas.{IsGrown-trans, IsScanned-grown, IsSized-grown}
 use Rattle.flow_net.proofs.search.Search.find.Goals as goal
@@ -47,12 +47,12 @@ loop-place-preserved c =
     let here : c.loop-place.place < length old.queue.items =
     omega (arith, c.loop-place-test.true, c.len.ensures, old.queue.ok.0) in
     let Done : Way → ℕ → Type 0 = λ way place. IsScanned arcs flow way new.reached.items
-    (reach_at new.queue.items place).node 0 in
+    (reached_at new.queue.items place).node 0 in
     let along : Done Along c.loop-place.place =
     subst (λ (r : Reach). IsScanned arcs flow Along new.reached.items r.node 0)
     (sym (grown.entries c.loop-place.place here))
     (IsScanned-grown arcs flow Along between new
-    (reach_at old.queue.items c.loop-place.place).node 0 second.grown first.scanned) in
+    (reached_at old.queue.items c.loop-place.place).node 0 second.grown first.scanned) in
     let against : Done Against c.loop-place.place =
     subst (λ (r : Reach). IsScanned arcs flow Against new.reached.items r.node 0)
     (sym (second.grown.entries c.loop-place.place (omega (arith, first.grown.longer))))
@@ -69,7 +69,7 @@ loop-place-preserved c =
         | inr other ↦
             subst (λ (r : Reach). IsScanned arcs flow way new.reached.items r.node 0)
             (sym (grown.entries place (omega arith)))
-            (IsScanned-grown arcs flow way old new (reach_at old.queue.items place).node 0 grown
+            (IsScanned-grown arcs flow way old new (reached_at old.queue.items place).node 0 grown
             (c.loop-place.invariant.scanned way place (omega arith)))
       ];
       missed = second.missed;

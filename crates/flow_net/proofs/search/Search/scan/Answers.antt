@@ -2,7 +2,7 @@ use Rattle.std.proofs.Common.{◌-◌, ℕ, ap, subst, arith}
 use Rattle.std.proofs.lemmas.List.{get_or_read}
 use Rattle.flow_net.specs.declared.search.Reach.{Reach}
 use Rattle.flow_net.specs.Lists.{IsNewest}
-use Rattle.flow_net.specs.Search.{no_reach, reach_at}
+use Rattle.flow_net.specs.Search.{no_reach, reached_at}
 use Rattle.flow_net.proofs.ListsLemmas.{IsNewest-up_to}
 use Rattle.flow_net.proofs.SearchLemmas.{marked-lt}
 use Rattle.flow_net.proofs.GrownLemmas.{IsGrown-trans, IsScanned-grown, IsScanned-next}
@@ -15,7 +15,7 @@ first-name-requires-clause-node_in_range c =
     c.index.ensures no_reach in
     omega (
       arith,
-      marked-lt c.args.self.now.reached.items (reach_at queue c.args.place).node
+      marked-lt c.args.self.now.reached.items (reached_at queue c.args.place).node
           (c.requires.search.all_marked c.args.place c.requires.place_in_range),
       ap (λ (r : Reach). r.node) from,
       c.requires.sized.one_each,
@@ -28,7 +28,7 @@ loop-name-preserved c =
     let way = c.args.way in
     let old = c.loop-name.self in
     let new = c.step.new.self in
-    let node = (reach_at c.args.self.now.queue.items c.args.place).node in
+    let node = (reached_at c.args.self.now.queue.items c.args.place).node in
     let place = c.loop-name.name - 1 in
     let at_node = c.loop-name.invariant.newest.at_node place (omega arith) in
     let newest = subst (λ (n : ℕ). IsNewest way arcs n place c.next-name.result) at_node

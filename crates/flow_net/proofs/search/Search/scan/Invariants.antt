@@ -1,13 +1,13 @@
 use Rattle.std.proofs.Common.{◌≡◌, ◌≤◌, false, length}
 use Rattle.flow_net.specs.Cut.{marked}
 use Rattle.flow_net.specs.Lists.{IsNewest}
-use Rattle.flow_net.specs.Search.{IsGrown, IsScanned, IsSearch, reach_at}
+use Rattle.flow_net.specs.Search.{IsGrown, IsScanned, IsSearch, reached_at}
 use Rattle.flow_net.proofs.search.Search.scan.Given as goal
 
 -- the arcs from the named one on have been looked at, and the sink was not reached
 abbrev pub invariant-loop-name : goal.invariant-loop-name
 invariant-loop-name l =
-    let node = (reach_at l.fn.self.queue.items l.place).node in
+    let node = (reached_at l.fn.self.queue.items l.place).node in
     record {
       search : IsSearch l.graph.arcs.items l.flow l.self.reached.items l.self.queue.items;
       grown : IsGrown l.fn.self l.self;

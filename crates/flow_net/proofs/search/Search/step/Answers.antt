@@ -5,7 +5,7 @@ use Rattle.flow_net.specs.declared.search.Reach.{Reach}
 use Rattle.flow_net.specs.Flow.{arc_at, no_arc}
 use Rattle.flow_net.specs.Cut.{marked}
 use Rattle.flow_net.specs.Way.{head_of, room_of}
-use Rattle.flow_net.specs.Search.{IsOpen, no_reach, reach_at}
+use Rattle.flow_net.specs.Search.{IsOpen, no_reach, reached_at}
 use Rattle.flow_net.proofs.ArcLemmas.{head_in_range}
 use Rattle.flow_net.proofs.SearchLemmas.{IsSearch-reach, mark_count-le, mark_count-lt}
 use Rattle.flow_net.proofs.search.Search.step.Goals as goal
@@ -73,13 +73,13 @@ returns-clause-search c =
     let free : marked marks node ≡ false =
     sym (get_or_read marks node c.index.result.now in_range c.index.ensures false)
     ∙ c.if-index.false in
-    let from : c.index-2.result.now ≡ reach_at queue c.args.place =
+    let from : c.index-2.result.now ≡ reached_at queue c.args.place =
     get_or_read queue c.args.place c.index-2.result.now c.requires.place_in_range
     c.index-2.ensures no_reach in
     let room : c.room-room.result ≡ room_of c.args.way (arc_at arcs c.args.arc)
     (get_or flow c.args.arc 0) = c.room-room.ensures
     ∙ ap (λ (a : Arc). room_of c.args.way a (get_or flow c.args.arc 0)) over in
-    let from_room : c.index-2.result.now.room ≡ (reach_at queue c.args.place).room =
+    let from_room : c.index-2.result.now.room ≡ (reached_at queue c.args.place).room =
     ap (λ (r : Reach). r.room) from in
     let reach : Reach = record {
       node = node;
@@ -92,7 +92,7 @@ returns-clause-search c =
     let items : c.push.new.self.items ≡ queue ++ reach ∷ [] =
     rw c.unwrap.ensures at c.push.ensures.items in
     let step : IsOpen arcs flow c.args.way c.args.arc c.min-room.result
-    (reach_at queue c.args.place).node node = record {
+    (reached_at queue c.args.place).node node = record {
       in_range = c.requires.arc_in_range;
       begins = c.requires.begins;
       ends = ends;
