@@ -1,11 +1,15 @@
 -- What a record adds to a sheet so far keeps it within the limits.
-use Rattle.std.proofs.Common.{◌≡◌, ℕ, ◌+◌, ◌<◌, Bool, true, false, not, ◌&&◌, ◌||◌, ◌==◌, nat_lt, nat_le, nat_eq, List, [], ◌∷◌, ◌++◌, length, map, Ok, bytes_eq, refl, sym, ap, subst, ◌∙◌, arith}
+use Rattle.std.proofs.Common.{◌≡◌, ℕ, ◌+◌, ◌<◌, Bool, true, false, not, ◌&&◌, ◌||◌, ◌==◌, nat_lt}
+use Rattle.std.proofs.Common.{nat_le, nat_eq, List, [], ◌∷◌, ◌++◌, length, map, Ok, bytes_eq, refl}
+use Rattle.std.proofs.Common.{sym, ap, subst, ◌∙◌, arith}
 use Rattle.std.specs.List.{list_all, list_any}
-use Rattle.std.proofs.lemmas.Bool.{and_parts, and_from, or_from, or_parts, not-true, not_from_false, ltb-false}
+use Rattle.std.proofs.lemmas.Bool.{and_parts, and_from, or_from, or_parts, not-true, not_from_false}
+use Rattle.std.proofs.lemmas.Bool.{ltb-false}
 use Rattle.std.proofs.lemmas.List.{length_push, map-append}
 use Rattle.std.proofs.lemmas.List.Folds.{list_all-append, list_any-append}
 use Rattle.league_core.specs.declared.sheet.Sheet.{Sheet}
 use Rattle.league_core.specs.declared.sheet.Club.{Club}
+use Rattle.league_core.specs.Limits.{most_clubs, most_lines}
 use Rattle.league_core.specs.Sheets.{is_club, is_line, are_different, same_name}
 use Rattle.fixture_sheet.specs.Drafts.{IsDraft, names_of}
 use Rattle.fixture_sheet.specs.Records.{has_club, is_past_clubs, line_added}
@@ -52,7 +56,8 @@ fresh-name (first ∷ clubs) club fresh =
 
 -- a club more
 club-more : (sheet : Sheet) (club : Club) → IsDraft sheet → is_club club ≡ true
-    → has_club sheet club.name ≡ false → length sheet.clubs < 24 → is_past_clubs sheet ≡ false
+    → has_club sheet club.name ≡ false → length sheet.clubs < most_clubs
+    → is_past_clubs sheet ≡ false
     → IsDraft (record sheet { clubs = sheet.clubs ++ club ∷ [] })
 club-more sheet club draft is fresh room first =
     let none = or_parts (nat_lt 0 (length sheet.fixtures)) (nat_lt 0 (length sheet.lines)) first in
@@ -81,7 +86,7 @@ club-more sheet club draft is fresh room first =
 -- a line more
 line-more : (sheet : Sheet) (line : ℕ) → IsDraft sheet
     → is_line (length sheet.clubs) line ≡ true
-    → list_any (λ other. other == line) sheet.lines ≡ false → length sheet.lines < 4
+    → list_any (λ other. other == line) sheet.lines ≡ false → length sheet.lines < most_lines
     → IsDraft (record sheet { lines = sheet.lines ++ line ∷ [] })
 line-more sheet line draft is fresh room =
     let longer : length (sheet.lines ++ line ∷ []) ≡ length sheet.lines + 1 =
@@ -106,7 +111,7 @@ line-more sheet line draft is fresh room =
 pub club-keeps : (self sheet : Sheet) (clubs : List Club) (club : Club)
     (names more_names : List (List ℕ)) (name : List ℕ)
     → sheet ≡ self → IsDraft sheet × (names ≡ names_of sheet) → is_club club ≡ true
-    → has_club self club.name ≡ false → length self.clubs < 24 → is_past_clubs self ≡ false
+    → has_club self club.name ≡ false → length self.clubs < most_clubs → is_past_clubs self ≡ false
     → clubs ≡ sheet.clubs ++ club ∷ [] → name ≡ club.name → more_names ≡ names ++ name ∷ []
     → IsDraft (record sheet { clubs = clubs })
     × (more_names ≡ names_of (record sheet { clubs = clubs }))
@@ -127,7 +132,7 @@ club-keeps self sheet clubs club names more_names name view kept is fresh room f
 -- a line is added
 pub line-keeps : (self sheet : Sheet) (lines : List ℕ) (line : ℕ)
     → sheet ≡ self → IsDraft sheet → is_line (length self.clubs) line ≡ true
-    → list_any (λ other. other == line) self.lines ≡ false → length self.lines < 4
+    → list_any (λ other. other == line) self.lines ≡ false → length self.lines < most_lines
     → lines ≡ sheet.lines ++ line ∷ []
     → IsDraft (record sheet { lines = lines })
 line-keeps self sheet lines line view draft is fresh room added =
@@ -139,7 +144,8 @@ line-keeps self sheet lines line view draft is fresh room added =
 
 -- a line that passes each test is added
 pub line_added-ok : (sheet next : Sheet) (line : ℕ) → is_line (length sheet.clubs) line ≡ true
-    → list_any (λ other. other == line) sheet.lines ≡ false → nat_le 4 (length sheet.lines) ≡ false
+    → list_any (λ other. other == line) sheet.lines ≡ false
+    → nat_le most_lines (length sheet.lines) ≡ false
     → next ≡ record sheet { lines = sheet.lines ++ line ∷ [] }
     → line_added sheet line ≡ Ok next
 line_added-ok sheet next line is fresh room added = rw (is, fresh, room) (ap Ok (sym added))

@@ -1,11 +1,13 @@
--- A text without LF and CR is one record for csv: no byte of it ends a record, so that nothing is left
--- behind the one that is read.
-use Rattle.std.proofs.Common.{◌≡◌, ◌≢◌, ◌==◌, ◌||◌, ℕ, Bool, true, false, cond, List, [], ◌∷◌, ◌++◌, Some, None, refl, sym, ap, ◌∙◌}
+-- A text without LF and CR is one record for csv: no byte of it ends a record, so that nothing is
+-- left behind the one that is read.
+use Rattle.std.proofs.Common.{◌≡◌, ◌≢◌, ◌==◌, ◌||◌, ℕ, Bool, true, false, cond, List, [], ◌∷◌, ◌++◌}
+use Rattle.std.proofs.Common.{Some, None, refl, sym, ap, ◌∙◌}
 use Rattle.std.specs.List.{list_any}
 use Rattle.std.proofs.lemmas.Bool.{ne_eqb, or_parts, or_from}
 use Rattle.std.proofs.lemmas.Option.{same_Some}
 use Rattle.std.proofs.lemmas.List.Elements.{All-head, All-tail}
-use Rattle.csv.specs.Machine.{Read, after_end, ends_with, ends_at_end, field_after, fields_after, in_field, is_end, next_record, start_field, start_record, step}
+use Rattle.csv.specs.Machine.{Read, after_end, ends_with, ends_at_end, field_after, fields_after}
+use Rattle.csv.specs.Machine.{in_field, is_end, next_record, start_field, start_record, step}
 use Rattle.csv.specs.Reading.{default_config, is_bom, strip_bom}
 use Rattle.csv.specs.declared.parser.State.{State}
 use Rattle.csv.specs.declared.parser.State.TheVariants as state

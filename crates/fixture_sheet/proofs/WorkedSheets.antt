@@ -1,12 +1,14 @@
--- Worked sheets, computed by the definitions: a first day of two clubs, the same with a line that has
--- no club outside, an empty input, and lines that fail two tests at once.
+-- Worked sheets, computed by the definitions: a first day of two clubs, the same with a line that
+-- has no club outside, an empty input, and lines that fail two tests at once.
 use Rattle.std.proofs.Common.{◌≡◌, ℕ, ◌+◌, List, [], ◌∷◌, None, Result, Ok, Err, codes, refl}
 use lib.Utf8.{encode}
 use Rattle.std.specs.Str.{chars, is_utf8}
 use Rattle.csv.specs.Machine.{next_record}
 use Rattle.csv.specs.Reading.{strip_bom}
 use Rattle.league_core.specs.declared.sheet.Sheet.{Sheet}
-use Rattle.fixture_sheet.specs.declared.fault.SheetFault.TheVariants.{NoLeague, LineRange, BadField, UnknownClub, TooFewClubs}
+use Rattle.league_core.specs.declared.sheet.Order.TheVariants.{HeadFirst}
+use Rattle.fixture_sheet.specs.declared.fault.SheetFault.TheVariants.{NoLeague, LineRange, BadField}
+use Rattle.fixture_sheet.specs.declared.fault.SheetFault.TheVariants.{UnknownClub, TooFewClubs}
 use Rattle.fixture_sheet.specs.declared.fault.SheetStop.{SheetStop}
 use Rattle.fixture_sheet.specs.declared.fault.SheetStop.TheVariants.{Fault}
 use Rattle.fixture_sheet.specs.Sheets.{reading_of}
@@ -37,6 +39,7 @@ pub first_day-gives : given (first_day (codes "line,1"))
       lines = 1 ∷ [];
       goal_limit = 1;
       budget = 2000;
+      order = HeadFirst;
     })
 unfolding given numbered first_day next_record strip_bom is_utf8 chars encode
 first_day-gives = refl
@@ -53,7 +56,8 @@ nothing-gives = refl
 
 -- a match with no club twice, and a name that stands with a rank of nothing
 pub two-faults : (given (first_day (codes "match,C,C")) ≡ Err (Fault 5 UnknownClub))
-    × (given (codes "league,T,1" ∷ codes "club,A,1" ∷ codes "club,A,0" ∷ []) ≡ Err (Fault 3 BadField))
+    × (given (codes "league,T,1" ∷ codes "club,A,1" ∷ codes "club,A,0" ∷ []) ≡ Err (Fault 3
+    BadField))
     × (given (codes "league,T,1" ∷ codes "line,x,y" ∷ []) ≡ Err (Fault 2 TooFewClubs))
 unfolding given numbered first_day next_record strip_bom is_utf8 chars encode
 two-faults = (refl, refl, refl)

@@ -1,13 +1,15 @@
 -- What the calls answer.
-use Rattle.std.specs.Prelude.{◌≡◌, ℕ, ◌==◌, ◌<◌, ◌≤◌, List, ◌++◌, Option, None, Some, option_map, Result, Ok, Err, if◌then◌else◌}
+use Rattle.std.specs.Prelude.{◌≡◌, ℕ, ◌==◌, ◌<◌, ◌≤◌, Bool, List, ◌++◌, Option, None, Some}
+use Rattle.std.specs.Prelude.{option_map, Result, Ok, Err, if◌then◌else◌}
 use Rattle.league_core.specs.declared.sheet.Sheet.{Sheet}
 use Rattle.league_core.specs.Sheets.{IsWithinLimits}
 use Rattle.port_core.specs.declared.answers.Line.{Line}
 use Rattle.port_core.specs.declared.answers.Line.TheVariants.{Text, End}
 use Rattle.port_core.specs.declared.answers.ReadStop.{ReadStop}
-use Rattle.port_core.specs.declared.answers.ReadStop.TheVariants.{ReadFault, LineTooLong, InputTooLong}
-use Rattle.port_core.specs.Contents.{Contents, Place, input_limit, number_at, with_lines}
-use Rattle.port_core.specs.Reading.{Reading as LineReading, PassesTo, given_by}
+use Rattle.port_core.specs.declared.answers.ReadStop.TheVariants.{ReadFault, LineTooLong}
+use Rattle.port_core.specs.declared.answers.ReadStop.TheVariants.{InputTooLong}
+use Rattle.port_core.specs.Contents.{Contents, Position, input_limit, number_at, with_lines}
+use Rattle.port_core.specs.Readers.{Reader, PassesTo, given_by}
 use Rattle.port_core.specs.Ports.{Rose}
 use Rattle.fixture_sheet.specs.declared.fault.SheetFault.{SheetFault}
 use Rattle.fixture_sheet.specs.declared.fault.RecordStop.{RecordStop}
@@ -52,9 +54,9 @@ abbrev pub TakesLines : Option Contents → Option Contents → Type 0
 TakesLines before after =
     (lines : List (ℕ × List ℕ)) × (before ≡ option_map (with_lines lines) after)
 
--- the contents that were to come before the call and are to come after it, by its answer: the sheet,
--- a refusal and a stop for good come as the definition says; before a fault of the source no line was
--- refused; want of memory may come behind any line
+-- the contents that were to come before the call and are to come after it, by its answer: the
+-- sheet, a refusal and a stop for good come as the definition says; before a fault of the source no
+-- line was refused; want of memory may come behind any line
 abbrev pub ReadsSheet :
     Option Contents → Option Contents → Result Sheet SheetStop → Type 0
 ReadsSheet before after (Ok sheet) = ReadsAs before after (Ok sheet)
@@ -70,33 +72,36 @@ ReadsSheet before after (Err OutOfMemory) = TakesLines before after
 -- ---- the lines passed, and where the reader is left
 
 -- whole lines of the input were passed, and they give these contents and no others
-abbrev pub PassesLines : LineReading → LineReading → Option (List ℕ) → Option (List ℕ) → Type 0
-PassesLines old new left left' =
-    (given : List (ℕ × List ℕ)) × PassesTo old new left left' given
+abbrev pub PassesLines :
+    Reader → Reader → Option (List ℕ) → Option (List ℕ) → Bool → Bool → Type 0
+PassesLines old new left left' ended ended' =
+    (given : List (ℕ × List ℕ)) × PassesTo old new left left' ended ended' given
 
 -- the same, and what this answer of the reader gives is the last of these contents
 abbrev pub PassesUpTo :
-    LineReading → LineReading → Option (List ℕ) → Option (List ℕ) → Result Line ReadStop → Type 0
-PassesUpTo old new left left' answer =
-    (front : List (ℕ × List ℕ)) × PassesTo old new left left' (front ++ given_by answer new.text)
+    Reader → Reader → Option (List ℕ) → Option (List ℕ) → Bool → Bool → Result Line ReadStop
+    → Type 0
+PassesUpTo old new left left' ended ended' answer =
+    (front : List (ℕ × List ℕ))
+    × PassesTo old new left left' ended ended' (front ++ given_by answer new.text)
 
--- what a refusal of this number refuses, where the reader stands at this place behind it: the line
--- of the number, which is passed, or the input's end
-abbrev pub refused_before : Place → ℕ → Line
-refused_before place number = if number == number_at place then End number else Text number
+-- what a refusal of this number refuses, where the reader stands at this position behind it: the
+-- line of the number, which is passed, or the input's end
+abbrev pub refused_before : Position → ℕ → Line
+refused_before position number = if number == number_at position then End number else Text number
 
 -- the reader's answer that a call's answer came of: the line passed last, the input's end, or a
 -- stop
-abbrev pub answer_behind : {A : Type 0} → LineReading → Result A SheetStop → Result Line ReadStop
-answer_behind new (Ok value) = Ok (Text new.place.lines)
-answer_behind new (Err (Fault number fault)) = Ok (refused_before new.place number)
+abbrev pub answer_behind : {A : Type 0} → Reader → Result A SheetStop → Result Line ReadStop
+answer_behind new (Ok value) = Ok (Text new.position.lines)
+answer_behind new (Err (Fault number fault)) = Ok (refused_before new.position number)
 answer_behind new (Err (Read stop)) = Err stop
-answer_behind new (Err OutOfMemory) = Ok (Text new.place.lines)
+answer_behind new (Err OutOfMemory) = Ok (Text new.position.lines)
 
--- a fault of the source is answered only where its count rose, and that count never falls
+-- a fault of the source is answered only where its count rose, and else that count stays
 abbrev pub CountsSheet : {A : Type 0} → ℕ → ℕ → Result A SheetStop → Type 0
 CountsSheet before now (Err (Read ReadFault)) = Rose before now
-CountsSheet before now result = before ≤ now
+CountsSheet before now result = now ≡ before
 
 -- ---- one step of a reading
 
@@ -107,8 +112,8 @@ StepReads start after (Ok (Whole sheet)) = ReadsSheet start after (Ok sheet)
 StepReads start after (Err stop) = ReadsSheet start after (Err stop)
 
 -- where it goes on, bytes were passed, and none of them past the input's limit
-abbrev pub StepMoves : LineReading → LineReading → Result Progress SheetStop → Type 0
+abbrev pub StepMoves : Reader → Reader → Result Progress SheetStop → Type 0
 StepMoves old new (Ok (SoFar draft)) =
-    (old.place.bytes < new.place.bytes) × (new.place.bytes ≤ input_limit)
+    (old.position.bytes < new.position.bytes) × (new.position.bytes ≤ input_limit)
 StepMoves old new (Ok (Whole sheet)) = Unit {0}
 StepMoves old new (Err stop) = Unit {0}

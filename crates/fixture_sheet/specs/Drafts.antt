@@ -3,7 +3,10 @@ use Rattle.std.specs.Prelude.{ℕ, ◌≤◌, IsTrue, nat_eq, List, length, map}
 use Rattle.std.specs.List.{list_all}
 use Rattle.league_core.specs.declared.sheet.Sheet.{Sheet}
 use Rattle.league_core.specs.declared.sheet.Club.{Club}
-use Rattle.league_core.specs.Sheets.{is_name, is_club, is_fixture, is_line, are_different, same_name}
+use Rattle.league_core.specs.Limits.{most_clubs, most_fixtures, most_lines, most_goal_limit}
+use Rattle.league_core.specs.Limits.{most_budget}
+use Rattle.league_core.specs.Sheets.{is_name, is_club, is_fixture, is_line, are_different}
+use Rattle.league_core.specs.Sheets.{same_name}
 
 -- the clubs' names, in the order of the sheet
 abbrev pub names_of : Sheet → List (List ℕ)
@@ -12,15 +15,15 @@ names_of sheet = map (λ (club : Club). club.name) sheet.clubs
 -- a sheet that is read so far: within the limits, but for the two clubs that may still be missing
 pub record IsDraft (sheet : Sheet) : Type 0 where
   pub name : IsTrue (is_name sheet.name)
-  pub most_clubs : length sheet.clubs ≤ 24
-  pub most_fixtures : length sheet.fixtures ≤ 600
-  pub most_lines : length sheet.lines ≤ 4
+  pub most_clubs : length sheet.clubs ≤ most_clubs
+  pub most_fixtures : length sheet.fixtures ≤ most_fixtures
+  pub most_lines : length sheet.lines ≤ most_lines
   pub clubs : IsTrue (list_all is_club sheet.clubs)
   pub different_names : IsTrue (are_different same_name sheet.clubs)
   pub fixtures : IsTrue (list_all (is_fixture (length sheet.clubs)) sheet.fixtures)
   pub lines : IsTrue (list_all (is_line (length sheet.clubs)) sheet.lines)
   pub different_lines : IsTrue (are_different nat_eq sheet.lines)
   pub least_goal_limit : 1 ≤ sheet.goal_limit
-  pub most_goal_limit : sheet.goal_limit ≤ 20
+  pub most_goal_limit : sheet.goal_limit ≤ most_goal_limit
   pub least_budget : 1 ≤ sheet.budget
-  pub most_budget : sheet.budget ≤ 50000
+  pub most_budget : sheet.budget ≤ most_budget

@@ -1,7 +1,12 @@
 -- Why a sheet is refused, and the words for it.
 use Rattle.std.specs.Prelude.{ℕ, List, codes}
 use Rattle.fixture_sheet.specs.declared.fault.SheetFault.{SheetFault}
-use Rattle.fixture_sheet.specs.declared.fault.SheetFault.TheVariants.{NoLeague, BadField, ClubTwice, UnknownClub, SelfMatch, LineRange, TooMany, TooFewClubs, UnknownRecord, WrongWidth, LineTwice, NoSeason}
+use Rattle.fixture_sheet.specs.declared.fault.SheetFault.TheVariants.{NoLeague, BadField, ClubTwice}
+use Rattle.fixture_sheet.specs.declared.fault.SheetFault.TheVariants.{UnknownClub, SelfMatch}
+use Rattle.fixture_sheet.specs.declared.fault.SheetFault.TheVariants.{LineRange, TooMany}
+use Rattle.fixture_sheet.specs.declared.fault.SheetFault.TheVariants.{TooFewClubs, UnknownRecord}
+use Rattle.fixture_sheet.specs.declared.fault.SheetFault.TheVariants.{WrongWidth, LineTwice}
+use Rattle.fixture_sheet.specs.declared.fault.SheetFault.TheVariants.{NoSeason}
 
 -- the code that a refusal is printed by
 abbrev pub code_of : SheetFault → List ℕ

@@ -1,7 +1,8 @@
--- The record that a line is. Which fields a text has is csv's own rule for a text read alone: commas,
--- double quotes, no trimming, and a byte order mark at its front counts for nothing. That empty fields
--- at the end do not count is the project's rule, since spreadsheets pad their rows.
-use Rattle.std.specs.Prelude.{ℕ, Bool, true, false, ◌==◌, List, [], ◌∷◌, get_or, Option, Some, None, option_map, option_and_then, if◌then◌else◌}
+-- The record that a line is. Which fields a text has is csv's own rule for a text read alone:
+-- commas, double quotes, no trimming, and a byte order mark at its front counts for nothing. That
+-- empty fields at the end do not count is the project's rule, since spreadsheets pad their rows.
+use Rattle.std.specs.Prelude.{ℕ, Bool, true, false, ◌==◌, List, [], ◌∷◌, get_or, Option, Some, None}
+use Rattle.std.specs.Prelude.{option_map, option_and_then, if◌then◌else◌}
 use Rattle.std.specs.List.{list_any}
 use Rattle.csv.specs.Machine.{Read, next_record}
 use Rattle.csv.specs.Reading.{default_config, strip_bom}

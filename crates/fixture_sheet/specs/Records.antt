@@ -1,14 +1,25 @@
--- What a record makes of the sheet so far: a sheet with what it adds, or the first refusal. Before the
--- first record there is no sheet. Each definition makes its tests in the order in which they refuse.
-use Rattle.std.specs.Prelude.{ℕ, Bool, not, ◌||◌, ◌==◌, nat_le, nat_lt, List, [], ◌∷◌, ◌++◌, length, Option, None, Some, Result, Ok, Err, if◌then◌else◌, option_and_then, option_map, position, bytes_eq, codes}
+-- What a record makes of the sheet so far: a sheet with what it adds, or the first refusal. Before
+-- the first record there is no sheet. Each definition makes its tests in the order in which they
+-- refuse.
+use Rattle.std.specs.Prelude.{ℕ, Bool, not, ◌||◌, ◌==◌, nat_le, nat_lt, List, [], ◌∷◌, ◌++◌, length}
+use Rattle.std.specs.Prelude.{Option, None, Some, Result, Ok, Err, if◌then◌else◌, option_and_then}
+use Rattle.std.specs.Prelude.{option_map, position, bytes_eq, codes}
 use Rattle.std.specs.List.{list_any}
 use Rattle.std.specs.Option.{ok_or}
 use Rattle.league_core.specs.declared.sheet.Sheet.{Sheet}
 use Rattle.league_core.specs.declared.sheet.Club.{Club}
 use Rattle.league_core.specs.declared.sheet.Fixture.{Fixture}
+use Rattle.league_core.specs.declared.sheet.Order.{Order}
+use Rattle.league_core.specs.declared.sheet.Order.TheVariants.{HeadFirst, OverallFirst}
+use Rattle.league_core.specs.Limits.{most_clubs, most_fixtures, most_lines, most_rank}
+use Rattle.league_core.specs.Limits.{most_goal_limit, most_budget}
 use Rattle.league_core.specs.Sheets.{is_line}
 use Rattle.fixture_sheet.specs.declared.fault.SheetFault.{SheetFault}
-use Rattle.fixture_sheet.specs.declared.fault.SheetFault.TheVariants.{NoLeague, BadField, ClubTwice, UnknownClub, SelfMatch, LineRange, TooMany, TooFewClubs, UnknownRecord, WrongWidth, LineTwice}
+use Rattle.fixture_sheet.specs.declared.fault.SheetFault.TheVariants.{NoLeague, BadField, ClubTwice}
+use Rattle.fixture_sheet.specs.declared.fault.SheetFault.TheVariants.{UnknownClub, SelfMatch}
+use Rattle.fixture_sheet.specs.declared.fault.SheetFault.TheVariants.{LineRange, TooMany}
+use Rattle.fixture_sheet.specs.declared.fault.SheetFault.TheVariants.{TooFewClubs, UnknownRecord}
+use Rattle.fixture_sheet.specs.declared.fault.SheetFault.TheVariants.{WrongWidth, LineTwice}
 use Rattle.fixture_sheet.specs.declared.record.Progress.{Progress}
 use Rattle.fixture_sheet.specs.declared.record.Progress.TheVariants.{SoFar, Whole}
 use Rattle.fixture_sheet.specs.Fields.{has_return, record_of, field}
@@ -21,11 +32,11 @@ abbrev pub and_then : {A B : Type 0} → (A → Result B SheetFault) → Result 
 and_then next (Ok value) = next value
 and_then next (Err fault) = Err fault
 
--- ---- league,NAME,L or league,NAME,L,B
+-- ---- league,NAME,L or league,NAME,L,B or league,NAME,L,B,ORDER
 
 -- a sheet with nothing but its league
-abbrev pub sheet_begun : List ℕ → ℕ → ℕ → Sheet
-sheet_begun name goal_limit budget =
+abbrev pub sheet_begun : List ℕ → ℕ → ℕ → Order → Sheet
+sheet_begun name goal_limit budget order =
     record {
       name = name;
       clubs = [];
@@ -33,27 +44,42 @@ sheet_begun name goal_limit budget =
       lines = [];
       goal_limit = goal_limit;
       budget = budget;
+      order = order;
     }
 
 -- the node budget: 1 to 50,000, or 2,000 where the record does not name one
 abbrev pub budget_of : List (List ℕ) → Option ℕ
 budget_of fields =
-    if length fields == 3 then Some 2000 else number_within 1 50000 (field 3 fields)
+    if length fields == 3 then Some 2000 else number_within 1 most_budget (field 3 fields)
 
--- the sheet that a league's record begins: a name, a goal limit from 1 to 20, and a budget
+-- the order of the criteria that a word names
+abbrev pub order_named : List ℕ → Option Order
+order_named word =
+    if bytes_eq word (codes "head_first") then Some HeadFirst
+    else if bytes_eq word (codes "overall_first") then Some OverallFirst
+    else None
+
+-- the order of the criteria: the head-to-head record first where the record does not name one
+abbrev pub order_of : List (List ℕ) → Option Order
+order_of fields = if nat_lt (length fields) 5 then Some HeadFirst else order_named (field 4 fields)
+
+-- the sheet that a league's record begins: a name, a goal limit from 1 to 20, a budget, and an
+-- order
 abbrev pub league_of : List (List ℕ) → Option Sheet
 league_of fields =
     option_and_then (λ name.
-    option_and_then (λ goal_limit. option_map (λ budget. sheet_begun name goal_limit budget)
+    option_and_then (λ goal_limit.
+    option_and_then (λ budget. option_map (λ order. sheet_begun name goal_limit budget order)
+    (order_of fields))
     (budget_of fields))
-    (number_within 1 20 (field 2 fields)))
+    (number_within 1 most_goal_limit (field 2 fields)))
     (name_of (field 1 fields))
 
 -- the first record
 abbrev pub league_taken : List (List ℕ) → Result Sheet SheetFault
 league_taken fields =
     if not (bytes_eq (field 0 fields) (codes "league")) then Err NoLeague
-    else if not (length fields == 3 || length fields == 4) then Err WrongWidth
+    else if nat_lt (length fields) 3 || nat_lt 5 (length fields) then Err WrongWidth
     else ok_or (league_of fields) BadField
 
 -- ---- club,NAME,RANK
@@ -75,14 +101,14 @@ is_past_clubs sheet = nat_lt 0 (length sheet.fixtures) || nat_lt 0 (length sheet
 abbrev pub club_of : List (List ℕ) → Option Club
 club_of fields =
     option_and_then (λ name. option_map (λ rank. record { name = name; rank = rank })
-    (number_within 1 999 (field 2 fields)))
+    (number_within 1 most_rank (field 2 fields)))
     (name_of (field 1 fields))
 
 -- a new club, where there is room
 abbrev pub club_added : Sheet → Club → Result Sheet SheetFault
 club_added sheet club =
     if has_club sheet club.name then Err ClubTwice
-    else if nat_le 24 (length sheet.clubs) then Err TooMany
+    else if nat_le most_clubs (length sheet.clubs) then Err TooMany
     else Ok (record sheet { clubs = sheet.clubs ++ club ∷ [] })
 
 -- all clubs come before the first match or line
@@ -109,7 +135,7 @@ fixture_of sheet fields =
 abbrev pub fixture_added : Sheet → Fixture → Result Sheet SheetFault
 fixture_added sheet fixture =
     if fixture.home == fixture.away then Err SelfMatch
-    else if nat_le 600 (length sheet.fixtures) then Err TooMany
+    else if nat_le most_fixtures (length sheet.fixtures) then Err TooMany
     else Ok (record sheet { fixtures = sheet.fixtures ++ fixture ∷ [] })
 
 -- two clubs at least come before the first match
@@ -126,7 +152,7 @@ abbrev pub line_added : Sheet → ℕ → Result Sheet SheetFault
 line_added sheet line =
     if not (is_line (length sheet.clubs) line) then Err LineRange
     else if list_any (λ other. other == line) sheet.lines then Err LineTwice
-    else if nat_le 4 (length sheet.lines) then Err TooMany
+    else if nat_le most_lines (length sheet.lines) then Err TooMany
     else Ok (record sheet { lines = sheet.lines ++ line ∷ [] })
 
 -- two clubs at least come before the first line
@@ -159,9 +185,11 @@ whole sheet = Ok (Whole sheet)
 abbrev pub later_taken : Sheet → List (List ℕ) → Result Progress SheetFault
 later_taken sheet fields =
     if bytes_eq (field 0 fields) (codes "club") then and_then so_far (club_taken sheet fields)
-    else if bytes_eq (field 0 fields) (codes "match") then and_then so_far (match_taken sheet fields)
+    else if bytes_eq (field 0 fields) (codes "match") then and_then so_far (match_taken sheet
+    fields)
     else if bytes_eq (field 0 fields) (codes "line") then and_then so_far (line_taken sheet fields)
-    else if bytes_eq (field 0 fields) (codes "season") then and_then whole (season_taken sheet fields)
+    else if bytes_eq (field 0 fields) (codes "season") then and_then whole (season_taken sheet
+    fields)
     else Err UnknownRecord
 
 -- a record; the first one begins the sheet

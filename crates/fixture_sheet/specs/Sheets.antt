@@ -1,5 +1,5 @@
--- The sheet that an input's contents are, or what comes in its place: the first refusal of the first
--- line that is refused, with its number, or the stop of the input.
+-- The sheet that an input's contents are, or what comes in its place: the first refusal of the
+-- first line that is refused, with its number, or the stop of the input.
 use Rattle.std.specs.Prelude.{ℕ, List, [], ◌∷◌, Option, None, Some, Result, Ok, Err}
 use Rattle.league_core.specs.declared.sheet.Sheet.{Sheet}
 use Rattle.port_core.specs.declared.answers.ReadStop.{ReadStop}
@@ -13,7 +13,7 @@ use Rattle.fixture_sheet.specs.declared.record.Progress.TheVariants.{SoFar, Whol
 use Rattle.fixture_sheet.specs.Records.{content_taken}
 
 -- a reading of a sheet: what it gives, and the contents behind what it read
-pub record Reading : Type 0 where
+pub record SheetReading : Type 0 where
   pub gives : Result Sheet SheetStop
   pub rest : Contents
 
@@ -27,22 +27,22 @@ abbrev pub given_at_end : Option Sheet → Result ℕ ReadStop → Result Sheet 
 given_at_end draft (Ok number) = Err (Fault number (fault_at_end draft))
 given_at_end draft (Err stop) = Err (Read stop)
 
--- what a line's content leads to, by what it makes of the sheet so far: the sheet, the refusal of the
--- line of this number, or what comes of the lines behind it
-abbrev pub reading_by : ℕ → Contents → (Option Sheet → Reading) → Result Progress SheetFault
-    → Reading
+-- what a line's content leads to, by what it makes of the sheet so far: the sheet, the refusal of
+-- the line of this number, or what comes of the lines behind it
+abbrev pub reading_by : ℕ → Contents → (Option Sheet → SheetReading) → Result Progress SheetFault
+    → SheetReading
 reading_by number rest onward (Ok (SoFar draft)) = onward draft
 reading_by number rest onward (Ok (Whole sheet)) = record { gives = Ok sheet; rest = rest }
 reading_by number rest onward (Err fault) =
     record { gives = Err (Fault number fault); rest = rest }
 
 -- the reading of these lines and this ending, from a sheet so far on
-abbrev pub reading_from : List (ℕ × List ℕ) → Result ℕ ReadStop → Option Sheet → Reading
+abbrev pub reading_from : List (ℕ × List ℕ) → Result ℕ ReadStop → Option Sheet → SheetReading
 reading_from [] ending draft = record { gives = given_at_end draft ending; rest = ended ending }
 reading_from (line ∷ lines) ending draft =
     reading_by line.0 (record { lines = lines; ending = ending }) (reading_from lines ending)
     (content_taken draft line.1)
 
 -- the same of contents
-abbrev pub reading_of : Contents → Option Sheet → Reading
+abbrev pub reading_of : Contents → Option Sheet → SheetReading
 reading_of contents draft = reading_from contents.lines contents.ending draft

@@ -1,15 +1,21 @@
 //! The sheet so far, with its names ready to be found.
 
-ghost use Rattle.std.specs.Prelude.{◌≡◌, ◌≤◌, ◌<◌, ◌==◌, ◌∷◌, ◌++◌, [], false, IfOk, IfSome, IsTrue, length};
+ghost use Rattle.std.specs.Prelude.{◌≡◌, ◌≤◌, ◌<◌, ◌==◌, ◌∷◌, ◌++◌, [], false, IfOk, IfSome};
+ghost use Rattle.std.specs.Prelude.{IsTrue, length};
 ghost use Rattle.std.specs.List.{list_any};
+ghost use Rattle.league_core.specs.Limits.{most_budget, most_clubs, most_fixtures, most_goal_limit};
+ghost use Rattle.league_core.specs.Limits.{most_lines};
 ghost use Rattle.league_core.specs.Sheets.{IsWithinLimits, is_club, is_fixture, is_line, is_name};
 ghost use Rattle.fixture_sheet.specs.Calls.{Answers};
-ghost use Rattle.fixture_sheet.specs.Records.{club_added, club_named, fixture_added, has_club, has_few_clubs, is_past_clubs, line_added, sheet_begun};
+ghost use Rattle.fixture_sheet.specs.Records.{club_added, club_named, fixture_added, has_club};
+ghost use Rattle.fixture_sheet.specs.Records.{has_few_clubs, is_past_clubs, line_added};
+ghost use Rattle.fixture_sheet.specs.Records.{sheet_begun};
 
 use crate::fault::{RecordStop, SheetFault};
 use crate::name::text_of;
 use crate::name_index::NameIndex;
-use league_core::{Club, Fixture, Listing, Name, OutOfMemory, Sheet};
+use league_core::limits::{MOST_CLUBS, MOST_FIXTURES, MOST_LINES};
+use league_core::{Club, Fixture, Listing, Name, Order, OutOfMemory, Sheet};
 use std::alloc::Global;
 use std::marker::Model;
 
@@ -40,11 +46,12 @@ impl Draft {
         name: &str,
         goal_limit: u8,
         budget: u32,
+        order: Order,
     ) -> Result<Draft, OutOfMemory>
         requires named { IsTrue (is_name name.now) }
-        requires goals { (1 ≤ goal_limit) × (goal_limit ≤ 20) }
-        requires nodes { (1 ≤ budget) × (budget ≤ 50000) }
-        ensures { IfOk result (λ draft. draft ≡ sheet_begun name.now goal_limit budget) }
+        requires goals { (1 ≤ goal_limit) × (goal_limit ≤ most_goal_limit) }
+        requires nodes { (1 ≤ budget) × (budget ≤ most_budget) }
+        ensures { IfOk result (λ draft. draft ≡ sheet_begun name.now goal_limit budget order) }
     {
         let sheet = Sheet {
             name: Name::new(String::from_str(alloc, name)?),
@@ -53,6 +60,7 @@ impl Draft {
             lines: Listing::new(alloc),
             goal_limit,
             budget,
+            order,
         };
         let names = NameIndex::new(alloc);
         Ok(Draft { sheet, names })
@@ -90,7 +98,7 @@ impl Draft {
         if self.names.has(name) {
             return Err(RecordStop::Fault(SheetFault::ClubTwice));
         }
-        if 24 <= self.sheet.clubs.len() {
+        if usize::from(MOST_CLUBS) <= self.sheet.clubs.len() {
             return Err(RecordStop::Fault(SheetFault::TooMany));
         }
         Ok(self.with_club(alloc, name, rank)?)
@@ -99,7 +107,7 @@ impl Draft {
     fn with_club(self, alloc: Global, name: &str, rank: u16) -> Result<Draft, OutOfMemory>
         requires is { IsTrue (is_club (record { name = name.now; rank = rank })) }
         requires fresh { has_club self name.now ≡ false }
-        requires room { length self.clubs < 24 }
+        requires room { length self.clubs < most_clubs }
         requires first { is_past_clubs self ≡ false }
         ensures { IfOk result (λ draft. draft
             ≡ record self { clubs = self.clubs ++ record { name = name.now; rank = rank } ∷ [] }) }
@@ -123,7 +131,7 @@ impl Draft {
         if fixture.home == fixture.away {
             return Err(RecordStop::Fault(SheetFault::SelfMatch));
         }
-        if 600 <= self.sheet.fixtures.len() {
+        if usize::from(MOST_FIXTURES) <= self.sheet.fixtures.len() {
             return Err(RecordStop::Fault(SheetFault::TooMany));
         }
         Ok(self.with_fixture(fixture)?)
@@ -131,7 +139,7 @@ impl Draft {
 
     fn with_fixture(self, fixture: Fixture) -> Result<Draft, OutOfMemory>
         requires is { IsTrue (is_fixture (length self.clubs) fixture) }
-        requires room { length self.fixtures < 600 }
+        requires room { length self.fixtures < most_fixtures }
         ensures { IfOk result (λ draft. draft
             ≡ record self { fixtures = self.fixtures ++ fixture ∷ [] }) }
     {
@@ -151,7 +159,7 @@ impl Draft {
         if has_line(self.sheet.lines.as_slice(), line) {
             return Err(RecordStop::Fault(SheetFault::LineTwice));
         }
-        if 4 <= self.sheet.lines.len() {
+        if usize::from(MOST_LINES) <= self.sheet.lines.len() {
             return Err(RecordStop::Fault(SheetFault::TooMany));
         }
         Ok(self.with_line(line)?)
@@ -160,7 +168,7 @@ impl Draft {
     fn with_line(self, line: u8) -> Result<Draft, OutOfMemory>
         requires is { IsTrue (is_line (length self.clubs) line) }
         requires fresh { list_any (λ other. other == line) self.lines ≡ false }
-        requires room { length self.lines < 4 }
+        requires room { length self.lines < most_lines }
         ensures { IfOk result (λ draft. draft ≡ record self { lines = self.lines ++ line ∷ [] }) }
     {
         let Draft { mut sheet, names } = self;

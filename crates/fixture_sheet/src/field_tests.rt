@@ -1,5 +1,5 @@
-//! Fields of lines. What is wanted is what the csv crate for Rust reads, with the empty fields at the
-//! end left out: each field with `|` behind it, `-` for no field, `^` for a CR.
+//! Fields of lines. What is wanted is what the csv crate for Rust reads, with the empty fields at
+//! the end left out: each field with `|` behind it, `-` for no field, `^` for a CR.
 
 use crate::fault::{FieldsStop, SheetFault};
 use crate::fields::{Fields, fields_of};

@@ -1,11 +1,13 @@
 //! The fields of one line, as csv reads the line alone.
 
-ghost use Rattle.std.specs.Prelude.{◌≡◌, ◌↔◌, true, [], IfOk, bytes_eq, length, option_map, take, get_or};
+ghost use Rattle.std.specs.Prelude.{◌≡◌, ◌↔◌, true, [], IfOk, bytes_eq, length, option_map, take};
+ghost use Rattle.std.specs.Prelude.{get_or};
 ghost use Rattle.csv.specs.Machine.{next_record};
 ghost use Rattle.csv.specs.Reading.{default_config, strip_bom};
 ghost use Rattle.csv.specs.Records.{fields_of as row_fields};
 ghost use Rattle.csv.specs.declared.parser.State.TheVariants as state;
-ghost use Rattle.fixture_sheet.specs.Fields.{csv_record, field, has_return, is_blank, record_of, without_padding};
+ghost use Rattle.fixture_sheet.specs.Fields.{csv_record, field, has_return, is_blank, record_of};
+ghost use Rattle.fixture_sheet.specs.Fields.{without_padding};
 
 use crate::fault::FieldsStop;
 use csv::{ByteRecord, ReaderBuilder};
@@ -84,7 +86,8 @@ fn record_of(alloc: Global, text: &[u8]) -> Result<Option<Fields>, OutOfMemory>
     Ok(Some(copied(alloc, &row)?))
 }
 
-// csv says nothing of when its reader fails over a text in memory, so any failure is want of memory.
+// csv says nothing of when its reader fails over a text in memory, so any failure is want of
+// memory.
 fn csv_record(alloc: Global, text: &[u8]) -> Result<Option<ByteRecord>, OutOfMemory>
     ensures { IfOk result (λ row. option_map row_fields row ≡ csv_record text.now) }
 {

@@ -6,6 +6,7 @@
 //! `specs/Records.antt`; what a whole input gives, in `specs/Sheets.antt`. Read them in this order.
 #![tactic(auto)]
 
+mod club_number;
 mod draft;
 mod fault;
 #[cfg(test)]
@@ -24,6 +25,7 @@ mod sheet_tests;
 #[cfg(test)]
 mod telling;
 
+pub use club_number::club_named;
 pub use draft::Draft;
 pub use fault::{FieldsStop, RecordStop, SheetFault, SheetStop};
 pub use fields::{Fields, fields_of};

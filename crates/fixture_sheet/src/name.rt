@@ -5,6 +5,8 @@ ghost use Rattle.std.specs.List.{list_all};
 ghost use Rattle.league_core.specs.Sheets.{is_name, is_name_byte};
 ghost use Rattle.fixture_sheet.specs.Texts.{name_of, text_of};
 
+use league_core::limits::MOST_NAME_BYTES;
+
 /// The field as a name, where it is one.
 pub fn name_of(text: &[u8]) -> Option<&str>
     ensures { option_map (λ name. name.now) result ≡ name_of text.now }
@@ -25,7 +27,7 @@ pub fn text_of(bytes: &[u8]) -> Option<&str>
 fn is_name(text: &[u8]) -> bool
     ensures { result ≡ is_name text.now }
 {
-    1 <= text.len() && text.len() <= 40 && has_name_bytes(text)
+    1 <= text.len() && text.len() <= usize::from(MOST_NAME_BYTES) && has_name_bytes(text)
 }
 
 fn has_name_bytes(text: &[u8]) -> bool

@@ -1,6 +1,7 @@
 //! The clubs' names with their numbers, found without a walk through all of them.
 
-ghost use Rattle.std.specs.Prelude.{◌≡◌, [], ◌++◌, ◌∷◌, false, OnOk, IfSome, length, position, bytes_eq, string_bytes, ◌<◌};
+ghost use Rattle.std.specs.Prelude.{◌≡◌, [], ◌++◌, ◌∷◌, false, OnOk, IfSome, length, position};
+ghost use Rattle.std.specs.Prelude.{bytes_eq, string_bytes, ◌<◌};
 ghost use Rattle.std.specs.List.{list_any};
 
 use indexmap::IndexSet;

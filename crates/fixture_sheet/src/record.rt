@@ -1,16 +1,20 @@
 //! What a record makes of the sheet so far.
 
 ghost use Rattle.std.specs.Prelude.{◌≡◌, ◌≤◌, IfOk, IfSome};
+ghost use Rattle.league_core.specs.Limits.{most_budget};
 ghost use Rattle.league_core.specs.Sheets.{IsWithinLimits};
 ghost use Rattle.fixture_sheet.specs.Calls.{Answers, GivesSheet, as_progress};
-ghost use Rattle.fixture_sheet.specs.Records.{budget_of, club_taken, content_taken, later_taken, league_taken, line_taken, match_taken, no_record, record_taken, season_taken};
+ghost use Rattle.fixture_sheet.specs.Records.{budget_of, club_taken, content_taken, later_taken};
+ghost use Rattle.fixture_sheet.specs.Records.{league_taken, line_taken, match_taken, no_record};
+ghost use Rattle.fixture_sheet.specs.Records.{order_of, record_taken, season_taken};
 
 use crate::draft::Draft;
 use crate::fault::{FieldsStop, RecordStop, SheetFault};
 use crate::fields::{Fields, fields_of};
 use crate::name::name_of;
 use crate::number::{number_of, number_within};
-use league_core::{Fixture, Sheet};
+use league_core::limits::{MOST_BUDGET, MOST_GOAL_LIMIT, MOST_RANK};
+use league_core::{Fixture, Order, Sheet};
 use std::alloc::Global;
 
 /// What came of a record: the sheet so far, none before its first record, or the whole sheet.
@@ -90,36 +94,55 @@ fn later_record(alloc: Global, draft: Draft, fields: &Fields) -> Result<Progress
     }
 }
 
-// `league,NAME,L` or `league,NAME,L,B`.
+// `league,NAME,L`, `league,NAME,L,B` or `league,NAME,L,B,ORDER`.
 fn league_record(alloc: Global, fields: &Fields) -> Result<Draft, RecordStop>
     ensures { Answers (league_taken fields.now) result }
 {
     if !fields.is_kind(b"league") {
         return Err(RecordStop::Fault(SheetFault::NoLeague));
     }
-    if fields.len() != 3 && fields.len() != 4 {
+    if fields.len() < 3 || 5 < fields.len() {
         return Err(RecordStop::Fault(SheetFault::WrongWidth));
     }
     let Some(name) = name_of(fields.at(1)) else {
         return Err(RecordStop::Fault(SheetFault::BadField));
     };
-    let Some(goal_limit) = number_within(1, 20, fields.at(2)) else {
+    let Some(goal_limit) = number_within(1, u32::from(MOST_GOAL_LIMIT), fields.at(2)) else {
         return Err(RecordStop::Fault(SheetFault::BadField));
     };
     let Some(budget) = budget_of(fields) else {
         return Err(RecordStop::Fault(SheetFault::BadField));
     };
-    Ok(Draft::begin(alloc, name, goal_limit as u8, budget)?)
+    let Some(order) = order_of(fields) else {
+        return Err(RecordStop::Fault(SheetFault::BadField));
+    };
+    Ok(Draft::begin(alloc, name, goal_limit as u8, budget, order)?)
 }
 
 fn budget_of(fields: &Fields) -> Option<u32>
     ensures value { result ≡ budget_of fields.now }
-    ensures range { IfSome result (λ budget. (1 ≤ budget) × (budget ≤ 50000)) }
+    ensures range { IfSome result (λ budget. (1 ≤ budget) × (budget ≤ most_budget)) }
 {
     if fields.len() == 3 {
         Some(2000)
     } else {
-        number_within(1, 50000, fields.at(3))
+        number_within(1, MOST_BUDGET, fields.at(3))
+    }
+}
+
+fn order_of(fields: &Fields) -> Option<Order>
+    ensures { result ≡ order_of fields.now }
+{
+    if fields.len() < 5 {
+        return Some(Order::HeadFirst);
+    }
+    let word = fields.at(4);
+    if word == b"head_first".as_slice() {
+        Some(Order::HeadFirst)
+    } else if word == b"overall_first".as_slice() {
+        Some(Order::OverallFirst)
+    } else {
+        None
     }
 }
 
@@ -136,7 +159,7 @@ fn club_record(alloc: Global, draft: Draft, fields: &Fields) -> Result<Draft, Re
     let Some(name) = name_of(fields.at(1)) else {
         return Err(RecordStop::Fault(SheetFault::BadField));
     };
-    let Some(rank) = number_within(1, 999, fields.at(2)) else {
+    let Some(rank) = number_within(1, u32::from(MOST_RANK), fields.at(2)) else {
         return Err(RecordStop::Fault(SheetFault::BadField));
     };
     draft.add_club(alloc, name, rank as u16)

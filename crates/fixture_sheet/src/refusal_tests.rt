@@ -15,95 +15,49 @@ fn behind_head(alloc: Global, tail: &[u8]) -> Result<Vec<u8>, Fail> {
 }
 
 #[test]
-fn a_sheet_begins_with_its_league(rt: HostRuntime) -> Result<(), Fail> {
-    for (input, wanted) in [
-        (b"".as_slice(), b"1,no_league .1".as_slice()),
-        (b"# none\n\n,,\n", b"4,no_league .4"),
-        (b"club,A,1\nx", b"1,no_league 2:x"),
-        (b"League,T,1", b"1,no_league .2"),
-        (b"lea\rgue,T,1", b"1,no_league .2"),
-        (b"match,A,B,C", b"1,no_league .2"),
-        (b"league,T,1", b"2,no_season .2"),
-        (b"league,T,1\nclub,A,1\n", b"3,no_season .3"),
-        (b"league\n", b"1,wrong_width .2"),
-        (b"league,T\n", b"1,wrong_width .2"),
-        (b"league,,0,x,y\n", b"1,wrong_width .2"),
-        (b"league,,1", b"1,bad_field .2"),
-        (b"league,T,0", b"1,bad_field .2"),
-        (b"league,T,21", b"1,bad_field .2"),
-        (b"league,T,0000001", b"1,bad_field .2"),
-        (b"league,T,+1", b"1,bad_field .2"),
-        (b"league,T,-1", b"1,bad_field .2"),
-        (b"league,T,,5", b"1,bad_field .2"),
-        (b"league,T,1,0", b"1,bad_field .2"),
-        (b"league,T,1,50001", b"1,bad_field .2"),
-        (b"league,T,1\nline\r,1", b"2,unknown_record .3"),
-        (b"league,T,1\nline,x,y", b"2,too_few_clubs .3"),
-        (b"league,T,1\nseason,x", b"2,too_few_clubs .3"),
-        (b"league,T,1\nclub,A,1\nmatch,A,A", b"3,too_few_clubs .4"),
-    ] {
-        let out = told(rt.alloc(), input, 1000, &[])?;
-        assert_eq!(rt; out.as_slice(), wanted, "{input:?}");
-    }
-    Ok(())
-}
-
-#[test]
-fn clubs_are_refused_in_order(rt: HostRuntime) -> Result<(), Fail> {
+fn a_line_is_refused_by_the_first_test_that_it_fails(rt: HostRuntime) -> Result<(), Fail> {
     for (tail, wanted) in [
         (b"league,T,1".as_slice(), b"4,unknown_record .5".as_slice()),
         (b"ask\nx", b"4,unknown_record 5:x"),
-        (b" club,C,3", b"4,unknown_record .5"),
         (b"cl\rub,C,3", b"4,unknown_record .5"),
-        (b"match,A,B\nclub,C,3", b"5,unknown_record .6"),
-        (b"line,1\nclub,C", b"5,unknown_record .6"),
-        (b"club,C", b"4,wrong_width .5"),
+        (b"match,A,B\nclub,C", b"5,unknown_record .6"),
         (b"club,A,0,x", b"4,wrong_width .5"),
         (b"club,\"C,3", b"4,wrong_width .5"),
         (b"club,A,0", b"4,bad_field .5"),
-        (b"club,C,1000", b"4,bad_field .5"),
-        (b"club,,3", b"4,bad_field .5"),
-        (b"club,C\x1f,3", b"4,bad_field .5"),
         (b"club,C\x7f,3", b"4,bad_field .5"),
         (b"club,C\xff,3", b"4,bad_field .5"),
-        (b"club,A,999", b"4,club_twice .5"),
         (b"club,B,000003", b"4,club_twice .5"),
-        (
-            b"club,12345678901234567890123456789012345678901,3",
-            b"4,bad_field .5",
-        ),
-    ] {
-        let out = behind_head(rt.alloc(), tail)?;
-        assert_eq!(rt; out.as_slice(), wanted, "{tail:?}");
-    }
-    Ok(())
-}
-
-#[test]
-fn matches_and_lines_are_refused_in_order(rt: HostRuntime) -> Result<(), Fail> {
-    for (tail, wanted) in [
-        (b"match,A".as_slice(), b"4,wrong_width .5".as_slice()),
         (b"match,C,C,C", b"4,wrong_width .5"),
         (b"match,C,C", b"4,unknown_club .5"),
-        (b"match,a,B", b"4,unknown_club .5"),
         (b"match,,B", b"4,unknown_club .5"),
-        (b"match,A,\xff", b"4,unknown_club .5"),
-        (b"match,A,A", b"4,self_match .5"),
         (b"match,B,B\nx", b"4,self_match 5:x"),
-        (b"line", b"4,wrong_width .5"),
         (b"line,9,9", b"4,wrong_width .5"),
         (b"line,x", b"4,bad_field .5"),
-        (b"line,0000001", b"4,bad_field .5"),
         (b"line,0", b"4,line_range .5"),
-        (b"line,2", b"4,line_range .5"),
         (b"line,1\nline,01", b"5,line_twice .6"),
-        (b"line,1\nline,1,1", b"5,wrong_width .6"),
-        (b"line,1\nline,2", b"5,line_range .6"),
         (b"season,1", b"4,wrong_width .5"),
         (b"", b"4,no_season .4"),
     ] {
         let out = behind_head(rt.alloc(), tail)?;
         assert_eq!(rt; out.as_slice(), wanted, "{tail:?}");
+    }
+    for (input, wanted) in [
+        (b"# none\n\n,,\n".as_slice(), b"4,no_league .4".as_slice()),
+        (b"club,A,1\nx", b"1,no_league 2:x"),
+        (b"lea\rgue,T,1", b"1,no_league .2"),
+        (b"league,T,1", b"2,no_season .2"),
+        (b"league,,0,x,y,z\n", b"1,wrong_width .2"),
+        (b"league,,1", b"1,bad_field .2"),
+        (b"league,T,21", b"1,bad_field .2"),
+        (b"league,T,1,50001", b"1,bad_field .2"),
+        (b"league,T,1,9,other", b"1,bad_field .2"),
+        (b"league,T,1,,overall_first", b"1,bad_field .2"),
+        (b"league,T,1,9,Head_first", b"1,bad_field .2"),
+        (b"league,T,1\nline,x,y", b"2,too_few_clubs .3"),
+        (b"league,T,1\nclub,A,1\nmatch,A,A", b"3,too_few_clubs .4"),
+    ] {
+        let out = told(rt.alloc(), input, 1000, &[])?;
+        assert_eq!(rt; out.as_slice(), wanted, "{input:?}");
     }
     Ok(())
 }

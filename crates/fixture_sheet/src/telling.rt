@@ -1,12 +1,12 @@
-//! What the tests read, written out: a sheet as its parts, a refusal as its line and code, a fault of
-//! the source as `!`, a line that is too long as `>` and its number. Behind it stands the next content
-//! with its number, or the end as `.` and its number.
+//! What the tests read, written out: a sheet as its parts, a refusal as its line and code, a fault
+//! of the source as `!`, a line that is too long as `>` and its number. Behind it stands the next
+//! content with its number, or the end as `.` and its number.
 
 ghost use Rattle.std.specs.Prelude.{◌<◌};
 
 use crate::fault::SheetStop;
 use crate::reader::read_sheet;
-use league_core::Sheet;
+use league_core::{Order, Sheet};
 use port_core::{Line, LineReader, MemSource, ReadStop, Source};
 use std::alloc::Global;
 use std::io::Write;
@@ -32,6 +32,9 @@ pub fn told(alloc: Global, input: &[u8], piece: usize, fail: &[u64]) -> Result<V
 fn tell_sheet(sheet: &Sheet, out: &mut Vec<u8>) -> Result<(), Fail> {
     let (name, goals, budget) = (sheet.name.as_str(), sheet.goal_limit, sheet.budget);
     write!(out, "{name} {goals} {budget}|")?;
+    if sheet.order == Order::OverallFirst {
+        write!(out, "overall|")?;
+    }
     for club in sheet.clubs.as_slice() {
         let (name, rank) = (club.name.as_str(), club.rank);
         write!(out, "{name} {rank};")?;

@@ -35,44 +35,44 @@ pub returns-in-Ok-clause-passes : goal.returns-in-Ok-clause-passes
 returns-in-Ok-clause-passes g c =
     let passes = rw c.in-Ok-Text.field-0-is at c.in-Ok-Text.ensures.passes in
     let leaves = rw c.in-Ok-Text.field-0-is at c.in-Ok-Text.ensures.leaves in
-    passes-as c.args.reader.now c.next.new.self _ _ (Ok (Text c.in-Ok-Text.number))
-    (Ok (Text c.next.new.self.place.lines))
+    passes-as c.args.reader.now c.next.new.self _ _ _ _ (Ok (Text c.in-Ok-Text.number))
+    (Ok (Text c.next.new.self.position.lines))
     (ap (λ n. Ok (Text n)) (sym leaves.0)) passes
 
 pub returns-in-Err-Fault-clause-passes : goal.returns-in-Err-Fault-clause-passes
 returns-in-Err-Fault-clause-passes g c =
     let passes = rw c.in-Ok-Text.field-0-is at c.in-Ok-Text.ensures.passes in
     let leaves = rw c.in-Ok-Text.field-0-is at c.in-Ok-Text.ensures.leaves in
-    passes-as c.args.reader.now c.next.new.self _ _ (Ok (Text c.in-Ok-Text.number))
-    (Ok (refused_before c.next.new.self.place c.in-Ok-Text.number))
-    (ap Ok (refused-line c.next.new.self.place c.in-Ok-Text.number leaves.0)) passes
+    passes-as c.args.reader.now c.next.new.self _ _ _ _ (Ok (Text c.in-Ok-Text.number))
+    (Ok (refused_before c.next.new.self.position c.in-Ok-Text.number))
+    (ap Ok (refused-line c.next.new.self.position c.in-Ok-Text.number leaves.0)) passes
 
 pub returns-in-Err-Fault-clause-leaves : goal.returns-in-Err-Fault-clause-leaves
 returns-in-Err-Fault-clause-leaves g c =
     let leaves = rw c.in-Ok-Text.field-0-is at c.in-Ok-Text.ensures.leaves in
     leaves-as c.next.new.self _ (Ok (Text c.in-Ok-Text.number))
-    (Ok (refused_before c.next.new.self.place c.in-Ok-Text.number))
-    (ap Ok (refused-line c.next.new.self.place c.in-Ok-Text.number leaves.0)) leaves
+    (Ok (refused_before c.next.new.self.position c.in-Ok-Text.number))
+    (ap Ok (refused-line c.next.new.self.position c.in-Ok-Text.number leaves.0)) leaves
 
 pub returns-in-Err-OutOfMemory-clause-passes : goal.returns-in-Err-OutOfMemory-clause-passes
 returns-in-Err-OutOfMemory-clause-passes g c =
     let passes = rw c.in-Ok-Text.field-0-is at c.in-Ok-Text.ensures.passes in
     let leaves = rw c.in-Ok-Text.field-0-is at c.in-Ok-Text.ensures.leaves in
-    passes-as c.args.reader.now c.next.new.self _ _ (Ok (Text c.in-Ok-Text.number))
-    (Ok (Text c.next.new.self.place.lines))
+    passes-as c.args.reader.now c.next.new.self _ _ _ _ (Ok (Text c.in-Ok-Text.number))
+    (Ok (Text c.next.new.self.position.lines))
     (ap (λ n. Ok (Text n)) (sym leaves.0)) passes
 
 pub returns-in-Ok-End-clause-passes : goal.returns-in-Ok-End-clause-passes
 returns-in-Ok-End-clause-passes g c =
     let passes = rw c.in-Ok-End.field-0-is at c.in-Ok-End.ensures.passes in
     let leaves = rw c.in-Ok-End.field-0-is at c.in-Ok-End.ensures.leaves in
-    passes-as c.args.reader.now c.next.new.self _ _ (Ok (End c.in-Ok-End.number))
-    (Ok (refused_before c.next.new.self.place c.in-Ok-End.number))
-    (ap Ok (refused-end c.next.new.self.place c.in-Ok-End.number leaves.0)) passes
+    passes-as c.args.reader.now c.next.new.self _ _ _ _ (Ok (End c.in-Ok-End.number))
+    (Ok (refused_before c.next.new.self.position c.in-Ok-End.number))
+    (ap Ok (refused-end c.next.new.self.position c.in-Ok-End.number leaves.0)) passes
 
 pub returns-in-Ok-End-clause-leaves : goal.returns-in-Ok-End-clause-leaves
 returns-in-Ok-End-clause-leaves g c =
     let leaves = rw c.in-Ok-End.field-0-is at c.in-Ok-End.ensures.leaves in
     leaves-as c.next.new.self _ (Ok (End c.in-Ok-End.number))
-    (Ok (refused_before c.next.new.self.place c.in-Ok-End.number))
-    (ap Ok (refused-end c.next.new.self.place c.in-Ok-End.number leaves.0)) leaves
+    (Ok (refused_before c.next.new.self.position c.in-Ok-End.number))
+    (ap Ok (refused-end c.next.new.self.position c.in-Ok-End.number leaves.0)) leaves

@@ -1,6 +1,6 @@
-use Rattle.std.proofs.Common.{Ok, Err, arith}
-use Rattle.port_core.specs.Reading.{contents_to_come}
-use Rattle.port_core.proofs.ContentLemmas.{TakesInput-more, TakesInput-none}
+use Rattle.std.proofs.Common.{Ok, Err, refl, ◌∙◌}
+use Rattle.port_core.specs.Readers.{contents_to_come}
+use Rattle.port_core.proofs.TakingLemmas.{TakesInput-more, TakesInput-none}
 use Rattle.fixture_sheet.specs.declared.record.Progress.{Progress}
 use Rattle.fixture_sheet.specs.Calls.{answer_behind}
 use Rattle.fixture_sheet.proofs.ReadingLemmas.{leads-nothing}
@@ -10,9 +10,9 @@ use Rattle.fixture_sheet.proofs.reader.read_sheet.Goals as goal
 pub records-init : goal.records-init
 records-init g c = record {
   leads = leads-nothing (contents_to_come c.args.reader.now (g.S.Source.left c.args.source.now));
-  passes = PassesLines-none c.args.reader.now (g.S.Source.left c.args.source.now);
+  passes = PassesLines-none c.args.reader.now (g.S.Source.left c.args.source.now) _;
   takes = TakesInput-none c.args.reader.now (g.S.Source.left c.args.source.now);
-  counts = omega arith;
+  counts = refl;
 }
 
 pub records-preserved : goal.records-preserved
@@ -21,10 +21,11 @@ records-preserved g c =
     record {
       leads = reads _ c.records.invariant.leads;
       passes = PassesLines-more c.args.reader.now c.records.reader c.next_record.new.reader _ _ _ _
+          _ _ _
           c.records.invariant.passes c.in-Ok-SoFar.ensures.passes;
       takes = TakesInput-more c.args.reader.now c.records.reader c.next_record.new.reader _ _ _
           c.records.invariant.takes c.next_record.ensures.takes;
-      counts = omega (arith, c.records.invariant.counts, c.in-Ok-SoFar.ensures.cause);
+      counts = c.in-Ok-SoFar.ensures.cause ∙ c.records.invariant.counts;
     }
 
 pub returns-in-Ok-Whole-clause-reads : goal.returns-in-Ok-Whole-clause-reads
@@ -34,7 +35,7 @@ returns-in-Ok-Whole-clause-reads g c =
 
 pub returns-in-Ok-Whole-clause-passes : goal.returns-in-Ok-Whole-clause-passes
 returns-in-Ok-Whole-clause-passes g c =
-    PassesUpTo-behind c.args.reader.now c.records.reader c.next_record.new.reader _ _ _
+    PassesUpTo-behind c.args.reader.now c.records.reader c.next_record.new.reader _ _ _ _ _ _
     (answer_behind c.next_record.new.reader (Ok c.in-Ok-Whole.sheet))
     c.records.invariant.passes c.in-Ok-Whole.ensures.passes
 
@@ -48,7 +49,7 @@ returns-in-Err-clause-reads g c = c.in-Err.ensures.reads _ c.records.invariant.l
 
 pub returns-in-Err-clause-passes : goal.returns-in-Err-clause-passes
 returns-in-Err-clause-passes g c =
-    PassesUpTo-behind c.args.reader.now c.records.reader c.next_record.new.reader _ _ _
+    PassesUpTo-behind c.args.reader.now c.records.reader c.next_record.new.reader _ _ _ _ _ _
     (answer_behind {A = Progress} c.next_record.new.reader (Err c.in-Err.stop))
     c.records.invariant.passes c.in-Err.ensures.passes
 

@@ -1,20 +1,20 @@
-use Rattle.std.proofs.Common.{◌-◌, ◌≤◌}
+use Rattle.std.proofs.Common.{◌≡◌, ◌-◌}
 use Rattle.port_core.specs.Contents.{input_limit}
-use Rattle.port_core.specs.Reading.{TakesInput, contents_to_come}
+use Rattle.port_core.specs.Readers.{TakesInput, contents_to_come}
 use Rattle.fixture_sheet.specs.Calls.{Leads, PassesLines}
 use Rattle.fixture_sheet.proofs.reader.read_sheet.Given as goal
 
--- the lines so far led to this draft, they were passed whole, and no count of faults fell
+-- the lines so far led to this draft, they were passed whole, and the count of faults stayed
 abbrev pub invariant-records : goal.invariant-records
 invariant-records g l = record {
   leads : Leads (contents_to_come l.fn.reader (g.S.Source.left l.fn.source))
       (contents_to_come l.reader (g.S.Source.left l.source)) l.draft;
   passes : PassesLines l.fn.reader l.reader (g.S.Source.left l.fn.source)
-      (g.S.Source.left l.source);
+      (g.S.Source.left l.source) (g.S.Source.ended l.fn.source) (g.S.Source.ended l.source);
   takes : TakesInput l.fn.reader l.reader (g.S.Source.left l.fn.source) (g.S.Source.left l.source);
-  counts : g.S.Source.faults l.fn.source ≤ g.S.Source.faults l.source;
+  counts : g.S.Source.faults l.source ≡ g.S.Source.faults l.fn.source;
 }
 
 -- the bytes that may still be passed
 abbrev pub decreases-records : goal.decreases-records
-decreases-records g l = input_limit - l.reader.place.bytes
+decreases-records g l = input_limit - l.reader.position.bytes

@@ -1,0 +1,27 @@
+//! The clubs of a whole sheet by their names.
+
+ghost use Rattle.std.specs.Prelude.{◌≡◌, ◌≤◌, ◌<◌, IfSome, length, position, bytes_eq};
+ghost use Rattle.league_core.specs.declared.sheet.Club.{Club};
+ghost use Rattle.fixture_sheet.specs.Records.{club_named};
+
+use crate::name::text_of;
+use league_core::{Club, Sheet};
+
+/// The number of the club that a field names, from 0.
+pub fn club_named(sheet: &Sheet, field: &[u8]) -> Option<u8>
+    requires { length sheet.now.clubs ≤ 255 }
+    ensures place { result ≡ club_named sheet.now field.now }
+    ensures within { IfSome result (λ club. club < length sheet.now.clubs) }
+{
+    match place_of(sheet.clubs.as_slice(), text_of(field)?) {
+        Some(club) => Some(club as u8),
+        None => None,
+    }
+}
+
+fn place_of(clubs: &[Club], name: &str) -> Option<usize>
+    ensures place { result ≡ position (λ (club : Club). bytes_eq name.now club.name) clubs.now }
+    ensures within { IfSome result (λ place. place < length clubs.now) }
+{
+    clubs.iter().position(|club| name == club.name.as_str())
+}
