@@ -3,7 +3,7 @@ use Rattle.std.proofs.Common.{◌≡◌, ◌≤◌, ℕ, List, [], ◌∷◌, �
 use Rattle.port_core.specs.declared.answers.ReadStop.{ReadStop}
 use Rattle.port_core.specs.declared.answers.ReadStop.TheVariants.{ReadFault, LineTooLong, InputTooLong}
 use Rattle.port_core.specs.Contents.{Contents, ended, with_line, with_lines}
-use Rattle.port_core.specs.Reading.{Reading as LineReading}
+use Rattle.port_core.specs.Readers.{Reader}
 use Rattle.result_log.specs.declared.entry.Entry.{Entry}
 use Rattle.result_log.specs.declared.entry.Entry.TheVariants.{Change, Ask, Proofs, End}
 use Rattle.result_log.specs.declared.fault.FeedStop.{FeedStop}
@@ -163,8 +163,8 @@ Stop-reads entry stop before after is same =
 -- ---- progress, and faults
 
 -- a reader that had passed bytes before passes more
-pub MovesToEntry-from : (first old new : LineReading) (result : Result Entry FeedStop)
-    → first.place.bytes ≤ old.place.bytes → MovesToEntry old new result
+pub MovesToEntry-from : (first old new : Reader) (result : Result Entry FeedStop)
+    → first.position.bytes ≤ old.position.bytes → MovesToEntry old new result
     → MovesToEntry first new result
 MovesToEntry-from first old new (Ok (Change event)) before moves =
     let (more, room) = moves in (omega arith, room)

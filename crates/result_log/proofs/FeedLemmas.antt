@@ -13,11 +13,12 @@ use Rattle.result_log.specs.declared.entry.Entry.{Entry}
 use Rattle.result_log.specs.declared.entry.Entry.TheVariants.{Change, Ask, Proofs, End}
 use Rattle.result_log.specs.declared.fault.FeedFault.{FeedFault}
 use Rattle.result_log.specs.declared.fault.FeedFault.TheVariants.{UnknownRecord}
-use Rattle.result_log.specs.Records.{IsEntryAt, event_limit}
-use Rattle.result_log.specs.Feeds.{Reading, count_with, entry_if, entry_in, events_with, feed_by, feed_from, feed_of, given, reading_by, reading_from, reading_of, season_with}
+use Rattle.league_core.specs.Limits.{most_events}
+use Rattle.result_log.specs.Records.{IsEntryAt}
+use Rattle.result_log.specs.Feeds.{EntryReading, count_with, entry_if, entry_in, events_with, feed_by, feed_from, feed_of, given, reading_by, reading_from, reading_of, season_with}
 use Rattle.result_log.specs.Laws.{KeepsLog, feed_behind}
 use Rattle.result_log.proofs.RecordLemmas.{entry_may_come}
-use Rattle.result_log.proofs.SeasonLemmas.{AreEventsOf-push, season_after_of}
+use Rattle.league_core.proofs.LogLemmas.{AreEventsOf-push, season_after_of}
 
 -- ---- one entry
 
@@ -45,7 +46,7 @@ line_may_come sheet season events proofs content entry of_sheet told =
 
 -- so may one that is read in a line or behind it
 line_reading_may_come : (sheet : Sheet) (season : Results) (events : ℕ) (proofs : Bool)
-    (line : ℕ × List ℕ) (rest : Contents) (onward : Reading) (entry : Entry)
+    (line : ℕ × List ℕ) (rest : Contents) (onward : EntryReading) (entry : Entry)
     → IsSeasonOf sheet season → (onward.gives ≡ Ok entry → IsEntryAt season events proofs entry)
     → (found : Result (Option Entry) FeedFault)
     → entry_in sheet season events proofs line.1 ≡ found
@@ -88,7 +89,7 @@ contents_may_come sheet season events proofs contents entry of_sheet gives =
 
 -- a feed is its first entry and what is behind it: a line more
 feed_by-first : (sheet : Sheet) (proofs : Bool) (events : List Event) (number : ℕ)
-    (rest : Contents) (onward : Reading)
+    (rest : Contents) (onward : EntryReading)
     → feed_from sheet proofs rest.lines rest.ending events
     ≡ feed_behind sheet proofs events onward.rest onward.gives
     → (found : Result (Option Entry) FeedFault)
@@ -144,7 +145,7 @@ season_after-entry sheet events End = (refl, refl)
 log-with : (sheet : Sheet) (events : List Event) (proofs : Bool) (event : Event)
     → AreEventsOf sheet events
     → IsEntryAt (season_after sheet events) (epoch_of events) proofs (Change event)
-    → AreEventsOf sheet (events ++ event ∷ []) × (epoch_of (events ++ event ∷ []) ≤ event_limit)
+    → AreEventsOf sheet (events ++ event ∷ []) × (epoch_of (events ++ event ∷ []) ≤ most_events)
 log-with sheet events proofs event events_of may_come =
     let more = length_push events event in
     let room = may_come.1 in
@@ -152,8 +153,8 @@ log-with sheet events proofs event events_of may_come =
 
 -- a line more
 feed_by-log : (sheet : Sheet) (proofs : Bool) (number : ℕ) (rest : Contents) (content : List ℕ)
-    (events : List Event) → AreEventsOf sheet events → epoch_of events ≤ event_limit
-    → ((more : List Event) → AreEventsOf sheet more → epoch_of more ≤ event_limit
+    (events : List Event) → AreEventsOf sheet events → epoch_of events ≤ most_events
+    → ((more : List Event) → AreEventsOf sheet more → epoch_of more ≤ most_events
     → KeepsLog sheet more (feed_from sheet proofs rest.lines rest.ending more))
     → (found : Result (Option Entry) FeedFault)
     → entry_in sheet (season_after sheet events) (epoch_of events) proofs content ≡ found
@@ -183,7 +184,7 @@ feed_by-log sheet proofs number rest content events events_of room behind
 
 feed_from-log : (sheet : Sheet) (proofs : Bool) (lines : List (ℕ × List ℕ))
     (ending : Result ℕ ReadStop) (events : List Event)
-    → AreEventsOf sheet events → epoch_of events ≤ event_limit
+    → AreEventsOf sheet events → epoch_of events ≤ most_events
     → KeepsLog sheet events (feed_from sheet proofs lines ending events)
 feed_from-log sheet proofs [] ending events events_of room = (events_of, room)
 feed_from-log sheet proofs (line ∷ lines) ending events events_of room =
@@ -193,7 +194,7 @@ feed_from-log sheet proofs (line ∷ lines) ending events events_of room =
 
 -- a feed's events are events of the sheet, and not too many
 pub feed_of-log : (sheet : Sheet) (proofs : Bool) (contents : Contents) (events : List Event)
-    → AreEventsOf sheet events → epoch_of events ≤ event_limit
+    → AreEventsOf sheet events → epoch_of events ≤ most_events
     → KeepsLog sheet events (feed_of sheet proofs contents events)
 feed_of-log sheet proofs contents events events_of room =
     feed_from-log sheet proofs contents.lines contents.ending events events_of room

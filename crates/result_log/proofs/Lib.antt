@@ -1,6 +1,5 @@
--- Lemmas on one notion each: records, seasons, feeds, what a call reads; and feeds worked by hand.
+-- Lemmas on one notion each: records, feeds, what a call reads; and feeds worked by hand.
 pub mod RecordLemmas
-pub mod SeasonLemmas
 pub mod FeedLemmas
 pub mod CallLemmas
 pub mod WorkedFeeds

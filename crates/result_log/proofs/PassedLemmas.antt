@@ -3,7 +3,7 @@ use Rattle.std.proofs.Common.{◌≡◌, ℕ, Bool, true, false, List, Option, N
 use Rattle.league_core.specs.declared.sheet.Sheet.{Sheet}
 use Rattle.league_core.specs.Results.{Results}
 use Rattle.port_core.specs.declared.answers.Line.TheVariants as line
-use Rattle.port_core.specs.Reading.{Reading as LineReading}
+use Rattle.port_core.specs.Readers.{Reader}
 use Rattle.fixture_sheet.specs.Fields.{has_return, record_of}
 use Rattle.result_log.specs.declared.entry.Entry.{Entry}
 use Rattle.result_log.specs.declared.entry.Entry.TheVariants.{Change, Ask, Proofs, End}
@@ -36,8 +36,8 @@ content_is_no_end sheet season events proofs content told =
         entry_is_no_end sheet season events proofs fields
         (given-end (entry_of sheet season events proofs fields) told)
 
-told-behind : (new : LineReading) (number : ℕ) (told : Result (Option Entry) FeedFault)
-    (result : Option (Result Entry FeedStop)) → number ≡ new.place.lines
+told-behind : (new : Reader) (number : ℕ) (told : Result (Option Entry) FeedFault)
+    (result : Option (Result Entry FeedStop)) → number ≡ new.position.lines
     → AnswersLine number told result → (told ≡ Ok (Some End) → ⊥)
     → answer_there new result ≡ Ok (line.Text number)
 told-behind new number told None is answer no_end =
@@ -57,8 +57,8 @@ told-behind new number told (Some (Err OutOfMemory)) is answer no_end =
 
 -- what comes of a line came of the line passed last
 pub line-behind : (sheet : Sheet) (season : Results) (events : ℕ) (proofs : Bool)
-    (content : List ℕ) (new : LineReading) (number : ℕ)
-    (result : Option (Result Entry FeedStop)) → number ≡ new.place.lines
+    (content : List ℕ) (new : Reader) (number : ℕ)
+    (result : Option (Result Entry FeedStop)) → number ≡ new.position.lines
     → AnswersLine number (entry_in sheet season events proofs content) result
     → answer_there new result ≡ Ok (line.Text number)
 line-behind sheet season events proofs content new number result is answer =

@@ -1,19 +1,26 @@
 -- Lemmas on records: what is known of one that no test refuses.
-use Rattle.std.proofs.Common.{◌≡◌, ◌<◌, ◌≤◌, ℕ, Bool, true, false, not, ◌&&◌, ◌==◌, nat_le, List, [], ◌∷◌, length, Option, None, Some, is_some, option_and_then, if◌then◌else◌, bytes_eq, codes, Result, Ok, Err, IfOk, refl, sym, ap, subst, ◌∙◌, arith}
+use Rattle.std.proofs.Common.{◌≡◌, ◌<◌, ◌≤◌, ℕ, Bool, true, false, not, ◌&&◌, ◌||◌, ◌==◌, nat_le, List, [], ◌∷◌, length, Option, None, Some, is_some, option_and_then, if◌then◌else◌, bytes_eq, codes, Result, Ok, Err, IfOk, refl, sym, ap, subst, ◌∙◌, arith}
+use Rattle.std.specs.List.{position}
 use Rattle.std.specs.Str.Parse.{digits_value}
 use Rattle.std.proofs.lemmas.Bool.{and_parts, leb-true, leb-false, le-leb, not-false, and_from}
+use Rattle.std.proofs.lemmas.List.{length-map}
+use Rattle.std.proofs.lemmas.List.Quantifiers.{position-Some}
 use Rattle.league_core.specs.declared.sheet.Sheet.{Sheet}
+use Rattle.league_core.specs.declared.sheet.Club.{Club}
+use Rattle.league_core.specs.Limits.{most_deduction, most_events, most_goals}
 use Rattle.league_core.specs.Results.{Results, is_score}
 use Rattle.league_core.specs.Seasons.{IsSeasonOf}
 use Rattle.fixture_sheet.specs.Fields.{field}
-use Rattle.fixture_sheet.specs.Texts.{only_if, if_within, is_number}
+use Rattle.fixture_sheet.specs.Texts.{only_if, if_within, is_number, text_of}
+use Rattle.fixture_sheet.specs.Drafts.{names_of}
+use Rattle.fixture_sheet.specs.Records.{club_named}
 use Rattle.result_log.specs.declared.entry.Entry.{Entry}
 use Rattle.result_log.specs.declared.entry.Entry.TheVariants.{End}
 use Rattle.result_log.specs.declared.kind.Kind.{Kind}
 use Rattle.result_log.specs.declared.kind.Kind.TheVariants as kinds
 use Rattle.result_log.specs.declared.fault.FeedFault.{FeedFault}
-use Rattle.result_log.specs.declared.fault.FeedFault.TheVariants.{WrongWidth, UnknownFixture, BadGoals, AlreadyPlayed, NotPlayed, LogFull}
-use Rattle.result_log.specs.Records.{IsEntryAt, entry_by, entry_of, entry_told, event_limit, fixture_told, has_fixture, has_goals, has_result, has_score, is_event, is_for_played, is_for_unplayed, is_within, kind_of, score_told, tests_of, told_unless, width_of}
+use Rattle.result_log.specs.declared.fault.FeedFault.TheVariants.{WrongWidth, UnknownFixture, UnknownClub, BadGoals, BadPoints, AlreadyPlayed, NotPlayed, LogFull}
+use Rattle.result_log.specs.Records.{IsEntryAt, club_told, entry_by, entry_of, entry_told, fixture_told, found_number, has_club, has_fixture, has_goals, has_points, has_result, has_score, is_event, is_for_club, is_for_fixture, is_for_played, is_for_unplayed, is_within, kind_of, number_at, score_told, tests_of, told_unless, width_of}
 
 -- ---- ranges
 
@@ -49,41 +56,59 @@ fixture-within sheet fields has =
 score-within : (fields : List (List ℕ)) → has_goals fields ≡ true
     → is_score (score_told fields) ≡ true
 score-within fields has =
-    let parts = and_parts (is_within 0 99 (field 2 fields)) (is_within 0 99 (field 3 fields)) has in
-    and_from _ _ (le-leb _ _ (range-within 0 99 (field 2 fields) parts.0).1)
-    (le-leb _ _ (range-within 0 99 (field 3 fields) parts.1).1)
+    let parts = and_parts (is_within 0 most_goals (field 2 fields)) (is_within 0 most_goals (field 3 fields)) has in
+    and_from _ _ (le-leb _ _ (range-within 0 most_goals (field 2 fields) parts.0).1)
+    (le-leb _ _ (range-within 0 most_goals (field 3 fields) parts.1).1)
 
 -- ---- the tests
 
+same-ok : (value given : Entry) (told : Result Entry FeedFault) → told ≡ Ok value → told ≡ Ok given
+    → value ≡ given
+same-ok value given told is same = cc
+
 -- a value that is given passed each test
-passed : {A : Type 0} (a b c d e f : Bool) (fa fb fc fd fe ff : FeedFault) (value given : A)
-    → told_unless ((a, fa) ∷ (b, fb) ∷ (c, fc) ∷ (d, fd) ∷ (e, fe) ∷ (f, ff) ∷ []) value ≡ Ok given
-    → (b ≡ false) × (c ≡ false) × (f ≡ false) × (value ≡ given)
-passed true b c d e f fa fb fc fd fe ff value given told = cc
-passed false true c d e f fa fb fc fd fe ff value given told = cc
-passed false false true d e f fa fb fc fd fe ff value given told = cc
-passed false false false true e f fa fb fc fd fe ff value given told = cc
-passed false false false false true f fa fb fc fd fe ff value given told = cc
-passed false false false false false true fa fb fc fd fe ff value given told = cc
-passed false false false false false false fa fb fc fd fe ff value given told =
-    (refl, refl, refl, cc)
+passed : (test : Bool) (fault : FeedFault) (rest : Result Entry FeedFault) (given : Entry)
+    → (if test then Err fault else rest) ≡ Ok given → (test ≡ false) × (rest ≡ Ok given)
+passed true fault rest given told = cc
+passed false fault rest given told = (refl, told)
 
 -- what is known of a record of a kind that is an entry
+record KnownOf (sheet : Sheet) (events : ℕ) (fields : List (List ℕ)) (kind : Kind) (entry : Entry)
+    : Type 0 where
+  fixture : (is_for_fixture kind && not (has_fixture sheet fields)) ≡ false
+  club : (is_for_club kind && not (has_club sheet fields)) ≡ false
+  goals : (has_score kind && not (has_goals fields)) ≡ false
+  points : (is_for_club kind && not (has_points fields)) ≡ false
+  room : (is_event kind && nat_le most_events events) ≡ false
+  is : entry_told sheet fields kind ≡ entry
+
 told_as : (sheet : Sheet) (season : Results) (events : ℕ) (fields : List (List ℕ)) (kind : Kind)
     (entry : Entry)
-    → told_unless (tests_of sheet season events fields kind) (entry_told fields kind) ≡ Ok entry
-    → ((is_event kind && not (has_fixture sheet fields)) ≡ false)
-    × ((has_score kind && not (has_goals fields)) ≡ false)
-    × ((is_event kind && nat_le event_limit events) ≡ false)
-    × (entry_told fields kind ≡ entry)
+    → told_unless (tests_of sheet season events fields kind) (entry_told sheet fields kind) ≡ Ok entry
+    → KnownOf sheet events fields kind entry
 told_as sheet season events fields kind entry told =
-    passed (not (length fields == width_of kind)) (is_event kind && not (has_fixture sheet fields))
-    (has_score kind && not (has_goals fields))
-    (is_for_unplayed kind && has_result season (fixture_told fields))
-    (is_for_played kind && not (has_result season (fixture_told fields)))
-    (is_event kind && nat_le event_limit events)
-    WrongWidth UnknownFixture BadGoals AlreadyPlayed NotPlayed LogFull
-    (entry_told fields kind) entry told
+    let width = passed (not (length fields == width_of kind)) WrongWidth _ entry told in
+    let fixture = passed (is_for_fixture kind && not (has_fixture sheet fields)) UnknownFixture
+    _ entry width.1 in
+    let club = passed (is_for_club kind && not (has_club sheet fields)) UnknownClub
+    _ entry fixture.1 in
+    let goals = passed (has_score kind && not (has_goals fields)) BadGoals _ entry club.1 in
+    let points = passed (is_for_club kind && not (has_points fields)) BadPoints
+    _ entry goals.1 in
+    let played = passed (is_for_unplayed kind && has_result season (fixture_told fields))
+    AlreadyPlayed _ entry points.1 in
+    let open_yet = passed (is_for_played kind && not (has_result season (fixture_told fields)))
+    NotPlayed _ entry played.1 in
+    let room = passed (is_event kind && nat_le most_events events) LogFull
+    _ entry open_yet.1 in
+    record {
+      fixture = fixture.0;
+      club = club.0;
+      goals = goals.0;
+      points = points.0;
+      room = room.0;
+      is = same-ok _ _ _ refl room.1;
+    }
 
 -- the fixture of a record is one of the season's
 fixture_of_season : (sheet : Sheet) (season : Results) (fields : List (List ℕ))
@@ -94,53 +119,88 @@ fixture_of_season sheet season fields of_sheet has =
     let same = of_sheet.scores in
     omega arith
 
+named-within : (sheet : Sheet) (name : Option (List ℕ)) (place : ℕ)
+    → option_and_then (λ n. position (bytes_eq n) (names_of sheet)) name ≡ Some place
+    → place < length (names_of sheet)
+named-within sheet None place is = cc
+named-within sheet (Some name) place is =
+    (position-Some (bytes_eq name) (names_of sheet) place [] is).0
+
+-- a name that is found stands among them
+found-within : (names : List (List ℕ)) (found : Option ℕ)
+    → ((place : ℕ) → found ≡ Some place → place < length names) → is_some found ≡ true
+    → found_number found < length names
+found-within names None inside some = cc
+found-within names (Some place) inside some = inside place refl
+
+-- the club of a record is one of the season's
+club_of_season : (sheet : Sheet) (season : Results) (fields : List (List ℕ))
+    → IsSeasonOf sheet season → has_club sheet fields ≡ true
+    → club_told sheet fields < length season.deductions
+club_of_season sheet season fields of_sheet has =
+    let inside = found-within (names_of sheet) (club_named sheet (field 1 fields))
+    (λ place is. named-within sheet (text_of (field 1 fields)) place is) has in
+    omega (arith, inside, of_sheet.deductions, length-map sheet.clubs (λ (club : Club). club.name))
+
 -- a record of a kind that is an entry may come
 may_come : (sheet : Sheet) (season : Results) (events : ℕ) (proofs : Bool)
     (fields : List (List ℕ)) (kind : Kind) (entry : Entry) → IsSeasonOf sheet season
     → (kind ≡ kinds.Proofs → proofs ≡ true)
-    → told_unless (tests_of sheet season events fields kind) (entry_told fields kind) ≡ Ok entry
+    → told_unless (tests_of sheet season events fields kind) (entry_told sheet fields kind) ≡ Ok entry
     → IsEntryAt season events proofs entry
 may_come sheet season events proofs fields kinds.Result entry of_sheet allowed told =
     let known = told_as sheet season events fields kinds.Result entry told in
-    subst (IsEntryAt season events proofs) known.3 (
+    subst (IsEntryAt season events proofs) known.is (
       (
-        fixture_of_season sheet season fields of_sheet known.0,
-        score-within fields (not-false _ known.1),
+        fixture_of_season sheet season fields of_sheet known.fixture,
+        score-within fields (not-false _ known.goals),
       ),
-      leb-false _ _ known.2,
+      leb-false _ _ known.room,
     )
 may_come sheet season events proofs fields kinds.Fix entry of_sheet allowed told =
     let known = told_as sheet season events fields kinds.Fix entry told in
-    subst (IsEntryAt season events proofs) known.3 (
+    subst (IsEntryAt season events proofs) known.is (
       (
-        fixture_of_season sheet season fields of_sheet known.0,
-        score-within fields (not-false _ known.1),
+        fixture_of_season sheet season fields of_sheet known.fixture,
+        score-within fields (not-false _ known.goals),
       ),
-      leb-false _ _ known.2,
+      leb-false _ _ known.room,
     )
 may_come sheet season events proofs fields kinds.Void entry of_sheet allowed told =
     let known = told_as sheet season events fields kinds.Void entry told in
-    subst (IsEntryAt season events proofs) known.3
-    (fixture_of_season sheet season fields of_sheet known.0, leb-false _ _ known.2)
+    subst (IsEntryAt season events proofs) known.is
+    (fixture_of_season sheet season fields of_sheet known.fixture, leb-false _ _ known.room)
+may_come sheet season events proofs fields kinds.Deduct entry of_sheet allowed told =
+    let known = told_as sheet season events fields kinds.Deduct entry told in
+    let points = range-within 0 most_deduction (field 2 fields) (not-false _ known.points) in
+    subst (IsEntryAt season events proofs) known.is (
+      (
+        club_of_season sheet season fields of_sheet (not-false _ known.club),
+        points.1,
+      ),
+      leb-false _ _ known.room,
+    )
 may_come sheet season events proofs fields kinds.Ask entry of_sheet allowed told =
     let known = told_as sheet season events fields kinds.Ask entry told in
-    subst (IsEntryAt season events proofs) known.3 tt
+    subst (IsEntryAt season events proofs) known.is tt
 may_come sheet season events proofs fields kinds.Proofs entry of_sheet allowed told =
     let known = told_as sheet season events fields kinds.Proofs entry told in
-    subst (IsEntryAt season events proofs) known.3 (allowed refl)
+    subst (IsEntryAt season events proofs) known.is (allowed refl)
 
 -- `proofs` is a record only where proofs may follow
-proofs_allowed : (a b c d e proofs : Bool)
+proofs_allowed : (a b c d e f proofs : Bool)
     → (if a then Some kinds.Result else if b then Some kinds.Fix else if c then Some kinds.Void
-    else if d then Some kinds.Ask else if e && proofs then Some kinds.Proofs else None)
+    else if d then Some kinds.Deduct else if e then Some kinds.Ask
+    else if f && proofs then Some kinds.Proofs else None)
     ≡ Some kinds.Proofs → proofs ≡ true
-proofs_allowed true b c d e proofs is = cc
-proofs_allowed false true c d e proofs is = cc
-proofs_allowed false false true d e proofs is = cc
-proofs_allowed false false false true e proofs is = cc
-proofs_allowed false false false false false proofs is = cc
-proofs_allowed false false false false true true is = refl
-proofs_allowed false false false false true false is = cc
+proofs_allowed true b c d e f proofs is = cc
+proofs_allowed false true c d e f proofs is = cc
+proofs_allowed false false true d e f proofs is = cc
+proofs_allowed false false false true e f proofs is = cc
+proofs_allowed false false false false true f proofs is = cc
+proofs_allowed false false false false false false proofs is = cc
+proofs_allowed false false false false false true true is = refl
+proofs_allowed false false false false false true false is = cc
 
 -- an entry that a record is may come
 pub entry_may_come : (sheet : Sheet) (season : Results) (events : ℕ) (proofs : Bool)
@@ -157,7 +217,7 @@ entry_may_come sheet season events proofs fields entry of_sheet told =
         may_come sheet season events proofs fields kind entry of_sheet
         (λ proved. proofs_allowed (bytes_eq (field 0 fields) (codes "result"))
         (bytes_eq (field 0 fields) (codes "fix")) (bytes_eq (field 0 fields) (codes "void"))
-        (bytes_eq (field 0 fields) (codes "ask"))
+        (bytes_eq (field 0 fields) (codes "deduct")) (bytes_eq (field 0 fields) (codes "ask"))
         (bytes_eq (field 0 fields) (codes "proofs")) proofs
         (is ∙ ap Some proved)) told
 
@@ -167,16 +227,17 @@ pub entry_is_no_end : (sheet : Sheet) (season : Results) (events : ℕ) (proofs 
 entry_is_no_end sheet season events proofs fields told =
     by_kind (kind_of proofs (field 0 fields)) told
   where
-    no_end : (kind : Kind) → entry_told fields kind ≡ End → ⊥
+    no_end : (kind : Kind) → entry_told sheet fields kind ≡ End → ⊥
     no_end kinds.Result is = cc
     no_end kinds.Fix is = cc
     no_end kinds.Void is = cc
+    no_end kinds.Deduct is = cc
     no_end kinds.Ask is = cc
     no_end kinds.Proofs is = cc
 
     by_kind : (found : Option Kind) → entry_by sheet season events fields found ≡ Ok End → ⊥
     by_kind None told = cc
-    by_kind (Some kind) told = no_end kind (told_as sheet season events fields kind End told).3
+    by_kind (Some kind) told = no_end kind (told_as sheet season events fields kind End told).is
 
 -- the same of what a call answers
 pub answer_may_come : (sheet : Sheet) (season : Results) (events : ℕ) (proofs : Bool)

@@ -5,7 +5,7 @@ use Rattle.port_core.specs.declared.answers.Line.TheVariants as line
 use Rattle.port_core.specs.declared.answers.ReadStop.{ReadStop}
 use Rattle.port_core.specs.declared.answers.ReadStop.TheVariants.{ReadFault, LineTooLong, InputTooLong}
 use Rattle.port_core.specs.Contents.{Contents, with_line, with_lines, input_limit, number_at}
-use Rattle.port_core.specs.Reading.{Reading as LineReading}
+use Rattle.port_core.specs.Readers.{Reader}
 use Rattle.port_core.specs.Ports.{Rose}
 use Rattle.fixture_sheet.specs.Calls.{TakesLines}
 use Rattle.result_log.specs.declared.entry.Entry.{Entry}
@@ -86,28 +86,28 @@ ReadsRecord entry before after (Some result) = ReadsEntry entry before after res
 
 -- the reader's answer that an entry or its want came of: the line passed last, which a refusal has
 -- the number of, the input's end, or a stop
-abbrev pub answer_behind : LineReading → Result Entry FeedStop → Result Line ReadStop
-answer_behind new (Ok (Change event)) = Ok (line.Text new.place.lines)
-answer_behind new (Ok Ask) = Ok (line.Text new.place.lines)
-answer_behind new (Ok Proofs) = Ok (line.Text new.place.lines)
-answer_behind new (Ok End) = Ok (line.End (number_at new.place))
+abbrev pub answer_behind : Reader → Result Entry FeedStop → Result Line ReadStop
+answer_behind new (Ok (Change event)) = Ok (line.Text new.position.lines)
+answer_behind new (Ok Ask) = Ok (line.Text new.position.lines)
+answer_behind new (Ok Proofs) = Ok (line.Text new.position.lines)
+answer_behind new (Ok End) = Ok (line.End (number_at new.position))
 answer_behind new (Err (Fault number fault)) = Ok (line.Text number)
 answer_behind new (Err (Read stop)) = Err stop
-answer_behind new (Err OutOfMemory) = Ok (line.Text new.place.lines)
+answer_behind new (Err OutOfMemory) = Ok (line.Text new.position.lines)
 
 -- the same of one line: without an answer it is passed
-abbrev pub answer_there : LineReading → Option (Result Entry FeedStop) → Result Line ReadStop
-answer_there new None = Ok (line.Text new.place.lines)
+abbrev pub answer_there : Reader → Option (Result Entry FeedStop) → Result Line ReadStop
+answer_there new None = Ok (line.Text new.position.lines)
 answer_there new (Some result) = answer_behind new result
 
 -- ---- progress, and faults
 
 -- a reader passed bytes, and none past the input's limit
-abbrev pub PassesBytes : LineReading → LineReading → Type 0
-PassesBytes old new = (old.place.bytes < new.place.bytes) × (new.place.bytes ≤ input_limit)
+abbrev pub PassesBytes : Reader → Reader → Type 0
+PassesBytes old new = (old.position.bytes < new.position.bytes) × (new.position.bytes ≤ input_limit)
 
 -- behind a record the reader has passed more bytes than before, so that a feed ends
-abbrev pub MovesToEntry : LineReading → LineReading → Result Entry FeedStop → Type 0
+abbrev pub MovesToEntry : Reader → Reader → Result Entry FeedStop → Type 0
 MovesToEntry old new (Ok (Change event)) = PassesBytes old new
 MovesToEntry old new (Ok Ask) = PassesBytes old new
 MovesToEntry old new (Ok Proofs) = PassesBytes old new
@@ -116,16 +116,16 @@ MovesToEntry old new (Err stop) = Unit {0}
 
 -- the same of one line
 abbrev pub MovesToRecord :
-    LineReading → LineReading → Option (Result Entry FeedStop) → Type 0
+    Reader → Reader → Option (Result Entry FeedStop) → Type 0
 MovesToRecord old new None = PassesBytes old new
 MovesToRecord old new (Some result) = MovesToEntry old new result
 
--- a fault of the source is answered only where its count rose, and that count never falls
+-- a fault of the source is answered only where its count rose, and else that count stays
 abbrev pub CountsEntry : ℕ → ℕ → Result Entry FeedStop → Type 0
 CountsEntry before now (Err (Read ReadFault)) = Rose before now
-CountsEntry before now _ = before ≤ now
+CountsEntry before now _ = now ≡ before
 
 -- the same of one line
 abbrev pub CountsRecord : ℕ → ℕ → Option (Result Entry FeedStop) → Type 0
-CountsRecord before now None = before ≤ now
+CountsRecord before now None = now ≡ before
 CountsRecord before now (Some result) = CountsEntry before now result

@@ -1,7 +1,7 @@
 -- Why a record of the feed is refused, and the words for it.
 use Rattle.std.specs.Prelude.{ℕ, List, codes}
 use Rattle.result_log.specs.declared.fault.FeedFault.{FeedFault}
-use Rattle.result_log.specs.declared.fault.FeedFault.TheVariants.{UnknownRecord, WrongWidth, UnknownFixture, BadGoals, AlreadyPlayed, NotPlayed, LogFull}
+use Rattle.result_log.specs.declared.fault.FeedFault.TheVariants.{UnknownRecord, WrongWidth, UnknownFixture, BadGoals, AlreadyPlayed, NotPlayed, LogFull, UnknownClub, BadPoints}
 
 -- the code that a refusal is printed by
 abbrev pub code_of : FeedFault → List ℕ
@@ -12,3 +12,5 @@ code_of BadGoals = codes "bad_goals"
 code_of AlreadyPlayed = codes "already_played"
 code_of NotPlayed = codes "not_played"
 code_of LogFull = codes "log_full"
+code_of UnknownClub = codes "unknown_club"
+code_of BadPoints = codes "bad_points"

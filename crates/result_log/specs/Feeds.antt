@@ -40,7 +40,7 @@ entry_in sheet season events proofs content =
 -- ---- the next entry
 
 -- a reading of one entry: what it gives, and the contents behind what it read
-pub record Reading : Type 0 where
+pub record EntryReading : Type 0 where
   pub gives : Result Entry FeedStop
   pub rest : Contents
 
@@ -52,7 +52,7 @@ given_at_end (Err stop) = Err (Read stop)
 -- what a line leads to, by the entry that it is: the entry, the refusal of the line of this
 -- number, or what comes of the lines behind it
 abbrev pub reading_by :
-    ℕ → Contents → Reading → Result (Option Entry) FeedFault → Reading
+    ℕ → Contents → EntryReading → Result (Option Entry) FeedFault → EntryReading
 reading_by number rest onward (Ok None) = onward
 reading_by number rest onward (Ok (Some entry)) = record { gives = Ok entry; rest = rest }
 reading_by number rest onward (Err fault) =
@@ -60,14 +60,14 @@ reading_by number rest onward (Err fault) =
 
 -- the reading of the first entry of these lines and this ending, where `entry` says what a line is
 abbrev pub reading_from :
-    (List ℕ → Result (Option Entry) FeedFault) → List (ℕ × List ℕ) → Result ℕ ReadStop → Reading
+    (List ℕ → Result (Option Entry) FeedFault) → List (ℕ × List ℕ) → Result ℕ ReadStop → EntryReading
 reading_from entry [] ending = record { gives = given_at_end ending; rest = ended ending }
 reading_from entry (line ∷ lines) ending =
     reading_by line.0 (record { lines = lines; ending = ending })
     (reading_from entry lines ending) (entry line.1)
 
 -- the same of contents
-abbrev pub reading_of : (List ℕ → Result (Option Entry) FeedFault) → Contents → Reading
+abbrev pub reading_of : (List ℕ → Result (Option Entry) FeedFault) → Contents → EntryReading
 reading_of entry contents = reading_from entry contents.lines contents.ending
 
 -- ---- the whole feed

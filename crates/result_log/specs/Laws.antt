@@ -3,13 +3,14 @@
 use Rattle.std.specs.Prelude.{◌≡◌, ◌≢◌, ◌≤◌, ℕ, Bool, IsTrue, List, ◌∷◌, [], ◌++◌, Result, Ok, Err}
 use Rattle.league_core.specs.declared.sheet.Sheet.{Sheet}
 use Rattle.league_core.specs.declared.season.Event.{Event}
-use Rattle.league_core.specs.Results.{Results, are_results}
-use Rattle.league_core.specs.Seasons.{AreEventsOf, IsEventOf, IsSeasonOf, epoch_of, event_applied, season_after}
+use Rattle.league_core.specs.Results.{Results}
+use Rattle.league_core.specs.Seasons.{AreEventsOf, IsSeasonOf, epoch_of, season_after}
 use Rattle.port_core.specs.Contents.{Contents}
 use Rattle.result_log.specs.declared.entry.Entry.{Entry}
 use Rattle.result_log.specs.declared.entry.Entry.TheVariants.{Change, Ask, Proofs, End}
 use Rattle.result_log.specs.declared.fault.FeedStop.{FeedStop}
-use Rattle.result_log.specs.Records.{IsEntryAt, entry_of, event_limit}
+use Rattle.league_core.specs.Limits.{most_events}
+use Rattle.result_log.specs.Records.{IsEntryAt, entry_of}
 use Rattle.result_log.specs.Feeds.{Feed, closed, count_with, entry_in, events_behind, events_with, feed_of, reading_of, season_with, with_entry}
 
 -- ---- one entry
@@ -34,26 +35,6 @@ ReadingsMayCome =
     (entry : Entry) → IsSeasonOf sheet season
     → (reading_of (entry_in sheet season events proofs) contents).gives ≡ Ok entry
     → IsEntryAt season events proofs entry
-
--- ---- the season behind an event
-
--- a season of the sheet stays one
-abbrev pub EventsKeepTheSheet : Type 0
-EventsKeepTheSheet =
-    (sheet : Sheet) (season : Results) (event : Event) → IsSeasonOf sheet season
-    → IsSeasonOf sheet (event_applied season event)
-
--- its scores and deductions are again at most 99
-abbrev pub EventsKeepResults : Type 0
-EventsKeepResults =
-    (season : Results) (event : Event) → IsTrue (are_results season) → IsEventOf season event
-    → IsTrue (are_results (event_applied season event))
-
--- an event that the season of some events may be told is one more event of the sheet
-abbrev pub EventsAreOfTheSheet : Type 0
-EventsAreOfTheSheet =
-    (sheet : Sheet) (events : List Event) (event : Event) → AreEventsOf sheet events
-    → IsEventOf (season_after sheet events) event → AreEventsOf sheet (events ++ event ∷ [])
 
 -- ---- the whole feed
 
@@ -88,22 +69,11 @@ SeasonsGrowByEntries =
 abbrev pub KeepsLog : Sheet → List Event → Feed → Type 0
 KeepsLog sheet events feed =
     AreEventsOf sheet (events_behind events feed.entries)
-    × (epoch_of (events_behind events feed.entries) ≤ event_limit)
+    × (epoch_of (events_behind events feed.entries) ≤ most_events)
 
 -- a feed's events are events of the sheet, and never more than may be
 abbrev pub FeedsKeepTheLog : Type 0
 FeedsKeepTheLog =
     (sheet : Sheet) (proofs : Bool) (contents : Contents) (events : List Event)
-    → AreEventsOf sheet events → epoch_of events ≤ event_limit
+    → AreEventsOf sheet events → epoch_of events ≤ most_events
     → KeepsLog sheet events (feed_of sheet proofs contents events)
-
--- the season of any events is a season of the sheet
-abbrev pub LogsAreOfTheSheet : Type 0
-LogsAreOfTheSheet =
-    (sheet : Sheet) (events : List Event) → IsSeasonOf sheet (season_after sheet events)
-
--- the season of events of the sheet has scores and deductions that may be
-abbrev pub LogsGiveResults : Type 0
-LogsGiveResults =
-    (sheet : Sheet) (events : List Event) → AreEventsOf sheet events
-    → IsTrue (are_results (season_after sheet events))

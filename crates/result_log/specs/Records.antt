@@ -4,17 +4,19 @@ use Rattle.std.specs.Prelude.{◌<◌, ℕ, ◌-◌, Bool, true, false, not, ◌
 use Rattle.std.specs.Str.Parse.{digits_value}
 use Rattle.league_core.specs.declared.sheet.Sheet.{Sheet}
 use Rattle.league_core.specs.declared.season.Score.{Score}
-use Rattle.league_core.specs.declared.season.Event.TheVariants.{Set, Clear}
+use Rattle.league_core.specs.declared.season.Event.TheVariants.{Set, Clear, Deduct}
+use Rattle.league_core.specs.Limits.{most_deduction, most_events, most_goals}
 use Rattle.league_core.specs.Results.{Results}
 use Rattle.league_core.specs.Seasons.{IsEventOf}
 use Rattle.fixture_sheet.specs.Fields.{field}
 use Rattle.fixture_sheet.specs.Texts.{number_within}
+use Rattle.fixture_sheet.specs.Records.{club_named}
 use Rattle.result_log.specs.declared.entry.Entry.{Entry}
 use Rattle.result_log.specs.declared.entry.Entry.TheVariants.{Change, Ask, Proofs, End}
 use Rattle.result_log.specs.declared.kind.Kind.{Kind}
 use Rattle.result_log.specs.declared.kind.Kind.TheVariants as kind
 use Rattle.result_log.specs.declared.fault.FeedFault.{FeedFault}
-use Rattle.result_log.specs.declared.fault.FeedFault.TheVariants.{UnknownRecord, WrongWidth, UnknownFixture, BadGoals, AlreadyPlayed, NotPlayed, LogFull}
+use Rattle.result_log.specs.declared.fault.FeedFault.TheVariants.{UnknownRecord, WrongWidth, UnknownFixture, UnknownClub, BadGoals, BadPoints, AlreadyPlayed, NotPlayed, LogFull}
 
 -- ---- the kinds of records
 
@@ -24,15 +26,17 @@ kind_of proofs word =
     if bytes_eq word (codes "result") then Some kind.Result
     else if bytes_eq word (codes "fix") then Some kind.Fix
     else if bytes_eq word (codes "void") then Some kind.Void
+    else if bytes_eq word (codes "deduct") then Some kind.Deduct
     else if bytes_eq word (codes "ask") then Some kind.Ask
     else if bytes_eq word (codes "proofs") && proofs then Some kind.Proofs
     else None
 
--- how many fields it has: result,F,H,A and fix,F,H,A; void,F; ask; proofs
+-- how many fields it has: result,F,H,A and fix,F,H,A; void,F; deduct,CLUB,P; ask; proofs
 abbrev pub width_of : Kind → ℕ
 width_of kind.Result = 4
 width_of kind.Fix = 4
 width_of kind.Void = 2
+width_of kind.Deduct = 3
 width_of kind.Ask = 1
 width_of kind.Proofs = 1
 
@@ -41,6 +45,7 @@ abbrev pub has_score : Kind → Bool
 has_score kind.Result = true
 has_score kind.Fix = true
 has_score kind.Void = false
+has_score kind.Deduct = false
 has_score kind.Ask = false
 has_score kind.Proofs = false
 
@@ -49,6 +54,7 @@ abbrev pub is_for_unplayed : Kind → Bool
 is_for_unplayed kind.Result = true
 is_for_unplayed kind.Fix = false
 is_for_unplayed kind.Void = false
+is_for_unplayed kind.Deduct = false
 is_for_unplayed kind.Ask = false
 is_for_unplayed kind.Proofs = false
 
@@ -57,12 +63,26 @@ abbrev pub is_for_played : Kind → Bool
 is_for_played kind.Result = false
 is_for_played kind.Fix = true
 is_for_played kind.Void = true
+is_for_played kind.Deduct = false
 is_for_played kind.Ask = false
 is_for_played kind.Proofs = false
 
+-- it is for a fixture
+abbrev pub is_for_fixture : Kind → Bool
+is_for_fixture kind = is_for_unplayed kind || is_for_played kind
+
+-- it is for a club
+abbrev pub is_for_club : Kind → Bool
+is_for_club kind.Result = false
+is_for_club kind.Fix = false
+is_for_club kind.Void = false
+is_for_club kind.Deduct = true
+is_for_club kind.Ask = false
+is_for_club kind.Proofs = false
+
 -- it tells an event
 abbrev pub is_event : Kind → Bool
-is_event kind = is_for_unplayed kind || is_for_played kind
+is_event kind = is_for_fixture kind || is_for_club kind
 
 -- ---- what a record tells; it means something where no test refuses the record
 
@@ -78,19 +98,25 @@ fixture_told fields = number_at 1 fields - 1
 abbrev pub score_told : List (List ℕ) → Score
 score_told fields = record { home = number_at 2 fields; away = number_at 3 fields }
 
+-- a number that is found
+abbrev pub found_number : Option ℕ → ℕ
+found_number None = 0
+found_number (Some number) = number
+
+-- the club, by its number from 0
+abbrev pub club_told : Sheet → List (List ℕ) → ℕ
+club_told sheet fields = found_number (club_named sheet (field 1 fields))
+
 -- the entry
-abbrev pub entry_told : List (List ℕ) → Kind → Entry
-entry_told fields kind.Result = Change (Set (fixture_told fields) (score_told fields))
-entry_told fields kind.Fix = Change (Set (fixture_told fields) (score_told fields))
-entry_told fields kind.Void = Change (Clear (fixture_told fields))
-entry_told fields kind.Ask = Ask
-entry_told fields kind.Proofs = Proofs
+abbrev pub entry_told : Sheet → List (List ℕ) → Kind → Entry
+entry_told sheet fields kind.Result = Change (Set (fixture_told fields) (score_told fields))
+entry_told sheet fields kind.Fix = Change (Set (fixture_told fields) (score_told fields))
+entry_told sheet fields kind.Void = Change (Clear (fixture_told fields))
+entry_told sheet fields kind.Deduct = Change (Deduct (club_told sheet fields) (number_at 2 fields))
+entry_told sheet fields kind.Ask = Ask
+entry_told sheet fields kind.Proofs = Proofs
 
 -- ---- the tests
-
--- the most events of a feed
-abbrev pub event_limit : ℕ
-event_limit = 100000
 
 -- a field is a number, and in this range
 abbrev pub is_within : ℕ → ℕ → List ℕ → Bool
@@ -102,7 +128,16 @@ has_fixture sheet fields = is_within 1 (length sheet.fixtures) (field 1 fields)
 
 -- the score is one that a match may have
 abbrev pub has_goals : List (List ℕ) → Bool
-has_goals fields = is_within 0 99 (field 2 fields) && is_within 0 99 (field 3 fields)
+has_goals fields =
+    is_within 0 most_goals (field 2 fields) && is_within 0 most_goals (field 3 fields)
+
+-- the sheet has the club
+abbrev pub has_club : Sheet → List (List ℕ) → Bool
+has_club sheet fields = is_some (club_named sheet (field 1 fields))
+
+-- the points are as many as may be taken off
+abbrev pub has_points : List (List ℕ) → Bool
+has_points fields = is_within 0 most_deduction (field 2 fields)
 
 -- the fixture has a score
 abbrev pub has_result : Results → ℕ → Bool
@@ -112,11 +147,13 @@ has_result season fixture = is_some (slice_index_or season.scores fixture None)
 abbrev pub event_tests :
     Sheet → Results → ℕ → List (List ℕ) → Kind → List (Bool × FeedFault)
 event_tests sheet season events fields kind =
-    (is_event kind && not (has_fixture sheet fields), UnknownFixture)
+    (is_for_fixture kind && not (has_fixture sheet fields), UnknownFixture)
+    ∷ (is_for_club kind && not (has_club sheet fields), UnknownClub)
     ∷ (has_score kind && not (has_goals fields), BadGoals)
+    ∷ (is_for_club kind && not (has_points fields), BadPoints)
     ∷ (is_for_unplayed kind && has_result season (fixture_told fields), AlreadyPlayed)
     ∷ (is_for_played kind && not (has_result season (fixture_told fields)), NotPlayed)
-    ∷ (is_event kind && nat_le event_limit events, LogFull)
+    ∷ (is_event kind && nat_le most_events events, LogFull)
     ∷ []
 
 -- all tests of a record of this kind
@@ -135,7 +172,7 @@ abbrev pub entry_by :
     Sheet → Results → ℕ → List (List ℕ) → Option Kind → Result Entry FeedFault
 entry_by sheet season events fields None = Err UnknownRecord
 entry_by sheet season events fields (Some kind) =
-    told_unless (tests_of sheet season events fields kind) (entry_told fields kind)
+    told_unless (tests_of sheet season events fields kind) (entry_told sheet fields kind)
 
 -- the entry that a record is, in this season, behind so many events
 abbrev pub entry_of :
@@ -146,7 +183,7 @@ entry_of sheet season events proofs fields =
 -- an entry may come in this season, behind so many events: its event is one that the season may be
 -- told, with room for it, and proofs follow only where they may
 abbrev pub IsEntryAt : Results → ℕ → Bool → Entry → Type 0
-IsEntryAt season events proofs (Change event) = IsEventOf season event × (events < event_limit)
+IsEntryAt season events proofs (Change event) = IsEventOf season event × (events < most_events)
 IsEntryAt season events proofs Ask = Unit {0}
 IsEntryAt season events proofs Proofs = IsTrue proofs
 IsEntryAt season events proofs End = Unit {0}

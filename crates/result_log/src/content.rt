@@ -27,6 +27,7 @@ pub fn read_content(
     content: &[u8],
 ) -> Result<Option<Entry>, ContentStop>
     requires of_sheet { IsSeasonOf sheet.now season.now }
+    requires clubs { length sheet.now.clubs ≤ 255 }
     requires numbers { length sheet.now.fixtures ≤ 65535 }
     ensures answer { AnswersContent (entry_in sheet.now season.now events proofs content.now)
         result }

@@ -5,7 +5,7 @@ use league_core::Event;
 /// One entry of a feed.
 #[derive(Clone, Copy, PartialEq, Eq, Debug)]
 pub enum Entry {
-    /// A result, a correction or an annulment.
+    /// A result, a correction, an annulment or a deduction.
     Change(Event),
     /// The verdicts are asked for now.
     Ask,

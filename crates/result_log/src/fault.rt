@@ -6,7 +6,8 @@ ghost use Rattle.result_log.specs.Faults.{code_of};
 use port_core::ReadStop;
 use thiserror::Error;
 
-/// Why a record of the feed is refused, in the order of the tests. It prints as its code.
+/// Why a record of the feed is refused. It prints as its code. The order of the tests is that of
+/// `specs/Records.antt`.
 #[derive(Clone, Copy, PartialEq, Eq, Debug, Error)]
 pub enum FeedFault {
     /// A record that a feed does not have, or a CR in its line.
@@ -30,6 +31,12 @@ pub enum FeedFault {
     /// There were 100,000 events before this one.
     #[error("log_full")]
     LogFull,
+    /// A deduction of a club that the sheet does not have.
+    #[error("unknown_club")]
+    UnknownClub,
+    /// The points taken off are no number from 0 to 99.
+    #[error("bad_points")]
+    BadPoints,
 }
 
 impl FeedFault {
@@ -45,6 +52,8 @@ impl FeedFault {
             FeedFault::AlreadyPlayed => "already_played",
             FeedFault::NotPlayed => "not_played",
             FeedFault::LogFull => "log_full",
+            FeedFault::UnknownClub => "unknown_club",
+            FeedFault::BadPoints => "bad_points",
         }
     }
 }

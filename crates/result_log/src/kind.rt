@@ -15,6 +15,8 @@ pub enum Kind {
     Fix,
     /// `void,F`: fixture F, which had a score, counts as not played.
     Void,
+    /// `deduct,CLUB,P`: the club has P points taken off in all.
+    Deduct,
     /// `ask`: the verdicts are asked for now.
     Ask,
     /// `proofs`: the feed ends, and proofs follow.
@@ -32,6 +34,8 @@ impl Kind {
             Some(Kind::Fix)
         } else if fields.is_kind(b"void") {
             Some(Kind::Void)
+        } else if fields.is_kind(b"deduct") {
+            Some(Kind::Deduct)
         } else if fields.is_kind(b"ask") {
             Some(Kind::Ask)
         } else if fields.is_kind(b"proofs") && proofs {
@@ -47,6 +51,7 @@ impl Kind {
     {
         match self {
             Kind::Result | Kind::Fix => 4,
+            Kind::Deduct => 3,
             Kind::Void => 2,
             Kind::Ask | Kind::Proofs => 1,
         }

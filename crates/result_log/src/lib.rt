@@ -27,4 +27,4 @@ pub use entry::Entry;
 pub use fault::{ContentStop, FeedFault, FeedStop};
 pub use laws::{a_feed_is_read_entry_by_entry, events_told_may_be_applied};
 pub use reader::next_entry;
-pub use record::{EVENT_LIMIT, read_event};
+pub use record::read_event;

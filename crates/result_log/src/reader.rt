@@ -2,7 +2,7 @@
 
 ghost use Rattle.std.specs.Prelude.{◌≡◌, ◌≤◌, IfOk, IfSome, length};
 ghost use Rattle.league_core.specs.Seasons.{IsSeasonOf};
-ghost use Rattle.port_core.specs.Reading.{LeavesReading, PassesTo, TakesInput, contents_to_come, given_by};
+ghost use Rattle.port_core.specs.Readers.{LeavesReader, PassesTo, TakesInput, contents_to_come, given_by};
 ghost use Rattle.fixture_sheet.specs.Calls.{PassesUpTo};
 ghost use Rattle.result_log.specs.Calls.{AnswersLine, CountsEntry, CountsRecord, MovesToEntry, MovesToRecord, ReadsEntry, ReadsRecord, answer_behind, answer_there};
 ghost use Rattle.result_log.specs.Feeds.{entry_in};
@@ -30,6 +30,7 @@ pub fn next_entry<S: Source>(
     source: &mut S,
 ) -> Result<Entry, FeedStop>
     requires of_sheet { IsSeasonOf sheet.now season.now }
+    requires clubs { length sheet.now.clubs ≤ 255 }
     requires numbers { length sheet.now.fixtures ≤ 65535 }
     // Where the source tells its bytes: what was still to come, and what is.
     ensures reads { ReadsEntry (entry_in sheet.now season.now events proofs)
@@ -40,8 +41,8 @@ pub fn next_entry<S: Source>(
     // Which lines of the input were passed, whole, and where the reader is left. At the end nothing
     // is left of the source; at a read fault no whole line is in hand.
     ensures passes { PassesUpTo reader.old reader.new (S.left source.old) (S.left source.new)
-        (answer_behind reader.new result) }
-    ensures leaves { LeavesReading reader.new (S.left source.new)
+        (S.ended source.old) (S.ended source.new) (answer_behind reader.new result) }
+    ensures leaves { LeavesReader reader.new (S.left source.new)
         (answer_behind reader.new result) }
     ensures takes { TakesInput reader.old reader.new (S.left source.old) (S.left source.new) }
     ensures moves { MovesToEntry reader.old reader.new result }
@@ -65,6 +66,7 @@ fn take_line<S: Source>(
     source: &mut S,
 ) -> Option<Result<Entry, FeedStop>>
     requires of_sheet { IsSeasonOf sheet.now season.now }
+    requires clubs { length sheet.now.clubs ≤ 255 }
     requires numbers { length sheet.now.fixtures ≤ 65535 }
     ensures reads { ReadsRecord (entry_in sheet.now season.now events proofs)
         (contents_to_come reader.old (S.left source.old))
@@ -72,8 +74,8 @@ fn take_line<S: Source>(
     ensures told { IfSome result (λ answer. IfOk answer (λ entry.
         IsEntryAt season.now events proofs entry)) }
     ensures passes { PassesTo reader.old reader.new (S.left source.old) (S.left source.new)
-        (given_by (answer_there reader.new result) reader.new.text) }
-    ensures leaves { LeavesReading reader.new (S.left source.new)
+        (S.ended source.old) (S.ended source.new) (given_by (answer_there reader.new result) reader.new.text) }
+    ensures leaves { LeavesReader reader.new (S.left source.new)
         (answer_there reader.new result) }
     ensures takes { TakesInput reader.old reader.new (S.left source.old) (S.left source.new) }
     ensures moves { MovesToRecord reader.old reader.new result }
@@ -99,6 +101,7 @@ fn entry_in(
     content: &[u8],
 ) -> Option<Result<Entry, FeedStop>>
     requires of_sheet { IsSeasonOf sheet.now season.now }
+    requires clubs { length sheet.now.clubs ≤ 255 }
     requires numbers { length sheet.now.fixtures ≤ 65535 }
     ensures answer { AnswersLine number (entry_in sheet.now season.now events proofs content.now)
         result }

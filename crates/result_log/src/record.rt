@@ -3,16 +3,15 @@
 ghost use Rattle.std.specs.Prelude.{◌≡◌, ◌≢◌, ◌≤◌, ◌<◌, ◌∷◌, [], IfOk, IfSome, Ok, length, nat_le, not};
 ghost use Rattle.league_core.specs.Seasons.{IsSeasonOf};
 ghost use Rattle.fixture_sheet.specs.Texts.{only_if};
-ghost use Rattle.result_log.specs.Records.{IsEntryAt, entry_of, entry_told, event_limit, event_tests, fixture_told, has_fixture, has_goals, has_result, score_told, told_unless};
+ghost use Rattle.result_log.specs.Records.{IsEntryAt, entry_of, club_told, entry_told, event_tests, fixture_told, has_club, has_fixture, has_goals, has_points, has_result, number_at, score_told, told_unless};
+ghost use Rattle.league_core.specs.Limits.{most_deduction, most_events};
 
 use crate::entry::Entry;
 use crate::fault::FeedFault;
 use crate::kind::Kind;
-use fixture_sheet::{Fields, number_within};
+use fixture_sheet::{Fields, club_named, number_within};
+use league_core::limits::{MOST_DEDUCTION, MOST_EVENTS, MOST_GOALS};
 use league_core::{Event, Score, Season, Sheet};
-
-/// The most events of a feed.
-pub const EVENT_LIMIT: u64 = 100_000;
 
 /// The entry that a record is, in the season of the events before it, of which there were so
 /// many; or the first refusal in the order of the tests. `proofs` is a record only where `proofs`
@@ -25,6 +24,7 @@ pub fn read_event(
     proofs: bool,
 ) -> Result<Entry, FeedFault>
     requires of_sheet { IsSeasonOf sheet.now season.now }
+    requires clubs { length sheet.now.clubs ≤ 255 }
     requires numbers { length sheet.now.fixtures ≤ 65535 }
     ensures value { result ≡ entry_of sheet.now season.now events proofs fields.now }
     ensures told { IfOk result (λ entry. IsEntryAt season.now events proofs entry) }
@@ -40,6 +40,7 @@ pub fn read_event(
         Kind::Result => read_result(sheet, season, events, fields),
         Kind::Fix => read_fix(sheet, season, events, fields),
         Kind::Void => read_void(sheet, season, events, fields),
+        Kind::Deduct => read_deduct(sheet, events, fields),
         Kind::Ask => Ok(Entry::Ask),
         Kind::Proofs => Ok(Entry::Proofs),
     }
@@ -56,7 +57,7 @@ fn read_result(
     requires numbers { length sheet.now.fixtures ≤ 65535 }
     ensures { result ≡ told_unless
         (event_tests sheet.now season.now events fields.now Kind.Result)
-        (entry_told fields.now Kind.Result) }
+        (entry_told sheet.now fields.now Kind.Result) }
 {
     let Some(fixture) = fixture_of(sheet, fields) else {
         return Err(FeedFault::UnknownFixture);
@@ -81,7 +82,7 @@ fn read_fix(
     requires numbers { length sheet.now.fixtures ≤ 65535 }
     ensures { result ≡ told_unless
         (event_tests sheet.now season.now events fields.now Kind.Fix)
-        (entry_told fields.now Kind.Fix) }
+        (entry_told sheet.now fields.now Kind.Fix) }
 {
     let Some(fixture) = fixture_of(sheet, fields) else {
         return Err(FeedFault::UnknownFixture);
@@ -103,12 +104,49 @@ fn read_void(
     requires numbers { length sheet.now.fixtures ≤ 65535 }
     ensures { result ≡ told_unless
         (event_tests sheet.now season.now events fields.now Kind.Void)
-        (entry_told fields.now Kind.Void) }
+        (entry_told sheet.now fields.now Kind.Void) }
 {
     let Some(fixture) = fixture_of(sheet, fields) else {
         return Err(FeedFault::UnknownFixture);
     };
     change_played(season, events, fixture, Event::Clear { fixture })
+}
+
+// `deduct,CLUB,P`.
+fn read_deduct(sheet: &Sheet, events: u64, fields: &Fields) -> Result<Entry, FeedFault>
+    requires { length sheet.now.clubs ≤ 255 }
+    ensures { result ≡ told_unless
+        ((not (has_club sheet.now fields.now), FeedFault.UnknownClub)
+        ∷ (not (has_points fields.now), FeedFault.BadPoints)
+        ∷ (nat_le most_events events, FeedFault.LogFull) ∷ [])
+        (entry_told sheet.now fields.now Kind.Deduct) }
+{
+    let Some(club) = club_of(sheet, fields) else {
+        return Err(FeedFault::UnknownClub);
+    };
+    let Some(points) = points_of(fields) else {
+        return Err(FeedFault::BadPoints);
+    };
+    change(events, Event::Deduct { club, points })
+}
+
+// The club that the second field names.
+fn club_of(sheet: &Sheet, fields: &Fields) -> Option<u8>
+    requires { length sheet.now.clubs ≤ 255 }
+    ensures { result ≡ only_if (has_club sheet.now fields.now) (club_told sheet.now fields.now) }
+{
+    club_named(sheet, fields.at(1))
+}
+
+// The points of the third field.
+fn points_of(fields: &Fields) -> Option<u8>
+    ensures value { result ≡ only_if (has_points fields.now) (number_at 2 fields.now) }
+    ensures within { IfSome result (λ points. points ≤ most_deduction) }
+{
+    match number_within(0, u32::from(MOST_DEDUCTION), fields.at(2)) {
+        Some(points) => Some(points as u8),
+        None => None,
+    }
 }
 
 // The fixture of the second field, by its number from 0.
@@ -128,8 +166,8 @@ fn fixture_of(sheet: &Sheet, fields: &Fields) -> Option<u16>
 fn score_of(fields: &Fields) -> Option<Score>
     ensures { result ≡ only_if (has_goals fields.now) (score_told fields.now) }
 {
-    let home = number_within(0, 99, fields.at(2))?;
-    let away = number_within(0, 99, fields.at(3))?;
+    let home = number_within(0, u32::from(MOST_GOALS), fields.at(2))?;
+    let away = number_within(0, u32::from(MOST_GOALS), fields.at(3))?;
     Some(Score {
         home: home as u8,
         away: away as u8,
@@ -146,7 +184,7 @@ fn change_played(
     requires { fixture < length season.now.scores }
     ensures { result ≡ told_unless
         ((not (has_result season.now fixture), FeedFault.NotPlayed)
-        ∷ (nat_le event_limit events, FeedFault.LogFull) ∷ []) (Entry.Change event) }
+        ∷ (nat_le most_events events, FeedFault.LogFull) ∷ []) (Entry.Change event) }
 {
     if season.score(fixture).is_none() {
         return Err(FeedFault::NotPlayed);
@@ -156,10 +194,10 @@ fn change_played(
 
 // The event, where there is room for it.
 fn change(events: u64, event: Event) -> Result<Entry, FeedFault>
-    ensures { result ≡ told_unless ((nat_le event_limit events, FeedFault.LogFull) ∷ [])
+    ensures { result ≡ told_unless ((nat_le most_events events, FeedFault.LogFull) ∷ [])
         (Entry.Change event) }
 {
-    if EVENT_LIMIT <= events {
+    if u64::from(MOST_EVENTS) <= events {
         return Err(FeedFault::LogFull);
     }
     Ok(Entry::Change(event))

@@ -1,6 +1,5 @@
 use Rattle.result_log.proofs.FeedLemmas.{contents_may_come}
 use Rattle.result_log.proofs.RecordLemmas.{entry_is_no_end, entry_may_come}
-use Rattle.result_log.proofs.SeasonLemmas.{AreEventsOf-push, are_results-applied}
 use Rattle.result_log.proofs.laws.events_told_may_be_applied.Goals as goal
 
 pub returns-clause-entries : goal.returns-clause-entries
@@ -11,9 +10,3 @@ returns-clause-end c = entry_is_no_end
 
 pub returns-clause-readings : goal.returns-clause-readings
 returns-clause-readings c = contents_may_come
-
-pub returns-clause-results : goal.returns-clause-results
-returns-clause-results c = are_results-applied
-
-pub returns-clause-log : goal.returns-clause-log
-returns-clause-log c = AreEventsOf-push

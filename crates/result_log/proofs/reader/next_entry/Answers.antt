@@ -1,7 +1,7 @@
 -- A line more held no record, or the answer came behind those that held none.
-use Rattle.std.proofs.Common.{arith}
-use Rattle.port_core.specs.Reading.{contents_to_come}
-use Rattle.port_core.proofs.ContentLemmas.{TakesInput-more, TakesInput-none}
+use Rattle.std.proofs.Common.{arith, refl, ◌∙◌}
+use Rattle.port_core.specs.Readers.{contents_to_come}
+use Rattle.port_core.proofs.TakingLemmas.{TakesInput-more, TakesInput-none}
 use Rattle.fixture_sheet.proofs.PassedLemmas.{PassesLines-more, PassesLines-none, PassesUpTo-behind}
 use Rattle.result_log.specs.Calls.{answer_behind}
 use Rattle.result_log.specs.Feeds.{entry_in}
@@ -12,10 +12,10 @@ pub records-init : goal.records-init
 records-init g c = record {
   reads = Passes-none (entry_in c.args.sheet.now c.args.season.now c.args.events c.args.proofs)
       (contents_to_come c.args.reader.now (g.S.Source.left c.args.source.now));
-  passes = PassesLines-none c.args.reader.now (g.S.Source.left c.args.source.now);
+  passes = PassesLines-none c.args.reader.now (g.S.Source.left c.args.source.now) _;
   takes = TakesInput-none c.args.reader.now (g.S.Source.left c.args.source.now);
   passed = omega arith;
-  counts = omega arith;
+  counts = refl;
 }
 
 pub records-preserved : goal.records-preserved
@@ -25,12 +25,12 @@ records-preserved g c = record {
       (contents_to_come c.records.reader (g.S.Source.left c.records.source))
       (contents_to_come c.take_line.new.reader (g.S.Source.left c.take_line.new.source))
       c.records.invariant.reads c.in_default.ensures.reads;
-  passes = PassesLines-more c.args.reader.now c.records.reader c.take_line.new.reader _ _ _ _
+  passes = PassesLines-more c.args.reader.now c.records.reader c.take_line.new.reader _ _ _ _ _ _ _
       c.records.invariant.passes c.in_default.ensures.passes;
   takes = TakesInput-more c.args.reader.now c.records.reader c.take_line.new.reader _ _ _
       c.records.invariant.takes c.take_line.ensures.takes;
   passed = omega (arith, c.records.invariant.passed, c.in_default.ensures.moves);
-  counts = omega (arith, c.records.invariant.counts, c.in_default.ensures.cause);
+  counts = c.in_default.ensures.cause ∙ c.records.invariant.counts;
 }
 
 pub returns-in-Some-clause-reads : goal.returns-in-Some-clause-reads
@@ -43,7 +43,7 @@ returns-in-Some-clause-reads g c =
 
 pub returns-in-Some-clause-passes : goal.returns-in-Some-clause-passes
 returns-in-Some-clause-passes g c =
-    PassesUpTo-behind c.args.reader.now c.records.reader c.take_line.new.reader _ _ _
+    PassesUpTo-behind c.args.reader.now c.records.reader c.take_line.new.reader _ _ _ _ _ _
     (answer_behind c.take_line.new.reader c.in-Some.result)
     c.records.invariant.passes c.in-Some.ensures.passes
 

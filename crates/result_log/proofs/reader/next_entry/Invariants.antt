@@ -1,6 +1,6 @@
-use Rattle.std.proofs.Common.{◌-◌, ◌≤◌}
+use Rattle.std.proofs.Common.{◌≡◌, ◌-◌, ◌≤◌}
 use Rattle.port_core.specs.Contents.{input_limit}
-use Rattle.port_core.specs.Reading.{TakesInput, contents_to_come}
+use Rattle.port_core.specs.Readers.{TakesInput, contents_to_come}
 use Rattle.fixture_sheet.specs.Calls.{PassesLines}
 use Rattle.result_log.specs.Calls.{Passes}
 use Rattle.result_log.specs.Feeds.{entry_in}
@@ -13,12 +13,12 @@ invariant-records g l = record {
       (contents_to_come l.fn.reader (g.S.Source.left l.fn.source))
       (contents_to_come l.reader (g.S.Source.left l.source));
   passes : PassesLines l.fn.reader l.reader (g.S.Source.left l.fn.source)
-      (g.S.Source.left l.source);
+      (g.S.Source.left l.source) (g.S.Source.ended l.fn.source) (g.S.Source.ended l.source);
   takes : TakesInput l.fn.reader l.reader (g.S.Source.left l.fn.source) (g.S.Source.left l.source);
-  passed : l.fn.reader.place.bytes ≤ l.reader.place.bytes;
-  counts : g.S.Source.faults l.fn.source ≤ g.S.Source.faults l.source;
+  passed : l.fn.reader.position.bytes ≤ l.reader.position.bytes;
+  counts : g.S.Source.faults l.source ≡ g.S.Source.faults l.fn.source;
 }
 
 -- the bytes that may still be passed
 abbrev pub decreases-records : goal.decreases-records
-decreases-records g l = input_limit - l.reader.place.bytes
+decreases-records g l = input_limit - l.reader.position.bytes

@@ -1,7 +1,7 @@
 -- What the content of the line is, said of the contents still to come.
 use Rattle.std.proofs.Common.{refl, subst, ℕ, List, Ok}
 use Rattle.port_core.specs.declared.answers.Line.TheVariants as line
-use Rattle.port_core.specs.Reading.{contents_to_come}
+use Rattle.port_core.specs.Readers.{contents_to_come}
 use Rattle.fixture_sheet.proofs.PassedLemmas.{leaves-as, passes-as}
 use Rattle.result_log.specs.Calls.{AnswersLine, answer_there}
 use Rattle.result_log.specs.Feeds.{entry_in}
@@ -25,7 +25,7 @@ pub returns-in-Ok-Text-clause-passes : goal.returns-in-Ok-Text-clause-passes
 returns-in-Ok-Text-clause-passes g c =
     let passes = rw c.in-Ok-Text.field-0-is at c.in-Ok-Text.ensures.passes in
     let leaves = rw c.in-Ok-Text.field-0-is at c.in-Ok-Text.ensures.leaves in
-    passes-as c.args.reader.now c.next.new.self _ _ (Ok (line.Text c.in-Ok-Text.number))
+    passes-as c.args.reader.now c.next.new.self _ _ _ _ (Ok (line.Text c.in-Ok-Text.number))
     (answer_there c.next.new.self c.entry_in.result)
     (line-behind c.args.sheet.now c.args.season.now c.args.events c.args.proofs
     c.next.new.self.text c.next.new.self c.in-Ok-Text.number c.entry_in.result leaves.0
