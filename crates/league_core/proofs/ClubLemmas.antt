@@ -10,6 +10,8 @@ use Rattle.std.proofs.lemmas.List.Folds.{list_any_at}
 use Rattle.std.proofs.lemmas.List.FromFn.{length-range_with_len, get_or-range_with_len}
 use Rattle.league_core.specs.Sums.{has_club}
 use Rattle.league_core.specs.Ranking.{lot_of}
+use Rattle.std.proofs.Common.{◌++◌}
+use Rattle.std.proofs.lemmas.List.Folds.{list_any-append}
 
 -- a test that each club from one number on passes is passed by all of them
 pub all_in_range : (test : ℕ → Bool) (from count : ℕ)
@@ -41,6 +43,17 @@ range_has count club h =
     (omega (arith, length-range_with_len 0 count))
     (eq-eqb (get_or (range_with_len 0 count) club 0) club
     (get_or-range_with_len 0 count club 0 h ∙ omega arith))
+
+-- a list behind another has what either has
+pub has_club-append : (clubs more : List ℕ) (club : ℕ)
+    → has_club (clubs ++ more) club ≡ (has_club clubs club || has_club more club)
+has_club-append clubs more club = list_any-append (λ member. member == club) clubs more
+
+-- a list with a club is not empty
+pub has_club-some : (clubs : List ℕ) (club : ℕ) → has_club clubs club ≡ true
+    → 0 < length clubs
+has_club-some [] club has = absurd (false≢true has)
+has_club-some (first ∷ clubs) club has = omega arith
 
 -- one test that passes what another passes counts as much or more
 pub one_at_most : (b c : Bool) → (b ≡ true → c ≡ true) → cond b 1 0 ≤ cond c 1 0

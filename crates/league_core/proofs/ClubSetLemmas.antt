@@ -21,6 +21,7 @@ use Rattle.league_core.specs.declared.club_set.ClubSet.{ClubSet}
 use Rattle.league_core.specs.Sums.{has_club}
 use Rattle.league_core.specs.ClubSets.{clubs_below, clubs_in}
 use Rattle.std.proofs.Math.Bool.{and-true, and-false, or-false}
+use Rattle.league_core.proofs.ClubLemmas.{has_club-some}
 
 and_comm : (a b : Bool) → (a && b) ≡ (b && a)
 and_comm true true = refl
@@ -383,7 +384,7 @@ length-fewer set whole missed within among out =
     p (λ x. kept (p x) (has_club (clubs_in whole) x) (within x)) in
     let both = length-filter_both p q (λ _. refl) (clubs_in whole) in
     let some : 0 < length (filter q (clubs_in whole)) =
-    has_some (filter q (clubs_in whole)) missed
+    has_club-some (filter q (clubs_in whole)) missed
     (has_club-filter q (clubs_in whole) missed
     ∙ and_from (has_club (clubs_in whole) missed) (q missed) among
     (not_from_false (p missed) out)) in
@@ -393,7 +394,3 @@ length-fewer set whole missed within among out =
     kept true c sub = sym (and-true c ∙ sub refl)
     kept false true sub = refl
     kept false false sub = refl
-
-    has_some : (xs : List ℕ) (x : ℕ) → has_club xs x ≡ true → 0 < length xs
-    has_some [] x has = absurd (false≢true has)
-    has_some (y ∷ ys) x has = omega arith

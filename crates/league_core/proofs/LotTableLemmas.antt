@@ -21,6 +21,7 @@ use Rattle.league_core.proofs.ClubSetLemmas.{has_club-range}
 use Rattle.league_core.proofs.OthersLemmas.{lot_of-absent}
 use Rattle.league_core.proofs.RankingLemmas.{lots_have}
 use Rattle.league_core.proofs.TableLemmas.{order_of-wanted}
+use Rattle.league_core.proofs.ClubLemmas.{has_club-append}
 
 -- the list has every club below a number, and no more entries than there are such clubs
 record NameEach (clubs : ℕ) (lots : List ℕ) : Type 0 where
@@ -40,19 +41,14 @@ any_from_has (drawn ∷ lots) club has =
           (any_from_has lots club later)
     ]
 
--- what two lists have their joint list has
-has_append : (lots more : List ℕ) (club : ℕ)
-    → has_club (lots ++ more) club ≡ (has_club lots club || has_club more club)
-has_append lots more club = list_any-append (λ member. member == club) lots more
-
 -- a club that a list has beside another entry is there without that entry
 has_without : (done later : List ℕ) (drawn club : ℕ) → drawn ≢ club
     → has_club (done ++ drawn ∷ later) club ≡ true → has_club (done ++ later) club ≡ true
 has_without done later drawn club other has =
-    has_append done later club
+    has_club-append done later club
     ∙ ap (λ b. has_club done club || (b || has_club later club))
     (sym (ne_eqb drawn club other))
-    ∙ sym (has_append done (drawn ∷ later) club) ∙ has
+    ∙ sym (has_club-append done (drawn ∷ later) club) ∙ has
 
 -- no entry can be left out: none is there twice, and none is past the clubs
 is_needed : (clubs : ℕ) (done later : List ℕ) (drawn : ℕ)
@@ -88,10 +84,10 @@ not_again clubs done (drawn ∷ rest) club names was is =
           is_needed clubs done rest drawn names
           (λ _. subst (λ (x : ℕ). has_club (done ++ rest) x ≡ true)
           (sym (eqb-true drawn club here))
-          (has_append done rest club ∙ or_left (has_club done club) (has_club rest club) was))
+          (has_club-append done rest club ∙ or_left (has_club done club) (has_club rest club) was))
       | inr later ↦
           not_again clubs (done ++ drawn ∷ []) rest club (go_on clubs done rest drawn names)
-          (has_append done (drawn ∷ []) club
+          (has_club-append done (drawn ∷ []) club
           ∙ or_left (has_club done club) (has_club (drawn ∷ []) club) was) later
     ]
 
@@ -141,7 +137,7 @@ drawn_before clubs done later drawn other names has =
     differ : drawn ≢ other
     differ same = not_again clubs (done ++ drawn ∷ []) later other
         (go_on clubs done later drawn names)
-        (has_append done (drawn ∷ []) other
+        (has_club-append done (drawn ∷ []) other
         ∙ or_right (has_club done other) (has_club (drawn ∷ []) other)
         (or_left (drawn == other) false (eq-eqb drawn other same))) has
 

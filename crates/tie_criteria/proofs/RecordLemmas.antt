@@ -24,13 +24,6 @@ use Rattle.tie_criteria.specs.Groups.{IsGroupOf}
 use Rattle.tie_criteria.specs.MiniTables.{triple_in, row_of}
 use Rattle.tie_criteria.proofs.SumLemmas.{sum_over-drop, sum_over-drop_all}
 
--- what passes for all of a list passes for each
-pub list_all_each : {X : Type 0} (p : X → Bool) (xs : List X) (i : ℕ) (d : X) → i < length xs
-    → list_all p xs ≡ true → p (get_or xs i d) ≡ true
-list_all_each p xs i d within all =
-    true_from_ne_false (p (get_or xs i d))
-    (λ no. false≢true (sym (list_all_at p xs i d within no) ∙ all))
-
 wider : (bound : ℕ) (triple : Triple) → IsBounded bound triple → IsBounded (bound + 255) triple
 wider bound triple within = record {
   least_points = omega (arith, ints);
