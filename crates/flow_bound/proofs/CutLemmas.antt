@@ -172,7 +172,8 @@ pub floor_found : (sheet : Sheet) (season : Results) (question : Question) (zone
     (table : List ℤ) (pairs : List Pair) (rivals : ClubSet) (chosen : Option ClubSet)
     → GivesExcess table pairs rivals (marked_after zone) (floor_excess sheet season question zone)
     → has_finish sheet season zone ≡ true
-    → MatchOption chosen (HasNoExcess table pairs (side_of rivals)) (IsAnsweredSet table pairs (side_of
+    → MatchOption chosen (HasNoExcess table pairs (side_of rivals))
+    (IsAnsweredSet table pairs (side_of
     rivals))
     → IfSome chosen (λ set. has_reason sheet season question zone (Low set) ≡ true)
 floor_found sheet season question zone table pairs rivals None gives finish is = tt
@@ -189,7 +190,8 @@ pub ceiling_found : (sheet : Sheet) (season : Results) (question : Question) (zo
     → GivesExcess table pairs rivals (marked_before zone) (ceiling_excess sheet season question
     zone)
     → has_finish sheet season zone ≡ true
-    → MatchOption chosen (HasNoExcess table pairs (side_of rivals)) (IsAnsweredSet table pairs (side_of
+    → MatchOption chosen (HasNoExcess table pairs (side_of rivals))
+    (IsAnsweredSet table pairs (side_of
     rivals))
     → IfSome chosen (λ set. has_reason sheet season question zone (High set) ≡ true)
 ceiling_found sheet season question zone table pairs rivals None gives finish is = tt
@@ -204,7 +206,8 @@ ceiling_found sheet season question zone table pairs rivals (Some set) gives fin
 -- where none is found no set of marked clubs has an excess
 pub nothing_exceeds : (table : List ℤ) (pairs : List Pair) (rivals : ClubSet) (marked : ℕ → Bool)
     (excess : List ℕ → ℤ) (chosen : Option ClubSet) → GivesExcess table pairs rivals marked excess
-    → MatchOption chosen (HasNoExcess table pairs (side_of rivals)) (IsAnsweredSet table pairs (side_of
+    → MatchOption chosen (HasNoExcess table pairs (side_of rivals))
+    (IsAnsweredSet table pairs (side_of
     rivals))
     → chosen ≡ None → (set : ClubSet) → AreMarked marked set → excess (clubs_in set) ≤ℤ pos 0
 nothing_exceeds table pairs rivals marked excess None gives is none set all =
@@ -214,7 +217,8 @@ nothing_exceeds table pairs rivals marked excess (Some other) gives is none set 
 -- what is found is the set that is to be chosen
 pub chosen_found : (table : List ℤ) (pairs : List Pair) (rivals : ClubSet) (marked : ℕ → Bool)
     (excess : List ℕ → ℤ) (chosen : Option ClubSet) → GivesExcess table pairs rivals marked excess
-    → MatchOption chosen (HasNoExcess table pairs (side_of rivals)) (IsAnsweredSet table pairs (side_of
+    → MatchOption chosen (HasNoExcess table pairs (side_of rivals))
+    (IsAnsweredSet table pairs (side_of
     rivals))
     → IfSome chosen (IsChosen marked excess)
 chosen_found table pairs rivals marked excess None gives is = tt

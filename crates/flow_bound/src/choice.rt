@@ -2,7 +2,8 @@
 
 ghost use Rattle.std.specs.Prelude.{◌≡◌, ℕ, pos, ◌≤ℤ◌, MatchOption, IfOk};
 ghost use Rattle.league_core.specs.Limits.{most_fixtures};
-ghost use Rattle.flow_bound.specs.Parts.{ArePairs, HasNoExcess, IsAnsweredSet, IsFirstOver, IsClubTable};
+ghost use Rattle.flow_bound.specs.Parts.{ArePairs, HasNoExcess, IsAnsweredSet, IsClubTable};
+ghost use Rattle.flow_bound.specs.Parts.{IsFirstOver};
 ghost use Rattle.flow_bound.specs.Parts.{NoneOver};
 ghost use Rattle.flow_bound.specs.Parts.{most_credits, side_of};
 

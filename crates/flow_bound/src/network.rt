@@ -76,7 +76,8 @@ fn credit_home(table: &mut Table, pair: Pair, set: ClubSet)
     ensures sums { (side : ℕ → Bool) → sum_of_side table.new side
         ≡ sum_of_side table.old side
         +ℤ pos (if has_home_in (side_of set) side pair then pair.surplus else 0) }
-    ensures sized { (credits : ℕ) → IsClubTable credits table.old → IsClubTable (credits + 1) table.new }
+    ensures sized { (credits : ℕ) → IsClubTable credits table.old
+        → IsClubTable (credits + 1) table.new }
 {
     if !set.has(pair.home) || !set.has(pair.away) {
         return;

@@ -64,7 +64,8 @@ fn credit_both(table: &mut Table, pair: Pair, set: ClubSet)
         ≡ sum_of_side table.old side
         +ℤ pos (if has_home_in (side_of set) side pair then pair.surplus else 0)
         +ℤ pos (if has_away_in (side_of set) side pair then pair.surplus else 0) }
-    ensures sized { (credits : ℕ) → IsClubTable credits table.old → IsClubTable (credits + 2) table.new }
+    ensures sized { (credits : ℕ) → IsClubTable credits table.old
+        → IsClubTable (credits + 2) table.new }
 {
     if !set.has(pair.home) || !set.has(pair.away) {
         return;

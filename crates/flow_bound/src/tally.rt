@@ -109,7 +109,8 @@ impl Tally {
 fn push_pair(pairs: &mut Pairs, pair: Pair, marked: ClubSet)
     requires apart { pair.home ≢ pair.away }
     requires small { pair.surplus ≤ 3 }
-    requires room { (fixtures : ℕ) × (fixtures < most_fixtures) × ArePairs fixtures pairs.old.items }
+    requires room { (fixtures : ℕ) × (fixtures < most_fixtures)
+        × ArePairs fixtures pairs.old.items }
     ensures sums { (side : ℕ → Bool) → IsPartOf side (side_of marked)
         → sum_of_pairs (has_both side) pairs.new.items
         ≡ sum_of_pairs (has_both side) pairs.old.items

@@ -4,7 +4,7 @@
 //! Contracts see the items and the room, as `Roomy` of `specs/Rooms.antt`. A type that keeps such a
 //! list may say in its own invariant how much room it always has.
 
-ghost use Rattle.std.specs.Prelude.{◌≡◌, ◌<◌, ◌≤◌, ◌+◌, [], ◌∷◌, ◌++◌, length, OnOk, OnErr};
+ghost use Rattle.std.specs.Prelude.{◌≡◌, ◌<◌, ◌≤◌, ◌+◌, [], ◌∷◌, ◌++◌, length, IsOk, OnOk, OnErr};
 ghost use Rattle.std.specs.Prelude.{slice_index_or, slice_set};
 ghost use Rattle.std.specs.List.{insert, remove};
 
@@ -65,6 +65,7 @@ impl<T> RoomyList<T> {
         ensures ok { OnOk result (more ≤ self.new.room) }
         ensures kept { self.old.room ≤ self.new.room }
         ensures err { OnErr result (self.new ≡ self.old) }
+        ensures spared { more ≤ self.old.room → IsOk result }
     {
         self.items.reserve(more)?;
         Ok(())

@@ -219,7 +219,8 @@ reached cell options home draws away h a points is home_says draws_say away_says
 
 given_most : (wins draws losses home away : Bool) (points : ℕ)
     → IsGiven wins draws losses home away points → points ≤ 3
-given_most wins draws losses home away points (inl (some, same)) = omega (arith, won_points-most home)
+given_most wins draws losses home away points (inl (some, same)) =
+    omega (arith, won_points-most home)
 given_most wins draws losses home away points (inr (inl (some, same))) = omega
     (arith, drawn_points-most home away)
 given_most wins draws losses home away points (inr (inr (some, same))) = omega
@@ -270,7 +271,8 @@ points_of_outcomes cell home draws away h a points home_says draws_say away_says
     }
   where
     below : (score : Score) → allows cell score ≡ true
-        → pos (least_of_three (is_some home) (is_some draws) (is_some away) h a) ≤ℤ points_of_sides h
+        → pos (least_of_three (is_some home) (is_some draws) (is_some away) h a)
+        ≤ℤ points_of_sides h
         a score
     below score allowed =
         let bounds = least_below (is_some home) (is_some draws) (is_some away) h a in

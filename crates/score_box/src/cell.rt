@@ -69,8 +69,8 @@ impl Cell {
     /// Leaves the scores that make a literal of this fixture's score true.
     pub fn cut(&mut self, literal: &Literal)
         requires { IsTrue (is_of_score literal.now.test) }
-        ensures { (score : Score) → allows self.new score
-            ≡ (allows self.old score && is_as_said literal.now.yes (passes literal.now.test score)) }
+        ensures { (score : Score) → allows self.new score ≡ (allows self.old score
+            && is_as_said literal.now.yes (passes literal.now.test score)) }
     {
         match literal.test {
             Test::Home { .. } => self.cut_home_win(literal.yes),

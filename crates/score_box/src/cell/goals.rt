@@ -35,7 +35,8 @@ impl Goals {
 impl Cell {
     /// The goals of the home wins in the cell. The widest win is one of them.
     pub fn home_wins(&self) -> Option<Goals>
-        ensures goals { MatchOption result (AllowsNone self.now is_home_win) (IsSpanOf self.now is_home_win) }
+        ensures goals { MatchOption result (AllowsNone self.now is_home_win)
+            (IsSpanOf self.now is_home_win) }
         ensures widest { IfSome result
             (λ goals. IsAllowed self.now is_home_win (score_of goals.home_most goals.away_least)) }
     {
@@ -57,7 +58,8 @@ impl Cell {
 
     /// The goals of the draws in the cell. The least of them is one.
     pub fn draws(&self) -> Option<Goals>
-        ensures goals { MatchOption result (AllowsNone self.now is_draw) (IsSpanOf self.now is_draw) }
+        ensures goals { MatchOption result (AllowsNone self.now is_draw)
+            (IsSpanOf self.now is_draw) }
         ensures least { IfSome result
             (λ goals. IsAllowed self.now is_draw (score_of goals.home_least goals.away_least)) }
     {
@@ -77,7 +79,8 @@ impl Cell {
 
     /// The goals of the away wins in the cell. The widest win is one of them.
     pub fn away_wins(&self) -> Option<Goals>
-        ensures goals { MatchOption result (AllowsNone self.now is_away_win) (IsSpanOf self.now is_away_win) }
+        ensures goals { MatchOption result (AllowsNone self.now is_away_win)
+            (IsSpanOf self.now is_away_win) }
         ensures widest { IfSome result
             (λ goals. IsAllowed self.now is_away_win (score_of goals.home_least goals.away_most)) }
     {
@@ -99,7 +102,8 @@ impl Cell {
 
     /// A score that is left, or none.
     pub fn first(&self) -> Option<Score>
-        ensures { MatchOption result (IsEmptyCell self.now) (λ score. IsTrue (allows self.now score)) }
+        ensures { MatchOption result (IsEmptyCell self.now)
+            (λ score. IsTrue (allows self.now score)) }
     {
         if let Some(goals) = self.home_wins() {
             return Some(Score {

@@ -23,7 +23,8 @@ pub fn season_cells(
     scores: &[Option<Score>],
     goal_limit: u8,
 ) -> Result<Vec<Cell>, OutOfMemory>
-    ensures { IfOk result (λ cells. AreCellsOf cells.items (options_from goal_limit [] 0 scores.now)) }
+    ensures { IfOk result (λ cells.
+        AreCellsOf cells.items (options_from goal_limit [] 0 scores.now)) }
 {
     let mut cells = Vec::new(alloc);
     for score in scores {

@@ -21,7 +21,15 @@ loop-i-preserved c =
     let bits = c.args.set.bits in
     let clubs = clubs_below 32 bits in
     let none : Fixture = record { home = 0; away = 0 } in
-    let blank : Cell = record { home_win = false; draw = false; away_win = false; home_least = 0; home_most = 0; away_least = 0; away_most = 0 } in
+    let blank : Cell = record {
+      home_win = false;
+      draw = false;
+      away_win = false;
+      home_least = 0;
+      home_most = 0;
+      away_least = 0;
+      away_most = 0;
+    } in
     let match = get_or fixtures i none in
     let in_fixtures : i < length fixtures = c.loop-i-test.true in
     let in_cells : i < length cells = omega (arith, c.requires.many) in
