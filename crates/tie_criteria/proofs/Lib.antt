@@ -1,6 +1,10 @@
 pub mod SumLemmas
 pub mod RecordLemmas
+pub mod RowLemmas
 pub mod BlockLemmas
+pub mod LeaderLemmas
 pub mod NestLemmas
+pub mod OtherBlockLemmas
+pub mod AloneLemmas
 pub mod GroupLemmas
 pub mod OverallLemmas

@@ -1,27 +1,20 @@
 -- The records of all clubs in a group: what a match adds to them, and what they are in the end.
 use Rattle.std.proofs.Common.{◌≡◌, ◌≢◌, ◌⊎◌, inl, inr, ℕ, ◌+◌, ◌*◌, ◌<◌, ◌≤◌, ℤ, pos, ◌+ℤ◌, Bool}
-use Rattle.std.proofs.Common.{true, false, eqb, cond, List, [], ◌∷◌, Option, None, length, map}
+use Rattle.std.proofs.Common.{true, false, eqb, cond, List, [], ◌∷◌, Option, None, length}
 use Rattle.std.proofs.Common.{get_or, set, drop, sym, ap, refl, ◌∙◌, subst, arith}
-use Rattle.std.proofs.lemmas.Bool.{cases_eq, or_left, or_right, eq-eqb, ne_eqb, true_from_ne_false}
-use Rattle.std.proofs.lemmas.Bool.{false≢true}
+use Rattle.std.proofs.lemmas.Bool.{cases_eq, eq-eqb, ne_eqb}
 use Rattle.std.proofs.lemmas.Int.{ints}
 use Rattle.std.proofs.lemmas.List.{get_or-set_same, get_or-set_other, length-set}
-use Rattle.std.proofs.lemmas.List.Folds.{list_all_at}
-use Rattle.std.specs.List.{list_all}
 use Rattle.league_core.specs.declared.sheet.Sheet.{Sheet}
 use Rattle.league_core.specs.declared.sheet.Fixture.{Fixture}
 use Rattle.league_core.specs.declared.season.Score.{Score}
 use Rattle.league_core.specs.Results.{Results}
-use Rattle.league_core.specs.Sums.{has_club, Worth, worth_to, worth_among, match_points}
+use Rattle.league_core.specs.Sums.{Worth, worth_to, worth_among, match_points}
 use Rattle.league_core.specs.Sums.{goal_difference, goals, if_played, sum_over}
 use Rattle.league_core.specs.HeadToHead.{head_to_head_of}
 use Rattle.tie_criteria.specs.declared.triple.Triple.{Triple}
 use Rattle.tie_criteria.specs.Parts.{triple_parts}
 use Rattle.tie_criteria.specs.Records.{no_record, record_at, IsBounded, GrowsBy, AddsMatch}
-use Rattle.tie_criteria.specs.Records.{AreRecords}
-use Rattle.tie_criteria.specs.declared.mini_table.Row.{Row}
-use Rattle.tie_criteria.specs.Groups.{IsGroupOf}
-use Rattle.tie_criteria.specs.MiniTables.{triple_in, row_of}
 use Rattle.tie_criteria.proofs.SumLemmas.{sum_over-drop, sum_over-drop_all}
 
 wider : (bound : ℕ) (triple : Triple) → IsBounded bound triple → IsBounded (bound + 255) triple
@@ -224,34 +217,3 @@ so_far_read sheet season matches scores group i club triple matches_are scores_a
     let past' : length sheet.fixtures ≤ i = omega (arith, ap length matches_are) in
     so_far_all sheet season group i club triple past'
     (subst Q scores_are (subst P matches_are so_far))
-
--- the row of a club by the records
-abbrev pub row_at : List Triple → ℕ → Row
-row_at records club = record { club = club; triple = record_at records club }
-
-same_triple : (triple other : Triple) → triple_parts triple ≡ triple_parts other → triple ≡ other
-same_triple triple other same =
-    let points : triple.points ≡ other.points = cc in
-    let difference : triple.difference ≡ other.difference = cc in
-    let scored : triple.scored ≡ other.scored = cc in
-    (λ i. record { points = points i; difference = difference i; scored = scored i })
-
-map_agree : {X : Type 0} (f g : ℕ → X) (clubs : List ℕ)
-    → ((club : ℕ) → has_club clubs club ≡ true → f club ≡ g club) → map f clubs ≡ map g clubs
-map_agree f g [] agree = refl
-map_agree f g (club ∷ clubs) agree =
-    let here = agree club (or_left (eqb club club) (has_club clubs club) (eq-eqb club club refl)) in
-    let rest = map_agree f g clubs (λ x has. agree x
-    (or_right (eqb club x) (has_club clubs x) has)) in
-    (λ i. here i ∷ rest i)
-
--- by the records of a group's clubs the rows are those of the group
-pub rows_are : (sheet : Sheet) (season : Results) (group : List ℕ) (records : List Triple)
-    → AreRecords sheet season group records → IsGroupOf sheet group
-    → map (row_at records) group ≡ map (row_of sheet season group) group
-rows_are sheet season group records are of_group =
-    map_agree (row_at records) (row_of sheet season group) group
-    (λ club has.
-    let triple = same_triple (record_at records club) (triple_in sheet season group club) (are.each
-    club (of_group club has)) in
-    (λ i. record { club = club; triple = triple i }))

@@ -6,7 +6,7 @@ use Rattle.league_core.specs.ClubSets.{clubs_below, clubs_in}
 use Rattle.league_core.proofs.ClubSetLemmas.{clubs_below-none, clubs_below-more}
 use Rattle.tie_criteria.specs.declared.mini_table.Row.{Row}
 use Rattle.tie_criteria.specs.Records.{record_at}
-use Rattle.tie_criteria.proofs.RecordLemmas.{row_at, rows_are}
+use Rattle.tie_criteria.proofs.RowLemmas.{row_at, rows_are}
 use Rattle.tie_criteria.proofs.mini_table.MiniTable.of.Goals as goal
 
 -- the row of a club, where the club is kept

@@ -1,6 +1,6 @@
 use Rattle.std.proofs.Common.{◌≡◌, map}
 use Rattle.league_core.specs.ClubSets.{clubs_below}
-use Rattle.tie_criteria.proofs.RecordLemmas.{row_at}
+use Rattle.tie_criteria.proofs.RowLemmas.{row_at}
 use Rattle.tie_criteria.proofs.mini_table.MiniTable.of.Given as goal
 
 -- the rows of the group's clubs that were passed
