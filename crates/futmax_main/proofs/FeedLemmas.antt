@@ -4,7 +4,7 @@ use Rattle.league_core.specs.declared.season.Event.{Event}
 use Rattle.league_core.specs.Seasons.{IsEventOf}
 use Rattle.result_log.specs.declared.entry.Entry.TheVariants.{Change}
 use Rattle.result_log.specs.Records.{event_limit}
-use Rattle.result_log.proofs.SeasonLemmas.{IsSeasonOf-applied, are_results-applied}
+use Rattle.league_core.proofs.LogLemmas.{IsSeasonOf-applied, are_results-applied}
 use Rattle.futmax_main.specs.declared.session.Feed.{Feed}
 use Rattle.futmax_main.specs.Session.{feed_with}
 use Rattle.futmax_main.specs.Sound.{IsFeed}
