@@ -9,7 +9,7 @@ use lib.Bits.{bit_and}
 use mir.Syntax.{w32}
 use Rattle.std.proofs.lemmas.Bool.{eqb-true, eq-eqb, or_left, or_right, ltb-true, ltb-false}
 use Rattle.std.proofs.lemmas.Bool.{cases_eq, cases_lt, cases_order, and_from, not_from_false}
-use Rattle.std.proofs.lemmas.Bool.{false≢true, lt-ltb, le-ltb, ne_eqb}
+use Rattle.std.proofs.lemmas.Bool.{lt-ltb, le-ltb, ne_eqb}
 use Rattle.std.proofs.lemmas.Bool.Decides.{nat_tests}
 use Rattle.std.proofs.lemmas.List.{map-id, length-append}
 use Rattle.std.proofs.lemmas.List.Filters.{length-filter_both}
