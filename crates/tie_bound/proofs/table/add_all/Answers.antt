@@ -9,7 +9,8 @@ use Rattle.tie_bound.specs.Sums.{sums_at}
 use Rattle.tie_bound.specs.Boxes.{options_in_box}
 use Rattle.tie_bound.proofs.BoxLemmas.{each_below, length-options}
 use Rattle.tie_bound.proofs.OutcomeLemmas.{one_outcome_of}
-use Rattle.tie_bound.proofs.TableLemmas.{IsSoFar, wider, so_far_none, so_far_more, so_far_all}
+use Rattle.tie_bound.proofs.TableLemmas.{wider}
+use Rattle.tie_bound.proofs.SoFarLemmas.{IsSoFar, so_far_none, so_far_more, so_far_all}
 use Rattle.tie_bound.proofs.table.add_all.Goals as goal
 
 pub loop-i-init : goal.loop-i-init

@@ -3,7 +3,7 @@ use Rattle.league_core.specs.Sums.{worth_among}
 use Rattle.league_core.specs.ClubSets.{clubs_in}
 use Rattle.tie_bound.specs.Sums.{sums_at}
 use Rattle.tie_bound.specs.Boxes.{options_in_box}
-use Rattle.tie_bound.proofs.TableLemmas.{IsSoFar}
+use Rattle.tie_bound.proofs.SoFarLemmas.{IsSoFar}
 use Rattle.tie_bound.proofs.table.add_all.Given as goal
 
 -- each club's sums so far, and what is left of the matches, make its whole sums

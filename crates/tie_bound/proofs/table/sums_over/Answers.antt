@@ -8,7 +8,7 @@ use Rattle.league_core.specs.ClubSets.{clubs_in}
 use Rattle.league_core.proofs.ClubSetLemmas.{has_club-range}
 use Rattle.tie_criteria.specs.Measures.{worth_of}
 use Rattle.tie_bound.specs.Boxes.{options_in_box}
-use Rattle.tie_bound.proofs.TableLemmas.{among_all}
+use Rattle.tie_bound.proofs.SoFarLemmas.{among_all}
 use Rattle.tie_bound.proofs.table.sums_over.Goals as goal
 
 pub returns : goal.returns
