@@ -1,38 +1,16 @@
 -- Finishes and their numbers in the list of all: what a new score of one fixture makes of them.
 use Rattle.std.proofs.Common.{◌≡◌, ℕ, zero, suc, ◌+◌, ◌*◌, ◌<◌, true, List, [], ◌∷◌, length, get_or}
-use Rattle.std.proofs.Common.{set, take, Option, Some, None, is_some, refl, sym, ap, ◌∙◌, arith}
-use Rattle.std.specs.List.{list_all}
+use Rattle.std.proofs.Common.{set, take, Option, None, sym, ap, ◌∙◌, arith}
 use Rattle.std.proofs.lemmas.Bool.{false≢true, and_parts, and_from}
 use Rattle.league_core.specs.declared.sheet.Sheet.{Sheet}
 use Rattle.league_core.specs.declared.season.Score.{Score}
 use Rattle.league_core.specs.Results.{Results}
 use Rattle.league_core.specs.Seasons.{IsLeague}
-use Rattle.league_core.specs.Finishes.{may_end, may_all_end, IsFinishOf, is_played}
+use Rattle.league_core.specs.Finishes.{may_end, may_all_end, IsFinishOf}
 use Rattle.league_core.specs.FinishList.{ways_to_end, ways_to_finish, end_number, number_of}
+use Rattle.league_core.proofs.FinishLemmas.{finish_is_of}
 use Rattle.league_core.proofs.FinishListLemmas.{finish_stands, length-finishes_of, number_of-same}
 use Rattle.finish_walk.specs.Walks.{count_of_finishes, number_in}
-
--- a finish ends as many fixtures as the season has
-pub length-may_all_end : (limit : ℕ) (season finish : List (Option Score))
-    → may_all_end limit season finish ≡ true → length finish ≡ length season
-length-may_all_end limit [] [] may = refl
-length-may_all_end limit [] (ended ∷ finish) may = absurd (false≢true may)
-length-may_all_end limit (played ∷ season) [] may = absurd (false≢true may)
-length-may_all_end limit (played ∷ season) (ended ∷ finish) may =
-    ap suc (length-may_all_end limit season finish
-    (and_parts (may_end limit played ended) (may_all_end limit season finish) may).1)
-
--- each fixture ends as it may
-pub may_end_at : (limit : ℕ) (season finish : List (Option Score)) (i : ℕ)
-    → may_all_end limit season finish ≡ true → i < length season
-    → may_end limit (get_or season i None) (get_or finish i None) ≡ true
-may_end_at limit [] finish i may within = absurd (omega arith)
-may_end_at limit (played ∷ season) [] i may within = absurd (false≢true may)
-may_end_at limit (played ∷ season) (ended ∷ finish) zero may within =
-    (and_parts (may_end limit played ended) (may_all_end limit season finish) may).0
-may_end_at limit (played ∷ season) (ended ∷ finish) (suc i) may within =
-    may_end_at limit season finish i
-    (and_parts (may_end limit played ended) (may_all_end limit season finish) may).1 (omega arith)
 
 -- with another end of one fixture that may be, a finish is a finish again
 pub may_all_end-set : (limit : ℕ) (season finish : List (Option Score)) (i : ℕ)
@@ -85,32 +63,10 @@ number_in-same sheet season finish other is_finish other_is same =
     let deductions = is_finish.deductions ∙ sym other_is.deductions in
     λ i. record { scores = scores i; deductions = deductions i }
 
--- a finish has a score for every fixture
-pub finish_is_played : (sheet : Sheet) (season finish : Results) → IsFinishOf sheet season finish
-    → is_played finish ≡ true
-finish_is_played sheet season finish is_finish =
-    all_some season.scores finish.scores is_finish.scores
-  where
-    all_some : (season finish : List (Option Score))
-        → may_all_end sheet.goal_limit season finish ≡ true → list_all is_some finish ≡ true
-    all_some [] [] may = refl
-    all_some [] (ended ∷ finish) may = absurd (false≢true may)
-    all_some (played ∷ season) [] may = absurd (false≢true may)
-    all_some (None ∷ season) (None ∷ finish) may = absurd (false≢true may)
-    all_some (Some played ∷ season) (None ∷ finish) may = absurd (false≢true may)
-    all_some (played ∷ season) (Some ended ∷ finish) may =
-        all_some season finish
-        (and_parts (may_end sheet.goal_limit played (Some ended))
-        (may_all_end sheet.goal_limit season finish) may).1
-
 -- a finish of a season of the sheet is a season of the sheet
 pub finish_of_sheet : (sheet : Sheet) (season finish : Results) → IsLeague sheet season
     → IsFinishOf sheet season finish → IsLeague sheet finish
 finish_of_sheet sheet season finish league is_finish = record {
   limits = league.limits;
-  of_sheet = record {
-    scores = length-may_all_end sheet.goal_limit season.scores finish.scores is_finish.scores
-        ∙ league.of_sheet.scores;
-    deductions = ap length is_finish.deductions ∙ league.of_sheet.deductions;
-  };
+  of_sheet = finish_is_of sheet season finish league.of_sheet is_finish;
 }

@@ -1,6 +1,6 @@
 use Rattle.std.proofs.Common.{get_or, is_some, Some, None, sym, ap, ◌∙◌, arith}
 use Rattle.league_core.specs.Finishes.{may_end}
-use Rattle.finish_walk.proofs.NumberLemmas.{length-may_all_end, may_end_at}
+use Rattle.league_core.proofs.FinishLemmas.{may_all_end-length, may_end-at}
 use Rattle.finish_walk.proofs.StepLemmas.{is_none, is_score_within, turns-played, finish_with}
 use Rattle.finish_walk.proofs.StepLemmas.{turns-open}
 use Rattle.finish_walk.proofs.odometer.turn.Goals as goal
@@ -13,7 +13,7 @@ returns-then-is_some-clause-number c =
 
 pub score-requires-2 : goal.score-requires-2
 score-requires-2 c =
-    let as_many = length-may_all_end c.args.sheet.now.goal_limit c.args.season.now.scores
+    let as_many = may_all_end-length c.args.sheet.now.goal_limit c.args.season.now.scores
     c.args.finish.now.scores c.requires.is_finish.scores in
     omega (arith, as_many, c.requires.in_range)
 
@@ -26,11 +26,11 @@ next_mark-mark-requires-clause-may c =
     (ap is_some (sym c.score.ensures.score) ∙ sym c.is_some.ensures ∙ c.if-is_some.false) in
     ap (may_end limit None) c.score-2.ensures.score
     ∙ ap (λ o. may_end limit o (get_or finish c.args.fixture None)) (sym unplayed)
-    ∙ may_end_at limit season finish c.args.fixture c.requires.is_finish.scores c.requires.in_range
+    ∙ may_end-at limit season finish c.requires.is_finish.scores c.args.fixture c.requires.in_range
 
 pub apply-requires : goal.apply-requires
 apply-requires c =
-    let as_many = length-may_all_end c.args.sheet.now.goal_limit c.args.season.now.scores
+    let as_many = may_all_end-length c.args.sheet.now.goal_limit c.args.season.now.scores
     c.args.finish.now.scores c.requires.is_finish.scores in (
       omega (arith, as_many, c.requires.in_range),
       is_score_within c.args.sheet.now.goal_limit c.next_mark-mark.result.score

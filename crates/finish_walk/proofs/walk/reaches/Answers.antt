@@ -3,7 +3,8 @@ use Rattle.std.proofs.lemmas.List.{with_items_is}
 use Rattle.finish_walk.specs.declared.reach.Reach.{Reach}
 use Rattle.finish_walk.specs.Walks.{number_in}
 use Rattle.finish_walk.specs.Reaches.{AreReachesOver, IsBefore}
-use Rattle.finish_walk.proofs.NumberLemmas.{number_in-lt, finish_is_played, finish_of_sheet}
+use Rattle.league_core.proofs.FinishLemmas.{finish_is_played}
+use Rattle.finish_walk.proofs.NumberLemmas.{number_in-lt, finish_of_sheet}
 use Rattle.finish_walk.proofs.StepLemmas.{stepped, ended}
 use Rattle.finish_walk.proofs.WalkLemmas.{length-spans_of, reaches_first, reaches_more, reaches_all}
 use Rattle.finish_walk.proofs.walk.reaches.Goals as goal
