@@ -1,7 +1,9 @@
 -- Lemmas on what a call for the next entry reads.
-use Rattle.std.proofs.Common.{◌≡◌, ◌≤◌, ℕ, List, [], ◌∷◌, ◌++◌, Option, None, Some, option_map, IfSome, Result, Ok, Err, refl, sym, ap, ◌∙◌, arith, append_assoc}
+use Rattle.std.proofs.Common.{◌≡◌, ◌≤◌, ℕ, List, [], ◌∷◌, ◌++◌, Option, None, Some, option_map}
+use Rattle.std.proofs.Common.{IfSome, Result, Ok, Err, refl, sym, ap, ◌∙◌, arith, append_assoc}
 use Rattle.port_core.specs.declared.answers.ReadStop.{ReadStop}
-use Rattle.port_core.specs.declared.answers.ReadStop.TheVariants.{ReadFault, LineTooLong, InputTooLong}
+use Rattle.port_core.specs.declared.answers.ReadStop.TheVariants.{ReadFault, LineTooLong}
+use Rattle.port_core.specs.declared.answers.ReadStop.TheVariants.{InputTooLong}
 use Rattle.port_core.specs.Contents.{Contents, ended, with_line, with_lines}
 use Rattle.port_core.specs.Readers.{Reader}
 use Rattle.result_log.specs.declared.entry.Entry.{Entry}
@@ -9,7 +11,8 @@ use Rattle.result_log.specs.declared.entry.Entry.TheVariants.{Change, Ask, Proof
 use Rattle.result_log.specs.declared.fault.FeedStop.{FeedStop}
 use Rattle.result_log.specs.declared.fault.FeedStop.TheVariants.{Fault, Read, OutOfMemory}
 use Rattle.result_log.specs.Feeds.{reading_from, reading_of}
-use Rattle.result_log.specs.Calls.{AnswersLine, LineEntry, MovesToEntry, Passes, PassesLine, ReadsAs, ReadsEntry, ReadsRecord}
+use Rattle.result_log.specs.Calls.{AnswersLine, LineEntry, MovesToEntry, Passes, PassesLine}
+use Rattle.result_log.specs.Calls.{ReadsAs, ReadsEntry, ReadsRecord}
 
 -- ---- lines in front
 

@@ -1,5 +1,6 @@
 -- Lemmas on feeds: what is known of an entry that is read, and how a feed begins with it.
-use Rattle.std.proofs.Common.{◌≡◌, ◌≤◌, ℕ, Bool, true, false, List, [], ◌∷◌, ◌++◌, Option, None, Some, if◌then◌else◌, Result, Ok, Err, refl, ap, subst, ◌∙◌, arith}
+use Rattle.std.proofs.Common.{◌≡◌, ◌≤◌, ℕ, Bool, true, false, List, [], ◌∷◌, ◌++◌, Option, None}
+use Rattle.std.proofs.Common.{Some, if◌then◌else◌, Result, Ok, Err, refl, ap, subst, ◌∙◌, arith}
 use Rattle.std.proofs.lemmas.List.{length_push}
 use Rattle.league_core.specs.declared.sheet.Sheet.{Sheet}
 use Rattle.league_core.specs.declared.season.Event.{Event}
@@ -15,7 +16,9 @@ use Rattle.result_log.specs.declared.fault.FeedFault.{FeedFault}
 use Rattle.result_log.specs.declared.fault.FeedFault.TheVariants.{UnknownRecord}
 use Rattle.league_core.specs.Limits.{most_events}
 use Rattle.result_log.specs.Records.{IsEntryAt}
-use Rattle.result_log.specs.Feeds.{EntryReading, count_with, entry_if, entry_in, events_with, feed_by, feed_from, feed_of, given, reading_by, reading_from, reading_of, season_with}
+use Rattle.result_log.specs.Feeds.{EntryReading, count_with, entry_if, entry_in, events_with}
+use Rattle.result_log.specs.Feeds.{feed_by, feed_from, feed_of, given, reading_by, reading_from}
+use Rattle.result_log.specs.Feeds.{reading_of, season_with}
 use Rattle.result_log.specs.Laws.{KeepsLog, feed_behind}
 use Rattle.result_log.proofs.RecordLemmas.{entry_may_come}
 use Rattle.league_core.proofs.LogLemmas.{AreEventsOf-push, season_after_of}

@@ -1,5 +1,8 @@
 -- Lemmas on records: what is known of one that no test refuses.
-use Rattle.std.proofs.Common.{◌≡◌, ◌<◌, ◌≤◌, ℕ, Bool, true, false, not, ◌&&◌, ◌||◌, ◌==◌, nat_le, List, [], ◌∷◌, length, Option, None, Some, is_some, option_and_then, if◌then◌else◌, bytes_eq, codes, Result, Ok, Err, IfOk, refl, sym, ap, subst, ◌∙◌, arith}
+use Rattle.std.proofs.Common.{◌≡◌, ◌<◌, ◌≤◌, ℕ, Bool, true, false, not, ◌&&◌, ◌==◌, nat_le, List}
+use Rattle.std.proofs.Common.{[], length, Option, None, Some, is_some, option_and_then}
+use Rattle.std.proofs.Common.{if◌then◌else◌, bytes_eq, codes, Result, Ok, Err, IfOk, refl, sym, ap}
+use Rattle.std.proofs.Common.{subst, ◌∙◌, arith}
 use Rattle.std.specs.List.{position}
 use Rattle.std.specs.Str.Parse.{digits_value}
 use Rattle.std.proofs.lemmas.Bool.{and_parts, leb-true, leb-false, le-leb, not-false, and_from}
@@ -19,8 +22,14 @@ use Rattle.result_log.specs.declared.entry.Entry.TheVariants.{End}
 use Rattle.result_log.specs.declared.kind.Kind.{Kind}
 use Rattle.result_log.specs.declared.kind.Kind.TheVariants as kinds
 use Rattle.result_log.specs.declared.fault.FeedFault.{FeedFault}
-use Rattle.result_log.specs.declared.fault.FeedFault.TheVariants.{WrongWidth, UnknownFixture, UnknownClub, BadGoals, BadPoints, AlreadyPlayed, NotPlayed, LogFull}
-use Rattle.result_log.specs.Records.{IsEntryAt, club_told, entry_by, entry_of, entry_told, fixture_told, found_number, has_club, has_fixture, has_goals, has_points, has_result, has_score, is_event, is_for_club, is_for_fixture, is_for_played, is_for_unplayed, is_within, kind_of, number_at, score_told, tests_of, told_unless, width_of}
+use Rattle.result_log.specs.declared.fault.FeedFault.TheVariants.{WrongWidth, UnknownFixture}
+use Rattle.result_log.specs.declared.fault.FeedFault.TheVariants.{UnknownClub, BadGoals, BadPoints}
+use Rattle.result_log.specs.declared.fault.FeedFault.TheVariants.{AlreadyPlayed, NotPlayed, LogFull}
+use Rattle.result_log.specs.Records.{IsEntryAt, club_told, entry_by, entry_of, entry_told}
+use Rattle.result_log.specs.Records.{fixture_told, found_number, has_club, has_fixture, has_goals}
+use Rattle.result_log.specs.Records.{has_points, has_result, has_score, is_event, is_for_club}
+use Rattle.result_log.specs.Records.{is_for_fixture, is_for_played, is_for_unplayed, is_within}
+use Rattle.result_log.specs.Records.{kind_of, score_told, tests_of, told_unless, width_of}
 
 -- ---- ranges
 
@@ -56,7 +65,8 @@ fixture-within sheet fields has =
 score-within : (fields : List (List ℕ)) → has_goals fields ≡ true
     → is_score (score_told fields) ≡ true
 score-within fields has =
-    let parts = and_parts (is_within 0 most_goals (field 2 fields)) (is_within 0 most_goals (field 3 fields)) has in
+    let parts = and_parts (is_within 0 most_goals (field 2 fields)) (is_within 0 most_goals (field 3
+    fields)) has in
     and_from _ _ (le-leb _ _ (range-within 0 most_goals (field 2 fields) parts.0).1)
     (le-leb _ _ (range-within 0 most_goals (field 3 fields) parts.1).1)
 
@@ -84,7 +94,8 @@ record KnownOf (sheet : Sheet) (events : ℕ) (fields : List (List ℕ)) (kind :
 
 told_as : (sheet : Sheet) (season : Results) (events : ℕ) (fields : List (List ℕ)) (kind : Kind)
     (entry : Entry)
-    → told_unless (tests_of sheet season events fields kind) (entry_told sheet fields kind) ≡ Ok entry
+    → told_unless (tests_of sheet season events fields kind) (entry_told sheet fields kind) ≡ Ok
+    entry
     → KnownOf sheet events fields kind entry
 told_as sheet season events fields kind entry told =
     let width = passed (not (length fields == width_of kind)) WrongWidth _ entry told in
@@ -146,7 +157,8 @@ club_of_season sheet season fields of_sheet has =
 may_come : (sheet : Sheet) (season : Results) (events : ℕ) (proofs : Bool)
     (fields : List (List ℕ)) (kind : Kind) (entry : Entry) → IsSeasonOf sheet season
     → (kind ≡ kinds.Proofs → proofs ≡ true)
-    → told_unless (tests_of sheet season events fields kind) (entry_told sheet fields kind) ≡ Ok entry
+    → told_unless (tests_of sheet season events fields kind) (entry_told sheet fields kind) ≡ Ok
+    entry
     → IsEntryAt season events proofs entry
 may_come sheet season events proofs fields kinds.Result entry of_sheet allowed told =
     let known = told_as sheet season events fields kinds.Result entry told in

@@ -10,7 +10,8 @@ use Rattle.league_core.specs.WorkedRows.{pair}
 use Rattle.port_core.specs.Contents.{Contents, ended}
 use Rattle.result_log.specs.declared.entry.Entry.{Entry}
 use Rattle.result_log.specs.declared.entry.Entry.TheVariants.{Change, Ask, Proofs, End}
-use Rattle.result_log.specs.declared.fault.FeedFault.TheVariants.{UnknownFixture, BadGoals, AlreadyPlayed, NotPlayed}
+use Rattle.result_log.specs.declared.fault.FeedFault.TheVariants.{UnknownFixture, BadGoals}
+use Rattle.result_log.specs.declared.fault.FeedFault.TheVariants.{AlreadyPlayed, NotPlayed}
 use Rattle.result_log.specs.declared.fault.FeedStop.TheVariants.{Fault}
 use Rattle.result_log.specs.Feeds.{closed, feed_of}
 

@@ -1,9 +1,11 @@
 -- What the calls answer.
-use Rattle.std.specs.Prelude.{◌≡◌, ◌<◌, ◌≤◌, ℕ, List, Option, None, Some, option_map, Result, Ok, Err}
+use Rattle.std.specs.Prelude.{◌≡◌, ◌<◌, ◌≤◌, ℕ, List, Option, None, Some, option_map, Result, Ok}
+use Rattle.std.specs.Prelude.{Err}
 use Rattle.port_core.specs.declared.answers.Line.{Line}
 use Rattle.port_core.specs.declared.answers.Line.TheVariants as line
 use Rattle.port_core.specs.declared.answers.ReadStop.{ReadStop}
-use Rattle.port_core.specs.declared.answers.ReadStop.TheVariants.{ReadFault, LineTooLong, InputTooLong}
+use Rattle.port_core.specs.declared.answers.ReadStop.TheVariants.{ReadFault, LineTooLong}
+use Rattle.port_core.specs.declared.answers.ReadStop.TheVariants.{InputTooLong}
 use Rattle.port_core.specs.Contents.{Contents, with_line, with_lines, input_limit, number_at}
 use Rattle.port_core.specs.Readers.{Reader}
 use Rattle.port_core.specs.Ports.{Rose}

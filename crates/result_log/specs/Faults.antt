@@ -1,7 +1,10 @@
 -- Why a record of the feed is refused, and the words for it.
 use Rattle.std.specs.Prelude.{ℕ, List, codes}
 use Rattle.result_log.specs.declared.fault.FeedFault.{FeedFault}
-use Rattle.result_log.specs.declared.fault.FeedFault.TheVariants.{UnknownRecord, WrongWidth, UnknownFixture, BadGoals, AlreadyPlayed, NotPlayed, LogFull, UnknownClub, BadPoints}
+use Rattle.result_log.specs.declared.fault.FeedFault.TheVariants.{UnknownRecord, WrongWidth}
+use Rattle.result_log.specs.declared.fault.FeedFault.TheVariants.{UnknownFixture, BadGoals}
+use Rattle.result_log.specs.declared.fault.FeedFault.TheVariants.{AlreadyPlayed, NotPlayed, LogFull}
+use Rattle.result_log.specs.declared.fault.FeedFault.TheVariants.{UnknownClub, BadPoints}
 
 -- the code that a refusal is printed by
 abbrev pub code_of : FeedFault → List ℕ

@@ -1,6 +1,7 @@
 -- What the contents of an input are as a feed: entry by entry, each read in the season of the
 -- events before it, up to the end of the feed or the first refusal.
-use Rattle.std.specs.Prelude.{ℕ, ◌+◌, Bool, List, [], ◌∷◌, ◌++◌, Option, None, Some, Result, Ok, Err, if◌then◌else◌}
+use Rattle.std.specs.Prelude.{ℕ, ◌+◌, Bool, List, [], ◌∷◌, ◌++◌, Option, None, Some, Result, Ok}
+use Rattle.std.specs.Prelude.{Err, if◌then◌else◌}
 use Rattle.league_core.specs.declared.sheet.Sheet.{Sheet}
 use Rattle.league_core.specs.declared.season.Event.{Event}
 use Rattle.league_core.specs.Results.{Results}
@@ -60,7 +61,8 @@ reading_by number rest onward (Err fault) =
 
 -- the reading of the first entry of these lines and this ending, where `entry` says what a line is
 abbrev pub reading_from :
-    (List ℕ → Result (Option Entry) FeedFault) → List (ℕ × List ℕ) → Result ℕ ReadStop → EntryReading
+    (List ℕ → Result (Option Entry) FeedFault) → List (ℕ × List ℕ) → Result ℕ ReadStop
+    → EntryReading
 reading_from entry [] ending = record { gives = given_at_end ending; rest = ended ending }
 reading_from entry (line ∷ lines) ending =
     reading_by line.0 (record { lines = lines; ending = ending })

@@ -1,6 +1,6 @@
 -- What holds of every feed, by the definitions alone: each statement is the contract of a
 -- function of src/laws.rt that does nothing.
-use Rattle.std.specs.Prelude.{◌≡◌, ◌≢◌, ◌≤◌, ℕ, Bool, IsTrue, List, ◌∷◌, [], ◌++◌, Result, Ok, Err}
+use Rattle.std.specs.Prelude.{◌≡◌, ◌≢◌, ◌≤◌, ℕ, Bool, List, ◌∷◌, [], ◌++◌, Result, Ok, Err}
 use Rattle.league_core.specs.declared.sheet.Sheet.{Sheet}
 use Rattle.league_core.specs.declared.season.Event.{Event}
 use Rattle.league_core.specs.Results.{Results}
@@ -11,7 +11,8 @@ use Rattle.result_log.specs.declared.entry.Entry.TheVariants.{Change, Ask, Proof
 use Rattle.result_log.specs.declared.fault.FeedStop.{FeedStop}
 use Rattle.league_core.specs.Limits.{most_events}
 use Rattle.result_log.specs.Records.{IsEntryAt, entry_of}
-use Rattle.result_log.specs.Feeds.{Feed, closed, count_with, entry_in, events_behind, events_with, feed_of, reading_of, season_with, with_entry}
+use Rattle.result_log.specs.Feeds.{Feed, closed, count_with, entry_in, events_behind, events_with}
+use Rattle.result_log.specs.Feeds.{feed_of, reading_of, season_with, with_entry}
 
 -- ---- one entry
 

@@ -1,6 +1,8 @@
 -- What a record of the feed tells, in the season of the events before it, or why it is refused. The
 -- tests of a record stand in the order in which they refuse it. Fields count from 0 here.
-use Rattle.std.specs.Prelude.{◌<◌, ℕ, ◌-◌, Bool, true, false, not, ◌&&◌, ◌||◌, ◌==◌, nat_le, IsTrue, List, [], ◌∷◌, length, slice_index_or, Option, None, Some, is_some, Result, Ok, Err, if◌then◌else◌, bytes_eq, codes}
+use Rattle.std.specs.Prelude.{◌<◌, ℕ, ◌-◌, Bool, true, false, not, ◌&&◌, ◌||◌, ◌==◌, nat_le, IsTrue}
+use Rattle.std.specs.Prelude.{List, [], ◌∷◌, length, slice_index_or, Option, None, Some, is_some}
+use Rattle.std.specs.Prelude.{Result, Ok, Err, if◌then◌else◌, bytes_eq, codes}
 use Rattle.std.specs.Str.Parse.{digits_value}
 use Rattle.league_core.specs.declared.sheet.Sheet.{Sheet}
 use Rattle.league_core.specs.declared.season.Score.{Score}
@@ -16,7 +18,10 @@ use Rattle.result_log.specs.declared.entry.Entry.TheVariants.{Change, Ask, Proof
 use Rattle.result_log.specs.declared.kind.Kind.{Kind}
 use Rattle.result_log.specs.declared.kind.Kind.TheVariants as kind
 use Rattle.result_log.specs.declared.fault.FeedFault.{FeedFault}
-use Rattle.result_log.specs.declared.fault.FeedFault.TheVariants.{UnknownRecord, WrongWidth, UnknownFixture, UnknownClub, BadGoals, BadPoints, AlreadyPlayed, NotPlayed, LogFull}
+use Rattle.result_log.specs.declared.fault.FeedFault.TheVariants.{UnknownRecord, WrongWidth}
+use Rattle.result_log.specs.declared.fault.FeedFault.TheVariants.{UnknownFixture, UnknownClub}
+use Rattle.result_log.specs.declared.fault.FeedFault.TheVariants.{BadGoals, BadPoints}
+use Rattle.result_log.specs.declared.fault.FeedFault.TheVariants.{AlreadyPlayed, NotPlayed, LogFull}
 
 -- ---- the kinds of records
 

@@ -81,24 +81,6 @@ fn proofs_end_a_feed_where_they_may_follow(rt: HostRuntime) -> Result<(), Fail> 
     Ok(())
 }
 
-#[test]
-fn a_long_line_stops_a_feed(rt: HostRuntime) -> Result<(), Fail> {
-    let alloc = rt.alloc();
-    for (letters, wanted) in [
-        (1023, b"8,unknown_record".as_slice()),
-        (1024, b">7".as_slice()),
-    ] {
-        let mut feed = Vec::from_slice(alloc, b"#")?;
-        for _ in 0..letters {
-            feed.push(b'x')?;
-        }
-        feed.extend_from_slice(b"\nx")?;
-        let out = behind(alloc, feed.as_slice(), false, 1000, &[])?;
-        assert_eq!(rt; out.as_slice(), wanted, "{letters} letters");
-    }
-    Ok(())
-}
-
 // In pieces of one byte the sheet takes calls 1 to 56. Then calls 57 to 69 give the result with
 // its LF, calls 70 to 72 the line of empty fields, 73 to 75 the ask, and each later one the end.
 #[test]

@@ -2,9 +2,10 @@
 //! first has ended 2:1.
 
 use crate::entry::Entry;
-use crate::record::{EVENT_LIMIT, read_event};
+use crate::record::read_event;
 use crate::telling::{is_of, tell_event};
 use fixture_sheet::{fields_of, read_sheet};
+use league_core::limits::MOST_EVENTS;
 use league_core::{Season, Sheet};
 use port_core::{LineReader, MemSource};
 use std::alloc::Global;
@@ -62,6 +63,7 @@ fn tell_record(
 
 #[test]
 fn a_feed_has_at_most_100000_events(rt: HostRuntime) -> Result<(), Fail> {
+    let most = u64::from(MOST_EVENTS);
     for (events, record, wanted) in [
         (
             99_999,
@@ -69,17 +71,18 @@ fn a_feed_has_at_most_100000_events(rt: HostRuntime) -> Result<(), Fail> {
             b"1=2:1 2=0:0 ".as_slice(),
         ),
         (99_999, b"void,1", b"1=2:1 1=- "),
-        (EVENT_LIMIT, b"result,2,0,0", b"1=2:1 log_full"),
-        (EVENT_LIMIT, b"fix,1,2,1", b"1=2:1 log_full"),
-        (EVENT_LIMIT, b"void,1", b"1=2:1 log_full"),
+        (most, b"result,2,0,0", b"1=2:1 log_full"),
         (u64::MAX, b"void,1", b"1=2:1 log_full"),
-        (EVENT_LIMIT, b"result,1,0,0", b"1=2:1 already_played"),
-        (EVENT_LIMIT, b"fix,2,0,0", b"1=2:1 not_played"),
-        (EVENT_LIMIT, b"void,2", b"1=2:1 not_played"),
-        (EVENT_LIMIT, b"result,2,100,0", b"1=2:1 bad_goals"),
-        (EVENT_LIMIT, b"ask", b"1=2:1 ask"),
-        (EVENT_LIMIT, b"proofs", b"1=2:1 proofs"),
-        (EVENT_LIMIT, b"report", b"1=2:1 unknown_record"),
+        (most, b"result,1,0,0", b"1=2:1 already_played"),
+        (most, b"fix,2,0,0", b"1=2:1 not_played"),
+        (most, b"void,2", b"1=2:1 not_played"),
+        (most, b"result,2,100,0", b"1=2:1 bad_goals"),
+        (most, b"deduct,A,3", b"1=2:1 log_full"),
+        (most, b"deduct,C,3", b"1=2:1 unknown_club"),
+        (most, b"deduct,A,100", b"1=2:1 bad_points"),
+        (most, b"ask", b"1=2:1 ask"),
+        (most, b"proofs", b"1=2:1 proofs"),
+        (most, b"report", b"1=2:1 unknown_record"),
     ] {
         let out = told_behind(rt.alloc(), events, record)?;
         assert_eq!(rt; out.as_slice(), wanted, "{record:?} behind {events}");

@@ -2,9 +2,12 @@
 
 ghost use Rattle.std.specs.Prelude.{◌≡◌, ◌≤◌, IfOk, IfSome, length};
 ghost use Rattle.league_core.specs.Seasons.{IsSeasonOf};
-ghost use Rattle.port_core.specs.Readers.{LeavesReader, PassesTo, TakesInput, contents_to_come, given_by};
+ghost use Rattle.port_core.specs.Readers.{LeavesReader, PassesTo, TakesInput, contents_to_come};
+ghost use Rattle.port_core.specs.Readers.{given_by};
 ghost use Rattle.fixture_sheet.specs.Calls.{PassesUpTo};
-ghost use Rattle.result_log.specs.Calls.{AnswersLine, CountsEntry, CountsRecord, MovesToEntry, MovesToRecord, ReadsEntry, ReadsRecord, answer_behind, answer_there};
+ghost use Rattle.result_log.specs.Calls.{AnswersLine, CountsEntry, CountsRecord, MovesToEntry};
+ghost use Rattle.result_log.specs.Calls.{MovesToRecord, ReadsEntry, ReadsRecord, answer_behind};
+ghost use Rattle.result_log.specs.Calls.{answer_there};
 ghost use Rattle.result_log.specs.Feeds.{entry_in};
 ghost use Rattle.result_log.specs.Records.{IsEntryAt};
 
@@ -74,7 +77,8 @@ fn take_line<S: Source>(
     ensures told { IfSome result (λ answer. IfOk answer (λ entry.
         IsEntryAt season.now events proofs entry)) }
     ensures passes { PassesTo reader.old reader.new (S.left source.old) (S.left source.new)
-        (S.ended source.old) (S.ended source.new) (given_by (answer_there reader.new result) reader.new.text) }
+        (S.ended source.old) (S.ended source.new)
+        (given_by (answer_there reader.new result) reader.new.text) }
     ensures leaves { LeavesReader reader.new (S.left source.new)
         (answer_there reader.new result) }
     ensures takes { TakesInput reader.old reader.new (S.left source.old) (S.left source.new) }

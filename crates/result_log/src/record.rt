@@ -1,9 +1,13 @@
 //! What a record of the feed tells. No call takes memory.
 
-ghost use Rattle.std.specs.Prelude.{◌≡◌, ◌≢◌, ◌≤◌, ◌<◌, ◌∷◌, [], IfOk, IfSome, Ok, length, nat_le, not};
+ghost use Rattle.std.specs.Prelude.{◌≡◌, ◌≢◌, ◌≤◌, ◌<◌, ◌∷◌, [], IfOk, IfSome, Ok, length, nat_le};
+ghost use Rattle.std.specs.Prelude.{not};
 ghost use Rattle.league_core.specs.Seasons.{IsSeasonOf};
 ghost use Rattle.fixture_sheet.specs.Texts.{only_if};
-ghost use Rattle.result_log.specs.Records.{IsEntryAt, entry_of, club_told, entry_told, event_tests, fixture_told, has_club, has_fixture, has_goals, has_points, has_result, number_at, score_told, told_unless};
+ghost use Rattle.result_log.specs.Records.{IsEntryAt, entry_of, club_told, entry_told, event_tests};
+ghost use Rattle.result_log.specs.Records.{fixture_told, has_club, has_fixture, has_goals};
+ghost use Rattle.result_log.specs.Records.{has_points, has_result, number_at, score_told};
+ghost use Rattle.result_log.specs.Records.{told_unless};
 ghost use Rattle.league_core.specs.Limits.{most_deduction, most_events};
 
 use crate::entry::Entry;

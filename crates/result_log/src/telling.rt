@@ -1,7 +1,8 @@
-//! What the tests read, written out: an event as its fixture and score, as `1=2:0` or `1=-`; an
-//! ask as `ask` and the number of events so far; `proofs`; a refusal as its line and code; a
-//! fault of the source as `!`; a line that is too long as `>` and its number; the end as a point.
-//! The entries stand apart by a blank. Fixtures count from 1, as in a feed.
+//! What the tests read, written out: an event as its fixture and score, as `1=2:0` or `1=-`, or as
+//! its club and points, as `2-3`; an ask as `ask` and the number of events so far; `proofs`; a
+//! refusal as its line and code; a fault of the source as `!`; a line that is too long as `>` and
+//! its number; the end as a point. The entries stand apart by a blank. Fixtures count from 1, as in
+//! a feed.
 
 ghost use Rattle.std.specs.Prelude.{◌<◌, ◌≤◌, IsTrue, length};
 ghost use Rattle.league_core.specs.Seasons.{IsSeasonOf};
@@ -71,11 +72,13 @@ fn tell_feed(
 // A test of its own, so that what follows may rest on it.
 pub fn is_of(season: &Season, sheet: &Sheet) -> bool
     ensures { IsTrue result
-        → IsSeasonOf sheet.now season.now × (length sheet.now.fixtures ≤ 65535) }
+        → IsSeasonOf sheet.now season.now × (length sheet.now.fixtures ≤ 65535)
+        × (length sheet.now.clubs ≤ 255) }
 {
     season.scores().len() == sheet.fixtures.len()
         && season.deductions().len() == sheet.clubs.len()
         && sheet.fixtures.len() <= 65535
+        && sheet.clubs.len() <= 255
 }
 
 pub fn tell_event(event: &Event, out: &mut Vec<u8>) -> Result<(), Fail> {
@@ -88,6 +91,10 @@ pub fn tell_event(event: &Event, out: &mut Vec<u8>) -> Result<(), Fail> {
         Event::Clear { fixture } => {
             let number = u32::from(*fixture) + 1;
             write!(out, "{number}=- ")?;
+        }
+        Event::Deduct { club, points } => {
+            let number = u32::from(*club) + 1;
+            write!(out, "{number}-{points} ")?;
         }
     }
     Ok(())

@@ -5,7 +5,8 @@ use Rattle.port_core.proofs.TakingLemmas.{TakesInput-more, TakesInput-none}
 use Rattle.fixture_sheet.proofs.PassedLemmas.{PassesLines-more, PassesLines-none, PassesUpTo-behind}
 use Rattle.result_log.specs.Calls.{answer_behind}
 use Rattle.result_log.specs.Feeds.{entry_in}
-use Rattle.result_log.proofs.CallLemmas.{MovesToEntry-from, Passes-more, Passes-none, ReadsEntry-behind}
+use Rattle.result_log.proofs.CallLemmas.{MovesToEntry-from, Passes-more, Passes-none}
+use Rattle.result_log.proofs.CallLemmas.{ReadsEntry-behind}
 use Rattle.result_log.proofs.reader.next_entry.Goals as goal
 
 pub records-init : goal.records-init
