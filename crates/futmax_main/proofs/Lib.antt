@@ -1,8 +1,11 @@
-pub mod WordLemmas
+pub mod CommandLemmas
 pub mod PathLemmas
-pub mod FeedLemmas
+pub mod PlayedLemmas
 pub mod AnswerLemmas
 pub mod ExampleLemmas
-pub mod StandingLemmas
+pub mod TableLemmas
 pub mod OutputLemmas
+pub mod EndLemmas
 pub mod TurnLemmas
+pub mod RunLemmas
+pub mod EarnedLemmas

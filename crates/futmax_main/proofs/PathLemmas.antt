@@ -5,16 +5,17 @@ use Rattle.port_core.specs.declared.answers.ReadStop.{ReadStop}
 use Rattle.port_core.specs.Ports.{IsFront}
 use Rattle.port_core.specs.Contents.{Contents, with_line}
 use Rattle.futmax_main.specs.declared.session.Session.{Session}
+use Rattle.futmax_main.specs.declared.session.Asked.{Asked}
 use Rattle.futmax_main.specs.declared.session.Fault.{Fault}
 use Rattle.futmax_main.specs.declared.session.Step.{Step}
 use Rattle.futmax_main.specs.declared.session.Step.TheVariants.{Goes, Asks, Stops}
-use Rattle.futmax_main.specs.Session.{judge, status_of_cause}
+use Rattle.futmax_main.specs.Session.{step_of, session_behind, status_of_cause}
 use Rattle.futmax_main.specs.Rows.{fault_row}
-use Rattle.futmax_main.specs.Answers.{IsAnswer}
-use Rattle.futmax_main.specs.Path.{row_at_end, status_by, status_of, text_by, IsTextOf, front_by, IsFrontFrom, IsFrontOf, answers_by, AreAnswersFrom, Leads}
+use Rattle.futmax_main.specs.Answers.{IsAnswerTo}
+use Rattle.futmax_main.specs.Path.{row_at_end, status_by, status_of, text_by, IsTextOf, front_by, IsFrontFrom, IsFrontOf, answers_by, AreAnswersFrom, LeadsTo}
 
 -- before the first line
-pub leads_start : (first : Session) (all : Contents) → Leads first all [] all [] first
+pub leads_start : (first : Session) (all : Contents) → LeadsTo first all [] all [] first
 leads_start first all = record {
   status = refl;
   text = λ more text. text;
@@ -25,9 +26,9 @@ leads_start first all = record {
 -- a line on which the session goes on
 pub leads_goes : (first : Session) (all : Contents) (taken : List (ℕ × List ℕ)) (number : ℕ)
     (text : List ℕ) (left : Contents) (written : List ℕ) (session next : Session)
-    → Leads first all taken (with_line number text left) written session
-    → judge number session text ≡ Goes next
-    → Leads first all (taken ++ (number, text) ∷ []) left written next
+    → LeadsTo first all taken (with_line number text left) written session
+    → step_of number session text ≡ Goes next
+    → LeadsTo first all (taken ++ (number, text) ∷ []) left written next
 leads_goes first all taken number text left written session next way goes =
     record {
       status = way.status ∙ ap (λ step. status_by step (λ s. status_of left s)) goes;
@@ -46,11 +47,12 @@ leads_goes first all taken number text left written session next way goes =
 
 -- a line that is an ask, and its answer
 pub leads_asks : (first : Session) (all : Contents) (taken : List (ℕ × List ℕ)) (number : ℕ)
-    (text : List ℕ) (left : Contents) (written answer : List ℕ) (session next : Session)
-    → Leads first all taken (with_line number text left) written session
-    → judge number session text ≡ Asks next → IsAnswer next answer
-    → Leads first all (taken ++ (number, text) ∷ []) left (written ++ answer) next
-leads_asks first all taken number text left written answer session next way asks answers_it =
+    (text : List ℕ) (left : Contents) (written answer : List ℕ) (session : Session)
+    (asked : Asked) → LeadsTo first all taken (with_line number text left) written session
+    → step_of number session text ≡ Asks asked → IsAnswerTo asked answer
+    → LeadsTo first all (taken ++ (number, text) ∷ []) left (written ++ answer)
+    (session_behind asked)
+leads_asks first all taken number text left written answer session asked way asks answers_it =
     record {
       status = way.status ∙ ap (λ step. status_by step (λ s. status_of left s)) asks;
       text = λ more is.
@@ -80,23 +82,23 @@ leads_asks first all taken number text left written answer session next way asks
 -- a line that is refused ends the session with its status, and its row ends the text
 pub status_stops : (first : Session) (all : Contents) (taken : List (ℕ × List ℕ)) (number : ℕ)
     (text : List ℕ) (left : Contents) (written : List ℕ) (session : Session) (fault : Fault)
-    → Leads first all taken (with_line number text left) written session
-    → judge number session text ≡ Stops fault → status_of all first ≡ status_of_cause fault.cause
+    → LeadsTo first all taken (with_line number text left) written session
+    → step_of number session text ≡ Stops fault → status_of all first ≡ status_of_cause fault.cause
 status_stops first all taken number text left written session fault way stops =
     way.status ∙ ap (λ step. status_by step (λ s. status_of left s)) stops
 
 pub text_stops : (first : Session) (all : Contents) (taken : List (ℕ × List ℕ)) (number : ℕ)
     (text : List ℕ) (left : Contents) (written : List ℕ) (session : Session) (fault : Fault)
-    → Leads first all taken (with_line number text left) written session
-    → judge number session text ≡ Stops fault → IsTextOf all first (written ++ fault_row fault)
+    → LeadsTo first all taken (with_line number text left) written session
+    → step_of number session text ≡ Stops fault → IsTextOf all first (written ++ fault_row fault)
 text_stops first all taken number text left written session fault way stops =
     let P : Step → Type 0 = λ step. text_by step (λ s. IsTextOf left s) (fault_row fault) in
     way.text (fault_row fault) (subst P (sym stops) refl)
 
 pub front_stops : (first : Session) (all : Contents) (taken : List (ℕ × List ℕ)) (number : ℕ)
     (text : List ℕ) (left : Contents) (written part : List ℕ) (session : Session) (fault : Fault)
-    → Leads first all taken (with_line number text left) written session
-    → judge number session text ≡ Stops fault → IsFront part (fault_row fault)
+    → LeadsTo first all taken (with_line number text left) written session
+    → step_of number session text ≡ Stops fault → IsFront part (fault_row fault)
     → IsFrontOf all first (written ++ part)
 front_stops first all taken number text left written part session fault way stops front =
     let P : Step → Type 0 = λ step. front_by step (λ s. IsFrontOf left s) part in
@@ -104,11 +106,11 @@ front_stops first all taken number text left written part session fault way stop
 
 -- a front of an answer that was not written to its end
 pub front_asks : (first : Session) (all : Contents) (taken : List (ℕ × List ℕ)) (number : ℕ)
-    (text : List ℕ) (left : Contents) (written part answer : List ℕ) (session next : Session)
-    → Leads first all taken (with_line number text left) written session
-    → judge number session text ≡ Asks next → IsAnswer next answer → IsFront part answer
+    (text : List ℕ) (left : Contents) (written part answer : List ℕ) (session : Session)
+    (asked : Asked) → LeadsTo first all taken (with_line number text left) written session
+    → step_of number session text ≡ Asks asked → IsAnswerTo asked answer → IsFront part answer
     → IsFrontOf all first (written ++ part)
-front_asks first all taken number text left written part answer session next way asks answers_it
+front_asks first all taken number text left written part answer session asked way asks answers_it
     front =
     let P : Step → Type 0 = λ step. front_by step (λ s. IsFrontOf left s) part in
     way.front part (subst P (sym asks) (inl (inr (answer, answers_it, front))))
@@ -117,7 +119,7 @@ front_asks first all taken number text left written part answer session next way
 front_by-nothing : (step : Step) (onward : Session → List ℕ → Type 0)
     → ((next : Session) → onward next []) → front_by step onward []
 front_by-nothing (Goes next) onward nothing = nothing next
-front_by-nothing (Asks next) onward nothing = inl (inl refl)
+front_by-nothing (Asks asked) onward nothing = inl (inl refl)
 front_by-nothing (Stops fault) onward nothing = (fault_row fault, refl)
 
 -- nothing written is a front of every session
@@ -125,12 +127,12 @@ pub front_nothing : (lines : List (ℕ × List ℕ)) (end : Result ℕ ReadStop)
     → IsFrontFrom lines end session []
 front_nothing [] end session = (row_at_end end session, refl)
 front_nothing (line ∷ lines) end session =
-    front_by-nothing (judge line.0 session line.1) (λ next. IsFrontFrom lines end next)
+    front_by-nothing (step_of line.0 session line.1) (λ next. IsFrontFrom lines end next)
     (λ next. front_nothing lines end next)
 
 -- what was written so far is a front
 pub front_written : (first : Session) (all : Contents) (taken : List (ℕ × List ℕ)) (left : Contents)
-    (written : List ℕ) (session : Session) → Leads first all taken left written session
+    (written : List ℕ) (session : Session) → LeadsTo first all taken left written session
     → IsFrontOf all first written
 front_written first all taken left written session way =
     let P : List ℕ → Type 0 = λ t. IsFrontOf all first t in
@@ -139,7 +141,7 @@ front_written first all taken left written session way =
 -- what was written so far answers the asks in the lines taken
 pub answers_written : (first : Session) (all : Contents) (taken : List (ℕ × List ℕ))
     (left : Contents) (written : List ℕ) (session : Session)
-    → Leads first all taken left written session → AreAnswersFrom taken first written
+    → LeadsTo first all taken left written session → AreAnswersFrom taken first written
 answers_written first all taken left written session way =
     let P : List ℕ → Type 0 = λ t. AreAnswersFrom taken first t in
     let Q : List (ℕ × List ℕ) → Type 0 = λ ls. AreAnswersFrom ls first (written ++ []) in

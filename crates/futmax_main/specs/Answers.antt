@@ -2,23 +2,16 @@
 use Rattle.std.specs.Prelude.{ℕ, List}
 use Rattle.futmax_main.specs.declared.session.Mode.{Mode}
 use Rattle.futmax_main.specs.declared.session.Mode.TheVariants.{Verdicts, Table}
-use Rattle.futmax_main.specs.declared.session.Feed.{Feed}
-use Rattle.futmax_main.specs.declared.session.Stage.{Stage}
-use Rattle.futmax_main.specs.declared.session.Stage.TheVariants.{InSheet, InFeed}
-use Rattle.futmax_main.specs.declared.session.Session.{Session}
+use Rattle.futmax_main.specs.declared.session.Played.{Played}
+use Rattle.futmax_main.specs.declared.session.Asked.{Asked}
 use Rattle.futmax_main.specs.Verdicts.{AreVerdicts}
-use Rattle.futmax_main.specs.Standings.{AreStandings}
+use Rattle.futmax_main.specs.Tables.{IsTableText}
 
--- the answer of a mode to a feed
-abbrev pub IsAnswerTo : Mode → Feed → List ℕ → Type 0
-IsAnswerTo Verdicts feed text = AreVerdicts feed text
-IsAnswerTo Table feed text = AreStandings feed text
+-- the answer of a mode, from what was played
+abbrev pub IsAnswerFrom : Mode → Played → List ℕ → Type 0
+IsAnswerFrom Verdicts played text = AreVerdicts played text
+IsAnswerFrom Table played text = IsTableText played text
 
--- the same at a stage; before the sheet is whole there is none
-abbrev pub IsAnswerAt : Mode → Stage → List ℕ → Type 0
-IsAnswerAt mode (InSheet draft) text = ⊥
-IsAnswerAt mode (InFeed feed) text = IsAnswerTo mode feed text
-
--- the text answers an ask that led to this session
-abbrev pub IsAnswer : Session → List ℕ → Type 0
-IsAnswer session text = IsAnswerAt session.mode session.stage text
+-- the text answers the ask
+abbrev pub IsAnswerTo : Asked → List ℕ → Type 0
+IsAnswerTo asked text = IsAnswerFrom asked.mode asked.played text

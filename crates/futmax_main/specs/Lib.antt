@@ -2,13 +2,13 @@
 -- promises comes first, from Statuses to Top; what the inner functions promise each other stands
 -- behind it.
 pub mod Statuses
-pub mod Words
+pub mod Commands
 pub mod Session
 pub mod Rows
 pub mod Parts
 pub mod Examples
 pub mod Verdicts
-pub mod Standings
+pub mod Tables
 pub mod Answers
 pub mod Path
 pub mod Top

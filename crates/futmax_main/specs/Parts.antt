@@ -10,5 +10,5 @@ IsMadeOf IsPart (x ∷ xs) text =
     × IsMadeOf IsPart xs rest
 
 -- the name of a club, by its number from 0
-abbrev pub name_of : Sheet → ℕ → List ℕ
-name_of sheet club = slice_index_or (map (λ c. c.name) sheet.clubs) club []
+abbrev pub club_name : Sheet → ℕ → List ℕ
+club_name sheet club = slice_index_or (map (λ c. c.name) sheet.clubs) club []

@@ -10,9 +10,9 @@ use Rattle.cert_text.specs.Rows.{text_of_row}
 use Rattle.cert_text.specs.Lines.{text_of_proof_line}
 use Rattle.fixture_sheet.specs.Faults.{code_of as sheet_code_of}
 use Rattle.result_log.specs.Faults.{code_of as feed_code_of}
-use Rattle.futmax_main.specs.declared.word.Word.{Word}
-use Rattle.futmax_main.specs.declared.word.Word.TheVariants.{Clinched, Lost, Possible}
-use Rattle.futmax_main.specs.declared.standing.Standing.{Standing}
+use Rattle.finish_walk.specs.declared.verdict.Verdict.{Verdict}
+use Rattle.finish_walk.specs.declared.verdict.Verdict.TheVariants.{Clinched, Lost, Possible}
+use Rattle.futmax_main.specs.declared.table_row.TableRow.{TableRow}
 use Rattle.futmax_main.specs.declared.session.Cause.{Cause}
 use Rattle.futmax_main.specs.declared.session.Cause.TheVariants as cause
 use Rattle.futmax_main.specs.declared.session.Fault.{Fault}
@@ -49,22 +49,22 @@ abbrev pub ask_row : ℕ → List ℕ
 ask_row epoch = text_of_row (codes "ask" ∷ decimal epoch ∷ [])
 
 -- the word of a verdict
-abbrev pub word_text : Word → List ℕ
-word_text Clinched = codes "clinched"
-word_text Lost = codes "lost"
-word_text Possible = codes "possible"
+abbrev pub verdict_text : Verdict → List ℕ
+verdict_text Clinched = codes "clinched"
+verdict_text Lost = codes "lost"
+verdict_text Possible = codes "possible"
 
 -- `verdict,K,CLUB,WORD`
-abbrev pub verdict_row : ℕ → List ℕ → Word → List ℕ
-verdict_row line name word =
-    text_of_row (codes "verdict" ∷ decimal line ∷ name ∷ word_text word ∷ [])
+abbrev pub verdict_row : ℕ → List ℕ → Verdict → List ℕ
+verdict_row line name verdict =
+    text_of_row (codes "verdict" ∷ decimal line ∷ name ∷ verdict_text verdict ∷ [])
 
 -- `place,BEST,WORST,CLUB,PLAYED,POINTS,DIFF,SCORED`
-abbrev pub place_row : List ℕ → Standing → List ℕ
-place_row name standing =
-    text_of_row (codes "place" ∷ decimal standing.best ∷ decimal standing.worst ∷ name
-    ∷ decimal standing.played ∷ signed_decimal standing.points
-    ∷ signed_decimal standing.difference ∷ signed_decimal standing.scored ∷ [])
+abbrev pub place_row : List ℕ → TableRow → List ℕ
+place_row name row =
+    text_of_row (codes "place" ∷ decimal row.best ∷ decimal row.worst ∷ name
+    ∷ decimal row.played ∷ signed_decimal row.points
+    ∷ signed_decimal row.difference ∷ signed_decimal row.scored ∷ [])
 
 -- ---- rows of examples
 

@@ -4,6 +4,7 @@ use Rattle.std.specs.Prelude.{ℕ, Bool, false, nat_lt, List, Option, Some, None
 use Rattle.league_core.specs.declared.sheet.Sheet.{Sheet}
 use Rattle.league_core.specs.Seasons.{unplayed_season}
 use Rattle.league_core.specs.FinishList.{ways_to_finish}
+use Rattle.league_core.specs.Limits.{most_finishes}
 use Rattle.fixture_sheet.specs.declared.fault.SheetFault.{SheetFault}
 use Rattle.fixture_sheet.specs.declared.record.Progress.{Progress}
 use Rattle.fixture_sheet.specs.declared.record.Progress.TheVariants.{SoFar, Whole}
@@ -17,10 +18,11 @@ use Rattle.futmax_main.specs.declared.status.Status.{Status}
 use Rattle.futmax_main.specs.declared.status.Status.TheVariants.{BadSheet, BadFeed, TooLong}
 use Rattle.futmax_main.specs.declared.session.Mode.{Mode}
 use Rattle.futmax_main.specs.declared.session.Mode.TheVariants.{Verdicts, Table}
-use Rattle.futmax_main.specs.declared.session.Feed.{Feed}
+use Rattle.futmax_main.specs.declared.session.Played.{Played}
 use Rattle.futmax_main.specs.declared.session.Stage.{Stage}
 use Rattle.futmax_main.specs.declared.session.Stage.TheVariants.{InSheet, InFeed}
 use Rattle.futmax_main.specs.declared.session.Session.{Session}
+use Rattle.futmax_main.specs.declared.session.Asked.{Asked}
 use Rattle.futmax_main.specs.declared.session.Cause.{Cause}
 use Rattle.futmax_main.specs.declared.session.Cause.TheVariants as cause
 use Rattle.futmax_main.specs.declared.session.Fault.{Fault}
@@ -44,8 +46,8 @@ stops_by number cause = Stops (record { number = number; cause = cause })
 -- ---- a line of the sheet
 
 -- the sheet is whole, and nothing is told
-abbrev pub feed_begun : Sheet → Feed
-feed_begun sheet =
+abbrev pub played_begun : Sheet → Played
+played_begun sheet =
     record {
       sheet = sheet;
       season = unplayed_season (length sheet.clubs) (length sheet.fixtures);
@@ -55,7 +57,7 @@ feed_begun sheet =
 -- the stage behind a record of the sheet
 abbrev pub stage_of : Progress → Stage
 stage_of (SoFar draft) = InSheet draft
-stage_of (Whole sheet) = InFeed (feed_begun sheet)
+stage_of (Whole sheet) = InFeed (played_begun sheet)
 
 -- what a line of the sheet does, by what it makes of the sheet
 abbrev pub sheet_step : Mode → ℕ → Result Progress SheetFault → Step
@@ -64,68 +66,68 @@ sheet_step mode number (Err fault) = stops_by number (cause.Sheet fault)
 
 -- ---- a line of the feed
 
--- the most finishes that a season may have where they are walked
-abbrev pub finish_limit : ℕ
-finish_limit = 10000
-
--- the season has more
-abbrev pub is_too_wide : Feed → Bool
-is_too_wide feed = nat_lt finish_limit (ways_to_finish feed.sheet.goal_limit feed.season.scores)
+-- the season has more finishes than are walked
+abbrev pub is_too_wide : Played → Bool
+is_too_wide played = nat_lt most_finishes (ways_to_finish played.sheet.goal_limit played.season.scores)
 
 -- an ask is refused: verdicts are asked for, and the season has too many finishes
-abbrev pub is_refused : Mode → Feed → Bool
-is_refused Verdicts feed = is_too_wide feed
-is_refused Table feed = false
+abbrev pub is_refused : Mode → Played → Bool
+is_refused Verdicts played = is_too_wide played
+is_refused Table played = false
 
 -- what an ask does
-abbrev pub ask_step : Mode → ℕ → Feed → Step
-ask_step mode number feed =
-    if is_refused mode feed then stops_by number cause.TooWide
-    else Asks (record { mode = mode; stage = InFeed feed })
+abbrev pub ask_step : Mode → ℕ → Played → Step
+ask_step mode number played =
+    if is_refused mode played then stops_by number cause.TooWide
+    else Asks (record { mode = mode; played = played })
 
--- the feed behind an entry: its season and its number of events
-abbrev pub feed_with : Feed → Entry → Feed
-feed_with feed told =
-    record feed {
-      season = season_with feed.season told;
-      epoch = count_with feed.epoch told;
+-- the session that goes on behind an ask
+abbrev pub session_behind : Asked → Session
+session_behind asked = record { mode = asked.mode; stage = InFeed asked.played }
+
+-- what was played behind an entry: its season and its number of events
+abbrev pub played_with : Played → Entry → Played
+played_with played told =
+    record played {
+      season = season_with played.season told;
+      epoch = count_with played.epoch told;
     }
 
 -- what an entry does; the end of the input, and a record behind which proofs would follow, no line of
 -- this feed is
-abbrev pub entry_step : Mode → ℕ → Feed → Entry → Step
-entry_step mode number feed (entry.Change event) =
-    goes_to mode (InFeed (feed_with feed (entry.Change event)))
-entry_step mode number feed entry.Ask = ask_step mode number feed
-entry_step mode number feed entry.Proofs = goes_to mode (InFeed feed)
-entry_step mode number feed entry.End = goes_to mode (InFeed feed)
+abbrev pub entry_step : Mode → ℕ → Played → Entry → Step
+entry_step mode number played (entry.Change event) =
+    goes_to mode (InFeed (played_with played (entry.Change event)))
+entry_step mode number played entry.Ask = ask_step mode number played
+entry_step mode number played entry.Proofs = goes_to mode (InFeed played)
+entry_step mode number played entry.End = goes_to mode (InFeed played)
 
 -- what a line of the feed does, by the entry that it is; a line of empty fields does nothing
-abbrev pub feed_step : Mode → ℕ → Feed → Result (Option Entry) FeedFault → Step
-feed_step mode number feed (Ok None) = goes_to mode (InFeed feed)
-feed_step mode number feed (Ok (Some told)) = entry_step mode number feed told
-feed_step mode number feed (Err fault) = stops_by number (cause.Feed fault)
+abbrev pub feed_step : Mode → ℕ → Played → Result (Option Entry) FeedFault → Step
+feed_step mode number played (Ok None) = goes_to mode (InFeed played)
+feed_step mode number played (Ok (Some told)) = entry_step mode number played told
+feed_step mode number played (Err fault) = stops_by number (cause.Feed fault)
 
 -- the entry that a line is, read in the season of the events before it
-abbrev pub entry_at : Feed → List ℕ → Result (Option Entry) FeedFault
-entry_at feed text = entry_in feed.sheet feed.season feed.epoch false text
+abbrev pub entry_at : Played → List ℕ → Result (Option Entry) FeedFault
+entry_at played text = entry_in played.sheet played.season played.epoch false text
 
 -- ---- any line, and the end
 
 -- what a line does at this stage
-abbrev pub judge_at : Mode → ℕ → Stage → List ℕ → Step
-judge_at mode number (InSheet draft) text = sheet_step mode number (content_taken draft text)
-judge_at mode number (InFeed feed) text = feed_step mode number feed (entry_at feed text)
+abbrev pub step_at : Mode → ℕ → Stage → List ℕ → Step
+step_at mode number (InSheet draft) text = sheet_step mode number (content_taken draft text)
+step_at mode number (InFeed played) text = feed_step mode number played (entry_at played text)
 
 -- what a line does, by its number and by what counts of it
-abbrev pub judge : ℕ → Session → List ℕ → Step
-judge number session text = judge_at session.mode number session.stage text
+abbrev pub step_of : ℕ → Session → List ℕ → Step
+step_of number session text = step_at session.mode number session.stage text
 
 -- the end of the input, at the number after the last line's; it may come anywhere behind the sheet
 abbrev pub ending_at : ℕ → Stage → Outcome
 ending_at number (InSheet draft) =
     Refused (record { number = number; cause = cause.Sheet (fault_at_end draft) })
-ending_at number (InFeed feed) = Complete
+ending_at number (InFeed played) = Complete
 
 -- what the end of the input means
 abbrev pub ending : ℕ → Session → Outcome

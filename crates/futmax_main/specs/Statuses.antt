@@ -4,13 +4,13 @@ use Rattle.futmax_main.specs.declared.status.Status.{Status}
 use Rattle.futmax_main.specs.declared.status.Status.TheVariants.{Done, BadWords, BadSheet, BadFeed, ReadFault, WriteFault, OutOfMemory, NotProved, TooLong}
 
 -- the number that the program ends with
-abbrev pub code_of : Status → ℕ
-code_of Done = 0
-code_of BadWords = 1
-code_of BadSheet = 2
-code_of BadFeed = 3
-code_of ReadFault = 4
-code_of WriteFault = 5
-code_of OutOfMemory = 6
-code_of NotProved = 7
-code_of TooLong = 8
+abbrev pub exit_code : Status → ℕ
+exit_code Done = 0
+exit_code BadWords = 1
+exit_code BadSheet = 2
+exit_code BadFeed = 3
+exit_code ReadFault = 4
+exit_code WriteFault = 5
+exit_code OutOfMemory = 6
+exit_code NotProved = 7
+exit_code TooLong = 8

@@ -1,10 +1,10 @@
 -- What the top call promises of the status, of the bytes written, and of what the source has left.
 -- It is said where the source tells its bytes; a sink that does not tell its own is taken to hold
 -- what was written.
-use Rattle.std.specs.Prelude.{◌≡◌, ℕ, ◌⊎◌, List, [], ◌++◌, Option, Some, None, Ok}
+use Rattle.std.specs.Prelude.{◌≡◌, ◌≢◌, ℕ, Bool, false, ◌⊎◌, List, [], ◌++◌, Option, Some, None, Ok}
 use Rattle.std.specs.Io.KnownBytes.{append_known}
-use Rattle.port_core.specs.Lines.{lines_of, HasNoLineFeed}
-use Rattle.port_core.specs.Ports.{IsFront}
+use Rattle.port_core.specs.Lines.{lines_of, AreEndedLines, HasNoLineFeed}
+use Rattle.port_core.specs.Ports.{IsFront, Rose}
 use Rattle.port_core.specs.Contents.{start, contents_from, contents_of}
 use Rattle.futmax_main.specs.declared.status.Status.{Status}
 use Rattle.futmax_main.specs.declared.status.Status.TheVariants.{Done, BadWords, BadSheet, BadFeed, ReadFault, WriteFault, OutOfMemory, NotProved, TooLong}
@@ -26,8 +26,8 @@ abbrev pub IsTextFront : Mode → List ℕ → List ℕ → Type 0
 IsTextFront mode input text = IsFrontOf (contents_of input) (first_session mode) text
 
 -- the whole text of the session, which has this status
-abbrev pub IsWhole : Mode → List ℕ → Status → List ℕ → Type 0
-IsWhole mode input status text = (session_status mode input ≡ status) × IsText mode input text
+abbrev pub IsWholeText : Mode → List ℕ → Status → List ℕ → Type 0
+IsWholeText mode input status text = (session_status mode input ≡ status) × IsText mode input text
 
 -- the text is the answers of all asks in these first lines of an input, of which none is too long
 -- and none has the input's first byte too many
@@ -38,25 +38,26 @@ AreAnswersIn mode lines text =
     × AreAnswersFrom contents.lines (first_session mode) text
 
 -- the answers of the asks in the whole lines that were taken: what was taken behind them has no LF,
--- and is no whole line, since its end was not told
-abbrev pub AnswersTaken : Mode → List ℕ → Option (List ℕ) → List ℕ → Type 0
-AnswersTaken mode input None text = ⊥
-AnswersTaken mode input (Some left) text =
+-- and each of them ended with its LF, unless the source told its end, which ends a line too
+abbrev pub AnswersTaken : Mode → List ℕ → Option (List ℕ) → Bool → List ℕ → Type 0
+AnswersTaken mode input None ended text = ⊥
+AnswersTaken mode input (Some left) ended text =
     (taken : List (List ℕ)) × (held : List ℕ) × HasNoLineFeed held
-    × (lines_of input ≡ taken ++ lines_of (held ++ left)) × AreAnswersIn mode taken text
+    × (lines_of input ≡ taken ++ lines_of (held ++ left)) × (ended ≡ false → AreEndedLines taken)
+    × AreAnswersIn mode taken text
 
--- what was written where a run over this input ends with this status, and what the source has left
--- then
-abbrev pub Ends : Mode → List ℕ → Option (List ℕ) → Status → List ℕ → Type 0
-Ends mode input left Done text = IsWhole mode input Done text × (left ≡ Some [])
-Ends mode input left BadWords text = IsWhole mode input BadWords text
-Ends mode input left BadSheet text = IsWhole mode input BadSheet text
-Ends mode input left BadFeed text = IsWhole mode input BadFeed text
-Ends mode input left ReadFault text = AnswersTaken mode input left text
-Ends mode input left WriteFault text = IsTextFront mode input text
-Ends mode input left OutOfMemory text = IsTextFront mode input text
-Ends mode input left NotProved text = IsWhole mode input NotProved text
-Ends mode input left TooLong text = IsWhole mode input TooLong text
+-- what was written where a run over this input ends with this status, by what the source has left
+-- then and by whether it has told its end
+abbrev pub Ends : Mode → List ℕ → Option (List ℕ) → Bool → Status → List ℕ → Type 0
+Ends mode input left ended Done text = IsWholeText mode input Done text × (left ≡ Some [])
+Ends mode input left ended BadWords text = IsWholeText mode input BadWords text
+Ends mode input left ended BadSheet text = IsWholeText mode input BadSheet text
+Ends mode input left ended BadFeed text = IsWholeText mode input BadFeed text
+Ends mode input left ended ReadFault text = AnswersTaken mode input left ended text
+Ends mode input left ended WriteFault text = IsTextFront mode input text
+Ends mode input left ended OutOfMemory text = IsTextFront mode input text
+Ends mode input left ended NotProved text = IsWholeText mode input NotProved text
+Ends mode input left ended TooLong text = IsWholeText mode input TooLong text
 
 -- what was written where the words fit no mode: the usage row, a front of it where the sink failed, or
 -- nothing where there was no memory for it
@@ -66,20 +67,33 @@ EndsUnread WriteFault text = IsFront text usage_row
 EndsUnread OutOfMemory text = text ≡ []
 EndsUnread _ text = ⊥
 
--- the sink's bytes before and after a run, by the mode of its words and by what the source had left
--- before and has left after
-abbrev pub Serves : Option Mode → Option (List ℕ) → Option (List ℕ) → Option (List ℕ)
+-- the sink's bytes before and after a run, by the mode of its words, by what the source had left
+-- before and has left after, and by whether it has told its end
+abbrev pub Serves : Option Mode → Option (List ℕ) → Option (List ℕ) → Bool → Option (List ℕ)
     → Option (List ℕ) → Status → Type 0
-Serves None input left old new status =
+Serves None input left ended old new status =
     (text : List ℕ) × (new ≡ append_known old text) × EndsUnread status text
-Serves (Some mode) None left old new status = Unit {0}
-Serves (Some mode) (Some input) left old new status =
-    (text : List ℕ) × (new ≡ append_known old text) × Ends mode input left status text
+Serves (Some mode) None left ended old new status = Unit {0}
+Serves (Some mode) (Some input) left ended old new status =
+    (text : List ℕ) × (new ≡ append_known old text) × Ends mode input left ended status text
 
--- the status of a run in which no device failed: that of the session, or that the words fit no mode; or
--- want of memory
+-- ---- the status alone, whether or not the devices tell their bytes
+
+-- a fault of a device is answered only where its count rose, and else that count stays; want of
+-- memory, as each other end, leaves both counts as they were
+abbrev pub Counts : ℕ → ℕ → ℕ → ℕ → Status → Type 0
+Counts reads reads' writes writes' ReadFault = Rose reads reads' × (writes' ≡ writes)
+Counts reads reads' writes writes' WriteFault = (reads' ≡ reads) × Rose writes writes'
+Counts reads reads' writes writes' status = (reads' ≡ reads) × (writes' ≡ writes)
+
+-- the status is that of the session of some input
+abbrev pub IsEarned : Mode → Status → Type 0
+IsEarned mode status = (input : List ℕ) × (session_status mode input ≡ status)
+
+-- the status of a run in which no device failed: that of the session, which is that of some input
+-- where the source tells none, or that the words fit no mode; or want of memory
 abbrev pub IsSettled : Option Mode → Option (List ℕ) → Status → Type 0
 IsSettled None input status = (status ≡ BadWords) ⊎ (status ≡ OutOfMemory)
-IsSettled (Some mode) None status = Unit {0}
+IsSettled (Some mode) None status = IsEarned mode status ⊎ (status ≡ OutOfMemory)
 IsSettled (Some mode) (Some input) status =
     (status ≡ session_status mode input) ⊎ (status ≡ OutOfMemory)

@@ -1,13 +1,14 @@
 -- What one turn of a run does: what a line, an ask, a fault and the end leave of the sink's bytes,
 -- and how the way goes on.
-use Rattle.std.specs.Prelude.{◌≡◌, ◌<◌, ◌≤◌, ℕ, List, Option, Some}
+use Rattle.std.specs.Prelude.{◌≡◌, ◌<◌, ◌≤◌, ℕ, Bool, List, Option, Some}
 use Rattle.std.specs.Io.KnownBytes.{append_known}
 use Rattle.port_core.specs.Ports.{AppendsFront, Rose}
-use Rattle.port_core.specs.Contents.{Place, input_limit}
+use Rattle.port_core.specs.Contents.{Position, input_limit}
 use Rattle.futmax_main.specs.declared.status.Status.{Status}
 use Rattle.futmax_main.specs.declared.status.Status.TheVariants.{Done, BadWords, ReadFault, WriteFault, OutOfMemory, NotProved}
 use Rattle.futmax_main.specs.declared.session.Mode.{Mode}
 use Rattle.futmax_main.specs.declared.session.Session.{Session}
+use Rattle.futmax_main.specs.declared.session.Asked.{Asked}
 use Rattle.futmax_main.specs.declared.session.Fault.{Fault}
 use Rattle.futmax_main.specs.declared.session.Step.{Step}
 use Rattle.futmax_main.specs.declared.session.Step.TheVariants.{Goes, Asks, Stops}
@@ -15,11 +16,11 @@ use Rattle.futmax_main.specs.declared.session.Outcome.{Outcome}
 use Rattle.futmax_main.specs.declared.session.Outcome.TheVariants.{Complete, Refused}
 use Rattle.futmax_main.specs.declared.turn.Turn.{Turn}
 use Rattle.futmax_main.specs.declared.turn.Turn.TheVariants.{GoesOn, Ends}
-use Rattle.futmax_main.specs.Session.{status_of_cause}
+use Rattle.futmax_main.specs.Session.{session_behind, status_of_cause}
 use Rattle.futmax_main.specs.Rows.{fault_row}
-use Rattle.futmax_main.specs.Answers.{IsAnswer}
+use Rattle.futmax_main.specs.Answers.{IsAnswerTo}
 use Rattle.futmax_main.specs.Path.{Path}
-use Rattle.futmax_main.specs.Top.{Serves}
+use Rattle.futmax_main.specs.Top.{Counts, Serves}
 use Rattle.futmax_main.specs.Sound.{IsSound}
 
 -- how a fault ends a run: its row is written and its status is the run's, or a device or memory
@@ -36,34 +37,35 @@ EndEnds Complete old now status = (status ≡ Done) × (now ≡ old)
 EndEnds (Refused fault) old now status = FaultEnds fault old now status
 
 -- how an ask ends it, where it does
-abbrev pub AskEnds : Session → Option (List ℕ) → Option (List ℕ) → Status → Type 0
-AskEnds session old now OutOfMemory = now ≡ old
-AskEnds session old now WriteFault =
-    (answer : List ℕ) × IsAnswer session answer × AppendsFront old now answer
-AskEnds session old now status = ⊥
+abbrev pub AskEnds : Asked → Option (List ℕ) → Option (List ℕ) → Status → Type 0
+AskEnds asked old now OutOfMemory = now ≡ old
+AskEnds asked old now WriteFault =
+    (answer : List ℕ) × IsAnswerTo asked answer × AppendsFront old now answer
+AskEnds asked old now status = ⊥
 
 -- a turn on an ask: its answer is written, or the run ends
-abbrev pub AskGives : Session → Option (List ℕ) → Option (List ℕ) → Turn → Type 0
-AskGives session old now (GoesOn next) =
-    (next ≡ session) × ((answer : List ℕ) × IsAnswer session answer
+abbrev pub AskGives : Asked → Option (List ℕ) → Option (List ℕ) → Turn → Type 0
+AskGives asked old now (GoesOn next) =
+    (next ≡ session_behind asked) × ((answer : List ℕ) × IsAnswerTo asked answer
     × (now ≡ append_known old answer))
-AskGives session old now (Ends status) = AskEnds session old now status
+AskGives asked old now (Ends status) = AskEnds asked old now status
 
 -- a turn on a line, by what the line does
-abbrev pub LineGives : Step → Option (List ℕ) → Option (List ℕ) → Turn → Type 0
-LineGives (Goes session) old now (GoesOn next) = (next ≡ session) × (now ≡ old)
-LineGives (Goes session) old now (Ends status) = (status ≡ OutOfMemory) × (now ≡ old)
-LineGives (Asks session) old now turn = AskGives session old now turn
-LineGives (Stops fault) old now (GoesOn next) = ⊥
-LineGives (Stops fault) old now (Ends status) = FaultEnds fault old now status
+abbrev pub LineTurns : Step → Option (List ℕ) → Option (List ℕ) → Turn → Type 0
+LineTurns (Goes session) old now (GoesOn next) = (next ≡ session) × (now ≡ old)
+LineTurns (Goes session) old now (Ends status) = (status ≡ OutOfMemory) × (now ≡ old)
+LineTurns (Asks asked) old now turn = AskGives asked old now turn
+LineTurns (Stops fault) old now (GoesOn next) = ⊥
+LineTurns (Stops fault) old now (Ends status) = FaultEnds fault old now status
 
--- a turn: the way goes on, or the run has served
-abbrev pub TurnGives : Mode → Option (List ℕ) → Option (List ℕ) → Place → Option (List ℕ)
-    → Option (List ℕ) → Option (List ℕ) → Turn → Type 0
-TurnGives mode input stream place left old now (GoesOn next) =
-    Path mode input stream place next old now
-TurnGives mode input stream place left old now (Ends status) =
-    Serves (Some mode) input left old now status
+-- a turn: the way goes on, or the run has served; `ended` says whether the source had told its end
+-- when the run began, and `ended'` whether it has now
+abbrev pub TurnGives : Mode → Option (List ℕ) → Bool → Option (List ℕ) → Bool → Position
+    → Option (List ℕ) → Option (List ℕ) → Option (List ℕ) → Turn → Type 0
+TurnGives mode input ended stream ended' position left old now (GoesOn next) =
+    Path mode input ended stream ended' position next old now
+TurnGives mode input ended stream ended' position left old now (Ends status) =
+    Serves (Some mode) input left ended' old now status
 
 -- a session that goes on is sound
 abbrev pub TurnIsSound : Turn → Type 0
@@ -75,17 +77,33 @@ abbrev pub TurnMovesOn : ℕ → ℕ → Turn → Type 0
 TurnMovesOn old new (GoesOn next) = (old < new) × (new ≤ input_limit)
 TurnMovesOn old new (Ends status) = Unit {0}
 
--- a run ends with a fault of a device only where that device's count rose; that the words fit no
--- mode, or that a report is no proof, it does not say
-abbrev pub IsCaused : ℕ → ℕ → ℕ → ℕ → Status → Type 0
-IsCaused reads reads_now writes writes_now ReadFault = Rose reads reads_now
-IsCaused reads reads_now writes writes_now WriteFault = Rose writes writes_now
-IsCaused reads reads_now writes writes_now BadWords = ⊥
-IsCaused reads reads_now writes writes_now NotProved = ⊥
-IsCaused reads reads_now writes writes_now status = Unit {0}
+-- a session does not end so that the words fit no mode, nor so that a report is no proof
+abbrev pub MayEndSession : Status → Type 0
+MayEndSession BadWords = ⊥
+MayEndSession NotProved = ⊥
+MayEndSession status = Unit {0}
 
--- the same of a turn
-abbrev pub TurnCaused : ℕ → ℕ → ℕ → ℕ → Turn → Type 0
-TurnCaused reads reads_now writes writes_now (GoesOn next) = Unit {0}
-TurnCaused reads reads_now writes writes_now (Ends status) =
-    IsCaused reads reads_now writes writes_now status
+-- what a turn leaves of the counts of faults, and how it may end a session
+abbrev pub TurnCounts : ℕ → ℕ → ℕ → ℕ → Turn → Type 0
+TurnCounts reads reads' writes writes' (GoesOn next) = (reads' ≡ reads) × (writes' ≡ writes)
+TurnCounts reads reads' writes writes' (Ends status) =
+    Counts reads reads' writes writes' status × MayEndSession status
+
+-- the same of what only writes: it never fails by the source
+abbrev pub CountsEnd : ℕ → ℕ → Status → Type 0
+CountsEnd writes writes' ReadFault = ⊥
+CountsEnd writes writes' BadWords = ⊥
+CountsEnd writes writes' NotProved = ⊥
+CountsEnd writes writes' WriteFault = Rose writes writes'
+CountsEnd writes writes' status = writes' ≡ writes
+
+abbrev pub CountsTurn : ℕ → ℕ → Turn → Type 0
+CountsTurn writes writes' (GoesOn next) = writes' ≡ writes
+CountsTurn writes writes' (Ends status) = CountsEnd writes writes' status
+
+-- the same where the words fit no mode
+abbrev pub CountsWords : ℕ → ℕ → Status → Type 0
+CountsWords writes writes' BadWords = writes' ≡ writes
+CountsWords writes writes' OutOfMemory = writes' ≡ writes
+CountsWords writes writes' WriteFault = Rose writes writes'
+CountsWords writes writes' status = ⊥

@@ -1,6 +1,7 @@
 //! The rows of an example: a finish of the season and a drawing of lots.
 
 ghost use Rattle.std.specs.Prelude.{◌≡◌, ◌<◌, ◌≤◌, ◌++◌, IfOk, OnOk, IsTrue, length};
+ghost use Rattle.league_core.specs.Limits.{most_clubs, most_fixtures};
 ghost use Rattle.league_core.specs.Finishes.{IsFinishOf};
 ghost use Rattle.league_core.specs.Results.{is_score_or_none};
 ghost use Rattle.league_core.specs.LotsFor.{lots_for_claim};
@@ -10,7 +11,7 @@ ghost use Rattle.futmax_main.specs.Rows.{lots_row};
 ghost use Rattle.futmax_main.specs.Items.{example_of};
 
 use crate::rows::push_line;
-use crate::session::Feed;
+use crate::session::Played;
 use cert_text::{ClubList, ProofLine};
 use final_rank::lots_for;
 use league_core::{Claim, Finish, Listing, OutOfMemory, Score, Season};
@@ -20,21 +21,21 @@ use std::alloc::Global;
 pub fn push_example(
     alloc: Global,
     text: &mut Vec<u8>,
-    feed: &Feed,
+    played: &Played,
     club: u8,
     claim: Claim,
     finish: &Finish,
 ) -> Result<(), OutOfMemory>
-    requires clubs { length feed.now.sheet.clubs ≤ 24 }
-    requires fixtures { length feed.now.season.scores ≤ 600 }
-    requires in_range { club < length feed.now.sheet.clubs }
-    requires is_finish { IsFinishOf feed.now.sheet feed.now.season finish.now }
+    requires clubs { length played.now.sheet.clubs ≤ most_clubs }
+    requires fixtures { length played.now.season.scores ≤ most_fixtures }
+    requires in_range { club < length played.now.sheet.clubs }
+    requires is_finish { IsFinishOf played.now.sheet played.now.season finish.now }
     ensures { OnOk result (text.new.items
-        ≡ text.old.items ++ example_of feed.now club claim finish.now) }
+        ≡ text.old.items ++ example_of played.now club claim finish.now) }
 {
     push_line(alloc, text, &ProofLine::Finish(claim))?;
-    push_scores(alloc, text, &feed.season, finish.as_season())?;
-    push_lots(alloc, text, feed.sheet.clubs.len() as u8, club, claim)
+    push_scores(alloc, text, &played.season, finish.as_season())?;
+    push_lots(alloc, text, played.sheet.clubs.len() as u8, club, claim)
 }
 
 // The lots of so many clubs that favour the claim for a club.
@@ -45,7 +46,7 @@ fn push_lots(
     club: u8,
     claim: Claim,
 ) -> Result<(), OutOfMemory>
-    requires few { clubs ≤ 24 }
+    requires few { clubs ≤ most_clubs }
     requires in_range { club < clubs }
     ensures { OnOk result (text.new.items
         ≡ text.old.items ++ lots_row (lots_for_claim clubs club claim)) }
@@ -62,7 +63,7 @@ fn push_scores(
     season: &Season,
     finish: &Season,
 ) -> Result<(), OutOfMemory>
-    requires few { length season.now.scores ≤ 600 }
+    requires few { length season.now.scores ≤ most_fixtures }
     requires same { length finish.now.scores ≡ length season.now.scores }
     ensures { OnOk result (text.new.items
         ≡ text.old.items ++ score_rows 0 season.now.scores finish.now.scores) }
@@ -82,7 +83,7 @@ fn push_score_if(
     played: Option<Score>,
     ended: Option<Score>,
 ) -> Result<(), OutOfMemory>
-    requires in_range { fixture < 600 }
+    requires in_range { fixture < most_fixtures }
     requires may_be { IsTrue (is_score_or_none ended) }
     ensures { OnOk result
         (text.new.items ≡ text.old.items ++ score_row_if fixture played ended) }

@@ -6,28 +6,24 @@
 #![tactic(auto)]
 
 mod answer;
+mod command;
 mod example;
-mod feed;
-mod judge;
 mod names;
 mod output;
+mod played;
 mod rows;
 mod run;
 mod session;
-mod standing;
-mod standings;
 mod status;
+mod step;
+mod table;
+mod table_row;
 mod top;
 mod turn;
 mod verdicts;
-mod word;
-mod words;
 
-pub use session::{Cause, Fault, Feed, Mode, Outcome, Session, Stage, Step};
-pub use standing::Standing;
+pub use finish_walk::Verdict;
+pub use session::{Asked, Cause, Fault, Mode, Outcome, Played, Session, Stage, Step};
 pub use status::Status;
+pub use table_row::TableRow;
 pub use top::futmax;
-pub use word::Word;
-
-#[cfg(test)]
-mod tests;

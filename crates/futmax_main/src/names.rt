@@ -1,14 +1,14 @@
 //! Names of clubs.
 
 ghost use Rattle.std.specs.Prelude.{◌≡◌, ◌<◌, length};
-ghost use Rattle.futmax_main.specs.Parts.{name_of};
+ghost use Rattle.futmax_main.specs.Parts.{club_name};
 
 use league_core::Sheet;
 
 /// The name of a club, by its number from 0.
-pub fn name_of(sheet: &Sheet, club: u8) -> &str
+pub fn club_name(sheet: &Sheet, club: u8) -> &str
     requires { club < length sheet.now.clubs }
-    ensures { result.now ≡ name_of sheet.now club }
+    ensures { result.now ≡ club_name sheet.now club }
 {
     sheet.clubs.as_slice()[club as usize].name.as_str()
 }

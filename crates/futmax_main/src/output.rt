@@ -12,7 +12,7 @@ pub fn put_rows<K: Sink>(sink: &mut K, rows: &[u8]) -> Result<(), WriteFault>
     ensures ok { OnOk result (K.holds sink.new ≡ append_known (K.holds sink.old) rows.now) }
     ensures err { OnErr result (AppendsFront (K.holds sink.old) (K.holds sink.new) rows.now) }
     ensures cause { OnErr result (Rose (K.faults sink.old) (K.faults sink.new)) }
-    ensures counts { K.faults sink.old ≤ K.faults sink.new }
+    ensures counts { OnOk result (K.faults sink.new ≡ K.faults sink.old) }
 {
     let mut done = 0;
     'rows: while done < rows.len() {

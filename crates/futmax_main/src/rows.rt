@@ -5,12 +5,12 @@ ghost use Rattle.std.specs.Fmt.{signed_decimal};
 ghost use Rattle.league_core.specs.Results.{is_score};
 ghost use Rattle.cert_text.specs.Rows.{text_of_row};
 ghost use Rattle.cert_text.specs.Ranges.{is_in_range};
-ghost use Rattle.futmax_main.specs.Rows.{ask_row, verdict_row, place_row, fault_row, usage_row, line_row, word_text, cause_text};
+ghost use Rattle.futmax_main.specs.Rows.{ask_row, verdict_row, place_row, fault_row, usage_row, line_row, verdict_text, cause_text};
 
 use crate::session::{Cause, Fault};
-use crate::standing::Standing;
-use crate::word::Word;
+use crate::table_row::TableRow;
 use cert_text::{ProofLine, write_line, write_row};
+use finish_walk::Verdict;
 use league_core::OutOfMemory;
 use std::alloc::Global;
 
@@ -28,16 +28,16 @@ pub fn push_verdict(
     text: &mut Vec<u8>,
     line: u8,
     name: &str,
-    word: Word,
+    verdict: Verdict,
 ) -> Result<(), OutOfMemory>
     ensures { OnOk result
-        (text.new.items ≡ text.old.items ++ verdict_row line name.now word) }
+        (text.new.items ≡ text.old.items ++ verdict_row line name.now verdict) }
 {
     let fields = [
         copy_of(alloc, "verdict")?,
         number(alloc, u64::from(line))?,
         copy_of(alloc, name)?,
-        copy_of(alloc, word_text(word))?,
+        copy_of(alloc, verdict_text(verdict))?,
     ];
     push_row(alloc, text, &fields)
 }
@@ -47,20 +47,20 @@ pub fn push_place(
     alloc: Global,
     text: &mut Vec<u8>,
     name: &str,
-    standing: &Standing,
+    row: &TableRow,
 ) -> Result<(), OutOfMemory>
     ensures { OnOk result
-        (text.new.items ≡ text.old.items ++ place_row name.now standing.now) }
+        (text.new.items ≡ text.old.items ++ place_row name.now row.now) }
 {
     let fields = [
         copy_of(alloc, "place")?,
-        number(alloc, u64::from(standing.best))?,
-        number(alloc, u64::from(standing.worst))?,
+        number(alloc, u64::from(row.best))?,
+        number(alloc, u64::from(row.worst))?,
         copy_of(alloc, name)?,
-        number(alloc, u64::from(standing.played))?,
-        signed(alloc, standing.points)?,
-        signed(alloc, standing.difference)?,
-        signed(alloc, standing.scored)?,
+        number(alloc, u64::from(row.played))?,
+        signed(alloc, row.points)?,
+        signed(alloc, row.difference)?,
+        signed(alloc, row.scored)?,
     ];
     push_row(alloc, text, &fields)
 }
@@ -131,13 +131,13 @@ fn signed(alloc: Global, number: i32) -> Result<Vec<u8>, OutOfMemory>
     copy_of(alloc, text.as_str())
 }
 
-fn word_text(word: Word) -> &'static str
-    ensures { result.now ≡ word_text word }
+fn verdict_text(verdict: Verdict) -> &'static str
+    ensures { result.now ≡ verdict_text verdict }
 {
-    match word {
-        Word::Clinched => "clinched",
-        Word::Lost => "lost",
-        Word::Possible => "possible",
+    match verdict {
+        Verdict::Clinched => "clinched",
+        Verdict::Lost => "lost",
+        Verdict::Possible => "possible",
     }
 }
 

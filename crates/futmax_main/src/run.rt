@@ -3,9 +3,9 @@
 //! Each line is answered before the next one is read. The form of the input bounds how many lines
 //! go on.
 
-ghost use Rattle.std.specs.Prelude.{◌≤◌, Some};
-ghost use Rattle.futmax_main.specs.Top.{Serves};
-ghost use Rattle.futmax_main.specs.Turns.{IsCaused};
+ghost use Rattle.std.specs.Prelude.{Some};
+ghost use Rattle.futmax_main.specs.Top.{Counts, Serves};
+ghost use Rattle.futmax_main.specs.Turns.{MayEndSession};
 
 use crate::session::{Mode, Session};
 use crate::status::Status;
@@ -16,11 +16,10 @@ use std::alloc::Global;
 /// Reads the source to its end, or to what ends the run before.
 pub fn run<S: Source, K: Sink>(alloc: Global, mode: Mode, source: &mut S, sink: &mut K) -> Status
     ensures serves { Serves (Some mode) (S.left source.old) (S.left source.new)
-        (K.holds sink.old) (K.holds sink.new) result }
-    ensures causes { IsCaused (S.faults source.old) (S.faults source.new)
+        (S.ended source.new) (K.holds sink.old) (K.holds sink.new) result }
+    ensures counts { Counts (S.faults source.old) (S.faults source.new)
         (K.faults sink.old) (K.faults sink.new) result }
-    ensures reads { S.faults source.old ≤ S.faults source.new }
-    ensures writes { K.faults sink.old ≤ K.faults sink.new }
+    ensures status { MayEndSession result }
 {
     let Ok(mut reader) = LineReader::new(alloc) else {
         return Status::OutOfMemory;

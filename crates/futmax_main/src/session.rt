@@ -15,7 +15,7 @@ pub enum Mode {
 
 /// A whole sheet, what was played so far, and how many events told so.
 #[derive(Drop)]
-pub struct Feed {
+pub struct Played {
     pub sheet: Sheet,
     pub season: Season,
     pub epoch: u64,
@@ -27,13 +27,20 @@ pub enum Stage {
     /// The sheet so far; none before its first record.
     InSheet(Option<Draft>),
     /// The sheet is whole, and events and asks come.
-    InFeed(Feed),
+    InFeed(Played),
 }
 
 #[derive(Drop)]
 pub struct Session {
     pub mode: Mode,
     pub stage: Stage,
+}
+
+/// What an ask is answered from.
+#[derive(Drop)]
+pub struct Asked {
+    pub mode: Mode,
+    pub played: Played,
 }
 
 /// Why a line is refused.
@@ -66,7 +73,7 @@ pub enum Step {
     /// The session goes on.
     Goes(Session),
     /// The line is an ask: the session answers it, and goes on.
-    Asks(Session),
+    Asks(Asked),
     /// The line is refused, and the session ends.
     Stops(Fault),
 }

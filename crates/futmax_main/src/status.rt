@@ -1,7 +1,7 @@
 //! How a run ends.
 
 ghost use Rattle.std.specs.Prelude.{◌≡◌};
-ghost use Rattle.futmax_main.specs.Statuses.{code_of};
+ghost use Rattle.futmax_main.specs.Statuses.{exit_code};
 
 /// The end of a run. A fault of the source or the sink, and want of memory, are no faults of the
 /// input.
@@ -29,7 +29,7 @@ pub enum Status {
 impl Status {
     /// The exit status of the program.
     pub fn code(self) -> u8
-        ensures { result ≡ code_of self }
+        ensures { result ≡ exit_code self }
     {
         match self {
             Status::Done => 0,

@@ -1,15 +1,15 @@
 //! The top call.
 
-ghost use Rattle.std.specs.Prelude.{◌≡◌, ◌≢◌, ◌≤◌, None, map, string_bytes};
-ghost use Rattle.port_core.specs.Ports.{Rose};
-ghost use Rattle.futmax_main.specs.Top.{IsSettled, Serves};
-ghost use Rattle.futmax_main.specs.Words.{mode_of};
+ghost use Rattle.std.specs.Prelude.{◌≡◌, ◌≢◌, None, false, map, string_bytes};
+ghost use Rattle.futmax_main.specs.Commands.{mode_of};
+ghost use Rattle.futmax_main.specs.Top.{Counts, IsSettled, Serves};
+ghost use Rattle.futmax_main.specs.Turns.{CountsWords};
 
+use crate::command::mode_of;
 use crate::output::put_rows;
 use crate::rows::usage_row;
 use crate::run::run;
 use crate::status::Status;
-use crate::words::mode_of;
 use port_core::{Sink, Source};
 use std::alloc::Global;
 
@@ -25,21 +25,18 @@ pub fn futmax<S: Source, K: Sink>(
     sink: &mut K,
 ) -> Status
     // What was written, and what is left of the input, by the status.
-    ensures serves { Serves (mode_of (map string_bytes words.items))
-        (S.left source.old) (S.left source.new) (K.holds sink.old) (K.holds sink.new) result }
+    ensures serves { Serves (mode_of (map string_bytes words.items)) (S.left source.old)
+        (S.left source.new) (S.ended source.new) (K.holds sink.old) (K.holds sink.new) result }
 
-    // A fault of a device is answered only where its count rose, and the counts never fall.
-    ensures read_cause { result ≡ Status.ReadFault
-        → Rose (S.faults source.old) (S.faults source.new) }
-    ensures write_cause { result ≡ Status.WriteFault
-        → Rose (K.faults sink.old) (K.faults sink.new) }
-    ensures reads { S.faults source.old ≤ S.faults source.new }
-    ensures writes { K.faults sink.old ≤ K.faults sink.new }
+    // A fault of a device is answered only where its count rose, and else the counts stay.
+    ensures counts { Counts (S.faults source.old) (S.faults source.new)
+        (K.faults sink.old) (K.faults sink.new) result }
 
-    // Where no count rose, the status is the session's, or memory was wanting.
-    ensures settled { ¬ Rose (S.faults source.old) (S.faults source.new)
-        → ¬ Rose (K.faults sink.old) (K.faults sink.new)
+    // Where no device failed, the status is the session's, or memory was wanting; no mode of today
+    // checks a report.
+    ensures settled { result ≢ Status.ReadFault → result ≢ Status.WriteFault
         → IsSettled (mode_of (map string_bytes words.items)) (S.left source.old) result }
+    ensures unproved { result ≢ Status.NotProved }
 
     // Words are refused only where they fit no mode, and then nothing is read.
     ensures words_cause { result ≡ Status.BadWords → mode_of (map string_bytes words.items) ≡ None }
@@ -53,12 +50,8 @@ pub fn futmax<S: Source, K: Sink>(
 }
 
 fn refuse_words<K: Sink>(alloc: Global, sink: &mut K) -> Status
-    ensures serves { Serves None None None (K.holds sink.old) (K.holds sink.new) result }
-    ensures settled { result ≢ Status.WriteFault → IsSettled None None result }
-    ensures write_cause { result ≡ Status.WriteFault
-        → Rose (K.faults sink.old) (K.faults sink.new) }
-    ensures no_read { result ≢ Status.ReadFault }
-    ensures writes { K.faults sink.old ≤ K.faults sink.new }
+    ensures serves { Serves None None None false (K.holds sink.old) (K.holds sink.new) result }
+    ensures counts { CountsWords (K.faults sink.old) (K.faults sink.new) result }
 {
     let Ok(row) = usage_row(alloc) else {
         return Status::OutOfMemory;

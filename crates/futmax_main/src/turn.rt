@@ -1,18 +1,19 @@
 //! One turn of a run: what is done at a line, at an ask, at a fault, and at the end of the input.
 
-ghost use Rattle.std.specs.Prelude.{◌≢◌, ◌≡◌, ◌≤◌, ℕ, List, Option};
-ghost use Rattle.port_core.specs.Ports.{Rose};
-ghost use Rattle.port_core.specs.Reading.{stream_of};
+ghost use Rattle.std.specs.Prelude.{◌≡◌, ℕ, Bool, List, Option};
+ghost use Rattle.port_core.specs.Readers.{stream_of};
 ghost use Rattle.futmax_main.specs.declared.session.Mode.{Mode};
 ghost use Rattle.futmax_main.specs.Path.{Path, input_fault, line_fault};
-ghost use Rattle.futmax_main.specs.Session.{ending, judge, status_of_cause};
+ghost use Rattle.futmax_main.specs.Session.{ending, status_of_cause, step_of};
 ghost use Rattle.futmax_main.specs.Sound.{IsAsked, IsSound};
-ghost use Rattle.futmax_main.specs.Turns.{AskGives, EndEnds, FaultEnds, IsCaused, LineGives, TurnCaused, TurnGives, TurnIsSound, TurnMovesOn};
+ghost use Rattle.futmax_main.specs.Turns.{AskGives, CountsEnd, CountsTurn, EndEnds, FaultEnds};
+ghost use Rattle.futmax_main.specs.Turns.{LineTurns, TurnCounts, TurnGives, TurnIsSound};
+ghost use Rattle.futmax_main.specs.Turns.{TurnMovesOn};
 
 use crate::answer::answer;
 use crate::output::put_rows;
 use crate::rows::fault_row;
-use crate::session::{Cause, Fault, Outcome, Session, Step};
+use crate::session::{Asked, Cause, Fault, Outcome, Session, Stage, Step};
 use crate::status::Status;
 use league_core::OutOfMemory;
 use port_core::{Line, LineReader, ReadStop, Sink, Source};
@@ -34,21 +35,19 @@ pub fn take_turn<S: Source, K: Sink>(
     sink: &mut K,
 ) -> Turn
     requires { IsSound session }
-    ensures way { (mode : Mode) (input old : Option (List ℕ))
-        → Path mode input (stream_of reader.old (S.left source.old)) reader.old.place
-        session old (K.holds sink.old)
-        → TurnGives mode input
-        (stream_of reader.new (S.left source.new)) reader.new.place
-        (S.left source.new) old (K.holds sink.new) result }
+    ensures way { (mode : Mode) (input : Option (List ℕ)) (ended : Bool) (old : Option (List ℕ))
+        → Path mode input ended (stream_of reader.old (S.left source.old)) (S.ended source.old)
+        reader.old.position session old (K.holds sink.old)
+        → TurnGives mode input ended (stream_of reader.new (S.left source.new))
+        (S.ended source.new) reader.new.position (S.left source.new) old (K.holds sink.new)
+        result }
     ensures sound { TurnIsSound result }
-    ensures moves { TurnMovesOn reader.old.place.bytes reader.new.place.bytes result }
-    ensures causes { TurnCaused (S.faults source.old) (S.faults source.new)
+    ensures moves { TurnMovesOn reader.old.position.bytes reader.new.position.bytes result }
+    ensures counts { TurnCounts (S.faults source.old) (S.faults source.new)
         (K.faults sink.old) (K.faults sink.new) result }
-    ensures reads { S.faults source.old ≤ S.faults source.new }
-    ensures writes { K.faults sink.old ≤ K.faults sink.new }
 {
     match reader.next(source) {
-        Ok(Line::Text { number }) => take_line(alloc, session, number, reader.text(), sink),
+        Ok(Line::Text { number }) => take_text(alloc, session, number, reader.text(), sink),
         Ok(Line::End { number }) => Turn::Ends(take_end(alloc, &session, number, sink)),
         Err(ReadStop::ReadFault) => Turn::Ends(Status::ReadFault),
         Err(ReadStop::LineTooLong { number }) => Turn::Ends(refuse_line(alloc, number, sink)),
@@ -56,7 +55,7 @@ pub fn take_turn<S: Source, K: Sink>(
     }
 }
 
-fn take_line<K: Sink>(
+fn take_text<K: Sink>(
     alloc: Global,
     session: Session,
     number: u64,
@@ -64,43 +63,40 @@ fn take_line<K: Sink>(
     sink: &mut K,
 ) -> Turn
     requires { IsSound session }
-    ensures line { LineGives (judge number session text.now)
+    ensures line { LineTurns (step_of number session text.now)
         (K.holds sink.old) (K.holds sink.new) result }
     ensures sound { TurnIsSound result }
-    ensures causes { TurnCaused 0 0 (K.faults sink.old) (K.faults sink.new) result }
-    ensures no_read { result ≢ Turn.Ends Status.ReadFault }
-    ensures writes { K.faults sink.old ≤ K.faults sink.new }
+    ensures counts { CountsTurn (K.faults sink.old) (K.faults sink.new) result }
 {
-    match session.judge(alloc, number, text) {
+    match session.take_line(alloc, number, text) {
         Ok(Step::Goes(next)) => Turn::GoesOn(next),
-        Ok(Step::Asks(next)) => take_ask(alloc, next, sink),
+        Ok(Step::Asks(asked)) => take_ask(alloc, asked, sink),
         Ok(Step::Stops(fault)) => Turn::Ends(refuse(alloc, &fault, sink)),
         Err(OutOfMemory) => Turn::Ends(Status::OutOfMemory),
     }
 }
 
-fn take_ask<K: Sink>(alloc: Global, session: Session, sink: &mut K) -> Turn
-    requires { IsAsked session }
+fn take_ask<K: Sink>(alloc: Global, asked: Asked, sink: &mut K) -> Turn
+    requires { IsAsked asked }
     ensures sound { TurnIsSound result }
-    ensures answer { AskGives session (K.holds sink.old) (K.holds sink.new) result }
-    ensures causes { TurnCaused 0 0 (K.faults sink.old) (K.faults sink.new) result }
-    ensures no_read { result ≢ Turn.Ends Status.ReadFault }
-    ensures writes { K.faults sink.old ≤ K.faults sink.new }
+    ensures answer { AskGives asked (K.holds sink.old) (K.holds sink.new) result }
+    ensures counts { CountsTurn (K.faults sink.old) (K.faults sink.new) result }
 {
-    let Ok(rows) = answer(alloc, &session) else {
+    let Ok(rows) = answer(alloc, &asked) else {
         return Turn::Ends(Status::OutOfMemory);
     };
     match put_rows(sink, rows.as_slice()) {
-        Ok(()) => Turn::GoesOn(session),
+        Ok(()) => Turn::GoesOn(Session {
+            mode: asked.mode,
+            stage: Stage::InFeed(asked.played),
+        }),
         Err(_) => Turn::Ends(Status::WriteFault),
     }
 }
 
 fn take_end<K: Sink>(alloc: Global, session: &Session, number: u64, sink: &mut K) -> Status
     ensures end { EndEnds (ending number session.now) (K.holds sink.old) (K.holds sink.new) result }
-    ensures causes { IsCaused 0 0 (K.faults sink.old) (K.faults sink.new) result }
-    ensures no_read { result ≢ Status.ReadFault }
-    ensures writes { K.faults sink.old ≤ K.faults sink.new }
+    ensures counts { CountsEnd (K.faults sink.old) (K.faults sink.new) result }
 {
     match session.ending(number) {
         Outcome::Complete => Status::Done,
@@ -111,9 +107,7 @@ fn take_end<K: Sink>(alloc: Global, session: &Session, number: u64, sink: &mut K
 // The line of this number is too long.
 fn refuse_line<K: Sink>(alloc: Global, number: u64, sink: &mut K) -> Status
     ensures fault { FaultEnds (line_fault number) (K.holds sink.old) (K.holds sink.new) result }
-    ensures causes { IsCaused 0 0 (K.faults sink.old) (K.faults sink.new) result }
-    ensures no_read { result ≢ Status.ReadFault }
-    ensures writes { K.faults sink.old ≤ K.faults sink.new }
+    ensures counts { CountsEnd (K.faults sink.old) (K.faults sink.new) result }
 {
     let cause = Cause::LineTooLong;
     refuse(alloc, &Fault { number, cause }, sink)
@@ -122,9 +116,7 @@ fn refuse_line<K: Sink>(alloc: Global, number: u64, sink: &mut K) -> Status
 // The input is too long, and its first byte too many stands in the line of this number.
 fn refuse_input<K: Sink>(alloc: Global, number: u64, sink: &mut K) -> Status
     ensures fault { FaultEnds (input_fault number) (K.holds sink.old) (K.holds sink.new) result }
-    ensures causes { IsCaused 0 0 (K.faults sink.old) (K.faults sink.new) result }
-    ensures no_read { result ≢ Status.ReadFault }
-    ensures writes { K.faults sink.old ≤ K.faults sink.new }
+    ensures counts { CountsEnd (K.faults sink.old) (K.faults sink.new) result }
 {
     let cause = Cause::InputTooLong;
     refuse(alloc, &Fault { number, cause }, sink)
@@ -133,9 +125,7 @@ fn refuse_input<K: Sink>(alloc: Global, number: u64, sink: &mut K) -> Status
 // Writes the row of a fault, which ends the run.
 fn refuse<K: Sink>(alloc: Global, fault: &Fault, sink: &mut K) -> Status
     ensures fault { FaultEnds fault.now (K.holds sink.old) (K.holds sink.new) result }
-    ensures causes { IsCaused 0 0 (K.faults sink.old) (K.faults sink.new) result }
-    ensures no_read { result ≢ Status.ReadFault }
-    ensures writes { K.faults sink.old ≤ K.faults sink.new }
+    ensures counts { CountsEnd (K.faults sink.old) (K.faults sink.new) result }
 {
     let Ok(row) = fault_row(alloc, fault) else {
         return Status::OutOfMemory;

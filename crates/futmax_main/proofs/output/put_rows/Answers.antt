@@ -1,4 +1,4 @@
-use Rattle.std.proofs.Common.{arith}
+use Rattle.std.proofs.Common.{◌∙◌, arith}
 use Rattle.futmax_main.proofs.OutputLemmas.{rows-more, rows-front}
 use Rattle.futmax_main.proofs.output.put_rows.Goals as goal
 
@@ -7,7 +7,7 @@ rows-preserved g c = (
   omega (arith, c.row_end-end.ensures.within),
   rows-more _ _ _ c.args.rows.now c.rows.done c.row_end-end.result
       (omega (arith, c.row_end-end.ensures.after)) c.rows.invariant.1 c.in-Ok.ensures.ok,
-  omega (arith, c.rows.invariant.2, c.in-Ok.ensures.counts),
+  c.in-Ok.ensures.counts ∙ c.rows.invariant.2,
 )
 
 pub returns-in-Err-clause-err : goal.returns-in-Err-clause-err

@@ -10,13 +10,13 @@ bounds-reaches-club c = omega (arith, c.requires.reaches.clubs)
 
 pub push_item-requires-clause-reach : goal.push_item-requires-clause-reach
 push_item-requires-clause-reach c =
-    let feed = c.args.feed.now in
-    let P : Reach → Type 0 = λ reach. IsReachOf feed.sheet feed.season c.loop-club.club reach in
+    let played = c.args.played.now in
+    let P : Reach → Type 0 = λ reach. IsReachOf played.sheet played.season c.loop-club.club reach in
     subst P (sym c.index-reaches-club.is)
     (c.requires.reaches.each c.loop-club.club c.index-reaches-club.result
     (omega (arith, c.requires.reaches.clubs)))
 
 pub loop-club-preserved : goal.loop-club-preserved
 loop-club-preserved c =
-    adds-range (IsItem c.args.feed.now.sheet c.args.feed.now.season c.args.line) c.loop-club.club _
+    adds-range (IsItem c.args.played.now.sheet c.args.played.now.season c.args.line) c.loop-club.club _
     _ _ c.loop-club.invariant c.in_ok-push_item.ensures

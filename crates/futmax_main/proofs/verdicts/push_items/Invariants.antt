@@ -9,4 +9,4 @@ use Rattle.futmax_main.proofs.verdicts.push_items.Given as goal
 abbrev pub invariant-loop-club : goal.invariant-loop-club
 invariant-loop-club l =
     Adds l.fn.text.items l.text.items
-    (IsMadeOf (IsItem l.feed.sheet l.feed.season l.line) (range_with_len 0 l.club))
+    (IsMadeOf (IsItem l.played.sheet l.played.season l.line) (range_with_len 0 l.club))

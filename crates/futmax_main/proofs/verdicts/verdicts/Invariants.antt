@@ -8,5 +8,5 @@ use Rattle.futmax_main.proofs.verdicts.verdicts.Given as goal
 -- the items of the lines so far stand behind the row of the ask
 abbrev pub invariant-loop-line : goal.invariant-loop-line
 invariant-loop-line l =
-    Adds (ask_row l.feed.epoch) l.text.items
-    (IsMadeOf (AreItemsOf l.feed.sheet l.feed.season) (take l.line-index l.feed.sheet.lines))
+    Adds (ask_row l.played.epoch) l.text.items
+    (IsMadeOf (AreItemsOf l.played.sheet l.played.season) (take l.line-index l.played.sheet.lines))

@@ -1,0 +1,92 @@
+//! What a table says of one club.
+
+ghost use Rattle.std.specs.Prelude.{◌≡◌, ◌<◌, ◌≤◌, length};
+ghost use Rattle.league_core.specs.Limits.{most_fixtures};
+ghost use Rattle.final_rank.specs.Spans.{span_of};
+ghost use Rattle.futmax_main.specs.Sound.{IsSoundPlayed};
+ghost use Rattle.futmax_main.specs.Tables.{IsTableRow, count_if_played, count_played, plays_in};
+
+use crate::session::Played;
+use final_rank::Span;
+use league_core::{Fixture, Score, Season, Sheet};
+use tie_criteria::{Tail, points_of, tail_of};
+
+/// A club's places over all drawings of lots, from 1, and what its matches so far add up to.
+#[derive(Clone, Copy, Debug, PartialEq, Eq)]
+pub struct TableRow {
+    pub best: u8,
+    pub worst: u8,
+    /// How many of its matches have a score.
+    pub played: u16,
+    /// Less the points taken off it.
+    pub points: i32,
+    pub difference: i32,
+    pub scored: i32,
+}
+
+/// The row of a club, by its number from 0; `span` is the places that the season leaves it.
+pub fn row_of(played: &Played, span: Span, club: u8) -> TableRow
+    requires sound { IsSoundPlayed played.now }
+    requires in_range { club < length played.now.sheet.clubs }
+    requires span { span ≡ span_of played.now.sheet played.now.season club }
+    ensures { IsTableRow played.now.sheet played.now.season club result }
+{
+    let count = count_played(&played.sheet, &played.season, club);
+    joined(
+        span,
+        count,
+        points_of(&played.sheet, &played.season, club),
+        tail_of(&played.sheet, &played.season, club),
+    )
+}
+
+fn joined(span: Span, played: u16, points: i32, sums: Tail) -> TableRow
+    ensures { result ≡ record {
+      best = span.best;
+      worst = span.worst;
+      played = played;
+      points = points;
+      difference = sums.difference;
+      scored = sums.scored;
+    } }
+{
+    TableRow {
+        best: span.best,
+        worst: span.worst,
+        played,
+        points,
+        difference: sums.difference,
+        scored: sums.scored,
+    }
+}
+
+fn count_played(sheet: &Sheet, season: &Season, club: u8) -> u16
+    requires few { length sheet.now.fixtures ≤ most_fixtures }
+    requires of_sheet { length season.now.scores ≡ length sheet.now.fixtures }
+    ensures { result ≡ count_played club sheet.now.fixtures season.now.scores }
+{
+    let matches = sheet.fixtures.as_slice();
+    let scores = season.scores();
+    let mut count = 0;
+    for i in 0..matches.len() {
+        count += count_if_played(club, &matches[i], scores[i]);
+    }
+    count
+}
+
+fn count_if_played(club: u8, fixture: &Fixture, score: Option<Score>) -> u16
+    ensures value { result ≡ count_if_played club fixture.now score }
+    ensures within { result ≤ 1 }
+{
+    if score.is_some() && plays_in(club, fixture) {
+        1
+    } else {
+        0
+    }
+}
+
+fn plays_in(club: u8, fixture: &Fixture) -> bool
+    ensures { result ≡ plays_in club fixture.now }
+{
+    fixture.home == club || fixture.away == club
+}
