@@ -82,7 +82,8 @@ one_of from (suc count) club low high =
 pub length-others_of : (clubs club : ℕ) → club < clubs → length (others_of clubs club) + 1 ≡ clubs
 length-others_of clubs club below =
     let both = length-filter_both (λ (other : ℕ). not (other == club))
-    (λ (other : ℕ). other == club) (λ other. sym (not-not (other == club))) (range_with_len 0 clubs) in
+    (λ (other : ℕ). other == club) (λ other. sym (not-not (other == club)))
+    (range_with_len 0 clubs) in
     let one = one_of 0 clubs club (omega arith) (omega arith) in
     let all = length-range_with_len 0 clubs in
     omega arith

@@ -1,5 +1,6 @@
 -- Plain facts on truth values, numbers and lists that the library of the toolchain has not: nothing
--- here is of a league. That `b || false` is `b`, and its kin, stand in `Rattle.std.proofs.Math.Bool`.
+-- here is of a league. That `b || false` is `b`, and its kin, stand in
+-- `Rattle.std.proofs.Math.Bool`.
 use Rattle.std.proofs.Common.{◌≡◌, ℕ, suc, ◌<◌, ◌≤◌, ℤ, pos, ◌+ℤ◌, ◌*ℤ◌, ◌<ℤ◌, ◌≤ℤ◌, Bool, true}
 use Rattle.std.proofs.Common.{false, ◌||◌, ◌==◌, cond, List, length, get_or, arith}
 use Rattle.std.specs.Prelude.{int_lt}

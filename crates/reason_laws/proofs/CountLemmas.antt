@@ -67,7 +67,8 @@ pub count_by-one : (clubs club : ℕ) → club < clubs
     → count_by (λ other. other == club) (range_with_len 0 clubs) ≡ 1
 count_by-one clubs club below =
     let both = length-filter_both (λ (other : ℕ). not (other == club))
-    (λ (other : ℕ). other == club) (λ other. sym (not-not (other == club))) (range_with_len 0 clubs) in
+    (λ (other : ℕ). other == club) (λ other. sym (not-not (other == club)))
+    (range_with_len 0 clubs) in
     omega (
       arith,
       both,

@@ -26,7 +26,8 @@ use Rattle.tie_bound.specs.declared.sums.Sums.{Sums}
 use Rattle.tie_bound.specs.Spans.{as_range}
 use Rattle.tie_bound.specs.Sums.{sums_at}
 use Rattle.tie_bound.specs.Tables.{AreSums}
-use Rattle.tie_bound.specs.Answers.{record_of, first_sums_of, ranges_of, overall_of, by_table}
+use Rattle.tie_bound.specs.Answers.{record_spans_of, first_spans_of, ranges_of, overall_spans_of}
+use Rattle.tie_bound.specs.Answers.{by_table}
 use Rattle.tie_bound.specs.Answers.{by_overall_table, is_sure_by}
 use Rattle.tie_bound.specs.Answers.{answer_at}
 
@@ -95,27 +96,28 @@ points_range-one sheet season options club =
     without n = omega (arith, ints)
 
 -- the records and the sums of a table are those of its club
-pub record_of-is : (sheet : Sheet) (options : List (List Score)) (group : List ℕ)
+pub record_spans_of-is : (sheet : Sheet) (options : List (List Score)) (group : List ℕ)
     (table : List Sums) (club : ℕ) → AreSums (worth_among group) sheet.fixtures options table
-    → record_of (sums_at table club) ≡ record_ranges sheet options group club
-record_of-is sheet options group table club are =
+    → record_spans_of (sums_at table club) ≡ record_ranges sheet options group club
+record_spans_of-is sheet options group table club are =
     let points = are.each club Points in
     let difference = are.each club Difference in
     let goals = are.each club Goals in
     (λ j. points j ∷ difference j ∷ goals j ∷ [])
 
-pub first_sums_of-is : (sheet : Sheet) (options : List (List Score)) (table : List Sums) (club : ℕ)
+pub first_spans_of-is : (sheet : Sheet) (options : List (List Score)) (table : List Sums) (club : ℕ)
     → AreSums worth_to sheet.fixtures options table
-    → first_sums_of (sums_at table club) ≡ first_sum_ranges sheet options club
-first_sums_of-is sheet options table club are =
+    → first_spans_of (sums_at table club) ≡ first_sum_ranges sheet options club
+first_spans_of-is sheet options table club are =
     let difference = are.each club Difference in
     let goals = are.each club Goals in
     (λ j. difference j ∷ goals j ∷ [])
 
-pub overall_of-is : (sheet : Sheet) (options : List (List Score)) (table : List Sums) (club : ℕ)
+pub overall_spans_of-is : (sheet : Sheet) (options : List (List Score)) (table : List Sums)
+    (club : ℕ)
     → AreSums worth_to sheet.fixtures options table
-    → overall_of (sums_at table club) (rank_of sheet club) ≡ overall_ranges sheet options club
-overall_of-is sheet options table club are =
+    → overall_spans_of (sums_at table club) (rank_of sheet club) ≡ overall_ranges sheet options club
+overall_spans_of-is sheet options table club are =
     let difference = are.each club Difference in
     let goals = are.each club Goals in
     let away_goals = are.each club AwayGoals in
@@ -170,17 +172,21 @@ by_table-read parts table club rival sums own sums_are own_is =
 pub by_overall_table-read : (sheet : Sheet) (table : List Sums) (club rival : ℕ) (sums own : Sums)
     (rank own_rank : ℕ) → sums ≡ sums_at table rival → own ≡ sums_at table club
     → rank ≡ rank_of sheet rival → own_rank ≡ rank_of sheet club
-    → sure_by_ranges (overall_of sums rank) (overall_of own own_rank) ≡ by_overall_table sheet table
+    → sure_by_ranges (overall_spans_of sums rank) (overall_spans_of own own_rank)
+    ≡ by_overall_table sheet table
     club rival
 by_overall_table-read sheet table club rival sums own rank own_rank sums_are own_is rank_is
     own_rank_is =
-    ap (λ (s : Sums). sure_by_ranges (overall_of s rank) (overall_of own own_rank)) sums_are
-    ∙ ap (λ (n : ℕ). sure_by_ranges (overall_of (sums_at table rival) n) (overall_of own own_rank))
+    ap (λ (s : Sums). sure_by_ranges (overall_spans_of s rank) (overall_spans_of own own_rank))
+    sums_are
+    ∙ ap (λ (n : ℕ). sure_by_ranges (overall_spans_of (sums_at table rival) n)
+    (overall_spans_of own own_rank))
     rank_is
-    ∙ ap (λ (s : Sums). sure_by_ranges (overall_of (sums_at table rival) (rank_of sheet rival))
-    (overall_of s own_rank)) own_is
-    ∙ ap (λ (n : ℕ). sure_by_ranges (overall_of (sums_at table rival) (rank_of sheet rival))
-    (overall_of (sums_at table club) n)) own_rank_is
+    ∙ ap (λ (s : Sums). sure_by_ranges
+    (overall_spans_of (sums_at table rival) (rank_of sheet rival))
+    (overall_spans_of s own_rank)) own_is
+    ∙ ap (λ (n : ℕ). sure_by_ranges (overall_spans_of (sums_at table rival) (rank_of sheet rival))
+    (overall_spans_of (sums_at table club) n)) own_rank_is
 
 -- a step at one club, from the answer that stood there
 pub next_is : (old next : ℕ → Sure) (answer first second : Sure) (k : ℕ)

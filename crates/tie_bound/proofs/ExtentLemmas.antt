@@ -17,7 +17,7 @@ use Rattle.tie_criteria.specs.Measures.{worth_of}
 use Rattle.score_box.specs.declared.cell.Cell.{Cell}
 use Rattle.score_box.specs.Cells.{allows, IsCellOf, IsEmptyCell}
 use Rattle.tie_bound.specs.declared.span.GoalSpan.{GoalSpan}
-use Rattle.tie_bound.specs.Spans.{IsNear}
+use Rattle.tie_bound.specs.Spans.{IsSpanNear}
 use Rattle.tie_bound.specs.Sides.{goals_by, AreGoalsOf}
 
 -- the goals of a side
@@ -35,7 +35,7 @@ goals_extent cell away goals are = record {
 pub near_extent : (cell : Cell) (value : Score → ℤ) (range : Range)
     → IsExtent (allows cell) value range
     → ((score : Score) → allows cell score ≡ true → IsNearZero 255 (value score))
-    → IsNear 255 range
+    → IsSpanNear 255 range
 near_extent cell value range extent near =
     let ends = extent_near 255 (allows cell) value range extent near in
     record {

@@ -163,12 +163,12 @@ pub judged_deeper : (task : Judging) (times : ℕ) (group level : List ℕ)
     → IsJudged task times level taken
 judged_deeper task times group level answers taken judged takes sure is fewer level_of = record {
   order = λ rival within.
-      let record_of = by_record_ranges task.sheet task.options group rival task.club in
+      let record_spans_of = by_record_ranges task.sheet task.options group rival task.club in
       judged.order rival within
       ∙ ap (sure_then (answer_at answers rival))
       (within_deeper times task.sheet task.options group rival task.club sure
       (λ e. fewer (ap length is ∙ e)))
-      ∙ sym (sure_then-assoc (answer_at answers rival) record_of
+      ∙ sym (sure_then-assoc (answer_at answers rival) record_spans_of
       (sure_within times task.sheet task.options
       (smaller_group task.sheet task.options group task.club) rival task.club))
       ∙ ap (λ a. sure_then a (sure_within times task.sheet task.options

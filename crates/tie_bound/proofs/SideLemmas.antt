@@ -18,7 +18,7 @@ use Rattle.score_box.specs.declared.cell.Cell.{Cell}
 use Rattle.score_box.specs.Cells.{allows, IsEmptyCell}
 use Rattle.tie_bound.specs.declared.span.GoalSpan.{GoalSpan}
 use Rattle.tie_bound.specs.declared.sums.Sums.{Sums}
-use Rattle.tie_bound.specs.Spans.{as_range, IsNear, IsMargin}
+use Rattle.tie_bound.specs.Spans.{as_range, IsSpanNear, IsMargin}
 use Rattle.tie_bound.specs.Sums.{range_by, no_sums}
 use Rattle.tie_bound.specs.Sides.{goals_by, to_side, AreGoalsOf, Wins as WinsAll, Draws as DrawsAll}
 use Rattle.tie_bound.specs.Sides.{Loses as LosesAll, AreSumsOf}
@@ -265,7 +265,7 @@ none_sums cell away empty = record {
     nothing Wins = refl
     nothing AwayWins = refl
 
-    zero : IsNear 255 (one_value (pos 0))
+    zero : IsSpanNear 255 (one_value (pos 0))
     zero = record {
       least_above = omega (arith, ints);
       least_below = omega (arith, ints);
@@ -273,7 +273,7 @@ none_sums cell away empty = record {
       greatest_below = omega (arith, ints);
     }
 
-    near : (measure : Measure) → IsNear 255 (range_by no_sums measure)
+    near : (measure : Measure) → IsSpanNear 255 (range_by no_sums measure)
     near Points = zero
     near Difference = zero
     near Goals = zero

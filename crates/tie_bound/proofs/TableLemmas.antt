@@ -15,8 +15,8 @@ use Rattle.tie_criteria.specs.Measures.{worth_of}
 use Rattle.score_box.specs.declared.cell.Cell.{Cell}
 use Rattle.score_box.specs.Cells.{IsCellOf}
 use Rattle.tie_bound.specs.declared.sums.Sums.{Sums}
-use Rattle.tie_bound.specs.Spans.{IsNear}
-use Rattle.tie_bound.specs.Sums.{range_by, no_sums, sums_at, AreNear, GrowsBy}
+use Rattle.tie_bound.specs.Spans.{IsSpanNear}
+use Rattle.tie_bound.specs.Sums.{range_by, no_sums, sums_at, AreNear, SpansGrowBy}
 use Rattle.tie_bound.specs.Sides.{to_side, AreSumsOf}
 
 -- ranges are one where both ends are
@@ -36,8 +36,8 @@ pub added-assoc : (a b c : Range) → added (added a b) c ≡ added a (added b c
 added-assoc a b c = same_range (added (added a b) c) (added a (added b c)) (omega (arith, ints))
     (omega (arith, ints))
 
-near_added : (bound more : ℕ) (range other : Range) → IsNear bound range → IsNear more other
-    → IsNear (bound + more) (added range other)
+near_added : (bound more : ℕ) (range other : Range) → IsSpanNear bound range → IsSpanNear more other
+    → IsSpanNear (bound + more) (added range other)
 near_added bound more range other near other_near = record {
   least_above = omega (arith, ints);
   least_below = omega (arith, ints);
@@ -45,7 +45,8 @@ near_added bound more range other near other_near = record {
   greatest_below = omega (arith, ints);
 }
 
-near_in : (bound more : ℕ) (range : Range) → bound ≤ more → IsNear bound range → IsNear more range
+near_in : (bound more : ℕ) (range : Range) → bound ≤ more → IsSpanNear bound range
+    → IsSpanNear more range
 near_in bound more range fewer near = record {
   least_above = omega (arith, ints);
   least_below = omega (arith, ints);
@@ -68,7 +69,7 @@ range_of-none (score ∷ other ∷ options) = ap
     }) (range_of-none (other ∷ options))
 
 same_sums : (options : List Score) (sums : Sums)
-    → GrowsBy (λ measure. range_of (λ score. pos 0) options) sums sums
+    → SpansGrowBy (λ measure. range_of (λ score. pos 0) options) sums sums
 same_sums options sums = record {
   sums = λ measure. sym (ap (added (range_by sums measure)) (range_of-none options)
       ∙ added-none (range_by sums measure));
@@ -79,30 +80,31 @@ same_sums options sums = record {
 pub side_grows : (cell : Cell) (away : Bool) (options : List Score) (sums old new : Sums)
     → AreSumsOf cell away sums → IsCellOf cell options
     → ((measure : Measure) → range_by new measure ≡ added (range_by old measure)
-    (range_by sums measure)) → GrowsBy
+    (range_by sums measure)) → SpansGrowBy
     (λ measure. range_of (to_side (worth_of measure) away) options) old new
 side_grows cell away options sums old new are is grown = record {
   sums = λ measure. grown measure ∙ ap (added (range_by old measure)) (are.each options is measure);
   near = λ bound near measure.
-      let P : Range → Type 0 = λ r. IsNear (bound + 255) r in
+      let P : Range → Type 0 = λ r. IsSpanNear (bound + 255) r in
       subst P (sym (grown measure)) (near_added bound 255 (range_by old measure)
       (range_by sums measure) (near measure) (are.near measure));
 }
 
 grows_at : (value : Measure → Range) (old old' new new' : Sums) → old ≡ old' → new ≡ new'
-    → GrowsBy value old new → GrowsBy value old' new'
+    → SpansGrowBy value old new → SpansGrowBy value old' new'
 grows_at value old old' new new' p q grows =
-    let P : Sums → Type 0 = λ s. GrowsBy value s new in
-    let Q : Sums → Type 0 = λ s. GrowsBy value old' s in
+    let P : Sums → Type 0 = λ s. SpansGrowBy value s new in
+    let Q : Sums → Type 0 = λ s. SpansGrowBy value old' s in
     subst Q q (subst P p grows)
 
 -- the sums of two clubs change, those of the home side and those of the away side
 pub table_grows : (table : List Sums) (match : Fixture) (options : List Score) (home away : Sums)
     → match.home ≢ match.away → match.home < length table → match.away < length table
-    → GrowsBy (λ measure. range_of (to_side (worth_of measure) false) options)
-    (sums_at table match.home) home → GrowsBy
+    → SpansGrowBy (λ measure. range_of (to_side (worth_of measure) false) options)
+    (sums_at table match.home) home → SpansGrowBy
     (λ measure. range_of (to_side (worth_of measure) true) options) (sums_at table match.away) away
-    → (club : ℕ) → GrowsBy (λ measure. range_of (worth_to (worth_of measure) club match) options)
+    → (club : ℕ)
+    → SpansGrowBy (λ measure. range_of (worth_to (worth_of measure) club match) options)
     (sums_at table club) (sums_at (set (set table match.home home) match.away away) club)
 table_grows table match options home away differ home_in away_in home_grows away_grows club =
     by_home (cases_eq match.home club)
@@ -116,7 +118,7 @@ table_grows table match options home away differ home_in away_in home_grows away
     long = omega (arith, length-set table match.home home)
 
     by_away : (match.home ≢ club) → (match.away ≡ club) ⊎ (match.away ≢ club)
-        → GrowsBy (λ measure. range_of (worth_to (worth_of measure) club match) options)
+        → SpansGrowBy (λ measure. range_of (worth_to (worth_of measure) club match) options)
         (sums_at table club) (sums_at (set (set table match.home home) match.away away) club)
     by_away not_home (inl same) =
         let is_home : eqb match.home club ≡ false = ne_eqb match.home club not_home in
@@ -125,9 +127,10 @@ table_grows table match options home away differ home_in away_in home_grows away
         sym (ap (λ (k : ℕ). get_or (set (set table match.home home) match.away away) k no_sums)
         (sym same)
         ∙ get_or-set_same (set table match.home home) match.away away no_sums long) in
-        let P : Bool → Type 0 = λ b. GrowsBy (sides b (eqb match.away club)) (sums_at table club)
+        let P : Bool → Type 0 = λ b. SpansGrowBy (sides b (eqb match.away club))
+        (sums_at table club)
         (sums_at (set (set table match.home home) match.away away) club) in
-        let Q : Bool → Type 0 = λ b. GrowsBy (sides false b) (sums_at table club)
+        let Q : Bool → Type 0 = λ b. SpansGrowBy (sides false b) (sums_at table club)
         (sums_at (set (set table match.home home) match.away away) club) in
         subst P (sym is_home) (subst Q (sym is_away)
         (grows_at (λ measure. range_of (to_side (worth_of measure) true) options)
@@ -142,9 +145,10 @@ table_grows table match options home away differ home_in away_in home_grows away
         sym (get_or-set_other (set table match.home home) match.away club away no_sums
         (λ e. not_away (sym e))
         ∙ get_or-set_other table match.home club home no_sums (λ e. not_home (sym e))) in
-        let P : Bool → Type 0 = λ b. GrowsBy (sides b (eqb match.away club)) (sums_at table club)
+        let P : Bool → Type 0 = λ b. SpansGrowBy (sides b (eqb match.away club))
+        (sums_at table club)
         (sums_at (set (set table match.home home) match.away away) club) in
-        let Q : Bool → Type 0 = λ b. GrowsBy (sides false b) (sums_at table club)
+        let Q : Bool → Type 0 = λ b. SpansGrowBy (sides false b) (sums_at table club)
         (sums_at (set (set table match.home home) match.away away) club) in
         subst P (sym is_home) (subst Q (sym is_away)
         (grows_at (λ measure. range_of (λ score. pos 0) options) (sums_at table club)
@@ -153,7 +157,7 @@ table_grows table match options home away differ home_in away_in home_grows away
         (same_sums options (sums_at table club))))
 
     by_home : (match.home ≡ club) ⊎ (match.home ≢ club)
-        → GrowsBy (λ measure. range_of (worth_to (worth_of measure) club match) options)
+        → SpansGrowBy (λ measure. range_of (worth_to (worth_of measure) club match) options)
         (sums_at table club) (sums_at (set (set table match.home home) match.away away) club)
     by_home (inl same) =
         let is_home : eqb match.home club ≡ true = eq-eqb match.home club same in
@@ -162,7 +166,8 @@ table_grows table match options home away differ home_in away_in home_grows away
         sym (get_or-set_other (set table match.home home) match.away club away no_sums other
         ∙ ap (λ (k : ℕ). get_or (set table match.home home) k no_sums) (sym same)
         ∙ get_or-set_same table match.home home no_sums home_in) in
-        let P : Bool → Type 0 = λ b. GrowsBy (sides b (eqb match.away club)) (sums_at table club)
+        let P : Bool → Type 0 = λ b. SpansGrowBy (sides b (eqb match.away club))
+        (sums_at table club)
         (sums_at (set (set table match.home home) match.away away) club) in
         subst P (sym is_home) (grows_at (λ measure. range_of (to_side (worth_of measure) false)
         options) (sums_at table match.home) (sums_at table club) home
@@ -173,21 +178,23 @@ table_grows table match options home away differ home_in away_in home_grows away
 -- a match that counts in a group is worth what it is worth anywhere, another nothing
 pub counted_grows : (group : List ℕ) (match : Fixture) (options : List Score) (club : ℕ)
     (old new : Sums) → (has_club group match.home && has_club group match.away) ≡ true
-    → GrowsBy (λ measure. range_of (worth_to (worth_of measure) club match) options) old new
-    → GrowsBy (λ measure. range_of (worth_among group (worth_of measure) club match) options) old
+    → SpansGrowBy (λ measure. range_of (worth_to (worth_of measure) club match) options) old new
+    → SpansGrowBy
+    (λ measure. range_of (worth_among group (worth_of measure) club match) options) old
     new
 counted_grows group match options club old new counts grows =
-    let P : Bool → Type 0 = λ b. GrowsBy
+    let P : Bool → Type 0 = λ b. SpansGrowBy
     (λ measure. range_of (λ score. cond b (worth_to (worth_of measure) club match score) (pos 0))
     options) old new in
     subst P (sym counts) grows
 
 pub uncounted_grows : (group : List ℕ) (match : Fixture) (options : List Score) (club : ℕ)
     (sums : Sums) → (has_club group match.home && has_club group match.away) ≡ false
-    → GrowsBy (λ measure. range_of (worth_among group (worth_of measure) club match) options) sums
+    → SpansGrowBy
+    (λ measure. range_of (worth_among group (worth_of measure) club match) options) sums
     sums
 uncounted_grows group match options club sums counts =
-    let P : Bool → Type 0 = λ b. GrowsBy
+    let P : Bool → Type 0 = λ b. SpansGrowBy
     (λ measure. range_of (λ score. cond b (worth_to (worth_of measure) club match score) (pos 0))
     options) sums sums in
     subst P (sym counts) (same_sums options sums)

@@ -25,15 +25,16 @@ use Rattle.tie_bound.specs.declared.sums.Sums.{Sums}
 use Rattle.tie_bound.specs.Sums.{sums_at}
 use Rattle.tie_bound.specs.Boxes.{options_in_box}
 use Rattle.tie_bound.specs.Tables.{AreSums}
-use Rattle.tie_bound.specs.Answers.{record_of, first_sums_of, overall_of, by_table}
-use Rattle.tie_bound.specs.Answers.{by_overall_table, is_sure_by, answer_at, AreLevelIn, GoesOn}
-use Rattle.tie_bound.proofs.AnswerLemmas.{sure_then-assoc, record_of-is, overall_of-is}
-use Rattle.tie_bound.proofs.AnswerLemmas.{first_sums_of-is}
+use Rattle.tie_bound.specs.Answers.{record_spans_of, first_spans_of, overall_spans_of, by_table}
+use Rattle.tie_bound.specs.Answers.{by_overall_table, is_sure_by, answer_at, AreLevelIn}
+use Rattle.tie_bound.specs.Answers.{StepDecides}
+use Rattle.tie_bound.proofs.AnswerLemmas.{sure_then-assoc, record_spans_of-is, overall_spans_of-is}
+use Rattle.tie_bound.proofs.AnswerLemmas.{first_spans_of-is}
 use Rattle.tie_bound.proofs.RoundLemmas.{Taken}
 
 -- a step that goes on at all clubs of a table
 taken_by : (step next : ℕ → Sure) (answers taken : List Sure) → length answers ≡ 24
-    → GoesOn step answers taken → ((rival : ℕ) → step rival ≡ next rival)
+    → StepDecides step answers taken → ((rival : ℕ) → step rival ≡ next rival)
     → Taken next answers taken
 taken_by step next answers taken long goes same rival within =
     goes rival (omega arith) ∙ ap (sure_then (answer_at answers rival)) (same rival)
@@ -42,44 +43,44 @@ taken_by step next answers taken long goes same rival within =
 pub taken_records : (sheet : Sheet) (options : List (List Score)) (club : ℕ) (group : List ℕ)
     (table : List Sums) (answers taken : List Sure)
     → AreSums (worth_among group) sheet.fixtures options table → length answers ≡ 24
-    → GoesOn (by_table Record table club) answers taken
+    → StepDecides (by_table Record table club) answers taken
     → Taken (λ rival. by_record_ranges sheet options group rival club) answers taken
 taken_records sheet options club group table answers taken are long goes =
     taken_by (by_table Record table club) (λ rival. by_record_ranges sheet options group rival club)
     answers taken long goes (λ rival.
-    ap (λ rs. sure_by_ranges rs (record_of (sums_at table club)))
-    (record_of-is sheet options group table rival are)
+    ap (λ rs. sure_by_ranges rs (record_spans_of (sums_at table club)))
+    (record_spans_of-is sheet options group table rival are)
     ∙ ap (sure_by_ranges (record_ranges sheet options group rival))
-    (record_of-is sheet options group table club are))
+    (record_spans_of-is sheet options group table club are))
 
 -- difference and goals by the table of all matches
 pub taken_first_sums : (sheet : Sheet) (options : List (List Score)) (club : ℕ)
     (table : List Sums) (answers taken : List Sure)
     → AreSums worth_to sheet.fixtures options table → length answers ≡ 24
-    → GoesOn (by_table FirstSums table club) answers taken
+    → StepDecides (by_table FirstSums table club) answers taken
     → Taken (λ rival. by_first_sum_ranges sheet options rival club) answers taken
 taken_first_sums sheet options club table answers taken are long goes =
     taken_by (by_table FirstSums table club)
     (λ rival. by_first_sum_ranges sheet options rival club) answers taken long goes (λ rival.
-    ap (λ rs. sure_by_ranges rs (first_sums_of (sums_at table club)))
-    (first_sums_of-is sheet options table rival are)
+    ap (λ rs. sure_by_ranges rs (first_spans_of (sums_at table club)))
+    (first_spans_of-is sheet options table rival are)
     ∙ ap (sure_by_ranges (first_sum_ranges sheet options rival))
-    (first_sums_of-is sheet options table club are))
+    (first_spans_of-is sheet options table club are))
 
 -- the sums over all matches, and the ranks
 pub taken_overall : (sheet read : Sheet) (options : List (List Score)) (club : ℕ)
     (table : List Sums) (taken last : List Sure) → read ≡ sheet
     → AreSums worth_to sheet.fixtures options table → length taken ≡ 24
-    → GoesOn (by_overall_table read table club) taken last
+    → StepDecides (by_overall_table read table club) taken last
     → Taken (λ rival. by_overall_ranges sheet options rival club) taken last
 taken_overall sheet read options club table taken last same are long goes =
     taken_by (by_overall_table read table club)
     (λ rival. by_overall_ranges sheet options rival club) taken last long goes (λ rival.
     ap (λ s. by_overall_table s table club rival) same
-    ∙ ap (λ rs. sure_by_ranges rs (overall_of (sums_at table club) (rank_of sheet club)))
-    (overall_of-is sheet options table rival are)
+    ∙ ap (λ rs. sure_by_ranges rs (overall_spans_of (sums_at table club) (rank_of sheet club)))
+    (overall_spans_of-is sheet options table rival are)
     ∙ ap (sure_by_ranges (overall_ranges sheet options rival))
-    (overall_of-is sheet options table club are))
+    (overall_spans_of-is sheet options table club are))
 
 -- it is sure by the table of a group who shares the club's record there
 pub all_sure-records : (sheet : Sheet) (options : List (List Score)) (group : List ℕ)
@@ -92,12 +93,12 @@ all_sure-records sheet options group table club are =
         ≡ (is_surely_in sheet options group club other
         || is_surely_out sheet options group club other)
     same other =
-        ap (λ rs. is_level (sure_by_ranges rs (record_of (sums_at table club)))
-        || is_apart rs (record_of (sums_at table club)))
-        (record_of-is sheet options group table other are)
+        ap (λ rs. is_level (sure_by_ranges rs (record_spans_of (sums_at table club)))
+        || is_apart rs (record_spans_of (sums_at table club)))
+        (record_spans_of-is sheet options group table other are)
         ∙ ap (λ rs. is_level (sure_by_ranges (record_ranges sheet options group other) rs)
         || is_apart (record_ranges sheet options group other) rs)
-        (record_of-is sheet options group table club are)
+        (record_spans_of-is sheet options group table club are)
 
 -- and by the table of all matches who shares the club's difference and goals
 pub all_sure-first_sums : (sheet : Sheet) (options : List (List Score)) (group : List ℕ)
@@ -111,12 +112,12 @@ all_sure-first_sums sheet options group table club are =
         ≡ (is_surely_level_overall sheet options club other
         || is_surely_apart_overall sheet options club other)
     same other =
-        ap (λ rs. is_level (sure_by_ranges rs (first_sums_of (sums_at table club)))
-        || is_apart rs (first_sums_of (sums_at table club)))
-        (first_sums_of-is sheet options table other are)
+        ap (λ rs. is_level (sure_by_ranges rs (first_spans_of (sums_at table club)))
+        || is_apart rs (first_spans_of (sums_at table club)))
+        (first_spans_of-is sheet options table other are)
         ∙ ap (λ rs. is_level (sure_by_ranges (first_sum_ranges sheet options other) rs)
         || is_apart (first_sum_ranges sheet options other) rs)
-        (first_sums_of-is sheet options table club are)
+        (first_spans_of-is sheet options table club are)
 
 -- with difference and goals first: nothing more is sure where it is not sure who shares them
 abbrev after_first_sums : Sheet → List (List Score) → List ℕ → ℕ → ℕ → Bool → Sure

@@ -17,21 +17,21 @@ use Rattle.tie_bound.specs.Spans.{as_range}
 use Rattle.tie_bound.specs.Sums.{sums_at}
 
 -- the ranges of a club's head-to-head record, from its sums over the matches of a group
-abbrev pub record_of : Sums → List Range
-record_of sums = as_range sums.points ∷ as_range sums.difference ∷ as_range sums.goals ∷ []
+abbrev pub record_spans_of : Sums → List Range
+record_spans_of sums = as_range sums.points ∷ as_range sums.difference ∷ as_range sums.goals ∷ []
 
 -- those of difference and goals, from the sums over all matches
-abbrev pub first_sums_of : Sums → List Range
-first_sums_of sums = as_range sums.difference ∷ as_range sums.goals ∷ []
+abbrev pub first_spans_of : Sums → List Range
+first_spans_of sums = as_range sums.difference ∷ as_range sums.goals ∷ []
 
 -- the ranges of the parts that are compared
 abbrev pub ranges_of : Parts → Sums → List Range
-ranges_of Record sums = record_of sums
-ranges_of FirstSums sums = first_sums_of sums
+ranges_of Record sums = record_spans_of sums
+ranges_of FirstSums sums = first_spans_of sums
 
 -- the ranges of what decides last, from the sums over all matches and the fixed rank
-abbrev pub overall_of : Sums → ℕ → List Range
-overall_of sums rank =
+abbrev pub overall_spans_of : Sums → ℕ → List Range
+overall_spans_of sums rank =
     as_range sums.difference
     ∷ as_range sums.goals
     ∷ as_range sums.away_goals
@@ -48,8 +48,8 @@ by_table parts table club rival =
 -- its sums over all matches, and its rank, against the club's
 abbrev pub by_overall_table : Sheet → List Sums → ℕ → ℕ → Sure
 by_overall_table sheet table club rival =
-    sure_by_ranges (overall_of (sums_at table rival) (rank_of sheet rival))
-    (overall_of (sums_at table club) (rank_of sheet club))
+    sure_by_ranges (overall_spans_of (sums_at table rival) (rank_of sheet rival))
+    (overall_spans_of (sums_at table club) (rank_of sheet club))
 
 -- it is sure whether a club has the club's parts
 abbrev pub is_sure_by : Parts → List Sums → ℕ → ℕ → Bool
@@ -62,8 +62,8 @@ abbrev pub answer_at : List Sure → ℕ → Sure
 answer_at answers club = slice_index_or answers club Unknown
 
 -- where a club was level so far, the next step decides
-abbrev pub GoesOn : (ℕ → Sure) → List Sure → List Sure → Type 0
-GoesOn next old new =
+abbrev pub StepDecides : (ℕ → Sure) → List Sure → List Sure → Type 0
+StepDecides next old new =
     (club : ℕ) → club < length old → answer_at new club ≡ sure_then (answer_at old club) (next club)
 
 -- the group is all clubs, out of so many, that are level so far

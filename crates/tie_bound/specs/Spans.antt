@@ -9,7 +9,7 @@ abbrev pub as_range : Span → Range
 as_range span = record { least = span.least; greatest = span.greatest }
 
 -- both ends are this far from zero at most
-pub record IsNear (bound : ℕ) (range : Range) : Type 0 where
+pub record IsSpanNear (bound : ℕ) (range : Range) : Type 0 where
   pub least_above : neg_ℤ (pos bound) ≤ℤ range.least
   pub least_below : range.least ≤ℤ pos bound
   pub greatest_above : neg_ℤ (pos bound) ≤ℤ range.greatest

@@ -9,7 +9,7 @@ use Rattle.tie_criteria.specs.Measures.{worth_of}
 use Rattle.score_box.specs.declared.cell.Cell.{Cell}
 use Rattle.score_box.specs.Cells.{IsCellOf}
 use Rattle.tie_bound.specs.declared.sums.Sums.{Sums}
-use Rattle.tie_bound.specs.Sums.{range_by, sums_at, AreNear, GrowsBy}
+use Rattle.tie_bound.specs.Sums.{range_by, sums_at, AreNear, SpansGrowBy}
 
 -- what a match is worth to a club, where a worth and a club are given
 abbrev pub Value : Type 0
@@ -24,8 +24,8 @@ pub record AreSums (value : Value) (fixtures : List Fixture) (options : List (Li
   pub near : (club : ℕ) → AreNear 153000 (sums_at table club)
 
 -- each club's sums grow by what the options of the match are worth to it
-abbrev pub AddsMatch : Value → Fixture → Cell → List Sums → List Sums → Type 0
-AddsMatch value match cell old new =
+abbrev pub AddsSpansOfMatch : Value → Fixture → Cell → List Sums → List Sums → Type 0
+AddsSpansOfMatch value match cell old new =
     (options : List Score) → IsCellOf cell options → (club : ℕ)
-    → GrowsBy (λ measure. range_of (value (worth_of measure) club match) options)
+    → SpansGrowBy (λ measure. range_of (value (worth_of measure) club match) options)
     (sums_at old club) (sums_at new club)

@@ -9,7 +9,7 @@ ghost use Rattle.league_core.specs.ClubSets.{clubs_in};
 ghost use Rattle.league_core.specs.SureOrder.{sure_by, sure_order};
 ghost use Rattle.tie_bound.specs.Boxes.{options_in_box, have_one_outcome};
 ghost use Rattle.tie_bound.specs.Tables.{AreSums};
-ghost use Rattle.tie_bound.specs.Answers.{answer_at, AreLevelIn, GoesOn};
+ghost use Rattle.tie_bound.specs.Answers.{answer_at, AreLevelIn, StepDecides};
 
 use crate::answers::{are_all_sure, by_points, leave_open, take_parts, those_that_are};
 use crate::parts::Parts;
@@ -47,7 +47,7 @@ fn take_criteria(
         overall.now }
     requires long { length answers.old ≡ 24 }
     requires level { AreLevelIn (length zone_box.now.sheet.clubs) answers.old (clubs_in group) }
-    ensures { GoesOn (λ rival. sure_by zone_box.now.sheet.order zone_box.now.sheet
+    ensures { StepDecides (λ rival. sure_by zone_box.now.sheet.order zone_box.now.sheet
         (options_in_box zone_box.now) (clubs_in group) rival club) answers.old answers.new }
 {
     match zone_box.sheet().order {
@@ -70,7 +70,7 @@ fn take_overall_first(
         overall.now }
     requires long { length answers.old ≡ 24 }
     requires level { AreLevelIn (length zone_box.now.sheet.clubs) answers.old (clubs_in group) }
-    ensures { GoesOn (λ rival. sure_by OverallFirst zone_box.now.sheet
+    ensures { StepDecides (λ rival. sure_by OverallFirst zone_box.now.sheet
         (options_in_box zone_box.now) (clubs_in group) rival club) answers.old answers.new }
 {
     take_parts(answers, Parts::FirstSums, overall, club);

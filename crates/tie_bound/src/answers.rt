@@ -10,12 +10,12 @@ ghost use Rattle.league_core.specs.Ahead.{rank_of};
 ghost use Rattle.league_core.specs.ClubSets.{clubs_in};
 ghost use Rattle.league_core.specs.PointRanges.{one_value, added};
 ghost use Rattle.league_core.specs.SureOrder.{sure_by_points, sure_by_ranges, is_level, is_apart};
-ghost use Rattle.tie_bound.specs.Spans.{as_range, IsNear};
+ghost use Rattle.tie_bound.specs.Spans.{as_range, IsSpanNear};
 ghost use Rattle.tie_bound.specs.Sums.{sums_at};
 ghost use Rattle.tie_bound.specs.Boxes.{options_in_box};
 ghost use Rattle.tie_bound.specs.Tables.{AreSums};
 ghost use Rattle.tie_bound.specs.Answers.{ranges_of, by_table, by_overall_table, is_sure_by};
-ghost use Rattle.tie_bound.specs.Answers.{answer_at, is_answer, GoesOn};
+ghost use Rattle.tie_bound.specs.Answers.{answer_at, is_answer, StepDecides};
 
 use crate::order::{are_apart, by_overall, by_parts, by_span, is_answer, then};
 use crate::parts::Parts;
@@ -45,7 +45,7 @@ pub fn by_points(zone_box: &ZoneBox, overall: &[Sums], club: u8) -> [Sure; 24]
 
 /// The club's points: these match points, less what is taken off.
 fn points_of(season: &Season, won: Span, club: u8) -> Span
-    requires { IsNear 153000 (as_range won) }
+    requires { IsSpanNear 153000 (as_range won) }
     ensures { as_range result ≡ added (as_range won)
         (one_value (pos 0 -ℤ pos (slice_index season.now.deductions club))) }
 {
@@ -63,7 +63,7 @@ fn deducted(deductions: &[u8], club: u8) -> i32
 /// Takes these parts, by a table of sums.
 pub fn take_parts(answers: &mut [Sure], parts: Parts, table: &[Sums], club: u8)
     requires { length answers.old ≤ 32 }
-    ensures { GoesOn (by_table parts table.now club) answers.old answers.new }
+    ensures { StepDecides (by_table parts table.now club) answers.old answers.new }
 {
     let own = sums_at(table, club);
     for rival in 0..answers.len() {
@@ -75,7 +75,7 @@ pub fn take_parts(answers: &mut [Sure], parts: Parts, table: &[Sums], club: u8)
 /// Takes the sums over all matches, and the ranks.
 pub fn take_overall(answers: &mut [Sure], sheet: &Sheet, overall: &[Sums], club: u8)
     requires { length answers.old ≤ 32 }
-    ensures { GoesOn (by_overall_table sheet.now overall.now club) answers.old answers.new }
+    ensures { StepDecides (by_overall_table sheet.now overall.now club) answers.old answers.new }
 {
     let own = sums_at(overall, club);
     let own_rank = rank_of(sheet, club);
@@ -98,7 +98,7 @@ fn rank_of(sheet: &Sheet, club: u8) -> u16
 
 /// Where nothing has decided yet, nothing is sure.
 pub fn leave_open(answers: &mut [Sure])
-    ensures { GoesOn (λ rival. Unknown) answers.old answers.new }
+    ensures { StepDecides (λ rival. Unknown) answers.old answers.new }
 {
     for rival in 0..answers.len() {
         answers[rival] = then(answers[rival], Sure::Unknown);

@@ -4,7 +4,8 @@ ghost use Rattle.std.specs.Prelude.{◌≡◌, ◌||◌, int_lt, neg_ℤ, pos};
 ghost use Rattle.league_core.specs.PointRanges.{one_value};
 ghost use Rattle.league_core.specs.SureOrder.{sure_by_range, sure_by_ranges, sure_then, is_apart};
 ghost use Rattle.tie_bound.specs.Spans.{as_range};
-ghost use Rattle.tie_bound.specs.Answers.{record_of, first_sums_of, ranges_of, overall_of};
+ghost use Rattle.tie_bound.specs.Answers.{record_spans_of, first_spans_of, ranges_of};
+ghost use Rattle.tie_bound.specs.Answers.{overall_spans_of};
 ghost use Rattle.tie_bound.specs.Answers.{is_answer};
 
 use crate::parts::Parts;
@@ -52,7 +53,7 @@ pub fn by_parts(parts: Parts, rival: &Sums, club: &Sums) -> Sure
 /// The head-to-head records, by the sums over the matches of a group: points, then goal difference,
 /// then goals.
 fn by_record(rival: &Sums, club: &Sums) -> Sure
-    ensures { result ≡ sure_by_ranges (record_of rival.now) (record_of club.now) }
+    ensures { result ≡ sure_by_ranges (record_spans_of rival.now) (record_spans_of club.now) }
 {
     let by_goals = by_span(rival.goals, club.goals);
     let by_difference = then(by_span(rival.difference, club.difference), by_goals);
@@ -61,7 +62,7 @@ fn by_record(rival: &Sums, club: &Sums) -> Sure
 
 /// Goal difference, then goals, by the sums over all matches.
 fn by_first_sums(rival: &Sums, club: &Sums) -> Sure
-    ensures { result ≡ sure_by_ranges (first_sums_of rival.now) (first_sums_of club.now) }
+    ensures { result ≡ sure_by_ranges (first_spans_of rival.now) (first_spans_of club.now) }
 {
     let by_goals = by_span(rival.goals, club.goals);
     then(by_span(rival.difference, club.difference), by_goals)
@@ -70,7 +71,7 @@ fn by_first_sums(rival: &Sums, club: &Sums) -> Sure
 /// What decides after the head-to-head, by the sums over all matches, then the fixed ranks.
 pub fn by_overall(rival: &Sums, club: &Sums, rival_rank: u16, club_rank: u16) -> Sure
     ensures { result
-        ≡ sure_by_ranges (overall_of rival.now rival_rank) (overall_of club.now club_rank) }
+        ≡ sure_by_ranges (overall_spans_of rival.now rival_rank) (overall_spans_of club.now club_rank) }
 {
     let by_rank = by_span(rank_span(rival_rank), rank_span(club_rank));
     let by_away_wins = then(by_span(rival.away_wins, club.away_wins), by_rank);

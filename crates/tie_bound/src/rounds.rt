@@ -6,7 +6,7 @@ ghost use Rattle.league_core.specs.ClubSets.{clubs_in};
 ghost use Rattle.league_core.specs.SureOrder.{sure_in};
 ghost use Rattle.tie_bound.specs.Boxes.{options_in_box, have_one_outcome};
 ghost use Rattle.tie_bound.specs.Tables.{AreSums};
-ghost use Rattle.tie_bound.specs.Answers.{AreLevelIn, GoesOn};
+ghost use Rattle.tie_bound.specs.Answers.{AreLevelIn, StepDecides};
 
 use crate::answers::{are_all_sure, leave_open, take_overall, take_parts, those_that_are};
 use crate::parts::Parts;
@@ -28,7 +28,7 @@ pub fn take_rounds(
         overall.now }
     requires long { length answers.old ≡ 24 }
     requires level { AreLevelIn (length zone_box.now.sheet.clubs) answers.old (clubs_in group) }
-    ensures { GoesOn (λ rival. sure_in zone_box.now.sheet (options_in_box zone_box.now)
+    ensures { StepDecides (λ rival. sure_in zone_box.now.sheet (options_in_box zone_box.now)
         (clubs_in group) rival club) answers.old answers.new }
 {
     let sheet = zone_box.sheet();

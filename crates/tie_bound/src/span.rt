@@ -2,7 +2,7 @@
 
 ghost use Rattle.std.specs.Prelude.{◌≡◌, ◌-ℤ◌, pos, nat_lt, if◌then◌else◌};
 ghost use Rattle.league_core.specs.PointRanges.{one_value, negated, added};
-ghost use Rattle.tie_bound.specs.Spans.{as_range, IsNear, IsMargin};
+ghost use Rattle.tie_bound.specs.Spans.{as_range, IsSpanNear, IsMargin};
 
 /// The least and the greatest value of a sum.
 #[derive(Clone, Copy)]
@@ -31,8 +31,8 @@ impl Span {
 
     /// Both sums together.
     pub fn plus(self, other: Span) -> Span
-        requires near { IsNear 1000000 (as_range self) }
-        requires other_near { IsNear 1000000 (as_range other) }
+        requires near { IsSpanNear 1000000 (as_range self) }
+        requires other_near { IsSpanNear 1000000 (as_range other) }
         ensures { as_range result ≡ added (as_range self) (as_range other) }
     {
         Span {
@@ -43,7 +43,7 @@ impl Span {
 
     /// The sum with its sign turned round.
     pub fn negated(self) -> Span
-        requires { IsNear 1000000 (as_range self) }
+        requires { IsSpanNear 1000000 (as_range self) }
         ensures { as_range result ≡ negated (as_range self) }
     {
         Span {

@@ -3,7 +3,7 @@
 ghost use Rattle.std.specs.Prelude.{◌≡◌, pos};
 ghost use Rattle.league_core.specs.PointRanges.{one_value, added};
 ghost use Rattle.tie_criteria.specs.declared.measure.Measure.{Measure};
-ghost use Rattle.tie_bound.specs.Spans.{IsNear};
+ghost use Rattle.tie_bound.specs.Spans.{IsSpanNear};
 ghost use Rattle.tie_bound.specs.Sums.{range_by, sums_at};
 
 use crate::span::Span;
@@ -37,8 +37,8 @@ impl Sums {
 
     /// The sums with those of a match more.
     pub fn plus(&self, other: &Sums) -> Sums
-        requires near { (measure : Measure) → IsNear 1000000 (range_by self.now measure) }
-        requires other_near { (measure : Measure) → IsNear 1000000 (range_by other.now measure) }
+        requires near { (measure : Measure) → IsSpanNear 1000000 (range_by self.now measure) }
+        requires other_near { (measure : Measure) → IsSpanNear 1000000 (range_by other.now measure) }
         ensures { (measure : Measure) → range_by result measure
             ≡ added (range_by self.now measure) (range_by other.now measure) }
     {

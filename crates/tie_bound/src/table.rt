@@ -6,7 +6,7 @@ ghost use Rattle.league_core.specs.ClubSets.{clubs_in};
 ghost use Rattle.tie_bound.specs.Sums.{no_sums, sums_at, AreNear};
 ghost use Rattle.tie_bound.specs.Sides.{HasOneOutcome};
 ghost use Rattle.tie_bound.specs.Boxes.{options_in_box, have_one_outcome};
-ghost use Rattle.tie_bound.specs.Tables.{AreSums, AddsMatch};
+ghost use Rattle.tie_bound.specs.Tables.{AreSums, AddsSpansOfMatch};
 
 use crate::fixtures::fixtures_of;
 use crate::sides::Sides;
@@ -54,7 +54,7 @@ fn add_if_counted(table: &mut [Sums], group: ClubSet, fixture: Fixture, cell: &C
     requires home { fixture.home < length table.old }
     requires away { fixture.away < length table.old }
     requires room { (club : ℕ) → AreNear 1000000 (sums_at table.old club) }
-    ensures { AddsMatch (worth_among (clubs_in group)) fixture cell.now table.old table.new }
+    ensures { AddsSpansOfMatch (worth_among (clubs_in group)) fixture cell.now table.old table.new }
 {
     if counts(group, fixture) {
         add(table, fixture, cell);
@@ -75,7 +75,7 @@ fn add(table: &mut [Sums], fixture: Fixture, cell: &Cell)
     requires home { fixture.home < length table.old }
     requires away { fixture.away < length table.old }
     requires room { (club : ℕ) → AreNear 1000000 (sums_at table.old club) }
-    ensures { AddsMatch worth_to fixture cell.now table.old table.new }
+    ensures { AddsSpansOfMatch worth_to fixture cell.now table.old table.new }
 {
     let sides = Sides::of(cell);
     let home = table[fixture.home as usize].plus(&sides.home);

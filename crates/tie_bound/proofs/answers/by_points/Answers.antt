@@ -3,19 +3,19 @@ use Rattle.std.proofs.lemmas.List.{length-set}
 use Rattle.league_core.specs.SureOrder.{sure_by_points}
 use Rattle.tie_criteria.specs.declared.measure.Measure.TheVariants.{Points}
 use Rattle.tie_bound.specs.declared.sums.Sums.{Sums}
-use Rattle.tie_bound.specs.Spans.{as_range, IsNear}
+use Rattle.tie_bound.specs.Spans.{as_range, IsSpanNear}
 use Rattle.tie_bound.specs.Boxes.{options_in_box}
 use Rattle.tie_bound.proofs.AnswerLemmas.{answers_more, by_points-read, points-read}
 use Rattle.tie_bound.proofs.answers.by_points.Goals as goal
 
 pub points_of-own-requires : goal.points_of-own-requires
 points_of-own-requires c =
-    let P : Sums → Type 0 = λ s. IsNear 153000 (as_range s.points) in
+    let P : Sums → Type 0 = λ s. IsSpanNear 153000 (as_range s.points) in
     subst P (sym c.sums_at.ensures) (c.requires.near c.args.club Points)
 
 pub points_of-points-requires : goal.points_of-points-requires
 points_of-points-requires c =
-    let P : Sums → Type 0 = λ s. IsNear 153000 (as_range s.points) in
+    let P : Sums → Type 0 = λ s. IsSpanNear 153000 (as_range s.points) in
     subst P (sym c.sums_at-in-loop-rival.ensures) (c.requires.near c.loop-rival.rival Points)
 
 pub loop-rival-preserved : goal.loop-rival-preserved

@@ -1,0 +1,105 @@
+//! What comes of a case.
+
+use crate::case::{Case, Shown, Trouble};
+use futmax_main::{Status, futmax};
+use port_core::{MemSink, MemSource};
+use std::alloc::Global;
+use std::io;
+use std::io::Write;
+
+/// Prints the status and the rows; where a trouble is run with several numbers, the rows of the run
+/// without it, and then how much of them each run wrote. A row that lacks its LF is printed with a
+/// backslash.
+pub fn print_answer(rt: &HostRuntime, case: &Case) -> io::Result<()> {
+    if case.first == case.last {
+        let (status, rows) = run(rt.alloc(), case, case.trouble, case.first)?;
+        return print_rows(rt, case, status, &rows);
+    }
+    let (status, rows) = run(rt.alloc(), case, Trouble::Nothing, 0)?;
+    print_rows(rt, case, status, &rows)?;
+    for number in case.first..=case.last {
+        let (status, front) = run(rt.alloc(), case, case.trouble, number)?;
+        print_front(rt, number, status, &front, &rows)?;
+    }
+    Ok(())
+}
+
+fn print_rows(rt: &HostRuntime, case: &Case, status: Status, rows: &[u8]) -> io::Result<()> {
+    let code = status.code();
+    println!(rt; "status {code}")?;
+    let mut text = Vec::new(rt.alloc());
+    for row in rows.split_inclusive(|byte| *byte == b'\n') {
+        add_row(&mut text, row, case.shown)?;
+    }
+    io::writer(rt).write_all(&text)
+}
+
+fn add_row(text: &mut Vec<u8>, row: &[u8], shown: Shown) -> io::Result<()> {
+    let is_field = !row.starts_with(b"[");
+    if is_field || shown == Shown::Whole {
+        text.extend_from_slice(row)?;
+        if !row.ends_with(b"\n") {
+            text.extend_from_slice(b"\\\n")?;
+        }
+    } else if shown == Shown::Outline {
+        text.extend_from_slice(outline_of(row))?;
+        text.push(b'\n')?;
+    }
+    Ok(())
+}
+
+// What stands before the second comma, and before the second bracket.
+fn outline_of(row: &[u8]) -> &[u8] {
+    let mut has_comma = false;
+    for (at, byte) in row.iter().enumerate() {
+        let is_end = *byte == b'[' && 0 < at || *byte == b',' && has_comma || *byte == b'\n';
+        if is_end {
+            return &row[..at];
+        }
+        has_comma |= *byte == b',';
+    }
+    row
+}
+
+fn print_front(
+    rt: &HostRuntime,
+    number: u64,
+    status: Status,
+    front: &[u8],
+    rows: &[u8],
+) -> io::Result<()> {
+    let code = status.code();
+    let count = front.len();
+    if rows.starts_with(front) {
+        println!(rt; "{number}: status {code}, the first {count} bytes")
+    } else {
+        println!(rt; "{number}: status {code}, {count} other bytes")
+    }
+}
+
+fn run(alloc: Global, case: &Case, trouble: Trouble, number: u64) -> io::Result<(Status, Vec<u8>)> {
+    let read_fails = if trouble == Trouble::ReadFails {
+        number
+    } else {
+        0
+    };
+    let write_fails = if trouble == Trouble::WriteFails {
+        number
+    } else {
+        0
+    };
+    let room = if trouble == Trouble::Room {
+        number as usize
+    } else {
+        65536
+    };
+    let piece = case.piece.max(1);
+    let fails = vec![in alloc; read_fails]?;
+    let mut source = MemSource::new(case.input.clone()?, piece, fails);
+    let fails = vec![in alloc; write_fails]?;
+    let Ok(mut sink) = MemSink::new(alloc, room, piece, fails) else {
+        return Err(io::ErrorKind::OutOfMemory.into());
+    };
+    let status = futmax(alloc, case.words.clone()?, &mut source, &mut sink);
+    Ok((status, sink.bytes().to_vec(alloc)?))
+}
