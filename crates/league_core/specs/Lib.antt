@@ -42,5 +42,7 @@ pub mod WorkedRows
 pub mod CriteriaRows
 pub mod SeasonRows
 pub mod ZoneRows
+pub mod ReasonRows
+pub mod ProposalRows
 pub mod SureRows
 pub mod TreeRows

@@ -84,8 +84,7 @@ points_decide : places (pair (1 ∷ 1 ∷ [])) (played (ended 2 0 ∷ []) (4 ∷
 points_decide = refl
 
 -- three matches of A and B: 1:0, 1:0 and 0:5; three points are taken off A. Both have 3, and
--- deductions
--- do not count in the head-to-head, so A's six match points there put it ahead
+-- deductions do not count in the head-to-head, so A's six match points there put it ahead
 deduction_stays_out : places (sheet_of (2 ∷ 1 ∷ []) (vs 0 1 ∷ vs 0 1 ∷ vs 0 1 ∷ []))
     (played (ended 1 0 ∷ ended 1 0 ∷ ended 0 5 ∷ []) (3 ∷ 0 ∷ [])) (1 ∷ 0 ∷ []) ≡ 1 ∷ 2 ∷ []
 deduction_stays_out = refl
@@ -114,7 +113,7 @@ ring_places = refl
 abbrev pub four : Sheet
 four = sheet_of (1 ∷ 2 ∷ 3 ∷ 4 ∷ []) (vs 0 1 ∷ vs 1 2 ∷ vs 2 0 ∷ vs 0 3 ∷ vs 1 3 ∷ vs 2 3 ∷ [])
 
-abbrev four_season : Results
+abbrev pub four_season : Results
 four_season =
     played (ended 1 0 ∷ ended 2 1 ∷ ended 2 1 ∷ ended 1 0 ∷ ended 5 0 ∷ ended 1 0 ∷ [])
     (0 ∷ 0 ∷ 0 ∷ 0 ∷ [])
@@ -137,8 +136,7 @@ overall_difference_first : places (overall_first four) four_season (3 ∷ 2 ∷ 
 overall_difference_first = refl
 
 -- A beat B, C beat A, B beat D, each 1:0: three clubs have 3 points, C has the greatest difference,
--- and
--- A and B are level over all matches, so their own match counts
+-- and A and B are level over all matches, so their own match counts
 abbrev three_wins : Sheet
 three_wins = overall_first (sheet_of (2 ∷ 1 ∷ 3 ∷ 4 ∷ []) (vs 0 1 ∷ vs 2 0 ∷ vs 1 3 ∷ []))
 
@@ -166,8 +164,7 @@ head_to_head_of_two : places (overall_first three_level) three_level_season (1 �
 head_to_head_of_two = refl
 
 -- ---- five clubs, four of them with four points: the head-to-head leaves A, B and D level, then A
--- and
--- B, whose own match B won 2:1; overall sums, ranks and lots are for A
+-- and B, whose own match B won 2:1; overall sums, ranks and lots are for A
 
 abbrev thrice : Sheet
 thrice = sheet_of (1 ∷ 2 ∷ 3 ∷ 4 ∷ 5 ∷ [])

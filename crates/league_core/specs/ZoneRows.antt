@@ -1,4 +1,4 @@
--- Zones worked by hand: options, sums, reasons and proposed finishes, computed when the crate is
+-- Zones worked by hand: options, sums, reasons and splits, computed when the crate is
 -- checked. Clubs are named by letters in the comments, and count from 0 below, as fixtures do.
 use Rattle.std.specs.Prelude.{◌≡◌, ℕ, pos, true, false, List, [], ◌∷◌, Option, Some, None, map}
 use Rattle.std.specs.Prelude.{refl}
@@ -18,11 +18,10 @@ use Rattle.league_core.specs.declared.zone.Reason.TheVariants.{Count, Window, Lo
 use Rattle.league_core.specs.Results.{Results}
 use Rattle.league_core.specs.ClubSets.{clubs_below}
 use Rattle.league_core.specs.Questions.{full_question}
-use Rattle.league_core.specs.Options.{score_of, scores_up_to, options_of, has_finish}
+use Rattle.league_core.specs.Options.{score_of, options_of, has_finish}
 use Rattle.league_core.specs.PointRanges.{least_points_of, most_points_of, own_most}
 use Rattle.league_core.specs.SureOrder.{sure_order}
 use Rattle.league_core.specs.Reasons.{has_reason}
-use Rattle.league_core.specs.Proposals.{first_option, proposed_finish}
 use Rattle.league_core.specs.Splits.{is_proper}
 
 -- a sheet with this goal limit, of so many clubs, the first with rank 1, and of these fixtures
@@ -62,14 +61,14 @@ clubs bits = record { bits = bits }
 
 -- ---- X and Y have 3 points and still play each other, C has none and one match left
 
-abbrev nine : Sheet
+abbrev pub nine : Sheet
 nine = league 2 4 (vs 1 3 ∷ vs 2 3 ∷ vs 0 3 ∷ vs 1 2 ∷ [])
 
-abbrev nine_season : Results
+abbrev pub nine_season : Results
 nine_season = played 4 (ended 1 0 ∷ ended 1 0 ∷ None ∷ None ∷ [])
 
 -- neither X nor Y is before C
-abbrev nine_zone : List Literal
+abbrev pub nine_zone : List Literal
 nine_zone = no (Rival 1) ∷ no (Rival 2) ∷ []
 
 abbrev pub nine_question : Question
@@ -123,8 +122,7 @@ unfolding has_reason has_finish
 nine_two_places = refl
 
 -- the window bounds what C can have: with one point at most X alone, 3, is too many; with seven at
--- least
--- X, who comes to 6 at most, is too few, and with six it is not
+-- least X, who comes to 6 at most, is too few, and with six it is not
 nine_windows_cut : has_reason nine nine_season (record nine_question { high = pos 1 })
     (no (Rival 1) ∷ []) (Low (clubs 2)) ∷ has_reason nine nine_season nine_question
     (no (Rival 1) ∷ []) (Low (clubs 2)) ∷ has_reason nine nine_season
@@ -193,56 +191,3 @@ no_finish_no_window = refl
 eleven_sure : sure_order eleven eleven_season (yes (Home 1) ∷ []) 1 0 ≡ Below
 unfolding sure_order
 eleven_sure = refl
-
--- ---- sixteen clubs and goal limit 20: the first beat the second twice, and the last round is open
-
-abbrev thirteen : Sheet
-thirteen = league 20 16
-    (vs 0 1 ∷ vs 0 1 ∷ vs 0 1 ∷ vs 2 3 ∷ vs 4 5 ∷ vs 6 7 ∷ vs 8 9 ∷ vs 10 11 ∷ vs 12 13 ∷ vs 14
-    15 ∷ [])
-
-abbrev thirteen_season : Results
-thirteen_season = played 16
-    (ended 1 0 ∷ ended 1 0 ∷ None ∷ None ∷ None ∷ None ∷ None ∷ None ∷ None ∷ None ∷ [])
-
-abbrev thirteen_question : Question
-thirteen_question = full_question 0 1 Outside
-
--- a rival before the first club would need 6 points, and none can come to more than 3
-thirteen_high : has_reason thirteen thirteen_season thirteen_question (yes (Rival 1) ∷ [])
-    (High (clubs 2)) ∷ has_reason thirteen thirteen_season thirteen_question (yes (Rival 15) ∷ [])
-    (High (clubs 32768)) ∷ [] ≡ true ∷ true ∷ []
-unfolding has_reason has_finish least_points_of most_points_of clubs_below
-thirteen_high = refl
-
--- where the first club won but one of its two matches it has 3 points, and a rival can come to that
-thirteen_equality : has_reason thirteen
-    (played 16 (ended 1 0 ∷ ended 0 1 ∷ None ∷ None ∷ None ∷ None ∷ None ∷ None ∷ None ∷ None ∷
-    [])) thirteen_question (yes (Rival 15) ∷ []) (High (clubs 32768)) ≡ false
-unfolding has_reason has_finish least_points_of most_points_of clubs_below
-thirteen_equality = refl
-
--- with all fifteen rivals behind it the first club is first
-thirteen_count : map
-    (λ rivals. has_reason thirteen thirteen_season thirteen_question
-    (map (λ rival. no (Rival rival)) (range_with_len 1 rivals)) Count) (14 ∷ 15 ∷ [])
-    ≡ false ∷ true ∷ []
-unfolding has_reason has_finish
-thirteen_count = refl
-
--- ---- the option that is taken first, of all scores with up to two goals a side
-
--- between two clubs that are wished no points a draw costs two and a win three; between two that
--- are wished points a win brings three, and the least one at home is taken; one that is wished
--- points and one that is not give the widest margin
-first_taken : first_option false false (scores_up_to 2) ∷ first_option true true
-    (scores_up_to 2) ∷ first_option true false (scores_up_to 2) ∷ first_option false true
-    (scores_up_to 2) ∷ [] ≡ Some (score_of 0 0) ∷ Some (score_of 1 0) ∷ Some (score_of 2 0) ∷ Some
-    (score_of 0 2) ∷ []
-first_taken = refl
-
--- C is wished points against Z, and X against Y neither: 2:0, and a draw
-nine_proposed : (proposed_finish nine nine_season nine_question nine_zone).scores
-    ≡ ended 1 0 ∷ ended 1 0 ∷ ended 2 0 ∷ ended 0 0 ∷ []
-unfolding proposed_finish
-nine_proposed = refl
