@@ -1,6 +1,5 @@
 -- One verdict always holds: the list of all finishes is gone through once for each side of the
--- line,
--- with the lots that favour that side.
+-- line, with the lots that favour that side.
 use Rattle.std.proofs.Common.{◌≡◌, ◌⊎◌, ℕ, ◌<◌, Bool, true, false, List, [], ◌∷◌, length, Option}
 use Rattle.std.proofs.Common.{All, Contains, refl, sym, ◌∙◌, subst, inl, inr, arith}
 use Rattle.std.proofs.lemmas.Bool.{false≢true, and_parts}

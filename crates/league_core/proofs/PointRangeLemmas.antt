@@ -1,6 +1,5 @@
 -- Ranges of sums: their ends are bounds that options reach, the points of a set of clubs come from
--- the
--- two sides of each match, and what is taken off a set is taken off its clubs.
+-- the two sides of each match, and what is taken off a set is taken off its clubs.
 use Rattle.std.proofs.Common.{◌≡◌, ℕ, zero, suc, ◌+◌, ◌<◌, ◌≤◌, ◌≢◌, ◌⊎◌, ℤ, pos, ◌+ℤ◌, ◌≤ℤ◌, Bool}
 use Rattle.std.proofs.Common.{true, false, ◌&&◌, eqb, ltb, cond, List, [], ◌∷◌, ◌++◌, length}
 use Rattle.std.proofs.Common.{get_or, drop, refl, sym, ap, ◌∙◌, inl, inr, arith, add-one}

@@ -126,8 +126,7 @@ level_overall-tied sheet season group club other tied =
     (alike_right (by_first_sums_total sheet season) club other third tied)) group
 
 -- what decides in a group by an order of the criteria: the key in the group, or the two sums first
--- and
--- then the key among the clubs that share them
+-- and then the key among the clubs that share them
 abbrev pub key_by : Order → Sheet → Results → List ℕ → ℕ → List ℤ
 key_by HeadFirst sheet season group club = key_within (length group) sheet season group club
 key_by OverallFirst sheet season group club =

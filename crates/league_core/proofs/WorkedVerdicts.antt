@@ -1,6 +1,5 @@
 -- The verdicts of two clubs whose one match is played: what the law of two places makes of places
--- that
--- are computed. A verdict turned round fails here.
+-- that are computed. A verdict turned round fails here.
 use Rattle.std.proofs.Common.{[], ◌∷◌, refl, lit<, lit≤}
 use Rattle.league_core.specs.declared.sheet.Sheet.{Sheet}
 use Rattle.league_core.specs.Results.{Results}

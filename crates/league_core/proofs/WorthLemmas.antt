@@ -1,6 +1,5 @@
 -- What a win, a draw and a defeat are worth to a side, and to both sides of a match together; and
--- how
--- far from zero a match's worth is.
+-- how far from zero a match's worth is.
 use Rattle.std.proofs.Common.{◌≡◌, ◌<◌, ◌≤◌, ◌+◌, ℕ, ℤ, pos, ◌+ℤ◌, Bool, true, false, ◌==◌, cond}
 use Rattle.std.proofs.Common.{refl, sym, ap, ◌∙◌, arith}
 use Rattle.std.proofs.lemmas.Int.{ints}

@@ -1,9 +1,8 @@
 -- Which of two clubs on one number of points is ahead, by the tie-break criteria. The head-to-head
 -- record is taken again over the clubs that it leaves level, as long as these are fewer than
--- before:
--- when it is taken again, and over whom, is this project's own choice. After it come the sums over
--- all matches, then the sheet's fixed rank, which is this project's own step. A sheet may put the
--- difference and the goals over all matches before the head-to-head; that order too is this
+-- before: when it is taken again, and over whom, is this project's own choice. After it come the
+-- sums over all matches, then the sheet's fixed rank, which is this project's own step. A sheet may
+-- put the difference and the goals over all matches before the head-to-head; that order too is this
 -- project's own.
 use Rattle.std.specs.Prelude.{◌≡◌, ℕ, zero, suc, ℤ, pos, neg_ℤ, Bool, true, false, ◌==◌}
 use Rattle.std.specs.Prelude.{slice_index, List, [], ◌∷◌, length, filter, map}
@@ -76,10 +75,8 @@ abbrev pub level_overall : Sheet → Results → List ℕ → ℕ → List ℕ
 level_overall sheet season group club = filter (are_level_overall sheet season club) group
 
 -- how two clubs of a group stand by an order of the criteria: with the head-to-head first, as the
--- one
--- leads the other; with the two sums over all matches first, by these, then as the one leads the
--- other
--- among the clubs of the group that share them
+-- one leads the other; with the two sums over all matches first, by these, then as the one leads
+-- the other among the clubs of the group that share them
 abbrev pub standing_by : Order → Sheet → Results → List ℕ → ℕ → ℕ → Ordering
 standing_by HeadFirst sheet season group club other = lead_in sheet season group club other
 standing_by OverallFirst sheet season group club other =
@@ -87,8 +84,7 @@ standing_by OverallFirst sheet season group club other =
     (lead_in sheet season (level_overall sheet season group club) club other)
 
 -- of two clubs of a group, by the criteria in the sheet's order: Less where the one is ahead,
--- Greater
--- where the other is, Equal where neither
+-- Greater where the other is, Equal where neither
 abbrev pub standing_in : Sheet → Results → List ℕ → ℕ → ℕ → Ordering
 standing_in sheet season group club other = standing_by sheet.order sheet season group club other
 

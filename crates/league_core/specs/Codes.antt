@@ -7,8 +7,7 @@ use Rattle.league_core.specs.Limits.{most_clubs, most_fixtures, most_deduction}
 use Rattle.league_core.specs.Results.{is_score}
 
 -- its fixture is one of 600, and each side has at most 99 goals; its club is one of 24, and at most
--- 99
--- points are taken off
+-- 99 points are taken off
 abbrev pub has_code : Event → Bool
 has_code (Set fixture score) = nat_lt fixture most_fixtures && is_score score
 has_code (Clear fixture) = nat_lt fixture most_fixtures

@@ -1,6 +1,6 @@
 -- What holds of finishes and of the list of them all, and that each club of a season is clinched,
--- lost or
--- possible: each statement is the contract of a function of src/finish_laws.rt that does nothing.
+-- lost or possible: each statement is the contract of a function of src/finish_laws.rt that does
+-- nothing.
 use Rattle.std.specs.Prelude.{◌≡◌, ◌⊎◌, ◌<◌, ◌↔◌, ℕ, IsTrue, List, length, Contains, slice_get}
 use Rattle.std.specs.Prelude.{Option, Some}
 use Rattle.league_core.specs.declared.sheet.Sheet.{Sheet}

@@ -1,7 +1,6 @@
 -- The head-to-head record of a club in a group of clubs, after the UEFA group criteria of 2021/22:
 -- match points, then goal difference, then goals, from the matches among the clubs of the group
--- alone.
--- Deductions do not count here.
+-- alone. Deductions do not count here.
 use Rattle.std.specs.Prelude.{ℕ, ℤ, List, [], ◌∷◌, filter, Bool}
 use Rattle.std.specs.declared.cmp.Ordering.{Ordering}
 use Rattle.std.specs.Ordering.{int_cmp, is_eq}

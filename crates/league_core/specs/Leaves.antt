@@ -32,13 +32,6 @@ is_open_leaf (Split test fresh) = false
 is_open_leaf (Lent number) = false
 is_open_leaf (Refuted reason fresh) = false
 
--- the node is a leaf that is lent under some number
-abbrev pub is_lent_leaf : TreeNode → Bool
-is_lent_leaf (Lent number) = true
-is_lent_leaf Open = false
-is_lent_leaf (Split test fresh) = false
-is_lent_leaf (Refuted reason fresh) = false
-
 -- the node is a leaf that is lent under this number
 abbrev pub is_lent_under : ℕ → TreeNode → Bool
 is_lent_under number (Lent other) = other == number

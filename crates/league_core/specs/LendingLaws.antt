@@ -1,8 +1,7 @@
 -- What holds of lent leaves by the definitions alone, and of a tree that is put in their place:
--- each
--- statement is the contract of a function of src/lending_laws.rt that does nothing. The lending of
--- an open leaf is the same read backwards: the tree before is the tree after, with an open leaf put
--- in place of the number.
+-- each statement is the contract of a function of src/lending_laws.rt that does nothing. The
+-- lending of an open leaf is the same read backwards: the tree before is the tree after, with an
+-- open leaf put in place of the number.
 use Rattle.std.specs.Prelude.{◌≡◌, ◌≢◌, ◌↔◌, ◌≤◌, ◌+◌, ◌*◌, ℕ, Bool, false, ◌&&◌, ◌||◌, nat_lt}
 use Rattle.std.specs.Prelude.{IsTrue, List, [], length, All}
 use Rattle.league_core.specs.declared.zone.Literal.{Literal}
@@ -106,7 +105,8 @@ PutOpensLeaves =
     → has_open (put number new tree)
     ≡ (has_open tree || (nat_lt 0 (times_lent number tree) && has_open new))
 
--- a fact of all nodes stays, where those of the new tree have it in each zone that it comes into
+-- a fact of all nodes that a `Bool` tells stays, where those of the new tree have it in each zone
+-- that it comes into
 abbrev pub PutKeepsFacts : Type 0
 PutKeepsFacts =
     (fact : List Literal → TreeNode → Bool) (number : ℕ) (new tree : Tree) (zone : List Literal)
@@ -115,7 +115,8 @@ PutKeepsFacts =
     (lent_zones number zone tree)
     → NodesMeet (λ z node. IsTrue (fact z node)) zone (put number new tree)
 
--- a fact that open leaves share with lent ones stays where leaves are lent
+-- a fact that a `Bool` tells, and that open leaves share with lent ones, stays where leaves are
+-- lent
 abbrev pub LendingKeepsFacts : Type 0
 LendingKeepsFacts =
     (fact : List Literal → TreeNode → Bool) (number : ℕ) (tree : Tree) (zone : List Literal)
@@ -123,14 +124,15 @@ LendingKeepsFacts =
     → NodesMeet (λ z node. IsTrue (fact z node)) zone (put number open_leaf tree)
     → NodesMeet (λ z node. IsTrue (fact z node)) zone tree
 
--- a fact of all nodes is one of each leaf that is lent under a number
+-- a fact of all nodes that a `Bool` tells is one of each leaf that is lent under a number
 abbrev pub FactsAreOfLentLeaves : Type 0
 FactsAreOfLentLeaves =
     (fact : List Literal → TreeNode → Bool) (number : ℕ) (tree : Tree) (zone : List Literal)
     → NodesMeet (λ z node. IsTrue (fact z node)) zone tree
     → All (λ z. IsTrue (fact z (Lent number))) (lent_zones number zone tree)
 
--- a fact that lent leaves share with open ones stays where all leaves are opened
+-- a fact that a `Bool` tells, and that lent leaves share with open ones, stays where all leaves
+-- are opened
 abbrev pub OpeningKeepsFacts : Type 0
 OpeningKeepsFacts =
     (fact : List Literal → TreeNode → Bool) (tree : Tree) (zone : List Literal)

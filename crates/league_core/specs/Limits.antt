@@ -46,7 +46,7 @@ most_goals = MOST_GOALS
 abbrev pub most_deduction : ℕ
 most_deduction = MOST_DEDUCTION
 
--- the least points of a club: none but the greatest deduction
+-- the least points of a club: no match points, less the greatest deduction
 abbrev pub least_points : ℤ
 least_points = neg_ℤ (pos MOST_DEDUCTION)
 

@@ -87,8 +87,7 @@ points_range sheet season options clubs =
     (one_value (pos 0 -ℤ deducted_from season clubs))
 
 -- the least points that the clubs of a set can have together in a zone that has a finish; marks do
--- not
--- count here, and a fixture without an option counts nothing
+-- not count here, and a fixture without an option counts nothing
 unfoldable pub least_points_of : Sheet → Results → List Literal → List ℕ → ℤ
 least_points_of sheet season zone clubs =
     (points_range sheet season (options_in sheet season zone) clubs).least

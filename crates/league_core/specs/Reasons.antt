@@ -44,16 +44,16 @@ has_member (club ∷ clubs) = true
 abbrev pub times : List ℕ → ℤ → ℤ
 times clubs points = pos (length clubs) *ℤ points
 
--- a floor cut: these rivals, all marked after the club, have more points than if each had the
--- club's most
+-- a floor cut: these rivals, all marked after the club, have at the least more points than if each
+-- had the club's most within its window
 abbrev pub refutes_by_floor : Sheet → Results → Question → List Literal → List ℕ → Bool
 refutes_by_floor sheet season question zone clubs =
     has_member clubs && list_all (marked_after zone) clubs
     && int_lt (times clubs (own_most sheet season question zone))
     (least_points_of sheet season zone clubs)
 
--- a ceiling cut: these rivals, all marked before the club, have fewer points than if each had the
--- club's least
+-- a ceiling cut: these rivals, all marked before the club, have at the most fewer points than if
+-- each had the club's least within its window
 abbrev pub refutes_by_ceiling : Sheet → Results → Question → List Literal → List ℕ → Bool
 refutes_by_ceiling sheet season question zone clubs =
     has_member clubs && list_all (marked_before zone) clubs

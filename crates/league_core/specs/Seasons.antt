@@ -1,6 +1,5 @@
 -- The season of a list of events: results, corrections, annulments and deductions, taken in the
--- order
--- in which they are reported.
+-- order in which they are reported.
 use Rattle.std.specs.Prelude.{◌≡◌, ◌<◌, ◌≤◌, ℕ, IsTrue, List, length, replicate, slice_set, fold}
 use Rattle.std.specs.Prelude.{All, Some, None}
 use Rattle.league_core.specs.declared.sheet.Sheet.{Sheet}
@@ -27,8 +26,7 @@ event_applied season (Deduct club points) =
     record season { deductions = slice_set season.deductions club points }
 
 -- what a season may be told: of a fixture that it has, a score that may be or none; of a club that
--- it
--- has, a deduction that may be
+-- it has, a deduction that may be
 abbrev pub IsEventOf : Results → Event → Type 0
 IsEventOf season (Set fixture score) = (fixture < length season.scores) × IsTrue (is_score score)
 IsEventOf season (Clear fixture) = fixture < length season.scores

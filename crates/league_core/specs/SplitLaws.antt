@@ -1,6 +1,5 @@
 -- Which halves of a zone have a finish, and that all zones of a tree of proper splits have one:
--- each
--- statement is the contract of a function of src/tree_laws.rt that does nothing.
+-- each statement is the contract of a function of src/tree_laws.rt that does nothing.
 use Rattle.std.specs.Prelude.{◌≡◌, ℕ, Bool, true, false, ◌||◌, IsTrue, List, []}
 use Rattle.league_core.specs.declared.sheet.Sheet.{Sheet}
 use Rattle.league_core.specs.declared.question.Question.{Question}

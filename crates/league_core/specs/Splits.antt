@@ -1,6 +1,5 @@
 -- Which splits a tree may have: proper ones, the order in which they are due, and those that are
--- one
--- unit of work; and what has to hold at the leaves that are refuted.
+-- one unit of work; and what has to hold at the leaves that are refuted.
 use Rattle.std.specs.Prelude.{◌≡◌, ℕ, Bool, true, false, not, ◌&&◌, ◌==◌, nat_lt, IsTrue, List}
 use Rattle.std.specs.Prelude.{length}
 use Rattle.std.specs.List.{list_all}
@@ -59,8 +58,7 @@ abbrev pub are_outcomes_fixed : Sheet → Results → List Literal → Bool
 are_outcomes_fixed sheet season zone = list_all has_one_outcome (options_in sheet season zone)
 
 -- said of a proper split, the order in which a zone is split: by rivals first, by outcomes where
--- all
--- rivals are marked, by goals where all outcomes are fixed too
+-- all rivals are marked, by goals where all outcomes are fixed too
 abbrev pub is_due : Sheet → Results → Question → List Literal → Test → Bool
 is_due sheet season question zone (Home fixture) =
     are_all_marked sheet question zone && not (are_outcomes_fixed sheet season zone)

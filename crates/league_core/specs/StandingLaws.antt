@@ -49,8 +49,9 @@ TimesAreEnough =
     → lead_within times sheet season group club other
     ≡ lead_within more sheet season group club other
 
--- the rule as it is said: the head-to-head record; where that is one, the sums over all matches if
--- the clubs with that record are the whole group, else the lead among those clubs
+-- the rule as it is said: the head-to-head record; where that is one, the sums over all matches and
+-- then the fixed rank if the clubs with that record are the whole group, else the lead among those
+-- clubs
 abbrev pub lead_by_the_rule : Sheet → Results → List ℕ → ℕ → ℕ → Ordering
 lead_by_the_rule sheet season group club other =
     let level = level_with sheet season group club in
@@ -60,8 +61,8 @@ lead_by_the_rule sheet season group club other =
     (if length level == length group then overall else again)
 
 -- either order as it is said: the lead in the group; or the greater difference over all matches,
--- then
--- the more goals, then the lead among the clubs of the group with that difference and those goals
+-- then the more goals, then the lead among the clubs of the group with that difference and those
+-- goals
 abbrev pub standing_by_the_rule : Order → Sheet → Results → List ℕ → ℕ → ℕ → Ordering
 standing_by_the_rule HeadFirst sheet season group club other =
     lead_by_the_rule sheet season group club other

@@ -78,8 +78,7 @@ sum_among group worth sheet season club =
     sum_over (worth_among group worth club) sheet.fixtures season.scores
 
 -- a club's points: those of all its matches, less what is taken off; 0 is taken off a number that
--- is
--- no club's
+-- is no club's
 abbrev pub points_of : Sheet → Results → ℕ → ℤ
 points_of sheet season club =
     sum_of match_points sheet season club -ℤ pos (slice_index season.deductions club)

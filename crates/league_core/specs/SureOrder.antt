@@ -109,7 +109,7 @@ by_record_ranges sheet options group rival club =
     sure_by_ranges (record_ranges sheet options group rival)
     (record_ranges sheet options group club)
 
--- a rival's sums over all matches against the club's
+-- a rival's sums over all matches, and then its fixed rank, against the club's
 abbrev pub by_overall_ranges : Sheet → List (List Score) → ℕ → ℕ → Sure
 by_overall_ranges sheet options rival club =
     sure_by_ranges (overall_ranges sheet options rival) (overall_ranges sheet options club)
@@ -120,8 +120,7 @@ is_surely_in sheet options group club other =
     is_level (by_record_ranges sheet options group other club)
 
 -- a club of the group surely has another record there: a part misses the club's own value. It is
--- used
--- only where each part of the club's record has one value
+-- used only where each part of the club's record has one value
 abbrev pub is_surely_out : Sheet → List (List Score) → List ℕ → ℕ → ℕ → Bool
 is_surely_out sheet options group club other =
     is_apart (record_ranges sheet options group other) (record_ranges sheet options group club)
@@ -134,9 +133,9 @@ are_all_sure sheet options group club =
 
 -- the rival against the club within a group, with the head-to-head taken at most so many times:
 -- where their records are level and it is sure who shares them, it is taken again over those clubs,
--- and where these are the whole group the sums over all matches decide. As many times as the group
--- has
--- clubs are enough for a club of the group, so that Level is said only where all sums are level
+-- and where these are the whole group the sums over all matches decide, and then the fixed rank. As
+-- many times as the group has clubs are enough for a club of the group, so that Level is said only
+-- where all sums and the ranks are level
 abbrev pub sure_within : ℕ → Sheet → List (List Score) → List ℕ → ℕ → ℕ → Sure
 sure_within zero sheet options group rival club = Level
 sure_within (suc times) sheet options group rival club =
@@ -173,8 +172,7 @@ is_surely_level_overall sheet options club other =
     is_level (by_first_sum_ranges sheet options other club)
 
 -- a club surely has another difference or other goals: one of the two misses the club's own value.
--- It
--- is used only where the club's difference and goals have one value each
+-- It is used only where the club's difference and goals have one value each
 abbrev pub is_surely_apart_overall : Sheet → List (List Score) → ℕ → ℕ → Bool
 is_surely_apart_overall sheet options club other =
     is_apart (first_sum_ranges sheet options other) (first_sum_ranges sheet options club)
@@ -191,9 +189,8 @@ surely_level_overall sheet options group club =
     filter (is_surely_level_overall sheet options club) group
 
 -- the rival against the club within a group by an order of the criteria: with the head-to-head
--- first;
--- or by difference and goals over all matches, and where these are level and it is sure who shares
--- them, with the head-to-head among those clubs
+-- first; or by difference and goals over all matches, and where these are level and it is sure who
+-- shares them, with the head-to-head among those clubs
 abbrev pub sure_by : Order → Sheet → List (List Score) → List ℕ → ℕ → ℕ → Sure
 sure_by HeadFirst sheet options group rival club = sure_in sheet options group rival club
 sure_by OverallFirst sheet options group rival club =
@@ -215,8 +212,7 @@ level_on_points sheet season options club =
     filter (λ other. is_level (sure_by_points sheet season options other club)) (clubs_of sheet)
 
 -- what is sure of the rival against the club: by points, then within the group of all clubs on them
--- by
--- the sheet's order of the criteria
+-- by the sheet's order of the criteria
 unfoldable pub sure_order : Sheet → Results → List Literal → ℕ → ℕ → Sure
 sure_order sheet season zone rival club =
     let options = options_in sheet season zone in

@@ -39,7 +39,7 @@ RefutedTreesHaveRefutedLeaves =
     → is_refuted tree
     ≡ list_all (λ (leaf : Leaf). is_refuted_leaf leaf.node) (leaves_from zone tree)
 
--- a fact of each node is one of each leaf
+-- a fact of each node that a `Bool` tells is one of each leaf
 abbrev pub FactsOfNodesAreOfLeaves : Type 0
 FactsOfNodesAreOfLeaves =
     (fact : List Literal → TreeNode → Bool) (tree : Tree) (zone : List Literal)

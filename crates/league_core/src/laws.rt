@@ -2,8 +2,8 @@
 //! contract.
 //!
 //! The statements are in `specs/Laws.antt` and `specs/StandingLaws.antt`. They hold by the
-//! definitions alone, for every sheet
-//! and every season, so that code and proofs elsewhere may rest on them.
+//! definitions alone, for every sheet and every season, so that code and proofs elsewhere may rest
+//! on them.
 
 ghost use Rattle.league_core.specs.Laws.{FavouredLotsAreBest, FavouredLotsAnswer};
 ghost use Rattle.league_core.specs.Laws.{LotsForAClaimAreLots, LotsForAClaimFavourIt};
@@ -82,9 +82,9 @@ pub fn times_are_enough()
 {}
 
 /// The standing in a group, in the words of the rule: the head-to-head record; among the clubs
-/// that it leaves level the same again, if these are fewer; and the sums over all matches if they
-/// are not. Where the sheet puts the overall sums first: difference and goals over all matches, and
-/// then this rule among the clubs that share both.
+/// that it leaves level the same again, if these are fewer; and the sums over all matches, then the
+/// fixed rank, if they are not. Where the sheet puts the overall sums first: difference and goals
+/// over all matches, and then this rule among the clubs that share both.
 pub fn standing_is_the_recursion()
     ensures { StandingIsByTheRule }
 {}

@@ -9,7 +9,7 @@ ghost use Rattle.league_core.specs.LogLaws.{EventsAreCounted, EventsAreOfTheShee
 ghost use Rattle.league_core.specs.LogLaws.{LogsAreOfTheSheet, LogsGiveResults, LogsHaveCodes};
 
 /// The season behind an event is again a season of the sheet, with scores and deductions of at
-/// most 99.
+/// most 99, and all seasons of a sheet may be told the same events.
 pub fn events_keep_seasons()
     ensures sheet { EventsKeepTheSheet }
     ensures results { EventsKeepResults }
@@ -17,7 +17,7 @@ pub fn events_keep_seasons()
 {}
 
 /// The season of a log is a season of its sheet, with scores and deductions of at most 99, and the
-/// log may grow by an event that this season may be told.
+/// log may grow by an event that this season may be told. Each event is one epoch more.
 pub fn logs_give_seasons()
     ensures sheet { LogsAreOfTheSheet }
     ensures results { LogsGiveResults }

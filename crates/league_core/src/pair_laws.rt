@@ -4,7 +4,8 @@
 
 ghost use Rattle.league_core.specs.PairSums.{GroupSumsAreOfPairs};
 
-/// Points, goal difference and goals in a group add up over the pairs that a club makes in it.
+/// Whatever matches are worth, be it points, goal difference or goals: a club's sum in a group adds
+/// up over the pairs that it makes there.
 pub fn group_sums_are_of_pairs()
     ensures { GroupSumsAreOfPairs }
 {}

@@ -35,8 +35,7 @@ pub enum Event {
 /// What has been played. No score has more than 99 goals a side, no deduction more than 99 points.
 ///
 /// Beside the scores it keeps a code of two bytes for each: two seasons are compared by their
-/// codes,
-/// which is one comparison of memory.
+/// codes, which is one comparison of memory.
 #[derive(Drop)]
 pub struct Season {
     scores: Vec<Option<Score>>,

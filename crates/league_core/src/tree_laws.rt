@@ -14,7 +14,8 @@ ghost use Rattle.league_core.specs.SplitLaws.{RivalTestsLeaveFinishes, ProperHal
 ghost use Rattle.league_core.specs.SplitLaws.{ProperTreesHaveFinishes};
 
 /// The list of its leaves, each with its zone and its kind, tells a tree's zones, which of them are
-/// lent under a number, whether a leaf is open and whether all are refuted.
+/// lent under a number, whether a leaf is open and whether all are refuted. A fact of all nodes that
+/// a `bool` tells is one of all leaves.
 pub fn leaves_tell_the_tree()
     ensures zones { ZonesAreOfLeaves }
     ensures lent { LentZonesAreOfLeaves }
@@ -38,8 +39,7 @@ pub fn trees_are_their_lists()
 {}
 
 /// A season has a finish, and no split loses the finishes of a zone; a proper one leaves some in
-/// each
-/// half, so that each zone of a tree of proper splits has one.
+/// each half, so that each zone of a tree of proper splits has one.
 pub fn splits_leave_finishes()
     ensures root { SeasonsHaveAFinish }
     ensures score { ScoreTestsLeaveAFinish }

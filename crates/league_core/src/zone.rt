@@ -37,8 +37,7 @@ pub struct Zone {
 #[derive(Clone, Copy, Debug, PartialEq, Eq)]
 pub enum Reason {
     /// So many rivals are marked before the club that none of the first places is left for it, or
-    /// so
-    /// many behind it that it is inside.
+    /// so many behind it that it is inside.
     Count,
     /// The club's points miss the question's window.
     Window,

@@ -1,3 +1,4 @@
+-- Read in this order: it is the order in which the notions rest on each other.
 pub mod Laws
 pub mod SureLaws
 pub mod Splits

@@ -102,7 +102,8 @@ WeightsBoundTrees =
     → NodesMeet (IsProperNode sheet season question) zone tree
     → length (preorder tree) < 2 * weight_of sheet season question zone
 
--- a whole tree has fewer nodes than the season has finishes, doubled for each club
+-- a whole tree whose splits are proper has fewer nodes than the season has finishes, doubled for
+-- each club
 abbrev pub FinishesBoundTrees : Type 0
 FinishesBoundTrees =
     (sheet : Sheet) (season : Results) (question : Question) (tree : Tree)
@@ -111,7 +112,8 @@ FinishesBoundTrees =
     → length (preorder tree)
     < 2 ^ length sheet.clubs * ways_to_finish sheet.goal_limit season.scores
 
--- so a tree whose new nodes use up a budget shows that the budget is smaller than that
+-- so a tree whose splits are proper and whose new nodes use up a budget shows that the budget is
+-- smaller than that
 abbrev pub SpentTreesHaveSmallBudgets : Type 0
 SpentTreesHaveSmallBudgets =
     (sheet : Sheet) (season : Results) (question : Question) (budget : ℕ) (tree : Tree)

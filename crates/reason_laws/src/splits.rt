@@ -50,7 +50,8 @@ pub fn proper_splits_divide_weights()
     ensures less { HalvesWeighLess }
 {}
 
-/// The weight of its root's zone bounds the nodes of a tree.
+/// The weight of its root's zone bounds the nodes of a tree whose splits are proper, and the number
+/// of finishes those of a whole one, so that a budget which its new nodes use up is smaller still.
 pub fn weights_bound_trees()
     ensures root { TheRootHasAllFinishes }
     ensures zone { WeightsBoundTrees }
