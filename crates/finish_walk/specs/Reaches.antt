@@ -53,17 +53,19 @@ reach_at span finish =
 abbrev pub first_reaches_of : Sheet → Results → List Reach
 first_reaches_of sheet finish = map (λ span. reach_at span finish) (spans_of sheet finish)
 
--- the reach with one finish more, by the places that this finish leaves the club
+-- the reach with one finish more, where this finish leaves the club a better place than its best
 abbrev pub with_better : Reach → ℕ → Results → Reach
 with_better reach place finish =
     if nat_lt place reach.best
     then record reach { best = place; best_finish = finish } else reach
 
+-- the same by the greater of two places, for the worst
 abbrev pub with_worse : Reach → ℕ → Results → Reach
 with_worse reach place finish =
     if nat_lt reach.worst place
     then record reach { worst = place; worst_finish = finish } else reach
 
+-- the reach with one finish more, whose places are a club's best and its worst
 abbrev pub with_finish : Reach → Span → Results → Reach
 with_finish reach span finish = with_worse (with_better reach span.best finish) span.worst finish
 
