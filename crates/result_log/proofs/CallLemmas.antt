@@ -5,12 +5,16 @@ use Rattle.port_core.specs.declared.answers.ReadStop.{ReadStop}
 use Rattle.port_core.specs.declared.answers.ReadStop.TheVariants.{ReadFault, LineTooLong}
 use Rattle.port_core.specs.declared.answers.ReadStop.TheVariants.{InputTooLong}
 use Rattle.port_core.specs.Contents.{Contents, ended, with_line, with_lines}
-use Rattle.port_core.specs.Readers.{Reader}
+use Rattle.port_core.specs.Readers.{Reader, PassesTo, given_by}
+use Rattle.port_core.proofs.PassingLemmas.{passes-none, passes-more}
+use Rattle.std.proofs.lemmas.List.Elements.{All-nil, All-push}
+use Rattle.std.specs.Prelude.{Bool}
 use Rattle.result_log.specs.declared.entry.Entry.{Entry}
 use Rattle.result_log.specs.declared.entry.Entry.TheVariants.{Change, Ask, Proofs, End}
 use Rattle.result_log.specs.declared.fault.FeedStop.{FeedStop}
 use Rattle.result_log.specs.declared.fault.FeedStop.TheVariants.{Fault, Read, OutOfMemory}
 use Rattle.result_log.specs.Feeds.{reading_from, reading_of}
+use Rattle.result_log.specs.Calls.{ComesOf, ComesThere, PassesBlank, PassesToEntry, answer_behind}
 use Rattle.result_log.specs.Calls.{AnswersLine, LineEntry, MovesToEntry, Passes, PassesLine}
 use Rattle.result_log.specs.Calls.{ReadsAs, ReadsEntry, ReadsRecord}
 
@@ -162,6 +166,54 @@ pub Stop-reads : (entry : LineEntry) (stop : ReadStop) (before after : Option Co
     → ReadsAs entry before after (Err (Read stop))
 Stop-reads entry stop before after is same =
     ending-reads entry (Err stop) before after (Err (Read stop)) is same refl
+
+-- ---- the contents passed
+
+-- what the content of a line is, said of the answer
+pub comes-of : (entry : LineEntry) (number : ℕ) (text : List ℕ)
+    (result : Option (Result Entry FeedStop)) → AnswersLine number (entry text) result
+    → (entry text ≡ Ok (Some End) → ⊥) → ComesThere entry text result
+comes-of entry number text None answer no_end = answer
+comes-of entry number text (Some (Ok (Change event))) answer no_end = answer
+comes-of entry number text (Some (Ok Ask)) answer no_end = answer
+comes-of entry number text (Some (Ok Proofs)) answer no_end = answer
+comes-of entry number text (Some (Ok End)) answer no_end = tt
+comes-of entry number text (Some (Err (Fault refused fault))) answer no_end = answer.1
+comes-of entry number text (Some (Err (Read stop))) answer no_end = tt
+comes-of entry number text (Some (Err OutOfMemory)) answer no_end = tt
+
+-- no line was passed yet
+pub blank-none : (entry : LineEntry) (old : Reader) (left : Option (List ℕ)) (ended : Bool)
+    → PassesBlank entry old old left left ended ended
+blank-none entry old left ended =
+    ([], All-nil (λ line. entry line.1 ≡ Ok None), passes-none _ _ _ _ _ refl (λ unsaid. unsaid))
+
+-- one more, which holds no record
+pub blank-more : (entry : LineEntry) (first mid last : Reader)
+    (left left' left'' : Option (List ℕ)) (x y z : Bool)
+    → PassesBlank entry first mid left left' x y
+    → PassesTo mid last left' left'' y z ((last.position.lines, last.text) ∷ [])
+    → entry last.text ≡ Ok None → PassesBlank entry first last left left'' x z
+blank-more entry first mid last left left' left'' x y z front behind none = (
+  front.0 ++ (last.position.lines, last.text) ∷ [],
+  All-push (λ line. entry line.1 ≡ Ok None) front.0 (last.position.lines, last.text) front.1 none,
+  passes-more _ _ _ _ _ _ _ _ _ front.0 ((last.position.lines, last.text) ∷ []) front.2 behind,
+)
+
+-- the answer behind them
+pub entry-behind : (entry : LineEntry) (first mid last : Reader)
+    (left left' left'' : Option (List ℕ)) (x y z : Bool) (result : Result Entry FeedStop)
+    → PassesBlank entry first mid left left' x y
+    → PassesTo mid last left' left'' y z (given_by (answer_behind last result) last.text)
+    → ComesOf entry last.text result
+    → PassesToEntry entry first last left left'' x z result
+entry-behind entry first mid last left left' left'' x y z result front behind comes = record {
+  blank = front.0;
+  none = front.1;
+  passes = passes-more _ _ _ _ _ _ _ _ _ front.0 (given_by (answer_behind last result) last.text)
+      front.2 behind;
+  comes = comes;
+}
 
 -- ---- progress, and faults
 

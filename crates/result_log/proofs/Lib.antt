@@ -1,6 +1,7 @@
 -- Lemmas on one notion each: records, feeds, what a call reads; and feeds worked by hand.
 pub mod RecordLemmas
 pub mod FeedLemmas
+pub mod RoundLemmas
 pub mod CallLemmas
 pub mod WorkedFeeds
 pub mod PassedLemmas

@@ -22,7 +22,7 @@ given-end (Ok other) is = cc
 given-end (Err fault) is = cc
 
 -- no content of a line is the end of the input
-content_is_no_end : (sheet : Sheet) (season : Results) (events : ℕ) (proofs : Bool)
+pub content_is_no_end : (sheet : Sheet) (season : Results) (events : ℕ) (proofs : Bool)
     (content : List ℕ) → entry_in sheet season events proofs content ≡ Ok (Some End) → ⊥
 content_is_no_end sheet season events proofs content told =
     by_record (has_return content) (record_of content) told

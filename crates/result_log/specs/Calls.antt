@@ -1,5 +1,6 @@
 -- What the calls answer.
-use Rattle.std.specs.Prelude.{◌≡◌, ◌<◌, ◌≤◌, ℕ, List, Option, None, Some, option_map, Result, Ok}
+use Rattle.std.specs.Prelude.{◌≡◌, ◌<◌, ◌≤◌, ℕ, Bool, List, ◌++◌, All, Option, None, Some}
+use Rattle.std.specs.Prelude.{option_map, Result, Ok}
 use Rattle.std.specs.Prelude.{Err}
 use Rattle.port_core.specs.declared.answers.Line.{Line}
 use Rattle.port_core.specs.declared.answers.Line.TheVariants as line
@@ -7,7 +8,7 @@ use Rattle.port_core.specs.declared.answers.ReadStop.{ReadStop}
 use Rattle.port_core.specs.declared.answers.ReadStop.TheVariants.{ReadFault, LineTooLong}
 use Rattle.port_core.specs.declared.answers.ReadStop.TheVariants.{InputTooLong}
 use Rattle.port_core.specs.Contents.{Contents, with_line, with_lines, input_limit, number_at}
-use Rattle.port_core.specs.Readers.{Reader}
+use Rattle.port_core.specs.Readers.{Reader, PassesTo, given_by}
 use Rattle.port_core.specs.Ports.{Rose}
 use Rattle.fixture_sheet.specs.Calls.{TakesLines}
 use Rattle.result_log.specs.declared.entry.Entry.{Entry}
@@ -101,6 +102,40 @@ answer_behind new (Err OutOfMemory) = Ok (line.Text new.position.lines)
 abbrev pub answer_there : Reader → Option (Result Entry FeedStop) → Result Line ReadStop
 answer_there new None = Ok (line.Text new.position.lines)
 answer_there new (Some result) = answer_behind new result
+
+-- ---- the contents passed, up to the answer
+
+-- what the line passed last is, by the answer: it holds the entry, or is refused; the end and a
+-- stop come of no line
+abbrev pub ComesOf : LineEntry → List ℕ → Result Entry FeedStop → Type 0
+ComesOf entry text (Ok (Change event)) = entry text ≡ Ok (Some (Change event))
+ComesOf entry text (Ok Ask) = entry text ≡ Ok (Some Ask)
+ComesOf entry text (Ok Proofs) = entry text ≡ Ok (Some Proofs)
+ComesOf entry text (Ok End) = Unit {0}
+ComesOf entry text (Err (Fault number fault)) = entry text ≡ Err fault
+ComesOf entry text (Err (Read stop)) = Unit {0}
+ComesOf entry text (Err OutOfMemory) = Unit {0}
+
+-- the same of one line: without an answer it holds no record
+abbrev pub ComesThere : LineEntry → List ℕ → Option (Result Entry FeedStop) → Type 0
+ComesThere entry text None = entry text ≡ Ok None
+ComesThere entry text (Some result) = ComesOf entry text result
+
+-- lines were passed that give these contents, and none of them holds a record
+abbrev pub PassesBlank : LineEntry → Reader → Reader → Option (List ℕ) → Option (List ℕ)
+    → Bool → Bool → Type 0
+PassesBlank entry old new left left' ended ended' =
+    (blank : List (ℕ × List ℕ)) × All (λ line. entry line.1 ≡ Ok None) blank
+    × PassesTo old new left left' ended ended' blank
+
+-- the contents passed: all but the last hold no record, and the last is what the answer says
+pub record PassesToEntry (entry : LineEntry) (old new : Reader) (left left' : Option (List ℕ))
+    (ended ended' : Bool) (result : Result Entry FeedStop) : Type 0 where
+  pub blank : List (ℕ × List ℕ)
+  pub none : All (λ line. entry line.1 ≡ Ok None) blank
+  pub passes : PassesTo old new left left' ended ended'
+      (blank ++ given_by (answer_behind new result) new.text)
+  pub comes : ComesOf entry new.text result
 
 -- ---- progress, and faults
 

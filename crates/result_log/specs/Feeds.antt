@@ -141,3 +141,46 @@ feed_of sheet proofs contents events =
 abbrev pub events_behind : List Event → List Entry → List Event
 events_behind events [] = events
 events_behind events (entry ∷ entries) = events_behind (events_with events entry) entries
+
+-- ---- one round
+
+-- a round of a feed: its events in their order, what ended it (an ask, the record `proofs`, the end
+-- of the input, or why it stops), and the contents behind it
+pub record Round : Type 0 where
+  pub events : List Event
+  pub close : Result Entry FeedStop
+  pub rest : Contents
+
+-- one more event in front
+abbrev pub with_event : Event → Round → Round
+with_event event round = record round { events = event ∷ round.events }
+
+-- no event, but what ends the round
+abbrev pub round_closed : Result Entry FeedStop → Contents → Round
+round_closed close rest = record { events = []; close = close; rest = rest }
+
+-- what a line is in a round with these events before it; `onward` is the round of the lines behind
+-- it, by the events before them
+abbrev pub round_by :
+    ℕ → Contents → (List Event → Round) → List Event → Result (Option Entry) FeedFault → Round
+round_by number rest onward events (Ok None) = onward events
+round_by number rest onward events (Ok (Some (Change event))) =
+    with_event event (onward (events ++ event ∷ []))
+round_by number rest onward events (Ok (Some Ask)) = round_closed (Ok Ask) rest
+round_by number rest onward events (Ok (Some Proofs)) = round_closed (Ok Proofs) rest
+round_by number rest onward events (Ok (Some End)) = round_closed (Ok End) rest
+round_by number rest onward events (Err fault) = round_closed (Err (Fault number fault)) rest
+
+-- the round of these lines and this ending, behind these events
+abbrev pub round_from :
+    Sheet → Bool → List (ℕ × List ℕ) → Result ℕ ReadStop → List Event → Round
+round_from sheet proofs [] ending events = round_closed (given_at_end ending) (ended ending)
+round_from sheet proofs (line ∷ lines) ending events =
+    round_by line.0 (record { lines = lines; ending = ending })
+    (round_from sheet proofs lines ending) events
+    (entry_in sheet (season_after sheet events) (epoch_of events) proofs line.1)
+
+-- the first round of contents, behind these events: up to the first ask, the end, or a stop
+abbrev pub round_of : Sheet → Bool → Contents → List Event → Round
+round_of sheet proofs contents events =
+    round_from sheet proofs contents.lines contents.ending events

@@ -12,7 +12,7 @@ use Rattle.result_log.specs.declared.fault.FeedStop.{FeedStop}
 use Rattle.league_core.specs.Limits.{most_events}
 use Rattle.result_log.specs.Records.{IsEntryAt, entry_of}
 use Rattle.result_log.specs.Feeds.{Feed, closed, count_with, entry_in, events_behind, events_with}
-use Rattle.result_log.specs.Feeds.{feed_of, reading_of, season_with, with_entry}
+use Rattle.result_log.specs.Feeds.{feed_of, round_of, reading_of, season_with, with_entry}
 
 -- ---- one entry
 
@@ -78,3 +78,26 @@ FeedsKeepTheLog =
     (sheet : Sheet) (proofs : Bool) (contents : Contents) (events : List Event)
     → AreEventsOf sheet events → epoch_of events ≤ most_events
     → KeepsLog sheet events (feed_of sheet proofs contents events)
+
+-- ---- rounds
+
+-- these events in front of a feed
+abbrev pub with_events : List Event → Feed → Feed
+with_events [] feed = feed
+with_events (event ∷ events) feed = with_entry (Change event) (with_events events feed)
+
+-- a feed is its first round and what is behind it: where an ask ended the round, the feed of the
+-- contents behind it, behind the round's events too
+abbrev pub FeedsAreReadByRounds : Type 0
+FeedsAreReadByRounds =
+    (sheet : Sheet) (proofs : Bool) (contents : Contents) (events : List Event)
+    → let round = round_of sheet proofs contents events in
+    feed_of sheet proofs contents events
+    ≡ with_events round.events
+    (feed_behind sheet proofs (events ++ round.events) round.rest round.close)
+
+-- no event ends a round
+abbrev pub RoundsEndOtherwise : Type 0
+RoundsEndOtherwise =
+    (sheet : Sheet) (proofs : Bool) (contents : Contents) (events : List Event) (event : Event)
+    → (round_of sheet proofs contents events).close ≢ Ok (Change event)

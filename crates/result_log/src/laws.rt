@@ -4,6 +4,7 @@
 //! league_core.
 
 ghost use Rattle.result_log.specs.Laws.{EntriesMayCome, FeedsAreReadByEntries, FeedsKeepTheLog};
+ghost use Rattle.result_log.specs.Laws.{FeedsAreReadByRounds, RoundsEndOtherwise};
 ghost use Rattle.result_log.specs.Laws.{NoRecordIsTheEnd, ReadingsMayCome, SeasonsGrowByEntries};
 
 /// An event that a record tells is one that its season may be told.
@@ -19,4 +20,11 @@ pub fn a_feed_is_read_entry_by_entry()
     ensures entries { FeedsAreReadByEntries }
     ensures seasons { SeasonsGrowByEntries }
     ensures log { FeedsKeepTheLog }
+{}
+
+/// A feed is its first round, the events up to an ask, the end or a stop, and then the feed behind
+/// it.
+pub fn a_feed_is_read_round_by_round()
+    ensures rounds { FeedsAreReadByRounds }
+    ensures close { RoundsEndOtherwise }
 {}

@@ -4,7 +4,7 @@ ghost use Rattle.std.specs.Prelude.{◌≡◌, ◌≤◌, IfOk, IfSome, length};
 ghost use Rattle.league_core.specs.Seasons.{IsSeasonOf};
 ghost use Rattle.port_core.specs.Readers.{LeavesReader, PassesTo, TakesInput, contents_to_come};
 ghost use Rattle.port_core.specs.Readers.{given_by};
-ghost use Rattle.fixture_sheet.specs.Calls.{PassesUpTo};
+ghost use Rattle.result_log.specs.Calls.{ComesThere, PassesToEntry};
 ghost use Rattle.result_log.specs.Calls.{AnswersLine, CountsEntry, CountsRecord, MovesToEntry};
 ghost use Rattle.result_log.specs.Calls.{MovesToRecord, ReadsEntry, ReadsRecord, answer_behind};
 ghost use Rattle.result_log.specs.Calls.{answer_there};
@@ -41,10 +41,11 @@ pub fn next_entry<S: Source>(
         (contents_to_come reader.new (S.left source.new)) result }
     ensures told { IfOk result (λ entry. IsEntryAt season.now events proofs entry) }
 
-    // Which lines of the input were passed, whole, and where the reader is left. At the end nothing
-    // is left of the source; at a read fault no whole line is in hand.
-    ensures passes { PassesUpTo reader.old reader.new (S.left source.old) (S.left source.new)
-        (S.ended source.old) (S.ended source.new) (answer_behind reader.new result) }
+    // Which lines of the input were passed, all but the last without a record, and where the reader
+    // is left. At the end nothing is left of the source; at a read fault no whole line is in hand.
+    ensures passes { PassesToEntry (entry_in sheet.now season.now events proofs)
+        reader.old reader.new (S.left source.old) (S.left source.new)
+        (S.ended source.old) (S.ended source.new) result }
     ensures leaves { LeavesReader reader.new (S.left source.new)
         (answer_behind reader.new result) }
     ensures takes { TakesInput reader.old reader.new (S.left source.old) (S.left source.new) }
@@ -79,6 +80,8 @@ fn take_line<S: Source>(
     ensures passes { PassesTo reader.old reader.new (S.left source.old) (S.left source.new)
         (S.ended source.old) (S.ended source.new)
         (given_by (answer_there reader.new result) reader.new.text) }
+    ensures comes { ComesThere (entry_in sheet.now season.now events proofs) reader.new.text
+        result }
     ensures leaves { LeavesReader reader.new (S.left source.new)
         (answer_there reader.new result) }
     ensures takes { TakesInput reader.old reader.new (S.left source.old) (S.left source.new) }

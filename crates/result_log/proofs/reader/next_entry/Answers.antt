@@ -2,10 +2,9 @@
 use Rattle.std.proofs.Common.{arith, refl, ◌∙◌}
 use Rattle.port_core.specs.Readers.{contents_to_come}
 use Rattle.port_core.proofs.TakingLemmas.{TakesInput-more, TakesInput-none}
-use Rattle.fixture_sheet.proofs.PassedLemmas.{PassesLines-more, PassesLines-none, PassesUpTo-behind}
-use Rattle.result_log.specs.Calls.{answer_behind}
 use Rattle.result_log.specs.Feeds.{entry_in}
-use Rattle.result_log.proofs.CallLemmas.{MovesToEntry-from, Passes-more, Passes-none}
+use Rattle.result_log.proofs.CallLemmas.{blank-none, blank-more, entry-behind, MovesToEntry-from}
+use Rattle.result_log.proofs.CallLemmas.{Passes-more, Passes-none}
 use Rattle.result_log.proofs.CallLemmas.{ReadsEntry-behind}
 use Rattle.result_log.proofs.reader.next_entry.Goals as goal
 
@@ -13,7 +12,9 @@ pub records-init : goal.records-init
 records-init g c = record {
   reads = Passes-none (entry_in c.args.sheet.now c.args.season.now c.args.events c.args.proofs)
       (contents_to_come c.args.reader.now (g.S.Source.left c.args.source.now));
-  passes = PassesLines-none c.args.reader.now (g.S.Source.left c.args.source.now) _;
+  passes = blank-none
+      (entry_in c.args.sheet.now c.args.season.now c.args.events c.args.proofs)
+      c.args.reader.now _ _;
   takes = TakesInput-none c.args.reader.now (g.S.Source.left c.args.source.now);
   passed = omega arith;
   counts = refl;
@@ -26,8 +27,11 @@ records-preserved g c = record {
       (contents_to_come c.records.reader (g.S.Source.left c.records.source))
       (contents_to_come c.take_line.new.reader (g.S.Source.left c.take_line.new.source))
       c.records.invariant.reads c.in_default.ensures.reads;
-  passes = PassesLines-more c.args.reader.now c.records.reader c.take_line.new.reader _ _ _ _ _ _ _
-      c.records.invariant.passes c.in_default.ensures.passes;
+  passes = blank-more
+      (entry_in c.args.sheet.now c.args.season.now c.args.events c.args.proofs)
+      c.args.reader.now c.records.reader c.take_line.new.reader _ _ _ _ _ _
+      c.records.invariant.passes
+      c.in_default.ensures.passes c.in_default.ensures.comes;
   takes = TakesInput-more c.args.reader.now c.records.reader c.take_line.new.reader _ _ _
       c.records.invariant.takes c.take_line.ensures.takes;
   passed = omega (arith, c.records.invariant.passed, c.in_default.ensures.moves);
@@ -44,9 +48,11 @@ returns-in-Some-clause-reads g c =
 
 pub returns-in-Some-clause-passes : goal.returns-in-Some-clause-passes
 returns-in-Some-clause-passes g c =
-    PassesUpTo-behind c.args.reader.now c.records.reader c.take_line.new.reader _ _ _ _ _ _
-    (answer_behind c.take_line.new.reader c.in-Some.result)
-    c.records.invariant.passes c.in-Some.ensures.passes
+    entry-behind
+    (entry_in c.args.sheet.now c.args.season.now c.args.events c.args.proofs)
+    c.args.reader.now c.records.reader c.take_line.new.reader _ _ _ _ _ _ c.in-Some.result
+    c.records.invariant.passes
+    c.in-Some.ensures.passes c.in-Some.ensures.comes
 
 pub returns-in-Some-clause-takes : goal.returns-in-Some-clause-takes
 returns-in-Some-clause-takes g c =

@@ -1,8 +1,7 @@
 use Rattle.std.proofs.Common.{◌≡◌, ◌-◌, ◌≤◌}
 use Rattle.port_core.specs.Contents.{input_limit}
 use Rattle.port_core.specs.Readers.{TakesInput, contents_to_come}
-use Rattle.fixture_sheet.specs.Calls.{PassesLines}
-use Rattle.result_log.specs.Calls.{Passes}
+use Rattle.result_log.specs.Calls.{Passes, PassesBlank}
 use Rattle.result_log.specs.Feeds.{entry_in}
 use Rattle.result_log.proofs.reader.next_entry.Given as goal
 
@@ -12,8 +11,9 @@ invariant-records g l = record {
   reads : Passes (entry_in l.sheet l.season l.events l.proofs)
       (contents_to_come l.fn.reader (g.S.Source.left l.fn.source))
       (contents_to_come l.reader (g.S.Source.left l.source));
-  passes : PassesLines l.fn.reader l.reader (g.S.Source.left l.fn.source)
-      (g.S.Source.left l.source) (g.S.Source.ended l.fn.source) (g.S.Source.ended l.source);
+  passes : PassesBlank (entry_in l.sheet l.season l.events l.proofs) l.fn.reader l.reader
+      (g.S.Source.left l.fn.source) (g.S.Source.left l.source) (g.S.Source.ended l.fn.source)
+      (g.S.Source.ended l.source);
   takes : TakesInput l.fn.reader l.reader (g.S.Source.left l.fn.source) (g.S.Source.left l.source);
   passed : l.fn.reader.position.bytes ≤ l.reader.position.bytes;
   counts : g.S.Source.faults l.source ≡ g.S.Source.faults l.fn.source;

@@ -5,8 +5,8 @@ use Rattle.port_core.specs.Readers.{contents_to_come}
 use Rattle.fixture_sheet.proofs.PassedLemmas.{leaves-as, passes-as}
 use Rattle.result_log.specs.Calls.{AnswersLine, answer_there}
 use Rattle.result_log.specs.Feeds.{entry_in}
-use Rattle.result_log.proofs.CallLemmas.{Text-reads}
-use Rattle.result_log.proofs.PassedLemmas.{line-behind}
+use Rattle.result_log.proofs.CallLemmas.{Text-reads, comes-of}
+use Rattle.result_log.proofs.PassedLemmas.{content_is_no_end, line-behind}
 use Rattle.result_log.proofs.reader.take_line.Goals as goal
 
 pub returns-in-Ok-Text-clause-reads : goal.returns-in-Ok-Text-clause-reads
@@ -50,3 +50,14 @@ pub returns-in-Ok-End-clause-leaves : goal.returns-in-Ok-End-clause-leaves
 returns-in-Ok-End-clause-leaves g c =
     let leaves = rw c.in-Ok-End.field-0-is at c.in-Ok-End.ensures.leaves in
     (refl, leaves.1, leaves.2)
+
+pub returns-in-Ok-Text-clause-comes : goal.returns-in-Ok-Text-clause-comes
+returns-in-Ok-Text-clause-comes g c =
+    comes-of (entry_in c.args.sheet.now c.args.season.now c.args.events c.args.proofs)
+    c.in-Ok-Text.number c.next.new.self.text c.entry_in.result
+    (subst (λ (content : List ℕ). AnswersLine c.in-Ok-Text.number
+    (entry_in c.args.sheet.now c.args.season.now c.args.events c.args.proofs content)
+    c.entry_in.result)
+    c.text.ensures c.entry_in.ensures.answer)
+    (content_is_no_end c.args.sheet.now c.args.season.now c.args.events c.args.proofs
+    c.next.new.self.text)
