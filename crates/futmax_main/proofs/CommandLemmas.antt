@@ -1,16 +1,20 @@
 -- The words of the command: what clap makes of them, and numbers of up to 20 digits.
-use Rattle.std.proofs.Common.{◌≡◌, ◌⊎◌, ℕ, ◌^◌, ◌<◌, Bool, true, false, ◌&&◌, nat_le, List, [], ◌∷◌, length, Option, Some, None, option_and_then, Result, Ok, Err, refl, ap, sym, ◌∙◌, subst, arith, rules, inl, inr}
+use Rattle.std.proofs.Common.{◌≡◌, ◌⊎◌, ℕ, ◌^◌, ◌<◌, Bool, true, false, ◌&&◌, nat_le, List, [], ◌∷◌}
+use Rattle.std.proofs.Common.{length, Option, Some, None, option_and_then, Result, Ok, Err, refl}
+use Rattle.std.proofs.Common.{ap, sym, ◌∙◌, subst, arith, rules, inl, inr}
 use Rattle.std.specs.List.{list_all}
 use Rattle.std.specs.Char.{is_ascii_digit}
 use Rattle.std.specs.Str.Parse.{digits_value, ParsesUnsigned}
 use Rattle.std.proofs.lemmas.Str.Parse.{numerals_by_value, parse_gives, IsNumeralModel}
 use Rattle.std.proofs.lemmas.Bool.{and_parts, leb-true}
-use Rattle.clap.specs.Words.{App, Kinds, Row, Text, IsAmong, HasKind, kind_of, fault_of, is_simple, is_simple_and_free, matches_of}
+use Rattle.clap.specs.Words.{App, Kinds, Row, Text, IsAmong, HasKind, kind_of, fault_of, is_simple}
+use Rattle.clap.specs.Words.{is_simple_and_free, matches_of}
 use Rattle.clap.specs.declared.error.Error.{Error}
 use Rattle.clap.specs.declared.error.kind.ErrorKind.TheVariants as kind
 use Rattle.clap.proofs.OnLiterals.{clap_on_literals}
 use Rattle.futmax_main.specs.declared.session.Mode.{Mode}
-use Rattle.futmax_main.specs.Commands.{command, unless_fault, rows_taken, is_numeral, is_number_within, mode_in, mode_of}
+use Rattle.futmax_main.specs.Commands.{command, unless_fault, rows_taken, is_numeral}
+use Rattle.futmax_main.specs.Commands.{is_number_within, mode_in, mode_of}
 
 -- ---- clap
 
@@ -81,7 +85,8 @@ and-false false = refl
 -- a value past the range is not within it
 value-past : (value most : ℕ) (test : Bool) → (value < 2 ^ 64 → ⊥) → most < 2 ^ 64
     → nat_le value most ≡ test → test ≡ false
-value-past value most true past room is = absurd (past (omega (arith, leb-true value most is, room)))
+value-past value most true past room is = absurd
+    (past (omega (arith, leb-true value most is, room)))
 value-past value most false past room is = refl
 
 -- digits that are no number of 64 bits are within no range of such numbers
@@ -97,6 +102,7 @@ past-range {E} text e least most parses numeral room =
     let past : digits_value 10 text < 2 ^ 64 → ⊥ = λ few.
     let bad : ◌≡◌ {A = R} (Err e) (Ok (digits_value 10 text)) =
     parse_gives numerals 64 text (Err e) parses parts.1 (omega (arith, some)) few in cc in
-    let large = value-past (digits_value 10 text) most (nat_le (digits_value 10 text) most) past room refl in
+    let large = value-past (digits_value 10 text) most (nat_le (digits_value 10 text) most) past
+    room refl in
     and-false (is_numeral text && nat_le least (digits_value 10 text))
     ∙ ap (λ test. is_numeral text && nat_le least (digits_value 10 text) && test) (sym large)

@@ -1,5 +1,6 @@
 -- How a session ends: at a fault of its input, or while an answer is written.
-use Rattle.std.proofs.Common.{◌≡◌, ℕ, Bool, List, ◌++◌, Option, Some, Result, Ok, Err, refl, ap, ◌∙◌}
+use Rattle.std.proofs.Common.{◌≡◌, ℕ, Bool, List, ◌++◌, Option, Some, Result, Ok, Err, refl, ap}
+use Rattle.std.proofs.Common.{◌∙◌}
 use Rattle.std.proofs.Common.{subst}
 use Rattle.std.specs.Io.KnownBytes.{append_known}
 use Rattle.port_core.specs.declared.answers.ReadStop.{ReadStop}
@@ -64,7 +65,8 @@ whole : (mode : Mode) (input written : List ℕ) (fault : Fault) (status : Statu
 whole mode input written fault status stopped is = (stopped.status ∙ is, stopped.text)
 
 -- a fault of the input serves
-pub fault-serves : (mode : Mode) (input written : List ℕ) (left : Option (List ℕ)) (told' : Bool) (old now0 now1 : Option (List ℕ))
+pub fault-serves : (mode : Mode) (input written : List ℕ) (left : Option (List ℕ)) (told' : Bool)
+    (old now0 now1 : Option (List ℕ))
     (fault : Fault) (status : Status) → Stopped mode input written fault
     → now0 ≡ append_known old written → FaultEnds fault now0 now1 status
     → Serves (Some mode) (Some input) left told' old now1 status
@@ -116,15 +118,20 @@ pub ask-serves : (mode : Mode) (input : List ℕ) (taken : List (ℕ × List ℕ
     → Serves (Some mode) (Some input) left told' old now1 status
 ask-serves mode input taken number text rest written session asked left told' old now0 now1 Done way
     asks before ends = absurd ends
-ask-serves mode input taken number text rest written session asked left told' old now0 now1 BadWords way
+ask-serves mode input taken number text rest written session asked left told' old now0 now1
+    BadWords way
     asks before ends = absurd ends
-ask-serves mode input taken number text rest written session asked left told' old now0 now1 BadSheet way
+ask-serves mode input taken number text rest written session asked left told' old now0 now1
+    BadSheet way
     asks before ends = absurd ends
-ask-serves mode input taken number text rest written session asked left told' old now0 now1 BadFeed way
+ask-serves mode input taken number text rest written session asked left told' old now0 now1 BadFeed
+    way
     asks before ends = absurd ends
-ask-serves mode input taken number text rest written session asked left told' old now0 now1 ReadFault way
+ask-serves mode input taken number text rest written session asked left told' old now0 now1
+    ReadFault way
     asks before ends = absurd ends
-ask-serves mode input taken number text rest written session asked left told' old now0 now1 WriteFault way
+ask-serves mode input taken number text rest written session asked left told' old now0 now1
+    WriteFault way
     asks before ends =
     let front = ends.2 in (
       written ++ front.0,
@@ -132,16 +139,19 @@ ask-serves mode input taken number text rest written session asked left told' ol
       front_asks (first_session mode) (contents_of input) taken number text rest written front.0
           ends.0 session asked way asks ends.1 front.1,
     )
-ask-serves mode input taken number text rest written session asked left told' old now0 now1 OutOfMemory way
+ask-serves mode input taken number text rest written session asked left told' old now0 now1
+    OutOfMemory way
     asks before ends = (
       written,
       ends ∙ before,
       front_written (first_session mode) (contents_of input) taken
           (with_line number text rest) written session way,
     )
-ask-serves mode input taken number text rest written session asked left told' old now0 now1 NotProved way
+ask-serves mode input taken number text rest written session asked left told' old now0 now1
+    NotProved way
     asks before ends = absurd ends
-ask-serves mode input taken number text rest written session asked left told' old now0 now1 TooLong way
+ask-serves mode input taken number text rest written session asked left told' old now0 now1 TooLong
+    way
     asks before ends = absurd ends
 
 -- a line that is refused stops the session

@@ -1,5 +1,7 @@
 -- The rows of an example, fixture by fixture.
-use Rattle.std.proofs.Common.{◌≡◌, ℕ, zero, suc, ◌+◌, ◌<◌, ◌≤◌, Bool, true, not, ◌&&◌, ◌==◌, nat_lt, filter, List, [], ◌∷◌, ◌++◌, length, take, get_or, Option, None, refl, ap, sym, ◌∙◌, arith}
+use Rattle.std.proofs.Common.{◌≡◌, ℕ, zero, suc, ◌+◌, ◌<◌, ◌≤◌, Bool, true, not, ◌&&◌, ◌==◌, nat_lt}
+use Rattle.std.proofs.Common.{filter, List, [], ◌∷◌, ◌++◌, length, take, get_or, Option, None, refl}
+use Rattle.std.proofs.Common.{ap, sym, ◌∙◌, arith}
 use Rattle.std.specs.List.{list_all, range_with_len}
 use Rattle.std.proofs.lemmas.Bool.{and_parts, and_from, lt-ltb, cond_both, false≢true}
 use Rattle.std.proofs.lemmas.List.Folds.{list_all-append}
@@ -81,7 +83,8 @@ filter-within test (club ∷ clubs) all =
     let rest = filter-within test clubs parts.1 in
     cond_both (test club) (club ∷ filter test clubs) (filter test clubs)
     (λ cs. list_all is_club_number cs ≡ true)
-    (λ kept. and_from (is_club_number club) (list_all is_club_number (filter test clubs)) parts.0 rest)
+    (λ kept. and_from (is_club_number club)
+    (list_all is_club_number (filter test clubs)) parts.0 rest)
     (λ left. rest)
 
 -- the lots of so many clubs name clubs

@@ -1,5 +1,6 @@
 -- What a run keeps from line to line, and what it knows where it ends.
-use Rattle.std.proofs.Common.{◌≡◌, ℕ, List, [], ◌∷◌, ◌++◌, Result, refl, ap, sym, ◌∙◌, subst, inl, inr}
+use Rattle.std.proofs.Common.{◌≡◌, ℕ, List, [], ◌∷◌, ◌++◌, Result, refl, ap, sym, ◌∙◌, subst, inl}
+use Rattle.std.proofs.Common.{inr}
 use Rattle.std.proofs.lemmas.List.{append_assoc, append-nil}
 use Rattle.port_core.specs.declared.answers.ReadStop.{ReadStop}
 use Rattle.port_core.specs.Ports.{IsFront}
@@ -12,7 +13,8 @@ use Rattle.futmax_main.specs.declared.session.Step.TheVariants.{Goes, Asks, Stop
 use Rattle.futmax_main.specs.Session.{step_of, session_behind, status_of_cause}
 use Rattle.futmax_main.specs.Rows.{fault_row}
 use Rattle.futmax_main.specs.Answers.{IsAnswerTo}
-use Rattle.futmax_main.specs.Path.{row_at_end, status_by, status_of, text_by, IsTextOf, front_by, IsFrontFrom, IsFrontOf, answers_by, AreAnswersFrom, LeadsTo}
+use Rattle.futmax_main.specs.Path.{row_at_end, status_by, status_of, text_by, IsTextOf, front_by}
+use Rattle.futmax_main.specs.Path.{IsFrontFrom, IsFrontOf, answers_by, AreAnswersFrom, LeadsTo}
 
 -- before the first line
 pub leads_start : (first : Session) (all : Contents) → LeadsTo first all [] all [] first

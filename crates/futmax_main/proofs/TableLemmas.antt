@@ -1,5 +1,7 @@
 -- Tables: the clubs' order, and what a club's matches add up to.
-use Rattle.std.proofs.Common.{◌≡◌, ℕ, zero, suc, ◌+◌, ◌<◌, ◌≤◌, ℤ, pos, not, ◌==◌, eqb, cond, true, List, [], ◌∷◌, ◌++◌, length, take, filter, get_or, Option, None, refl, ap, sym, ◌∙◌, subst, arith, slice_index_or}
+use Rattle.std.proofs.Common.{◌≡◌, ℕ, zero, suc, ◌+◌, ◌<◌, ◌≤◌, ℤ, pos, not, ◌==◌, eqb, cond, true}
+use Rattle.std.proofs.Common.{List, [], ◌∷◌, ◌++◌, length, take, filter, get_or, Option, None, refl}
+use Rattle.std.proofs.Common.{ap, sym, ◌∙◌, subst, arith, slice_index_or}
 use Rattle.std.specs.List.{range_with_len}
 use Rattle.std.proofs.lemmas.List.FromFn.{length-map-range_with_len, get_or-map-range_with_len}
 use Rattle.std.proofs.lemmas.Bool.{or_left, or_right, eq-eqb, ne_eqb}
@@ -21,7 +23,8 @@ use Rattle.futmax_main.specs.declared.session.Played.{Played}
 use Rattle.futmax_main.specs.declared.table_row.TableRow.{TableRow}
 use Rattle.futmax_main.specs.Rows.{ask_row}
 use Rattle.futmax_main.specs.Parts.{IsMadeOf}
-use Rattle.futmax_main.specs.Tables.{count_if_played, count_played, IsTableRow, IsPlaceRow, IsTableText}
+use Rattle.futmax_main.specs.Tables.{count_if_played, count_played, IsTableRow, IsPlaceRow}
+use Rattle.futmax_main.specs.Tables.{IsTableText}
 use Rattle.futmax_main.specs.Items.{Adds}
 
 -- numbers behind 0 are not 0

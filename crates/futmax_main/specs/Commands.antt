@@ -1,11 +1,13 @@
--- The words of the command: the program's own name, a mode, and two options that may stand before the
--- mode or behind it. Which words such a command takes is clap's own rule for a simple command. Words
--- that ask for help are none of them.
-use Rattle.std.specs.Prelude.{ℕ, Bool, true, ◌&&◌, nat_le, List, [], ◌∷◌, length, Option, Some, None, if◌then◌else◌, option_and_then, bytes_eq, codes}
+-- The words of the command: the program's own name, a mode, and two options that may stand before
+-- the mode or behind it. Which words such a command takes is clap's own rule for a simple command.
+-- Words that ask for help are none of them.
+use Rattle.std.specs.Prelude.{ℕ, Bool, true, ◌&&◌, nat_le, List, [], ◌∷◌, length, Option, Some}
+use Rattle.std.specs.Prelude.{None, if◌then◌else◌, option_and_then, bytes_eq, codes}
 use Rattle.std.specs.List.{list_all}
 use Rattle.std.specs.Char.{is_ascii_digit}
 use Rattle.std.specs.Str.Parse.{digits_value}
-use Rattle.clap.specs.Words.{App, Kinds, Row, Rule, Text, fault_of, first_of, matches_of, new_app, new_rule, with_rule}
+use Rattle.clap.specs.Words.{App, Kinds, Row, Rule, Text, fault_of, first_of, matches_of, new_app}
+use Rattle.clap.specs.Words.{new_rule, with_rule}
 use Rattle.futmax_main.specs.declared.session.Mode.{Mode}
 use Rattle.futmax_main.specs.declared.session.Mode.TheVariants.{Verdicts, Table}
 
@@ -25,7 +27,8 @@ seed_rule = record (new_rule (codes "seed")) { long = Some (codes "seed") }
 
 -- the command
 unfoldable pub command : App
-command = with_rule (with_rule (with_rule (new_app (codes "futmax")) mode_rule) workers_rule) seed_rule
+command = with_rule
+    (with_rule (with_rule (new_app (codes "futmax")) mode_rule) workers_rule) seed_rule
 
 -- ---- what it takes
 

@@ -20,7 +20,8 @@ abbrev pub shown_with : Played → ℕ → Reach → Verdict → List ℕ
 shown_with played club reach Clinched = []
 shown_with played club reach Lost = []
 shown_with played club reach Possible =
-    example_of played club Inside reach.best_finish ++ example_of played club Outside reach.worst_finish
+    example_of played club Inside reach.best_finish ++ example_of played club Outside
+    reach.worst_finish
 
 -- one part more stands at the end of a text
 abbrev pub Adds : List ℕ → List ℕ → (List ℕ → Type 0) → Type 0

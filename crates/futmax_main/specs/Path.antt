@@ -1,6 +1,8 @@
 -- The status and the texts of a session, over the contents of its input, and what a run keeps from
--- line to line. Nothing here speaks of what a line means: that is `step_of`, `ending` and `IsAnswerTo`.
-use Rattle.std.specs.Prelude.{◌≡◌, ℕ, Bool, ◌⊎◌, List, [], ◌∷◌, ◌++◌, Option, Some, None, Result, Ok, Err}
+-- line to line. Nothing here speaks of what a line means: that is `step_of`, `ending` and
+-- `IsAnswerTo`.
+use Rattle.std.specs.Prelude.{◌≡◌, ℕ, Bool, ◌⊎◌, List, [], ◌∷◌, ◌++◌, Option, Some, None, Result}
+use Rattle.std.specs.Prelude.{Ok, Err}
 use Rattle.std.specs.Io.KnownBytes.{append_known}
 use Rattle.port_core.specs.declared.answers.ReadStop.{ReadStop}
 use Rattle.port_core.specs.declared.answers.ReadStop.TheVariants as stop
@@ -19,7 +21,8 @@ use Rattle.futmax_main.specs.declared.session.Step.{Step}
 use Rattle.futmax_main.specs.declared.session.Step.TheVariants.{Goes, Asks, Stops}
 use Rattle.futmax_main.specs.declared.session.Outcome.{Outcome}
 use Rattle.futmax_main.specs.declared.session.Outcome.TheVariants.{Complete, Refused}
-use Rattle.futmax_main.specs.Session.{first_session, step_of, session_behind, ending, status_of_cause}
+use Rattle.futmax_main.specs.Session.{first_session, step_of, session_behind, ending}
+use Rattle.futmax_main.specs.Session.{status_of_cause}
 use Rattle.futmax_main.specs.Rows.{fault_row, last_row}
 use Rattle.futmax_main.specs.Answers.{IsAnswerTo}
 

@@ -1,6 +1,7 @@
 -- The session: what each line of the input that counts means, and what the end of the input means.
 -- Before `season` a line is one of a sheet, behind it one of a feed.
-use Rattle.std.specs.Prelude.{ℕ, Bool, false, nat_lt, List, Option, Some, None, Result, Ok, Err, if◌then◌else◌, length}
+use Rattle.std.specs.Prelude.{ℕ, Bool, false, nat_lt, List, Option, Some, None, Result, Ok, Err}
+use Rattle.std.specs.Prelude.{if◌then◌else◌, length}
 use Rattle.league_core.specs.declared.sheet.Sheet.{Sheet}
 use Rattle.league_core.specs.Seasons.{unplayed_season}
 use Rattle.league_core.specs.FinishList.{ways_to_finish}
@@ -68,7 +69,8 @@ sheet_step mode number (Err fault) = stops_by number (cause.Sheet fault)
 
 -- the season has more finishes than are walked
 abbrev pub is_too_wide : Played → Bool
-is_too_wide played = nat_lt most_finishes (ways_to_finish played.sheet.goal_limit played.season.scores)
+is_too_wide played = nat_lt most_finishes
+    (ways_to_finish played.sheet.goal_limit played.season.scores)
 
 -- an ask is refused: verdicts are asked for, and the season has too many finishes
 abbrev pub is_refused : Mode → Played → Bool
@@ -93,8 +95,8 @@ played_with played told =
       epoch = count_with played.epoch told;
     }
 
--- what an entry does; the end of the input, and a record behind which proofs would follow, no line of
--- this feed is
+-- what an entry does; the end of the input, and a record behind which proofs would follow, no line
+-- of this feed is
 abbrev pub entry_step : Mode → ℕ → Played → Entry → Step
 entry_step mode number played (entry.Change event) =
     goes_to mode (InFeed (played_with played (entry.Change event)))

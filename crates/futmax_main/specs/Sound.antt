@@ -1,5 +1,5 @@
--- What a session keeps from line to line, so that its sheet and its season are ones that the ranking
--- may be asked of. That a sheet so far is within the limits, its own type keeps.
+-- What a session keeps from line to line, so that its sheet and its season are ones that the
+-- ranking may be asked of. That a sheet so far is within the limits, its own type keeps.
 use Rattle.std.specs.Prelude.{◌≤◌, IsTrue}
 use Rattle.league_core.specs.Limits.{most_events}
 use Rattle.league_core.specs.Seasons.{IsLeague}

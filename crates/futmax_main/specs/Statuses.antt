@@ -1,7 +1,9 @@
 -- The exit statuses of the program, from 0 to 8.
 use Rattle.std.specs.Prelude.{ℕ}
 use Rattle.futmax_main.specs.declared.status.Status.{Status}
-use Rattle.futmax_main.specs.declared.status.Status.TheVariants.{Done, BadWords, BadSheet, BadFeed, ReadFault, WriteFault, OutOfMemory, NotProved, TooLong}
+use Rattle.futmax_main.specs.declared.status.Status.TheVariants.{Done, BadWords, BadSheet, BadFeed}
+use Rattle.futmax_main.specs.declared.status.Status.TheVariants.{ReadFault, WriteFault, OutOfMemory}
+use Rattle.futmax_main.specs.declared.status.Status.TheVariants.{NotProved, TooLong}
 
 -- the number that the program ends with
 abbrev pub exit_code : Status → ℕ

@@ -1,6 +1,7 @@
--- What the mode `table` answers: the table of the matches played so far, with the lots in the order of
--- the sheet, and for each club the places that other lots may give it.
-use Rattle.std.specs.Prelude.{◌≡◌, ℕ, ◌+◌, Bool, ◌&&◌, ◌||◌, ◌==◌, List, [], ◌∷◌, ◌++◌, Option, is_some, if◌then◌else◌}
+-- What the mode `table` answers: the table of the matches played so far, with the lots in the order
+-- of the sheet, and for each club the places that other lots may give it.
+use Rattle.std.specs.Prelude.{◌≡◌, ℕ, ◌+◌, Bool, ◌&&◌, ◌||◌, ◌==◌, List, [], ◌∷◌, ◌++◌, Option}
+use Rattle.std.specs.Prelude.{is_some, if◌then◌else◌}
 use Rattle.league_core.specs.declared.sheet.Sheet.{Sheet}
 use Rattle.league_core.specs.declared.sheet.Fixture.{Fixture}
 use Rattle.league_core.specs.declared.season.Score.{Score}
@@ -29,8 +30,8 @@ count_played club (match ∷ matches) [] = 0
 count_played club (match ∷ matches) (score ∷ scores) =
     count_if_played club match score + count_played club matches scores
 
--- what a table says of a club: its least and its greatest place over all drawings of lots, its matches
--- that have a score, its points, and its goal difference and goals over all of them
+-- what a table says of a club: its least and its greatest place over all drawings of lots, its
+-- matches that have a score, its points, and its goal difference and goals over all of them
 pub record IsTableRow (sheet : Sheet) (season : Results) (club : ℕ) (row : TableRow) :
     Type 0 where
   pub best : IsBestPlace sheet season club row.best
@@ -49,6 +50,7 @@ IsPlaceRow sheet season club text =
 -- the row of the ask, then the clubs' rows in the order of the table
 abbrev pub IsTableText : Played → List ℕ → Type 0
 IsTableText played text =
-    (order : List ℕ) × (rows : List ℕ) × IsTable played.sheet played.season (clubs_of played.sheet) order
+    (order : List ℕ) × (rows : List ℕ)
+    × IsTable played.sheet played.season (clubs_of played.sheet) order
     × (text ≡ ask_row played.epoch ++ rows)
     × IsMadeOf (IsPlaceRow played.sheet played.season) order rows

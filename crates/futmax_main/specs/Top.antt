@@ -7,7 +7,9 @@ use Rattle.port_core.specs.Lines.{lines_of, AreEndedLines, HasNoLineFeed}
 use Rattle.port_core.specs.Ports.{IsFront, Rose}
 use Rattle.port_core.specs.Contents.{start, contents_from, contents_of}
 use Rattle.futmax_main.specs.declared.status.Status.{Status}
-use Rattle.futmax_main.specs.declared.status.Status.TheVariants.{Done, BadWords, BadSheet, BadFeed, ReadFault, WriteFault, OutOfMemory, NotProved, TooLong}
+use Rattle.futmax_main.specs.declared.status.Status.TheVariants.{Done, BadWords, BadSheet, BadFeed}
+use Rattle.futmax_main.specs.declared.status.Status.TheVariants.{ReadFault, WriteFault, OutOfMemory}
+use Rattle.futmax_main.specs.declared.status.Status.TheVariants.{NotProved, TooLong}
 use Rattle.futmax_main.specs.declared.session.Mode.{Mode}
 use Rattle.futmax_main.specs.Rows.{usage_row}
 use Rattle.futmax_main.specs.Session.{first_session}
@@ -59,8 +61,8 @@ Ends mode input left ended OutOfMemory text = IsTextFront mode input text
 Ends mode input left ended NotProved text = IsWholeText mode input NotProved text
 Ends mode input left ended TooLong text = IsWholeText mode input TooLong text
 
--- what was written where the words fit no mode: the usage row, a front of it where the sink failed, or
--- nothing where there was no memory for it
+-- what was written where the words fit no mode: the usage row, a front of it where the sink failed,
+-- or nothing where there was no memory for it
 abbrev pub EndsUnread : Status → List ℕ → Type 0
 EndsUnread BadWords text = text ≡ usage_row
 EndsUnread WriteFault text = IsFront text usage_row

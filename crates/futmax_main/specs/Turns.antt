@@ -5,7 +5,8 @@ use Rattle.std.specs.Io.KnownBytes.{append_known}
 use Rattle.port_core.specs.Ports.{AppendsFront, Rose}
 use Rattle.port_core.specs.Contents.{Position, input_limit}
 use Rattle.futmax_main.specs.declared.status.Status.{Status}
-use Rattle.futmax_main.specs.declared.status.Status.TheVariants.{Done, BadWords, ReadFault, WriteFault, OutOfMemory, NotProved}
+use Rattle.futmax_main.specs.declared.status.Status.TheVariants.{Done, BadWords, ReadFault}
+use Rattle.futmax_main.specs.declared.status.Status.TheVariants.{WriteFault, OutOfMemory, NotProved}
 use Rattle.futmax_main.specs.declared.session.Mode.{Mode}
 use Rattle.futmax_main.specs.declared.session.Session.{Session}
 use Rattle.futmax_main.specs.declared.session.Asked.{Asked}

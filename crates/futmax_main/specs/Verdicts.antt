@@ -1,6 +1,6 @@
 -- What the mode `verdicts` answers: for each line and each club the verdict of the season, from
--- scratch, and two examples where both sides are possible. It is said for every season, played to its
--- end or not.
+-- scratch, and two examples where both sides are possible. It is said for every season, played to
+-- its end or not.
 use Rattle.std.specs.Prelude.{◌≡◌, ℕ, List, [], ◌++◌}
 use Rattle.league_core.specs.declared.sheet.Sheet.{Sheet}
 use Rattle.league_core.specs.declared.question.Claim.TheVariants.{Inside, Outside}

@@ -4,7 +4,9 @@ ghost use Rattle.std.specs.Prelude.{◌≡◌, IfOk, map, option_map, string_byt
 ghost use Rattle.std.specs.List.{list_all};
 ghost use Rattle.std.specs.Char.{is_ascii_digit};
 ghost use Rattle.clap.specs.Words.{app_of, first_of, found_of, rows_of};
-ghost use Rattle.futmax_main.specs.Commands.{command, is_numeral, is_number_within, mode_in, mode_named, mode_of, option_fits, options_fit, rows_taken};
+ghost use Rattle.futmax_main.specs.Commands.{command, is_numeral, is_number_within, mode_in};
+ghost use Rattle.futmax_main.specs.Commands.{mode_named, mode_of, option_fits, options_fit};
+ghost use Rattle.futmax_main.specs.Commands.{rows_taken};
 
 use crate::session::Mode;
 use clap::error::ErrorKind;

@@ -1,11 +1,13 @@
 //! Rows of the output, each added whole to a text.
 
-ghost use Rattle.std.specs.Prelude.{◌≡◌, ◌<◌, ◌∷◌, [], ◌++◌, IfOk, OnOk, IsTrue, codes, decimal, length, map, string_bytes};
+ghost use Rattle.std.specs.Prelude.{◌≡◌, ◌<◌, ◌∷◌, [], ◌++◌, IfOk, OnOk, IsTrue, codes, decimal};
+ghost use Rattle.std.specs.Prelude.{length, map, string_bytes};
 ghost use Rattle.std.specs.Fmt.{signed_decimal};
 ghost use Rattle.league_core.specs.Results.{is_score};
 ghost use Rattle.cert_text.specs.Rows.{text_of_row};
 ghost use Rattle.cert_text.specs.Ranges.{is_in_range};
-ghost use Rattle.futmax_main.specs.Rows.{ask_row, verdict_row, place_row, fault_row, usage_row, line_row, verdict_text, cause_text};
+ghost use Rattle.futmax_main.specs.Rows.{ask_row, verdict_row, place_row, fault_row, usage_row};
+ghost use Rattle.futmax_main.specs.Rows.{line_row, verdict_text, cause_text};
 
 use crate::session::{Cause, Fault};
 use crate::table_row::TableRow;

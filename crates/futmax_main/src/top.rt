@@ -16,8 +16,8 @@ use std::alloc::Global;
 /// Runs a command: its words, of which the first is the program's own name, the input and the
 /// output.
 ///
-/// Rows go to the sink as soon as an ask is read, each as one piece. Want of memory may end any run,
-/// with `Status::OutOfMemory`.
+/// Rows go to the sink as soon as an ask is read, each as one piece. Want of memory may end any
+/// run, with `Status::OutOfMemory`.
 pub fn futmax<S: Source, K: Sink>(
     alloc: Global,
     words: Vec<String>,

@@ -13,5 +13,6 @@ returns c =
     ∙ ap₂ with_rule
     (c.in_ok-arg-2.ensures.shape (search rules)
     ∙ ap₂ with_rule
-    (c.in_ok-arg.ensures.shape (search rules) ∙ ap₂ with_rule c.new-4.ensures.app mode_is) workers_is)
+    (c.in_ok-arg.ensures.shape (search rules) ∙ ap₂ with_rule c.new-4.ensures.app mode_is)
+    workers_is)
     seed_is

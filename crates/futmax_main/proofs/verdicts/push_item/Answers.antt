@@ -14,6 +14,7 @@ returns c =
     c.club_name.ensures in
     on_ok_weaker c.push_shown.result
     (item-adds played c.args.line c.args.club c.args.reach.now verdict c.args.text.now.items row _
-    (c.verdict-verdict.ensures.meaning played.sheet played.season c.args.club c.requires.sound.league.limits
+    (c.verdict-verdict.ensures.meaning played.sheet played.season c.args.club
+    c.requires.sound.league.limits
     c.requires.sound.results c.requires.in_range c.requires.reach) row_is)
     c.push_shown.ensures

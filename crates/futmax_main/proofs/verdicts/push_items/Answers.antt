@@ -18,5 +18,6 @@ push_item-requires-clause-reach c =
 
 pub loop-club-preserved : goal.loop-club-preserved
 loop-club-preserved c =
-    adds-range (IsItem c.args.played.now.sheet c.args.played.now.season c.args.line) c.loop-club.club _
+    adds-range (IsItem c.args.played.now.sheet c.args.played.now.season c.args.line)
+    c.loop-club.club _
     _ _ c.loop-club.invariant c.in_ok-push_item.ensures

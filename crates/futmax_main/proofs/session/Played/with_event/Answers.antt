@@ -8,6 +8,7 @@ pub returns-clause-sound : goal.returns-clause-sound
 returns-clause-sound c =
     let played = c.args.self in
     let P : Results → Type 0 =
-    λ season. IsSoundPlayed (record { sheet = played.sheet; season = season; epoch = played.epoch + 1 }) in
+    λ season. IsSoundPlayed
+    (record { sheet = played.sheet; season = season; epoch = played.epoch + 1 }) in
     subst P (sym c.apply.ensures)
     (event-sound played c.args.event.now c.requires.sound c.requires.told c.requires.room)
