@@ -15,6 +15,3 @@ pub use drawing::lots_for;
 pub use final_table::table;
 pub use places::{best_place, place, worst_place};
 pub use span::{Span, spans};
-
-#[cfg(test)]
-mod tests;

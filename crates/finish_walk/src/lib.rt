@@ -19,6 +19,3 @@ pub use odometer::{first_finish, next_finish};
 pub use reach::Reach;
 pub use verdict::Verdict;
 pub use walk::reaches;
-
-#[cfg(test)]
-mod tests;
