@@ -13,8 +13,8 @@
 //! or bracket.
 //!
 //! In an input `\r` is a CR, `\xff` the byte with these two digits, and `\` at the end of a line
-//! takes away its LF; `*600 TEXT` is the line `TEXT` so many times. What stands between two cases is
-//! passed over.
+//! takes away its LF; `*600 TEXT` is the line `TEXT` so many times. What stands between two cases
+//! is passed over.
 #![tactic(auto)]
 
 mod answer;
