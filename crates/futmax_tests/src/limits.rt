@@ -1,0 +1,77 @@
+//! Inputs at the limit, from a source that makes their bytes.
+
+ghost use Rattle.std.specs.Prelude.{None};
+
+use crate::words::words_of;
+use futmax_main::{Status, futmax};
+use port_core::{Got, MemSink, Source};
+use std::alloc::Global;
+use std::process::Abort;
+use std::test::Fail;
+
+// Makes the bytes of an input: comments of 1,024 bytes with their LF, then letters.
+#[derive(Drop)]
+struct Made {
+    at: usize,
+    comments: usize,
+    letters: usize,
+}
+
+impl Made {
+    fn byte(&self) -> Option<u8> {
+        if self.at / 1024 < self.comments {
+            return Some(if self.at % 1024 == 1023 { b'\n' } else { b'#' });
+        }
+        if self.at / 1024 == self.comments && self.at % 1024 < self.letters {
+            return Some(b'x');
+        }
+        None
+    }
+}
+
+impl Source for Made {
+    ghost left = { λ source. None };
+
+    ghost faults = { λ source. 0 };
+
+    fn read(&mut self, into: &mut [u8]) -> Got {
+        for (count, place) in into.iter_mut().enumerate() {
+            let Some(byte) = self.byte() else {
+                return Got::Bytes(count);
+            };
+            *place = byte;
+            self.at = self.at.wrapping_add(1);
+        }
+        Got::Bytes(into.len())
+    }
+}
+
+// 65,536 comments of 1,024 bytes are as many bytes as an input may have.
+fn check_run(
+    rt: &(impl Abort + Alloc<A = Global>),
+    letters: usize,
+    wanted: Status,
+    row: &str,
+) -> Result<(), Fail> {
+    let mut source = Made {
+        at: 0,
+        comments: 65536,
+        letters,
+    };
+    let mut sink = MemSink::new(rt.alloc(), 100, 100, Vec::new(rt.alloc()))?;
+    let words = words_of(rt.alloc())?;
+    let status = futmax(rt.alloc(), words, &mut source, &mut sink);
+    assert_eq!(rt; status, wanted);
+    assert_eq!(rt; sink.bytes(), row.as_bytes());
+    Ok(())
+}
+
+#[test]
+fn an_input_as_long_as_may_be(rt: HostRuntime) -> Result<(), Fail> {
+    check_run(&rt, 0, Status::BadSheet, "fault,65537,no_league\n")
+}
+
+#[test]
+fn an_input_that_is_too_long(rt: HostRuntime) -> Result<(), Fail> {
+    check_run(&rt, 1, Status::TooLong, "fault,65537,input_too_long\n")
+}

@@ -1,0 +1,83 @@
+//! An answer is on the sink before the next line is read.
+
+ghost use Rattle.std.specs.Prelude.{None};
+
+use crate::words::words_of;
+use futmax_main::{Status, futmax};
+use port_core::{Got, Put, Sink, Source};
+use std::cell::Cell;
+use std::test::Fail;
+
+// A draw with goals, an ask, the score put right, and an ask again.
+const CORRECTED: &[u8] = b"league,Tiny,1\nclub,A,1\nclub,B,2\nmatch,A,B\nline,1\nseason\n\
+    result,1,1,1\nask\nfix,1,1,0\nask\n";
+
+// Gives a byte at a time, and counts them where the sink can see it.
+#[derive(Drop)]
+struct Counted<'a> {
+    bytes: &'a [u8],
+    at: usize,
+    given: &'a Cell<u64>,
+}
+
+impl Source for Counted<'_> {
+    ghost left = { λ source. None };
+
+    ghost faults = { λ source. 0 };
+
+    fn read(&mut self, into: &mut [u8]) -> Got {
+        let Some(byte) = self.bytes.get(self.at) else {
+            return Got::Bytes(0);
+        };
+        into[0] = *byte;
+        self.at = self.at.wrapping_add(1);
+        self.given.set(self.given.get().wrapping_add(1));
+        Got::Bytes(1)
+    }
+}
+
+// Notes at each piece how many bytes the source had given.
+#[derive(Drop)]
+struct Noting<'a> {
+    given: &'a Cell<u64>,
+    notes: [u64; 8],
+    pieces: usize,
+}
+
+impl Sink for Noting<'_> {
+    ghost holds = { λ sink. None };
+
+    ghost faults = { λ sink. 0 };
+
+    fn write(&mut self, piece: &[u8]) -> Put {
+        if self.pieces < self.notes.len() {
+            self.notes[self.pieces] = self.given.get();
+            self.pieces += 1;
+        }
+        Put::Took(piece.len())
+    }
+}
+
+// The first ask ends 14 bytes before the end, the second at the end. Each answer has three rows.
+#[test]
+fn an_answer_comes_before_the_next_line(rt: HostRuntime) -> Result<(), Fail> {
+    let given = Cell::new(0);
+    let mut source = Counted {
+        bytes: CORRECTED,
+        at: 0,
+        given: &given,
+    };
+    let mut sink = Noting {
+        given: &given,
+        notes: [0; 8],
+        pieces: 0,
+    };
+    let words = words_of(rt.alloc())?;
+    let status = futmax(rt.alloc(), words, &mut source, &mut sink);
+    let end = CORRECTED.len() as u64;
+    let first = end - 14;
+    assert_eq!(rt; status, Status::Done);
+    let wanted = [first, first, first, end, end, end, 0, 0];
+    assert_eq!(rt; sink.notes.as_slice(), wanted.as_slice());
+    Ok(())
+}
