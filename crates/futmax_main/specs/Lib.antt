@@ -15,3 +15,4 @@ pub mod Top
 pub mod Sound
 pub mod Items
 pub mod Turns
+pub mod Pieces

@@ -1,8 +1,11 @@
 //! Rows on their way to the sink. Each is offered as one piece.
 
-ghost use Rattle.std.specs.Prelude.{◌≡◌, ◌<◌, ◌≤◌, OnErr, OnOk, length};
+ghost use Rattle.std.specs.Prelude.{◌≡◌, ◌<◌, ◌≤◌, IfNone, IfSome, OnErr, OnOk, length};
+ghost use Rattle.std.specs.Prelude.{slice_index, take};
 ghost use Rattle.std.specs.Io.KnownBytes.{append_known};
+ghost use Rattle.port_core.specs.Lines.{HasNoLineFeed, line_feed};
 ghost use Rattle.port_core.specs.Ports.{AppendsFront, Rose};
+ghost use Rattle.futmax_main.specs.Pieces.{IsRowBetween};
 
 use port_core::{Sink, WriteFault, put_line};
 
@@ -30,9 +33,20 @@ fn row_end(rows: &[u8], from: usize) -> usize
     requires { from < length rows.now }
     ensures after { from < result }
     ensures within { result ≤ length rows.now }
+    ensures row { IsRowBetween rows.now from result }
 {
-    match rows[from..].iter().position(|byte| *byte == b'\n') {
-        Some(at) => from + at + 1,
+    match line_feed_in(&rows[from..]) {
+        Some(place) => from + place + 1,
         None => rows.len(),
     }
+}
+
+// The place of the first LF.
+fn line_feed_in(rows: &[u8]) -> Option<usize>
+    ensures none { IfNone result (HasNoLineFeed rows.now) }
+    ensures within { IfSome result (λ place. place < length rows.now) }
+    ensures front { IfSome result (λ place. HasNoLineFeed (take place rows.now)) }
+    ensures found { IfSome result (λ place. slice_index rows.now place ≡ line_feed) }
+{
+    rows.iter().position(|byte| *byte == b'\n')
 }
