@@ -1,5 +1,5 @@
 -- The words of the command: what clap makes of them, and numbers of up to 20 digits.
-use Rattle.std.proofs.Common.{◌≡◌, ◌⊎◌, ℕ, ◌^◌, ◌<◌, Bool, true, false, ◌&&◌, nat_le, List, [], ◌∷◌}
+use Rattle.std.proofs.Common.{◌≡◌, ℕ, ◌^◌, ◌<◌, Bool, true, false, ◌&&◌, nat_le, List, [], ◌∷◌}
 use Rattle.std.proofs.Common.{length, Option, Some, None, option_and_then, Result, Ok, Err, refl}
 use Rattle.std.proofs.Common.{ap, sym, ◌∙◌, subst, arith, rules, inl, inr}
 use Rattle.std.specs.List.{list_all}
@@ -12,7 +12,6 @@ use Rattle.clap.specs.Words.{is_simple_and_free, matches_of}
 use Rattle.clap.specs.declared.error.Error.{Error}
 use Rattle.clap.specs.declared.error.kind.ErrorKind.TheVariants as kind
 use Rattle.clap.proofs.OnLiterals.{clap_on_literals}
-use Rattle.futmax_main.specs.declared.session.Mode.{Mode}
 use Rattle.futmax_main.specs.Commands.{command, unless_fault, rows_taken, is_numeral}
 use Rattle.futmax_main.specs.Commands.{is_number_within, mode_in, mode_of}
 

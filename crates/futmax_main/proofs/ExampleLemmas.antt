@@ -1,5 +1,5 @@
 -- The rows of an example, fixture by fixture.
-use Rattle.std.proofs.Common.{◌≡◌, ℕ, zero, suc, ◌+◌, ◌<◌, ◌≤◌, Bool, true, not, ◌&&◌, ◌==◌, nat_lt}
+use Rattle.std.proofs.Common.{◌≡◌, ℕ, zero, suc, ◌+◌, ◌<◌, ◌≤◌, Bool, true, not, ◌==◌, nat_lt}
 use Rattle.std.proofs.Common.{filter, List, [], ◌∷◌, ◌++◌, length, take, get_or, Option, None, refl}
 use Rattle.std.proofs.Common.{ap, sym, ◌∙◌, arith}
 use Rattle.std.specs.List.{list_all, range_with_len}

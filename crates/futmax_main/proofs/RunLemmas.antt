@@ -1,21 +1,16 @@
 -- Where a run begins, and what its status says where no byte is told.
-use Rattle.std.proofs.Common.{◌≡◌, ℕ, Bool, List, [], Option, Some, None, refl, ap, sym, subst, inl}
-use Rattle.std.proofs.Common.{inr}
+use Rattle.std.proofs.Common.{◌≡◌, ℕ, Bool, List, [], Option, Some, None, refl, ap, sym, subst}
 use Rattle.std.specs.Io.KnownBytes.{append_known, prepend_known}
 use Rattle.std.proofs.lemmas.List.{append-nil}
 use Rattle.port_core.specs.Contents.{start, contents_of}
 use Rattle.port_core.specs.Readers.{Reader, stream_of}
 use Rattle.port_core.proofs.PassingLemmas.{passes-none}
-use Rattle.futmax_main.specs.declared.status.Status.{Status}
-use Rattle.futmax_main.specs.declared.status.Status.TheVariants.{Done, BadWords, BadSheet, BadFeed}
-use Rattle.futmax_main.specs.declared.status.Status.TheVariants.{ReadFault, WriteFault, OutOfMemory}
-use Rattle.futmax_main.specs.declared.status.Status.TheVariants.{NotProved, TooLong}
+use Rattle.futmax_main.specs.declared.status.Status.TheVariants.{OutOfMemory}
 use Rattle.futmax_main.specs.declared.session.Mode.{Mode}
 use Rattle.futmax_main.specs.declared.session.Session.{Session}
 use Rattle.futmax_main.specs.Session.{first_session}
 use Rattle.futmax_main.specs.Path.{Path}
-use Rattle.futmax_main.specs.Top.{Counts, IsSettled, Serves}
-use Rattle.futmax_main.specs.Turns.{CountsEnd, CountsWords, MayEndSession}
+use Rattle.futmax_main.specs.Top.{Serves}
 use Rattle.futmax_main.specs.Sound.{IsSound}
 use Rattle.futmax_main.proofs.PathLemmas.{leads_start, front_written}
 

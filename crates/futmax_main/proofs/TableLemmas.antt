@@ -1,5 +1,5 @@
 -- Tables: the clubs' order, and what a club's matches add up to.
-use Rattle.std.proofs.Common.{◌≡◌, ℕ, zero, suc, ◌+◌, ◌<◌, ◌≤◌, ℤ, pos, not, ◌==◌, eqb, cond, true}
+use Rattle.std.proofs.Common.{◌≡◌, ℕ, zero, suc, ◌+◌, ◌<◌, ℤ, pos, not, ◌==◌, eqb, cond, true}
 use Rattle.std.proofs.Common.{List, [], ◌∷◌, ◌++◌, length, take, filter, get_or, Option, None, refl}
 use Rattle.std.proofs.Common.{ap, sym, ◌∙◌, subst, arith, slice_index_or}
 use Rattle.std.specs.List.{range_with_len}

@@ -1,5 +1,5 @@
 -- What a turn gives, from what the reader gave and what was written.
-use Rattle.std.proofs.Common.{◌≡◌, ℕ, Bool, false, List, [], ◌∷◌, ◌++◌, Option, Some, None, Result}
+use Rattle.std.proofs.Common.{◌≡◌, ℕ, Bool, List, [], ◌∷◌, ◌++◌, Option, Some, None}
 use Rattle.std.proofs.Common.{Ok, Err, refl, ap, sym, ◌∙◌, subst}
 use Rattle.std.specs.Prelude.{IfSome}
 use Rattle.std.specs.Io.KnownBytes.{append_known, prepend_known, IsAtEnd}
@@ -12,7 +12,7 @@ use Rattle.port_core.specs.Contents.{contents_from, contents_of}
 use Rattle.port_core.specs.Readers.{contents_behind, Passes, PassesKnown}
 use Rattle.port_core.proofs.PassingLemmas.{passes-more}
 use Rattle.futmax_main.specs.declared.status.Status.{Status}
-use Rattle.futmax_main.specs.declared.status.Status.TheVariants.{Done, ReadFault}
+use Rattle.futmax_main.specs.declared.status.Status.TheVariants.{ReadFault}
 use Rattle.futmax_main.specs.declared.session.Mode.{Mode}
 use Rattle.futmax_main.specs.declared.session.Session.{Session}
 use Rattle.futmax_main.specs.declared.session.Fault.{Fault}
@@ -22,7 +22,7 @@ use Rattle.futmax_main.specs.declared.session.Outcome.{Outcome}
 use Rattle.futmax_main.specs.declared.session.Outcome.TheVariants.{Complete, Refused}
 use Rattle.futmax_main.specs.declared.turn.Turn.{Turn}
 use Rattle.futmax_main.specs.declared.turn.Turn.TheVariants.{GoesOn, Ends}
-use Rattle.futmax_main.specs.Session.{first_session, step_of, session_behind, ending}
+use Rattle.futmax_main.specs.Session.{first_session, step_of, ending}
 use Rattle.futmax_main.specs.Session.{status_of_cause}
 use Rattle.futmax_main.specs.Rows.{fault_row, last_row}
 use Rattle.futmax_main.specs.Path.{line_fault, input_fault, status_of_outcome, status_at_end}

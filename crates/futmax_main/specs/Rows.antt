@@ -1,6 +1,6 @@
 -- The rows of the output. A row of fields is written as csv writes a record, with quotes where they
 -- are needed; a row that shows a part of an example is a proof line. Each ends with LF.
-use Rattle.std.specs.Prelude.{ℕ, ℤ, List, [], ◌∷◌, ◌++◌, codes, decimal}
+use Rattle.std.specs.Prelude.{ℕ, List, [], ◌∷◌, ◌++◌, codes, decimal}
 use Rattle.std.specs.Fmt.{signed_decimal}
 use Rattle.league_core.specs.declared.question.Claim.{Claim}
 use Rattle.league_core.specs.declared.season.Score.{Score}

@@ -26,7 +26,6 @@ use Rattle.futmax_main.specs.declared.session.Session.{Session}
 use Rattle.futmax_main.specs.declared.session.Asked.{Asked}
 use Rattle.futmax_main.specs.declared.session.Cause.{Cause}
 use Rattle.futmax_main.specs.declared.session.Cause.TheVariants as cause
-use Rattle.futmax_main.specs.declared.session.Fault.{Fault}
 use Rattle.futmax_main.specs.declared.session.Step.{Step}
 use Rattle.futmax_main.specs.declared.session.Step.TheVariants.{Goes, Asks, Stops}
 use Rattle.futmax_main.specs.declared.session.Outcome.{Outcome}

@@ -1,7 +1,7 @@
 -- What the top call promises of the status, of the bytes written, and of what the source has left.
 -- It is said where the source tells its bytes; a sink that does not tell its own is taken to hold
 -- what was written.
-use Rattle.std.specs.Prelude.{◌≡◌, ◌≢◌, ℕ, Bool, false, ◌⊎◌, List, [], ◌++◌, Option, Some, None, Ok}
+use Rattle.std.specs.Prelude.{◌≡◌, ℕ, Bool, false, ◌⊎◌, List, [], ◌++◌, Option, Some, None, Ok}
 use Rattle.std.specs.Io.KnownBytes.{append_known}
 use Rattle.port_core.specs.Lines.{lines_of, AreEndedLines, HasNoLineFeed}
 use Rattle.port_core.specs.Ports.{IsFront, Rose}

@@ -8,7 +8,6 @@ use Rattle.futmax_main.specs.declared.status.Status.{Status}
 use Rattle.futmax_main.specs.declared.status.Status.TheVariants.{Done, BadWords, ReadFault}
 use Rattle.futmax_main.specs.declared.status.Status.TheVariants.{WriteFault, OutOfMemory, NotProved}
 use Rattle.futmax_main.specs.declared.session.Mode.{Mode}
-use Rattle.futmax_main.specs.declared.session.Session.{Session}
 use Rattle.futmax_main.specs.declared.session.Asked.{Asked}
 use Rattle.futmax_main.specs.declared.session.Fault.{Fault}
 use Rattle.futmax_main.specs.declared.session.Step.{Step}

@@ -1,5 +1,5 @@
-use Rattle.std.proofs.Common.{rules, ap, ap₂, ◌≡◌, ◌∙◌}
-use Rattle.clap.specs.Words.{app_of, rule_of, with_rule}
+use Rattle.std.proofs.Common.{rules, ap₂, ◌≡◌, ◌∙◌}
+use Rattle.clap.specs.Words.{rule_of, with_rule}
 use Rattle.futmax_main.specs.Commands.{command, mode_rule, workers_rule, seed_rule}
 use Rattle.futmax_main.proofs.command.command.Goals as goal
 

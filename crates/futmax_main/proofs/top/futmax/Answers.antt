@@ -1,5 +1,4 @@
-use Rattle.std.proofs.Common.{◌≢◌, Option, subst}
-use Rattle.futmax_main.specs.declared.status.Status.TheVariants.{ReadFault, WriteFault}
+use Rattle.std.proofs.Common.{Option, subst}
 use Rattle.futmax_main.specs.declared.session.Mode.{Mode}
 use Rattle.futmax_main.specs.Top.{IsSettled}
 use Rattle.futmax_main.proofs.RunLemmas.{serves-no_memory}

@@ -1,4 +1,3 @@
-use Rattle.std.proofs.Common.{string_bytes}
 use Rattle.std.specs.List.{range_with_len}
 use Rattle.futmax_main.specs.Parts.{IsMadeOf}
 use Rattle.futmax_main.specs.Verdicts.{IsItem}

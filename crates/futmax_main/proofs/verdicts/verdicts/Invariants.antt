@@ -1,4 +1,4 @@
-use Rattle.std.proofs.Common.{take, string_bytes}
+use Rattle.std.proofs.Common.{take}
 use Rattle.futmax_main.specs.Rows.{ask_row}
 use Rattle.futmax_main.specs.Parts.{IsMadeOf}
 use Rattle.futmax_main.specs.Verdicts.{AreItemsOf}
