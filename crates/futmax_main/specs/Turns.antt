@@ -97,6 +97,7 @@ CountsEnd writes writes' NotProved = ⊥
 CountsEnd writes writes' WriteFault = Rose writes writes'
 CountsEnd writes writes' status = writes' ≡ writes
 
+-- the same of a turn
 abbrev pub CountsTurn : ℕ → ℕ → Turn → Type 0
 CountsTurn writes writes' (GoesOn next) = writes' ≡ writes
 CountsTurn writes writes' (Ends status) = CountsEnd writes writes' status
