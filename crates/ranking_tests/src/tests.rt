@@ -1,6 +1,6 @@
 //! Drawn leagues: what the ranking answers beside the plain program.
 
-ghost use Rattle.std.specs.Prelude.{IfSome, IfOk, ◌<◌, ◌≤◌, length};
+ghost use Rattle.std.specs.Prelude.{IfOk};
 ghost use Rattle.league_core.specs.Seasons.{IsLeague};
 
 use crate::plain::{Entrant, Plain};

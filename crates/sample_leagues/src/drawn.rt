@@ -1,6 +1,6 @@
 //! Drawn leagues, as text.
 
-ghost use Rattle.std.specs.Prelude.{◌<◌, ◌≤◌};
+ghost use Rattle.std.specs.Prelude.{◌≤◌};
 
 use crate::draws::Draws;
 use std::alloc::Global;
