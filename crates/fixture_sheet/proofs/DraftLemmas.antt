@@ -12,7 +12,7 @@ use Rattle.league_core.specs.declared.sheet.Club.{Club}
 use Rattle.league_core.specs.Limits.{most_clubs, most_lines}
 use Rattle.league_core.specs.Sheets.{is_club, is_line, are_different, same_name}
 use Rattle.fixture_sheet.specs.Drafts.{IsDraft, names_of}
-use Rattle.fixture_sheet.specs.Records.{has_club, is_past_clubs, line_added}
+use Rattle.fixture_sheet.specs.Records.{has_name, is_past_clubs, line_added}
 use Rattle.fixture_sheet.proofs.NameLemmas.{bytes_eq-swap}
 
 -- a list that passes, with one more that does
@@ -56,7 +56,7 @@ fresh-name (first ∷ clubs) club fresh =
 
 -- a club more
 club-more : (sheet : Sheet) (club : Club) → IsDraft sheet → is_club club ≡ true
-    → has_club sheet club.name ≡ false → length sheet.clubs < most_clubs
+    → has_name sheet club.name ≡ false → length sheet.clubs < most_clubs
     → is_past_clubs sheet ≡ false
     → IsDraft (record sheet { clubs = sheet.clubs ++ club ∷ [] })
 club-more sheet club draft is fresh room first =
@@ -111,7 +111,7 @@ line-more sheet line draft is fresh room =
 pub club-keeps : (self sheet : Sheet) (clubs : List Club) (club : Club)
     (names more_names : List (List ℕ)) (name : List ℕ)
     → sheet ≡ self → IsDraft sheet × (names ≡ names_of sheet) → is_club club ≡ true
-    → has_club self club.name ≡ false → length self.clubs < most_clubs → is_past_clubs self ≡ false
+    → has_name self club.name ≡ false → length self.clubs < most_clubs → is_past_clubs self ≡ false
     → clubs ≡ sheet.clubs ++ club ∷ [] → name ≡ club.name → more_names ≡ names ++ name ∷ []
     → IsDraft (record sheet { clubs = clubs })
     × (more_names ≡ names_of (record sheet { clubs = clubs }))
@@ -120,7 +120,7 @@ club-keeps self sheet clubs club names more_names name view kept is fresh room f
     let P : List Club → Type 0 = λ cs. IsDraft (record sheet { clubs = cs }) in
     let draft : P clubs =
     subst P (sym added)
-    (club-more sheet club kept.0 is (ap (λ s. has_club s club.name) view ∙ fresh)
+    (club-more sheet club kept.0 is (ap (λ s. has_name s club.name) view ∙ fresh)
     (omega (arith, ap (λ s. length s.clubs) view, room)) (ap is_past_clubs view ∙ first)) in (
       draft,
       more ∙ ap (λ front. front ++ name ∷ []) kept.1

@@ -13,8 +13,8 @@ use Rattle.fixture_sheet.specs.declared.fault.SheetStop.TheVariants.{Fault, Read
 use Rattle.fixture_sheet.specs.declared.record.Progress.{Progress}
 use Rattle.fixture_sheet.specs.declared.record.Progress.TheVariants.{SoFar, Whole}
 use Rattle.fixture_sheet.specs.Records.{content_taken}
-use Rattle.fixture_sheet.specs.Sheets.{reading_by, reading_from, reading_of}
-use Rattle.fixture_sheet.specs.Calls.{Leads, ReadsAs, ReadsSheet, StepReads, TakesLines}
+use Rattle.fixture_sheet.specs.Sheets.{sheet_reading_by, sheet_reading_from, sheet_reading_of}
+use Rattle.fixture_sheet.specs.Calls.{Leads, ReadsSheetAs, ReadsSheet, StepReads, TakesLines}
 
 -- nothing was read yet
 pub leads-nothing : (start : Option Contents) → Leads start start None
@@ -39,10 +39,10 @@ told-push lines number text (Some rest) = ap Some (with_lines-push lines number 
 -- a line's reading, by what its content makes of the sheet so far
 line-reading : (draft : Option Sheet) (number : ℕ) (text : List ℕ)
     (made : Result Progress SheetFault) (rest : Contents) → content_taken draft text ≡ made
-    → reading_of (with_line number text rest) draft
-    ≡ reading_by number rest (reading_from rest.lines rest.ending) made
+    → sheet_reading_of (with_line number text rest) draft
+    ≡ sheet_reading_by number rest (sheet_reading_from rest.lines rest.ending) made
 line-reading draft number text made rest is =
-    ap (reading_by number rest (reading_from rest.lines rest.ending)) is
+    ap (sheet_reading_by number rest (sheet_reading_from rest.lines rest.ending)) is
 
 module _ (start before after : Option Contents) (draft : Option Sheet) (number : ℕ)
     (text : List ℕ) (leads : Leads start before draft)
@@ -64,7 +64,8 @@ module _ (start before after : Option Contents) (draft : Option Sheet) (number :
     leads.0 ++ (number, text) ∷ [],
     way,
     λ rest.
-        ap (λ contents. reading_of contents None) (sym (with_lines-push leads.0 number text rest))
+        ap (λ contents. sheet_reading_of contents None)
+        (sym (with_lines-push leads.0 number text rest))
         ∙ leads.2 (with_line number text rest)
         ∙ line-reading draft number text (Ok (SoFar next)) rest is,
   )
@@ -72,15 +73,16 @@ module _ (start before after : Option Contents) (draft : Option Sheet) (number :
   -- the reading is over with this line
   line-reads : (result : Result Sheet SheetStop) (made : Result Progress SheetFault)
       → content_taken draft text ≡ made
-      → ((rest : Contents) → reading_by number rest (reading_from rest.lines rest.ending) made
+      → ((rest : Contents)
+      → sheet_reading_by number rest (sheet_reading_from rest.lines rest.ending) made
       ≡ record { gives = result; rest = rest })
-      → ReadsAs start after result
+      → ReadsSheetAs start after result
   line-reads result made is over =
-      ap (option_map (λ contents. reading_of contents None))
+      ap (option_map (λ contents. sheet_reading_of contents None))
       (leads.1 ∙ ap (option_map (with_lines leads.0)) gives) ∙ each after
     where
       each : (told : Option Contents)
-          → option_map (λ contents. reading_of contents None)
+          → option_map (λ contents. sheet_reading_of contents None)
           (option_map (with_lines leads.0) (option_map (with_line number text) told))
           ≡ option_map (λ rest. record { gives = result; rest = rest }) told
       each None = refl
@@ -96,7 +98,7 @@ module _ (start before after : Option Contents) (draft : Option Sheet) (number :
 
   -- a line that is refused
   pub line-refused : (fault : SheetFault) → content_taken draft text ≡ Err fault
-      → ReadsAs start after (Err (Fault number fault))
+      → ReadsSheetAs start after (Err (Fault number fault))
   line-refused fault is =
       line-reads (Err (Fault number fault)) (Err fault) is (λ rest. refl)
 
@@ -104,14 +106,14 @@ module _ (start before after : Option Contents) (draft : Option Sheet) (number :
 ended-reads : (start before after : Option Contents) (draft : Option Sheet)
     (ending : Result ℕ ReadStop) (result : Result Sheet SheetStop) → Leads start before draft
     → IfSome before (λ contents. contents ≡ ended ending) × (before ≡ after)
-    → reading_of (ended ending) draft ≡ record { gives = result; rest = ended ending }
-    → ReadsAs start after result
+    → sheet_reading_of (ended ending) draft ≡ record { gives = result; rest = ended ending }
+    → ReadsSheetAs start after result
 ended-reads start None after draft ending result leads over made =
-    ap (option_map (λ contents. reading_of contents None)) leads.1
+    ap (option_map (λ contents. sheet_reading_of contents None)) leads.1
     ∙ ap (option_map (λ rest. record { gives = result; rest = rest })) over.1
 ended-reads start (Some contents) after draft ending result leads over made =
-    ap (option_map (λ whole. reading_of whole None)) leads.1
-    ∙ ap Some (leads.2 contents ∙ ap (λ whole. reading_of whole draft) over.0 ∙ made
+    ap (option_map (λ whole. sheet_reading_of whole None)) leads.1
+    ∙ ap Some (leads.2 contents ∙ ap (λ whole. sheet_reading_of whole draft) over.0 ∙ made
     ∙ ap (λ rest. record { gives = result; rest = rest }) (sym over.0))
     ∙ ap (option_map (λ rest. record { gives = result; rest = rest })) over.1
 

@@ -11,7 +11,7 @@ use Rattle.fixture_sheet.specs.declared.fault.SheetFault.TheVariants.{NoLeague, 
 use Rattle.fixture_sheet.specs.declared.fault.SheetFault.TheVariants.{UnknownClub, TooFewClubs}
 use Rattle.fixture_sheet.specs.declared.fault.SheetStop.{SheetStop}
 use Rattle.fixture_sheet.specs.declared.fault.SheetStop.TheVariants.{Fault}
-use Rattle.fixture_sheet.specs.Sheets.{reading_of}
+use Rattle.fixture_sheet.specs.Sheets.{sheet_reading_of}
 
 -- these lines with their numbers
 pub numbered : List (List ℕ) → ℕ → List (ℕ × List ℕ)
@@ -21,7 +21,7 @@ numbered (line ∷ lines) number = (number, line) ∷ numbered lines (number + 1
 -- what the lines of an input give, numbered from 1
 pub given : List (List ℕ) → Result Sheet SheetStop
 given lines =
-    (reading_of (record { lines = numbered lines 1; ending = Ok 99 }) None).gives
+    (sheet_reading_of (record { lines = numbered lines 1; ending = Ok 99 }) None).gives
 
 -- two clubs, one match, one line
 pub first_day : List ℕ → List (List ℕ)

@@ -18,7 +18,7 @@ use Rattle.fixture_sheet.specs.declared.fault.SheetStop.{SheetStop}
 use Rattle.fixture_sheet.specs.declared.fault.SheetStop.TheVariants.{Fault, Read, OutOfMemory}
 use Rattle.fixture_sheet.specs.declared.record.Progress.{Progress}
 use Rattle.fixture_sheet.specs.declared.record.Progress.TheVariants.{SoFar, Whole}
-use Rattle.fixture_sheet.specs.Sheets.{reading_of}
+use Rattle.fixture_sheet.specs.Sheets.{sheet_reading_of}
 
 -- the answer is what was wanted, or memory ran out
 abbrev pub Answers : {A : Type 0} → Result A SheetFault → Result A RecordStop → Type 0
@@ -41,12 +41,13 @@ GivesSheet (Err stop) = Unit {0}
 abbrev pub Leads : Option Contents → Option Contents → Option Sheet → Type 0
 Leads before after draft =
     (lines : List (ℕ × List ℕ)) × (before ≡ option_map (with_lines lines) after)
-    × ((rest : Contents) → reading_of (with_lines lines rest) None ≡ reading_of rest draft)
+    × ((rest : Contents)
+    → sheet_reading_of (with_lines lines rest) None ≡ sheet_reading_of rest draft)
 
 -- the contents, where they are told, are read as the definition says
-abbrev pub ReadsAs : Option Contents → Option Contents → Result Sheet SheetStop → Type 0
-ReadsAs before after result =
-    option_map (λ contents. reading_of contents None) before
+abbrev pub ReadsSheetAs : Option Contents → Option Contents → Result Sheet SheetStop → Type 0
+ReadsSheetAs before after result =
+    option_map (λ contents. sheet_reading_of contents None) before
     ≡ option_map (λ rest. record { gives = result; rest = rest }) after
 
 -- some lines were read, where they are told
@@ -59,14 +60,14 @@ TakesLines before after =
 -- line was refused; want of memory may come behind any line
 abbrev pub ReadsSheet :
     Option Contents → Option Contents → Result Sheet SheetStop → Type 0
-ReadsSheet before after (Ok sheet) = ReadsAs before after (Ok sheet)
+ReadsSheet before after (Ok sheet) = ReadsSheetAs before after (Ok sheet)
 ReadsSheet before after (Err (Fault number fault)) =
-    ReadsAs before after (Err (Fault number fault))
+    ReadsSheetAs before after (Err (Fault number fault))
 ReadsSheet before after (Err (Read ReadFault)) = (draft : Option Sheet) × Leads before after draft
 ReadsSheet before after (Err (Read (LineTooLong number))) =
-    ReadsAs before after (Err (Read (LineTooLong number)))
+    ReadsSheetAs before after (Err (Read (LineTooLong number)))
 ReadsSheet before after (Err (Read (InputTooLong number))) =
-    ReadsAs before after (Err (Read (InputTooLong number)))
+    ReadsSheetAs before after (Err (Read (InputTooLong number)))
 ReadsSheet before after (Err OutOfMemory) = TakesLines before after
 
 -- ---- the lines passed, and where the reader is left
@@ -92,11 +93,11 @@ refused_before position number = if number == number_at position then End number
 
 -- the reader's answer that a call's answer came of: the line passed last, the input's end, or a
 -- stop
-abbrev pub answer_behind : {A : Type 0} → Reader → Result A SheetStop → Result Line ReadStop
-answer_behind new (Ok value) = Ok (Text new.position.lines)
-answer_behind new (Err (Fault number fault)) = Ok (refused_before new.position number)
-answer_behind new (Err (Read stop)) = Err stop
-answer_behind new (Err OutOfMemory) = Ok (Text new.position.lines)
+abbrev pub sheet_answer_behind : {A : Type 0} → Reader → Result A SheetStop → Result Line ReadStop
+sheet_answer_behind new (Ok value) = Ok (Text new.position.lines)
+sheet_answer_behind new (Err (Fault number fault)) = Ok (refused_before new.position number)
+sheet_answer_behind new (Err (Read stop)) = Err stop
+sheet_answer_behind new (Err OutOfMemory) = Ok (Text new.position.lines)
 
 -- a fault of the source is answered only where its count rose, and else that count stays
 abbrev pub CountsSheet : {A : Type 0} → ℕ → ℕ → Result A SheetStop → Type 0

@@ -9,16 +9,16 @@ use Rattle.fixture_sheet.specs.declared.fault.SheetFault.TheVariants.{WrongWidth
 use Rattle.fixture_sheet.specs.declared.fault.SheetFault.TheVariants.{NoSeason}
 
 -- the code that a refusal is printed by
-abbrev pub code_of : SheetFault → List ℕ
-code_of NoLeague = codes "no_league"
-code_of BadField = codes "bad_field"
-code_of ClubTwice = codes "club_twice"
-code_of UnknownClub = codes "unknown_club"
-code_of SelfMatch = codes "self_match"
-code_of LineRange = codes "line_range"
-code_of TooMany = codes "too_many"
-code_of TooFewClubs = codes "too_few_clubs"
-code_of UnknownRecord = codes "unknown_record"
-code_of WrongWidth = codes "wrong_width"
-code_of LineTwice = codes "line_twice"
-code_of NoSeason = codes "no_season"
+abbrev pub sheet_code_of : SheetFault → List ℕ
+sheet_code_of NoLeague = codes "no_league"
+sheet_code_of BadField = codes "bad_field"
+sheet_code_of ClubTwice = codes "club_twice"
+sheet_code_of UnknownClub = codes "unknown_club"
+sheet_code_of SelfMatch = codes "self_match"
+sheet_code_of LineRange = codes "line_range"
+sheet_code_of TooMany = codes "too_many"
+sheet_code_of TooFewClubs = codes "too_few_clubs"
+sheet_code_of UnknownRecord = codes "unknown_record"
+sheet_code_of WrongWidth = codes "wrong_width"
+sheet_code_of LineTwice = codes "line_twice"
+sheet_code_of NoSeason = codes "no_season"

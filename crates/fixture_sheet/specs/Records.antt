@@ -23,7 +23,7 @@ use Rattle.fixture_sheet.specs.declared.fault.SheetFault.TheVariants.{WrongWidth
 use Rattle.fixture_sheet.specs.declared.record.Progress.{Progress}
 use Rattle.fixture_sheet.specs.declared.record.Progress.TheVariants.{SoFar, Whole}
 use Rattle.fixture_sheet.specs.Fields.{has_return, record_of, field}
-use Rattle.fixture_sheet.specs.Texts.{number_of, number_within, text_of, name_of}
+use Rattle.fixture_sheet.specs.Texts.{number_written, number_within, text_of, name_of}
 use Rattle.fixture_sheet.specs.Drafts.{names_of}
 
 -- a value, and what is made of it; a refusal stays
@@ -60,8 +60,9 @@ order_named word =
     else None
 
 -- the order of the criteria: the head-to-head record first where the record does not name one
-abbrev pub order_of : List (List ℕ) → Option Order
-order_of fields = if nat_lt (length fields) 5 then Some HeadFirst else order_named (field 4 fields)
+abbrev pub order_told : List (List ℕ) → Option Order
+order_told fields = if nat_lt (length fields) 5 then Some HeadFirst else order_named
+    (field 4 fields)
 
 -- the sheet that a league's record begins: a name, a goal limit from 1 to 20, a budget, and an
 -- order
@@ -70,7 +71,7 @@ league_of fields =
     option_and_then (λ name.
     option_and_then (λ goal_limit.
     option_and_then (λ budget. option_map (λ order. sheet_begun name goal_limit budget order)
-    (order_of fields))
+    (order_told fields))
     (budget_of fields))
     (number_within 1 most_goal_limit (field 2 fields)))
     (name_of (field 1 fields))
@@ -90,8 +91,8 @@ club_named sheet field =
     option_and_then (λ name. position (bytes_eq name) (names_of sheet)) (text_of field)
 
 -- a club of this name stands already
-abbrev pub has_club : Sheet → List ℕ → Bool
-has_club sheet name = list_any (bytes_eq name) (names_of sheet)
+abbrev pub has_name : Sheet → List ℕ → Bool
+has_name sheet name = list_any (bytes_eq name) (names_of sheet)
 
 -- a match or a line came already
 abbrev pub is_past_clubs : Sheet → Bool
@@ -107,7 +108,7 @@ club_of fields =
 -- a new club, where there is room
 abbrev pub club_added : Sheet → Club → Result Sheet SheetFault
 club_added sheet club =
-    if has_club sheet club.name then Err ClubTwice
+    if has_name sheet club.name then Err ClubTwice
     else if nat_le most_clubs (length sheet.clubs) then Err TooMany
     else Ok (record sheet { clubs = sheet.clubs ++ club ∷ [] })
 
@@ -160,7 +161,7 @@ abbrev pub line_taken : Sheet → List (List ℕ) → Result Sheet SheetFault
 line_taken sheet fields =
     if has_few_clubs sheet then Err TooFewClubs
     else if not (length fields == 2) then Err WrongWidth
-    else and_then (line_added sheet) (ok_or (number_of (field 1 fields)) BadField)
+    else and_then (line_added sheet) (ok_or (number_written (field 1 fields)) BadField)
 
 -- ---- season
 
@@ -203,12 +204,12 @@ record_taken_if draft None = Ok (SoFar draft)
 record_taken_if draft (Some fields) = record_taken draft fields
 
 -- why a line that is no record is refused
-abbrev pub no_record : Option Sheet → SheetFault
-no_record None = NoLeague
-no_record (Some sheet) = UnknownRecord
+abbrev pub refusal_of_no_record : Option Sheet → SheetFault
+refusal_of_no_record None = NoLeague
+refusal_of_no_record (Some sheet) = UnknownRecord
 
 -- the content of a line: a CR in it makes it no record
 abbrev pub content_taken : Option Sheet → List ℕ → Result Progress SheetFault
 content_taken draft content =
-    if has_return content then Err (no_record draft)
+    if has_return content then Err (refusal_of_no_record draft)
     else record_taken_if draft (record_of content)

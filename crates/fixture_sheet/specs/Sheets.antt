@@ -23,26 +23,29 @@ fault_at_end None = NoLeague
 fault_at_end (Some sheet) = NoSeason
 
 -- the input ends, or stops, before the sheet is whole
-abbrev pub given_at_end : Option Sheet → Result ℕ ReadStop → Result Sheet SheetStop
-given_at_end draft (Ok number) = Err (Fault number (fault_at_end draft))
-given_at_end draft (Err stop) = Err (Read stop)
+abbrev pub sheet_given_at_end : Option Sheet → Result ℕ ReadStop → Result Sheet SheetStop
+sheet_given_at_end draft (Ok number) = Err (Fault number (fault_at_end draft))
+sheet_given_at_end draft (Err stop) = Err (Read stop)
 
 -- what a line's content leads to, by what it makes of the sheet so far: the sheet, the refusal of
 -- the line of this number, or what comes of the lines behind it
-abbrev pub reading_by : ℕ → Contents → (Option Sheet → SheetReading) → Result Progress SheetFault
+abbrev pub sheet_reading_by : ℕ → Contents → (Option Sheet → SheetReading)
+    → Result Progress SheetFault
     → SheetReading
-reading_by number rest onward (Ok (SoFar draft)) = onward draft
-reading_by number rest onward (Ok (Whole sheet)) = record { gives = Ok sheet; rest = rest }
-reading_by number rest onward (Err fault) =
+sheet_reading_by number rest onward (Ok (SoFar draft)) = onward draft
+sheet_reading_by number rest onward (Ok (Whole sheet)) = record { gives = Ok sheet; rest = rest }
+sheet_reading_by number rest onward (Err fault) =
     record { gives = Err (Fault number fault); rest = rest }
 
 -- the reading of these lines and this ending, from a sheet so far on
-abbrev pub reading_from : List (ℕ × List ℕ) → Result ℕ ReadStop → Option Sheet → SheetReading
-reading_from [] ending draft = record { gives = given_at_end draft ending; rest = ended ending }
-reading_from (line ∷ lines) ending draft =
-    reading_by line.0 (record { lines = lines; ending = ending }) (reading_from lines ending)
+abbrev pub sheet_reading_from : List (ℕ × List ℕ) → Result ℕ ReadStop → Option Sheet → SheetReading
+sheet_reading_from
+    [] ending draft = record { gives = sheet_given_at_end draft ending; rest = ended ending }
+sheet_reading_from (line ∷ lines) ending draft =
+    sheet_reading_by line.0 (record { lines = lines; ending = ending })
+    (sheet_reading_from lines ending)
     (content_taken draft line.1)
 
 -- the same of contents
-abbrev pub reading_of : Contents → Option Sheet → SheetReading
-reading_of contents draft = reading_from contents.lines contents.ending draft
+abbrev pub sheet_reading_of : Contents → Option Sheet → SheetReading
+sheet_reading_of contents draft = sheet_reading_from contents.lines contents.ending draft

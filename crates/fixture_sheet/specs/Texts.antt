@@ -16,8 +16,8 @@ abbrev pub is_number : List ℕ → Bool
 is_number text = nat_le 1 (length text) && nat_le (length text) 6 && list_all is_ascii_digit text
 
 -- the number that a text writes, where it writes one
-abbrev pub number_of : List ℕ → Option ℕ
-number_of text = only_if (is_number text) (digits_value 10 text)
+abbrev pub number_written : List ℕ → Option ℕ
+number_written text = only_if (is_number text) (digits_value 10 text)
 
 -- a number that is not out of range
 abbrev pub if_within : ℕ → ℕ → ℕ → Option ℕ
@@ -25,7 +25,7 @@ if_within least most number = only_if (nat_le least number && nat_le number most
 
 -- the number that a text writes, where it writes one in the range
 abbrev pub number_within : ℕ → ℕ → List ℕ → Option ℕ
-number_within least most text = option_and_then (if_within least most) (number_of text)
+number_within least most text = option_and_then (if_within least most) (number_written text)
 
 -- the text that bytes are, where they are UTF-8
 abbrev pub text_of : List ℕ → Option (List ℕ)

@@ -7,7 +7,7 @@ ghost use Rattle.league_core.specs.Limits.{most_budget, most_clubs, most_fixture
 ghost use Rattle.league_core.specs.Limits.{most_lines};
 ghost use Rattle.league_core.specs.Sheets.{IsWithinLimits, is_club, is_fixture, is_line, is_name};
 ghost use Rattle.fixture_sheet.specs.Calls.{Answers};
-ghost use Rattle.fixture_sheet.specs.Records.{club_added, club_named, fixture_added, has_club};
+ghost use Rattle.fixture_sheet.specs.Records.{club_added, club_named, fixture_added, has_name};
 ghost use Rattle.fixture_sheet.specs.Records.{has_few_clubs, is_past_clubs, line_added};
 ghost use Rattle.fixture_sheet.specs.Records.{sheet_begun};
 
@@ -106,7 +106,7 @@ impl Draft {
 
     fn with_club(self, alloc: Global, name: &str, rank: u16) -> Result<Draft, OutOfMemory>
         requires is { IsTrue (is_club (record { name = name.now; rank = rank })) }
-        requires fresh { has_club self name.now ≡ false }
+        requires fresh { has_name self name.now ≡ false }
         requires room { length self.clubs < most_clubs }
         requires first { is_past_clubs self ≡ false }
         ensures { IfOk result (λ draft. draft

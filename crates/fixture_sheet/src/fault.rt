@@ -1,7 +1,7 @@
 //! Why a line, a record or a sheet could not be read.
 
 ghost use Rattle.std.specs.Prelude.{◌≡◌};
-ghost use Rattle.fixture_sheet.specs.Faults.{code_of};
+ghost use Rattle.fixture_sheet.specs.Faults.{sheet_code_of};
 
 use league_core::OutOfMemory;
 use port_core::ReadStop;
@@ -51,7 +51,7 @@ pub enum SheetFault {
 impl SheetFault {
     /// The code that the refusal is printed by, as in a row of a run.
     pub fn code(self) -> &'static str
-        ensures { result.now ≡ code_of self }
+        ensures { result.now ≡ sheet_code_of self }
     {
         match self {
             SheetFault::NoLeague => "no_league",

@@ -4,7 +4,7 @@
 use crate::fault::{FieldsStop, SheetFault};
 use crate::fields::{Fields, fields_of};
 use crate::name::name_of;
-use crate::number::{number_of, number_within};
+use crate::number::{number_within, number_written};
 use crate::record::{Progress, take_content};
 use std::alloc::Global;
 use std::test::Fail;
@@ -60,8 +60,8 @@ fn fields_are_those_of_csv_without_padding(rt: HostRuntime) -> Result<(), Fail> 
 
 #[test]
 fn numbers_and_names_are_read(rt: HostRuntime) {
-    assert_eq!(rt; number_of(b"000999"), Some(999));
-    assert_eq!(rt; number_of(b"0000999"), None);
+    assert_eq!(rt; number_written(b"000999"), Some(999));
+    assert_eq!(rt; number_written(b"0000999"), None);
     assert_eq!(rt; number_within(1, 20, b"020"), Some(20));
     assert_eq!(rt; number_within(1, 20, b"21"), None);
     assert!(rt; name_of(b"Astra \xc3\x89") == Some("Astra \u{c9}"));

@@ -31,6 +31,6 @@ pub use fault::{FieldsStop, RecordStop, SheetFault, SheetStop};
 pub use fields::{Fields, fields_of};
 pub use laws::a_line_is_one_record;
 pub use name::name_of;
-pub use number::{number_of, number_within};
+pub use number::{number_within, number_written};
 pub use reader::{fault_at_end, read_sheet};
 pub use record::{Progress, take_content, take_record};

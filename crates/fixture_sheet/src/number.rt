@@ -4,14 +4,14 @@ ghost use Rattle.std.specs.Prelude.{◌≡◌, ◌≤◌, IfSome, IsTrue};
 ghost use Rattle.std.specs.List.{list_all};
 ghost use Rattle.std.specs.Char.{is_ascii_digit};
 ghost use Rattle.std.specs.Str.Parse.{digits_value};
-ghost use Rattle.fixture_sheet.specs.Texts.{is_number, number_of, number_within};
+ghost use Rattle.fixture_sheet.specs.Texts.{is_number, number_written, number_within};
 
 /// The number that a field writes, where it writes one from `least` to `most`.
 pub fn number_within(least: u32, most: u32, text: &[u8]) -> Option<u32>
     ensures value { result ≡ number_within least most text.now }
     ensures range { IfSome result (λ number. (least ≤ number) × (number ≤ most)) }
 {
-    let number = number_of(text)?;
+    let number = number_written(text)?;
     if least <= number && number <= most {
         Some(number)
     } else {
@@ -20,8 +20,8 @@ pub fn number_within(least: u32, most: u32, text: &[u8]) -> Option<u32>
 }
 
 /// The number that a field writes, where it writes one.
-pub fn number_of(text: &[u8]) -> Option<u32>
-    ensures { result ≡ number_of text.now }
+pub fn number_written(text: &[u8]) -> Option<u32>
+    ensures { result ≡ number_written text.now }
 {
     if is_number(text) {
         Some(value_of(text))

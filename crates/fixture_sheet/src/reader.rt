@@ -6,7 +6,7 @@ ghost use Rattle.port_core.specs.Contents.{Contents};
 ghost use Rattle.port_core.specs.Readers.{LeavesReader, PassesTo, TakesInput, contents_to_come};
 ghost use Rattle.port_core.specs.Readers.{given_by};
 ghost use Rattle.fixture_sheet.specs.Calls.{CountsSheet, GivesSheet, Leads, PassesUpTo, ReadsSheet};
-ghost use Rattle.fixture_sheet.specs.Calls.{StepMoves, StepReads, answer_behind};
+ghost use Rattle.fixture_sheet.specs.Calls.{StepMoves, StepReads, sheet_answer_behind};
 ghost use Rattle.fixture_sheet.specs.Sheets.{fault_at_end};
 
 use crate::draft::Draft;
@@ -32,9 +32,9 @@ pub fn read_sheet<S: Source>(
     // Which lines of the input were passed, whole, and where the reader is left. At a refusal of
     // the input's end nothing is left of the source; at a read fault no whole line is in hand.
     ensures passes { PassesUpTo reader.old reader.new (S.left source.old) (S.left source.new)
-        (S.ended source.old) (S.ended source.new) (answer_behind reader.new result) }
+        (S.ended source.old) (S.ended source.new) (sheet_answer_behind reader.new result) }
     ensures leaves { LeavesReader reader.new (S.left source.new)
-        (answer_behind reader.new result) }
+        (sheet_answer_behind reader.new result) }
     ensures takes { TakesInput reader.old reader.new (S.left source.old) (S.left source.new) }
     ensures cause { CountsSheet (S.faults source.old) (S.faults source.new) result }
 {
@@ -62,9 +62,9 @@ fn next_record<S: Source>(
     ensures limits { GivesSheet result }
     ensures passes { PassesTo reader.old reader.new (S.left source.old) (S.left source.new)
         (S.ended source.old) (S.ended source.new)
-        (given_by (answer_behind reader.new result) reader.new.text) }
+        (given_by (sheet_answer_behind reader.new result) reader.new.text) }
     ensures leaves { LeavesReader reader.new (S.left source.new)
-        (answer_behind reader.new result) }
+        (sheet_answer_behind reader.new result) }
     ensures takes { TakesInput reader.old reader.new (S.left source.old) (S.left source.new) }
     ensures cause { CountsSheet (S.faults source.old) (S.faults source.new) result }
 {

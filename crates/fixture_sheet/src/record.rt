@@ -5,14 +5,15 @@ ghost use Rattle.league_core.specs.Limits.{most_budget};
 ghost use Rattle.league_core.specs.Sheets.{IsWithinLimits};
 ghost use Rattle.fixture_sheet.specs.Calls.{Answers, GivesSheet, as_progress};
 ghost use Rattle.fixture_sheet.specs.Records.{budget_of, club_taken, content_taken, later_taken};
-ghost use Rattle.fixture_sheet.specs.Records.{league_taken, line_taken, match_taken, no_record};
-ghost use Rattle.fixture_sheet.specs.Records.{order_of, record_taken, season_taken};
+ghost use Rattle.fixture_sheet.specs.Records.{league_taken, line_taken, match_taken};
+ghost use Rattle.fixture_sheet.specs.Records.{refusal_of_no_record};
+ghost use Rattle.fixture_sheet.specs.Records.{order_told, record_taken, season_taken};
 
 use crate::draft::Draft;
 use crate::fault::{FieldsStop, RecordStop, SheetFault};
 use crate::fields::{Fields, fields_of};
 use crate::name::name_of;
-use crate::number::{number_of, number_within};
+use crate::number::{number_within, number_written};
 use league_core::limits::{MOST_BUDGET, MOST_GOAL_LIMIT, MOST_RANK};
 use league_core::{Fixture, Order, Sheet};
 use std::alloc::Global;
@@ -37,13 +38,13 @@ pub fn take_content(
     match fields_of(alloc, content) {
         Ok(Some(fields)) => take_record(alloc, draft, &fields),
         Ok(None) => Ok(Progress::SoFar(draft)),
-        Err(FieldsStop::InnerReturn) => Err(RecordStop::Fault(no_record(&draft))),
+        Err(FieldsStop::InnerReturn) => Err(RecordStop::Fault(refusal_of_no_record(&draft))),
         Err(FieldsStop::OutOfMemory) => Err(RecordStop::OutOfMemory),
     }
 }
 
-fn no_record(draft: &Option<Draft>) -> SheetFault
-    ensures { result ≡ no_record draft.now }
+fn refusal_of_no_record(draft: &Option<Draft>) -> SheetFault
+    ensures { result ≡ refusal_of_no_record draft.now }
 {
     match draft {
         None => SheetFault::NoLeague,
@@ -113,7 +114,7 @@ fn league_record(alloc: Global, fields: &Fields) -> Result<Draft, RecordStop>
     let Some(budget) = budget_of(fields) else {
         return Err(RecordStop::Fault(SheetFault::BadField));
     };
-    let Some(order) = order_of(fields) else {
+    let Some(order) = order_told(fields) else {
         return Err(RecordStop::Fault(SheetFault::BadField));
     };
     Ok(Draft::begin(alloc, name, goal_limit as u8, budget, order)?)
@@ -130,8 +131,8 @@ fn budget_of(fields: &Fields) -> Option<u32>
     }
 }
 
-fn order_of(fields: &Fields) -> Option<Order>
-    ensures { result ≡ order_of fields.now }
+fn order_told(fields: &Fields) -> Option<Order>
+    ensures { result ≡ order_told fields.now }
 {
     if fields.len() < 5 {
         return Some(Order::HeadFirst);
@@ -194,7 +195,7 @@ fn line_record(draft: Draft, fields: &Fields) -> Result<Draft, RecordStop>
     if fields.len() != 2 {
         return Err(RecordStop::Fault(SheetFault::WrongWidth));
     }
-    let Some(line) = number_of(fields.at(1)) else {
+    let Some(line) = number_written(fields.at(1)) else {
         return Err(RecordStop::Fault(SheetFault::BadField));
     };
     draft.add_line(line)

@@ -8,8 +8,8 @@ use Rattle.cert_text.specs.declared.proof_line.ProofLine.{ProofLine}
 use Rattle.cert_text.specs.declared.proof_line.ProofLine.TheVariants as line
 use Rattle.cert_text.specs.Rows.{text_of_row}
 use Rattle.cert_text.specs.Lines.{text_of_proof_line}
-use Rattle.fixture_sheet.specs.Faults.{code_of as sheet_code_of}
-use Rattle.result_log.specs.Faults.{code_of as feed_code_of}
+use Rattle.fixture_sheet.specs.Faults.{sheet_code_of}
+use Rattle.result_log.specs.Faults.{feed_code_of}
 use Rattle.finish_walk.specs.declared.verdict.Verdict.{Verdict}
 use Rattle.finish_walk.specs.declared.verdict.Verdict.TheVariants.{Clinched, Lost, Possible}
 use Rattle.futmax_main.specs.declared.table_row.TableRow.{TableRow}

@@ -13,10 +13,12 @@ use Rattle.result_log.specs.declared.entry.Entry.{Entry}
 use Rattle.result_log.specs.declared.entry.Entry.TheVariants.{Change, Ask, Proofs, End}
 use Rattle.result_log.specs.declared.fault.FeedStop.{FeedStop}
 use Rattle.result_log.specs.declared.fault.FeedStop.TheVariants.{Fault, Read, OutOfMemory}
-use Rattle.result_log.specs.Feeds.{reading_from, reading_of}
-use Rattle.result_log.specs.Calls.{ComesOf, ComesThere, PassesBlank, PassesToEntry, answer_behind}
-use Rattle.result_log.specs.Calls.{AnswersLine, LineEntry, MovesToEntry, Passes, PassesLine}
-use Rattle.result_log.specs.Calls.{ReadsAs, ReadsEntry, ReadsRecord}
+use Rattle.result_log.specs.Feeds.{entry_reading_from, entry_reading_of}
+use Rattle.result_log.specs.Calls.{ComesOf, ComesThere, PassesBlank, PassesToEntry}
+use Rattle.result_log.specs.Calls.{entry_answer_behind}
+use Rattle.result_log.specs.Calls.{AnswersLine, LineEntry, MovesToEntry, PassesBareLines}
+use Rattle.result_log.specs.Calls.{PassesBareLine}
+use Rattle.result_log.specs.Calls.{ReadsEntryAs, ReadsEntry, ReadsRecord}
 
 -- ---- lines in front
 
@@ -45,38 +47,44 @@ with_line-one number content (Some contents) = refl
 
 -- ---- lines that hold no record
 
-pub Passes-none : (entry : LineEntry) (known : Option Contents) → Passes entry known known
-Passes-none entry known = ([], with_lines-none known, λ rest. refl)
+pub PassesBareLines-none : (entry : LineEntry) (known : Option Contents)
+    → PassesBareLines entry known known
+PassesBareLines-none entry known = ([], with_lines-none known, λ rest. refl)
 
 -- a line that holds no record leaves the reading as it is
 reading-blank : (entry : LineEntry) (number : ℕ) (content : List ℕ) (rest : Contents)
     → entry content ≡ Ok None
-    → reading_of entry (with_lines ((number, content) ∷ []) rest) ≡ reading_of entry rest
+    → entry_reading_of entry (with_lines ((number, content) ∷ []) rest)
+    ≡ entry_reading_of entry rest
 reading-blank entry number content rest blank = rw blank refl
 
 -- lines that hold none, and more of them
 reading-append : (entry : LineEntry) (first second : List (ℕ × List ℕ))
-    → ((rest : Contents) → reading_of entry (with_lines first rest) ≡ reading_of entry rest)
-    → ((rest : Contents) → reading_of entry (with_lines second rest) ≡ reading_of entry rest)
+    → ((rest : Contents)
+    → entry_reading_of entry (with_lines first rest) ≡ entry_reading_of entry rest)
+    → ((rest : Contents)
+    → entry_reading_of entry (with_lines second rest) ≡ entry_reading_of entry rest)
     → (rest : Contents)
-    → reading_of entry (with_lines (first ++ second) rest) ≡ reading_of entry rest
+    → entry_reading_of entry (with_lines (first ++ second) rest) ≡ entry_reading_of entry rest
 reading-append entry first second front behind rest =
-    ap (λ (lines : List (ℕ × List ℕ)). reading_from entry lines rest.ending)
+    ap (λ (lines : List (ℕ × List ℕ)). entry_reading_from entry lines rest.ending)
     (append_assoc first second rest.lines)
     ∙ front (with_lines second rest) ∙ behind rest
 
-pub Passes-append : (entry : LineEntry) (first mid last : Option Contents)
-    → Passes entry first mid → Passes entry mid last → Passes entry first last
-Passes-append entry first mid last front behind = (
+pub PassesBareLines-append : (entry : LineEntry) (first mid last : Option Contents)
+    → PassesBareLines entry first mid → PassesBareLines entry mid last
+    → PassesBareLines entry first last
+PassesBareLines-append entry first mid last front behind = (
   front.0 ++ behind.0,
   with_lines-append front.0 behind.0 first mid last front.1 behind.1,
   reading-append entry front.0 behind.0 front.2 behind.2,
 )
 
-pub Passes-more : (entry : LineEntry) (first mid last : Option Contents)
-    → Passes entry first mid → PassesLine entry mid last → Passes entry first last
-Passes-more entry first mid last front line =
-    Passes-append entry first mid last front (
+pub PassesBareLines-more : (entry : LineEntry) (first mid last : Option Contents)
+    → PassesBareLines entry first mid → PassesBareLine entry mid last
+    → PassesBareLines entry first last
+PassesBareLines-more entry first mid last front line =
+    PassesBareLines-append entry first mid last front (
       (line.0, line.1) ∷ [],
       line.2 ∙ with_line-one line.0 line.1 last,
       λ rest. reading-blank entry line.0 line.1 rest line.3,
@@ -86,31 +94,34 @@ Passes-more entry first mid last front line =
 
 reading-behind : (entry : LineEntry) (lines : List (ℕ × List ℕ)) (before mid : Option Contents)
     → before ≡ option_map (with_lines lines) mid
-    → ((rest : Contents) → reading_of entry (with_lines lines rest) ≡ reading_of entry rest)
-    → option_map (reading_of entry) before ≡ option_map (reading_of entry) mid
-reading-behind entry lines before None front same = ap (option_map (reading_of entry)) front
+    → ((rest : Contents)
+    → entry_reading_of entry (with_lines lines rest) ≡ entry_reading_of entry rest)
+    → option_map (entry_reading_of entry) before ≡ option_map (entry_reading_of entry) mid
+reading-behind entry lines before None front same = ap (option_map (entry_reading_of entry)) front
 reading-behind entry lines before (Some contents) front same =
-    ap (option_map (reading_of entry)) front ∙ ap Some (same contents)
+    ap (option_map (entry_reading_of entry)) front ∙ ap Some (same contents)
 
-ReadsAs-behind : (entry : LineEntry) (first mid last : Option Contents)
-    (result : Result Entry FeedStop) → Passes entry first mid → ReadsAs entry mid last result
-    → ReadsAs entry first last result
-ReadsAs-behind entry first mid last result passes reads =
+ReadsEntryAs-behind : (entry : LineEntry) (first mid last : Option Contents)
+    (result : Result Entry FeedStop) → PassesBareLines entry first mid
+    → ReadsEntryAs entry mid last result
+    → ReadsEntryAs entry first last result
+ReadsEntryAs-behind entry first mid last result passes reads =
     reading-behind entry passes.0 first mid passes.1 passes.2 ∙ reads
 
 pub ReadsEntry-behind : (entry : LineEntry) (first mid last : Option Contents)
-    (result : Result Entry FeedStop) → Passes entry first mid → ReadsEntry entry mid last result
+    (result : Result Entry FeedStop) → PassesBareLines entry first mid
+    → ReadsEntry entry mid last result
     → ReadsEntry entry first last result
 ReadsEntry-behind entry first mid last (Ok given) passes reads =
-    ReadsAs-behind entry first mid last (Ok given) passes reads
+    ReadsEntryAs-behind entry first mid last (Ok given) passes reads
 ReadsEntry-behind entry first mid last (Err (Fault number fault)) passes reads =
-    ReadsAs-behind entry first mid last (Err (Fault number fault)) passes reads
+    ReadsEntryAs-behind entry first mid last (Err (Fault number fault)) passes reads
 ReadsEntry-behind entry first mid last (Err (Read ReadFault)) passes reads =
-    Passes-append entry first mid last passes reads
+    PassesBareLines-append entry first mid last passes reads
 ReadsEntry-behind entry first mid last (Err (Read (LineTooLong number))) passes reads =
-    ReadsAs-behind entry first mid last (Err (Read (LineTooLong number))) passes reads
+    ReadsEntryAs-behind entry first mid last (Err (Read (LineTooLong number))) passes reads
 ReadsEntry-behind entry first mid last (Err (Read (InputTooLong number))) passes reads =
-    ReadsAs-behind entry first mid last (Err (Read (InputTooLong number))) passes reads
+    ReadsEntryAs-behind entry first mid last (Err (Read (InputTooLong number))) passes reads
 ReadsEntry-behind entry first mid last (Err OutOfMemory) passes reads =
     (passes.0 ++ reads.0, with_lines-append passes.0 reads.0 first mid last passes.1 reads.1)
 
@@ -119,13 +130,13 @@ ReadsEntry-behind entry first mid last (Err OutOfMemory) passes reads =
 -- a line whose entry gives this reading
 line-reads : (entry : LineEntry) (number : ℕ) (content : List ℕ) (before after : Option Contents)
     (result : Result Entry FeedStop) → before ≡ option_map (with_line number content) after
-    → ((contents : Contents) → reading_of entry (with_line number content contents)
+    → ((contents : Contents) → entry_reading_of entry (with_line number content contents)
     ≡ record { gives = result; rest = contents })
-    → ReadsAs entry before after result
+    → ReadsEntryAs entry before after result
 line-reads entry number content before None result front reads =
-    ap (option_map (reading_of entry)) front
+    ap (option_map (entry_reading_of entry)) front
 line-reads entry number content before (Some contents) result front reads =
-    ap (option_map (reading_of entry)) front ∙ ap Some (reads contents)
+    ap (option_map (entry_reading_of entry)) front ∙ ap Some (reads contents)
 
 -- what the content of a line is answers a call
 pub Text-reads : (entry : LineEntry) (number : ℕ) (content : List ℕ)
@@ -146,24 +157,24 @@ Text-reads entry number content before after (Some (Err OutOfMemory)) front answ
 ending-reads : (entry : LineEntry) (ending : Result ℕ ReadStop) (before after : Option Contents)
     (result : Result Entry FeedStop) → IfSome before (λ contents. contents ≡ ended ending)
     → before ≡ after
-    → reading_of entry (ended ending) ≡ record { gives = result; rest = ended ending }
-    → ReadsAs entry before after result
+    → entry_reading_of entry (ended ending) ≡ record { gives = result; rest = ended ending }
+    → ReadsEntryAs entry before after result
 ending-reads entry ending None after result is same reads =
     ap (option_map (λ (rest : Contents). record { gives = result; rest = rest })) same
 ending-reads entry ending (Some contents) after result is same reads =
-    ap (λ (c : Contents). Some (reading_of entry c)) is ∙ ap Some reads
+    ap (λ (c : Contents). Some (entry_reading_of entry c)) is ∙ ap Some reads
     ∙ ap (λ (c : Contents). Some (record { gives = result; rest = c })) (sym is)
     ∙ ap (option_map (λ (rest : Contents). record { gives = result; rest = rest })) same
 
 pub End-reads : (entry : LineEntry) (number : ℕ) (before after : Option Contents)
     → IfSome before (λ contents. contents ≡ ended (Ok number)) → before ≡ after
-    → ReadsAs entry before after (Ok End)
+    → ReadsEntryAs entry before after (Ok End)
 End-reads entry number before after is same =
     ending-reads entry (Ok number) before after (Ok End) is same refl
 
 pub Stop-reads : (entry : LineEntry) (stop : ReadStop) (before after : Option Contents)
     → IfSome before (λ contents. contents ≡ ended (Err stop)) → before ≡ after
-    → ReadsAs entry before after (Err (Read stop))
+    → ReadsEntryAs entry before after (Err (Read stop))
 Stop-reads entry stop before after is same =
     ending-reads entry (Err stop) before after (Err (Read stop)) is same refl
 
@@ -204,13 +215,14 @@ blank-more entry first mid last left left' left'' x y z front behind none = (
 pub entry-behind : (entry : LineEntry) (first mid last : Reader)
     (left left' left'' : Option (List ℕ)) (x y z : Bool) (result : Result Entry FeedStop)
     → PassesBlank entry first mid left left' x y
-    → PassesTo mid last left' left'' y z (given_by (answer_behind last result) last.text)
+    → PassesTo mid last left' left'' y z (given_by (entry_answer_behind last result) last.text)
     → ComesOf entry last.text result
     → PassesToEntry entry first last left left'' x z result
 entry-behind entry first mid last left left' left'' x y z result front behind comes = record {
   blank = front.0;
   none = front.1;
-  passes = passes-more _ _ _ _ _ _ _ _ _ front.0 (given_by (answer_behind last result) last.text)
+  passes = passes-more _ _ _ _ _ _ _ _ _ front.0
+      (given_by (entry_answer_behind last result) last.text)
       front.2 behind;
   comes = comes;
 }

@@ -17,8 +17,9 @@ use Rattle.result_log.specs.declared.fault.FeedFault.TheVariants.{UnknownRecord}
 use Rattle.league_core.specs.Limits.{most_events}
 use Rattle.result_log.specs.Records.{IsEntryAt}
 use Rattle.result_log.specs.Feeds.{EntryReading, count_with, entry_if, entry_in, events_with}
-use Rattle.result_log.specs.Feeds.{feed_by, feed_from, feed_of, given, reading_by, reading_from}
-use Rattle.result_log.specs.Feeds.{reading_of, season_with}
+use Rattle.result_log.specs.Feeds.{feed_by, feed_from, feed_of, given, entry_reading_by}
+use Rattle.result_log.specs.Feeds.{entry_reading_from}
+use Rattle.result_log.specs.Feeds.{entry_reading_of, season_with}
 use Rattle.result_log.specs.Laws.{KeepsLog, feed_behind}
 use Rattle.result_log.proofs.RecordLemmas.{entry_may_come}
 use Rattle.league_core.proofs.LogLemmas.{AreEventsOf-push, season_after_of}
@@ -53,7 +54,7 @@ line_reading_may_come : (sheet : Sheet) (season : Results) (events : ℕ) (proof
     → IsSeasonOf sheet season → (onward.gives ≡ Ok entry → IsEntryAt season events proofs entry)
     → (found : Result (Option Entry) FeedFault)
     → entry_in sheet season events proofs line.1 ≡ found
-    → (reading_by line.0 rest onward found).gives ≡ Ok entry
+    → (entry_reading_by line.0 rest onward found).gives ≡ Ok entry
     → IsEntryAt season events proofs entry
 line_reading_may_come sheet season events proofs line rest onward entry of_sheet behind
     (Ok None) is gives =
@@ -69,7 +70,7 @@ line_reading_may_come sheet season events proofs line rest onward entry of_sheet
 reading_may_come : (sheet : Sheet) (season : Results) (events : ℕ) (proofs : Bool)
     (lines : List (ℕ × List ℕ)) (ending : Result ℕ ReadStop) (entry : Entry)
     → IsSeasonOf sheet season
-    → (reading_from (entry_in sheet season events proofs) lines ending).gives ≡ Ok entry
+    → (entry_reading_from (entry_in sheet season events proofs) lines ending).gives ≡ Ok entry
     → IsEntryAt season events proofs entry
 reading_may_come sheet season events proofs [] (Ok number) entry of_sheet gives =
     let is : End ≡ entry = cc in subst (IsEntryAt season events proofs) is tt
@@ -77,13 +78,13 @@ reading_may_come sheet season events proofs [] (Err stop) entry of_sheet gives =
 reading_may_come sheet season events proofs (line ∷ lines) ending entry of_sheet gives =
     line_reading_may_come sheet season events proofs line
     (record { lines = lines; ending = ending })
-    (reading_from (entry_in sheet season events proofs) lines ending) entry of_sheet
+    (entry_reading_from (entry_in sheet season events proofs) lines ending) entry of_sheet
     (reading_may_come sheet season events proofs lines ending entry of_sheet)
     (entry_in sheet season events proofs line.1) refl gives
 
 pub contents_may_come : (sheet : Sheet) (season : Results) (events : ℕ) (proofs : Bool)
     (contents : Contents) (entry : Entry) → IsSeasonOf sheet season
-    → (reading_of (entry_in sheet season events proofs) contents).gives ≡ Ok entry
+    → (entry_reading_of (entry_in sheet season events proofs) contents).gives ≡ Ok entry
     → IsEntryAt season events proofs entry
 contents_may_come sheet season events proofs contents entry of_sheet gives =
     reading_may_come sheet season events proofs contents.lines contents.ending entry of_sheet gives
@@ -97,8 +98,8 @@ feed_by-first : (sheet : Sheet) (proofs : Bool) (events : List Event) (number : 
     ≡ feed_behind sheet proofs events onward.rest onward.gives
     → (found : Result (Option Entry) FeedFault)
     → feed_by number rest (feed_from sheet proofs rest.lines rest.ending) events found
-    ≡ feed_behind sheet proofs events (reading_by number rest onward found).rest
-    (reading_by number rest onward found).gives
+    ≡ feed_behind sheet proofs events (entry_reading_by number rest onward found).rest
+    (entry_reading_by number rest onward found).gives
 feed_by-first sheet proofs events number rest onward behind (Ok None) = behind
 feed_by-first sheet proofs events number rest onward behind (Ok (Some (Change event))) = refl
 feed_by-first sheet proofs events number rest onward behind (Ok (Some Ask)) = refl
@@ -110,15 +111,15 @@ feed_from-first : (sheet : Sheet) (proofs : Bool) (events : List Event)
     (lines : List (ℕ × List ℕ)) (ending : Result ℕ ReadStop)
     → feed_from sheet proofs lines ending events
     ≡ feed_behind sheet proofs events
-    (reading_from (entry_in sheet (season_after sheet events) (epoch_of events) proofs)
+    (entry_reading_from (entry_in sheet (season_after sheet events) (epoch_of events) proofs)
     lines ending).rest
-    (reading_from (entry_in sheet (season_after sheet events) (epoch_of events) proofs)
+    (entry_reading_from (entry_in sheet (season_after sheet events) (epoch_of events) proofs)
     lines ending).gives
 feed_from-first sheet proofs events [] (Ok number) = refl
 feed_from-first sheet proofs events [] (Err stop) = refl
 feed_from-first sheet proofs events (line ∷ lines) ending =
     feed_by-first sheet proofs events line.0 (record { lines = lines; ending = ending })
-    (reading_from (entry_in sheet (season_after sheet events) (epoch_of events) proofs)
+    (entry_reading_from (entry_in sheet (season_after sheet events) (epoch_of events) proofs)
     lines ending)
     (feed_from-first sheet proofs events lines ending)
     (entry_in sheet (season_after sheet events) (epoch_of events) proofs line.1)
@@ -126,9 +127,9 @@ feed_from-first sheet proofs events (line ∷ lines) ending =
 pub feed_of-first : (sheet : Sheet) (proofs : Bool) (contents : Contents) (events : List Event)
     → feed_of sheet proofs contents events
     ≡ feed_behind sheet proofs events
-    (reading_of (entry_in sheet (season_after sheet events) (epoch_of events) proofs)
+    (entry_reading_of (entry_in sheet (season_after sheet events) (epoch_of events) proofs)
     contents).rest
-    (reading_of (entry_in sheet (season_after sheet events) (epoch_of events) proofs)
+    (entry_reading_of (entry_in sheet (season_after sheet events) (epoch_of events) proofs)
     contents).gives
 feed_of-first sheet proofs contents events =
     feed_from-first sheet proofs events contents.lines contents.ending

@@ -26,9 +26,11 @@ use Rattle.result_log.specs.declared.fault.FeedFault.TheVariants.{WrongWidth, Un
 use Rattle.result_log.specs.declared.fault.FeedFault.TheVariants.{UnknownClub, BadGoals, BadPoints}
 use Rattle.result_log.specs.declared.fault.FeedFault.TheVariants.{AlreadyPlayed, NotPlayed, LogFull}
 use Rattle.result_log.specs.Records.{IsEntryAt, club_told, entry_by, entry_of, entry_told}
-use Rattle.result_log.specs.Records.{fixture_told, found_number, has_club, has_fixture, has_goals}
-use Rattle.result_log.specs.Records.{has_points, has_result, has_score, is_event, is_for_club}
-use Rattle.result_log.specs.Records.{is_for_fixture, is_for_played, is_for_unplayed, is_within}
+use Rattle.result_log.specs.Records.{fixture_told, found_number, names_a_club, has_fixture}
+use Rattle.result_log.specs.Records.{has_goals}
+use Rattle.result_log.specs.Records.{has_points, has_result, tells_a_score, is_event, is_for_club}
+use Rattle.result_log.specs.Records.{is_for_fixture, is_for_played, is_for_unplayed}
+use Rattle.result_log.specs.Records.{is_number_within}
 use Rattle.result_log.specs.Records.{kind_of, score_told, tests_of, told_unless, width_of}
 
 -- ---- ranges
@@ -49,7 +51,7 @@ number_in_range least most number true some =
     in_range least most number (nat_le least number && nat_le number most) refl some
 
 -- a field that is in a range writes a number there
-pub range-within : (least most : ℕ) (text : List ℕ) → is_within least most text ≡ true
+pub range-within : (least most : ℕ) (text : List ℕ) → is_number_within least most text ≡ true
     → (least ≤ digits_value 10 text) × (digits_value 10 text ≤ most)
 range-within least most text within =
     number_in_range least most (digits_value 10 text) (is_number text) within
@@ -65,7 +67,8 @@ fixture-within sheet fields has =
 score-within : (fields : List (List ℕ)) → has_goals fields ≡ true
     → is_score (score_told fields) ≡ true
 score-within fields has =
-    let parts = and_parts (is_within 0 most_goals (field 2 fields)) (is_within 0 most_goals (field 3
+    let parts = and_parts (is_number_within 0 most_goals (field 2 fields))
+    (is_number_within 0 most_goals (field 3
     fields)) has in
     and_from _ _ (le-leb _ _ (range-within 0 most_goals (field 2 fields) parts.0).1)
     (le-leb _ _ (range-within 0 most_goals (field 3 fields) parts.1).1)
@@ -86,8 +89,8 @@ passed false fault rest given told = (refl, told)
 record KnownOf (sheet : Sheet) (events : ℕ) (fields : List (List ℕ)) (kind : Kind) (entry : Entry)
     : Type 0 where
   fixture : (is_for_fixture kind && not (has_fixture sheet fields)) ≡ false
-  club : (is_for_club kind && not (has_club sheet fields)) ≡ false
-  goals : (has_score kind && not (has_goals fields)) ≡ false
+  club : (is_for_club kind && not (names_a_club sheet fields)) ≡ false
+  goals : (tells_a_score kind && not (has_goals fields)) ≡ false
   points : (is_for_club kind && not (has_points fields)) ≡ false
   room : (is_event kind && nat_le most_events events) ≡ false
   is : entry_told sheet fields kind ≡ entry
@@ -101,9 +104,9 @@ told_as sheet season events fields kind entry told =
     let width = passed (not (length fields == width_of kind)) WrongWidth _ entry told in
     let fixture = passed (is_for_fixture kind && not (has_fixture sheet fields)) UnknownFixture
     _ entry width.1 in
-    let club = passed (is_for_club kind && not (has_club sheet fields)) UnknownClub
+    let club = passed (is_for_club kind && not (names_a_club sheet fields)) UnknownClub
     _ entry fixture.1 in
-    let goals = passed (has_score kind && not (has_goals fields)) BadGoals _ entry club.1 in
+    let goals = passed (tells_a_score kind && not (has_goals fields)) BadGoals _ entry club.1 in
     let points = passed (is_for_club kind && not (has_points fields)) BadPoints
     _ entry goals.1 in
     let played = passed (is_for_unplayed kind && has_result season (fixture_told fields))
@@ -146,7 +149,7 @@ found-within names (Some place) inside some = inside place refl
 
 -- the club of a record is one of the season's
 club_of_season : (sheet : Sheet) (season : Results) (fields : List (List ℕ))
-    → IsSeasonOf sheet season → has_club sheet fields ≡ true
+    → IsSeasonOf sheet season → names_a_club sheet fields ≡ true
     → club_told sheet fields < length season.deductions
 club_of_season sheet season fields of_sheet has =
     let inside = found-within (names_of sheet) (club_named sheet (field 1 fields))

@@ -18,7 +18,7 @@ use Rattle.result_log.specs.declared.fault.ContentStop.{ContentStop}
 use Rattle.result_log.specs.declared.fault.ContentStop.TheVariants as content_stop
 use Rattle.result_log.specs.declared.fault.FeedStop.{FeedStop}
 use Rattle.result_log.specs.declared.fault.FeedStop.TheVariants.{Fault, Read, OutOfMemory}
-use Rattle.result_log.specs.Feeds.{reading_of}
+use Rattle.result_log.specs.Feeds.{entry_reading_of}
 
 -- what a line's content is as an entry
 abbrev pub LineEntry : Type 0
@@ -44,64 +44,65 @@ AnswersLine number line (Some (Err (Read stop))) = ⊥
 AnswersLine number line (Some (Err OutOfMemory)) = Unit {0}
 
 -- a line was read that holds no record
-abbrev pub PassesLine : LineEntry → Option Contents → Option Contents → Type 0
-PassesLine entry before after =
+abbrev pub PassesBareLine : LineEntry → Option Contents → Option Contents → Type 0
+PassesBareLine entry before after =
     (number : ℕ) × (content : List ℕ)
     × (before ≡ option_map (with_line number content) after) × (entry content ≡ Ok None)
 
 -- the contents, where they are told, are read as the definition says
-abbrev pub ReadsAs :
+abbrev pub ReadsEntryAs :
     LineEntry → Option Contents → Option Contents → Result Entry FeedStop → Type 0
-ReadsAs entry before after result =
-    option_map (reading_of entry) before
+ReadsEntryAs entry before after result =
+    option_map (entry_reading_of entry) before
     ≡ option_map (λ rest. record { gives = result; rest = rest }) after
 
 -- ---- the lines up to a record
 
 -- lines were read that hold no record
-abbrev pub Passes : LineEntry → Option Contents → Option Contents → Type 0
-Passes entry before after =
+abbrev pub PassesBareLines : LineEntry → Option Contents → Option Contents → Type 0
+PassesBareLines entry before after =
     (lines : List (ℕ × List ℕ)) × (before ≡ option_map (with_lines lines) after)
-    × ((rest : Contents) → reading_of entry (with_lines lines rest) ≡ reading_of entry rest)
+    × ((rest : Contents)
+    → entry_reading_of entry (with_lines lines rest) ≡ entry_reading_of entry rest)
 
 -- the contents that were to come before the call and are to come after it, by its answer: an
 -- entry, a refusal and a stop for good come as the definition says; before a fault of the source
 -- no record came; want of memory may come behind any line
 abbrev pub ReadsEntry :
     LineEntry → Option Contents → Option Contents → Result Entry FeedStop → Type 0
-ReadsEntry entry before after (Ok given) = ReadsAs entry before after (Ok given)
+ReadsEntry entry before after (Ok given) = ReadsEntryAs entry before after (Ok given)
 ReadsEntry entry before after (Err (Fault number fault)) =
-    ReadsAs entry before after (Err (Fault number fault))
-ReadsEntry entry before after (Err (Read ReadFault)) = Passes entry before after
+    ReadsEntryAs entry before after (Err (Fault number fault))
+ReadsEntry entry before after (Err (Read ReadFault)) = PassesBareLines entry before after
 ReadsEntry entry before after (Err (Read (LineTooLong number))) =
-    ReadsAs entry before after (Err (Read (LineTooLong number)))
+    ReadsEntryAs entry before after (Err (Read (LineTooLong number)))
 ReadsEntry entry before after (Err (Read (InputTooLong number))) =
-    ReadsAs entry before after (Err (Read (InputTooLong number)))
+    ReadsEntryAs entry before after (Err (Read (InputTooLong number)))
 ReadsEntry entry before after (Err OutOfMemory) = TakesLines before after
 
 -- the same of one line: without an answer it holds no record
 abbrev pub ReadsRecord :
     LineEntry → Option Contents → Option Contents → Option (Result Entry FeedStop) → Type 0
-ReadsRecord entry before after None = PassesLine entry before after
+ReadsRecord entry before after None = PassesBareLine entry before after
 ReadsRecord entry before after (Some result) = ReadsEntry entry before after result
 
 -- ---- the lines passed, and where the reader is left
 
 -- the reader's answer that an entry or its want came of: the line passed last, which a refusal has
 -- the number of, the input's end, or a stop
-abbrev pub answer_behind : Reader → Result Entry FeedStop → Result Line ReadStop
-answer_behind new (Ok (Change event)) = Ok (line.Text new.position.lines)
-answer_behind new (Ok Ask) = Ok (line.Text new.position.lines)
-answer_behind new (Ok Proofs) = Ok (line.Text new.position.lines)
-answer_behind new (Ok End) = Ok (line.End (number_at new.position))
-answer_behind new (Err (Fault number fault)) = Ok (line.Text number)
-answer_behind new (Err (Read stop)) = Err stop
-answer_behind new (Err OutOfMemory) = Ok (line.Text new.position.lines)
+abbrev pub entry_answer_behind : Reader → Result Entry FeedStop → Result Line ReadStop
+entry_answer_behind new (Ok (Change event)) = Ok (line.Text new.position.lines)
+entry_answer_behind new (Ok Ask) = Ok (line.Text new.position.lines)
+entry_answer_behind new (Ok Proofs) = Ok (line.Text new.position.lines)
+entry_answer_behind new (Ok End) = Ok (line.End (number_at new.position))
+entry_answer_behind new (Err (Fault number fault)) = Ok (line.Text number)
+entry_answer_behind new (Err (Read stop)) = Err stop
+entry_answer_behind new (Err OutOfMemory) = Ok (line.Text new.position.lines)
 
 -- the same of one line: without an answer it is passed
 abbrev pub answer_there : Reader → Option (Result Entry FeedStop) → Result Line ReadStop
 answer_there new None = Ok (line.Text new.position.lines)
-answer_there new (Some result) = answer_behind new result
+answer_there new (Some result) = entry_answer_behind new result
 
 -- ---- the contents passed, up to the answer
 
@@ -134,7 +135,7 @@ pub record PassesToEntry (entry : LineEntry) (old new : Reader) (left left' : Op
   pub blank : List (ℕ × List ℕ)
   pub none : All (λ line. entry line.1 ≡ Ok None) blank
   pub passes : PassesTo old new left left' ended ended'
-      (blank ++ given_by (answer_behind new result) new.text)
+      (blank ++ given_by (entry_answer_behind new result) new.text)
   pub comes : ComesOf entry new.text result
 
 -- ---- progress, and faults

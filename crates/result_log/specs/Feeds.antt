@@ -46,31 +46,32 @@ pub record EntryReading : Type 0 where
   pub rest : Contents
 
 -- the input ends, or stops, before a record comes
-abbrev pub given_at_end : Result ℕ ReadStop → Result Entry FeedStop
-given_at_end (Ok number) = Ok End
-given_at_end (Err stop) = Err (Read stop)
+abbrev pub entry_given_at_end : Result ℕ ReadStop → Result Entry FeedStop
+entry_given_at_end (Ok number) = Ok End
+entry_given_at_end (Err stop) = Err (Read stop)
 
 -- what a line leads to, by the entry that it is: the entry, the refusal of the line of this
 -- number, or what comes of the lines behind it
-abbrev pub reading_by :
+abbrev pub entry_reading_by :
     ℕ → Contents → EntryReading → Result (Option Entry) FeedFault → EntryReading
-reading_by number rest onward (Ok None) = onward
-reading_by number rest onward (Ok (Some entry)) = record { gives = Ok entry; rest = rest }
-reading_by number rest onward (Err fault) =
+entry_reading_by number rest onward (Ok None) = onward
+entry_reading_by number rest onward (Ok (Some entry)) = record { gives = Ok entry; rest = rest }
+entry_reading_by number rest onward (Err fault) =
     record { gives = Err (Fault number fault); rest = rest }
 
 -- the reading of the first entry of these lines and this ending, where `entry` says what a line is
-abbrev pub reading_from :
+abbrev pub entry_reading_from :
     (List ℕ → Result (Option Entry) FeedFault) → List (ℕ × List ℕ) → Result ℕ ReadStop
     → EntryReading
-reading_from entry [] ending = record { gives = given_at_end ending; rest = ended ending }
-reading_from entry (line ∷ lines) ending =
-    reading_by line.0 (record { lines = lines; ending = ending })
-    (reading_from entry lines ending) (entry line.1)
+entry_reading_from entry
+    [] ending = record { gives = entry_given_at_end ending; rest = ended ending }
+entry_reading_from entry (line ∷ lines) ending =
+    entry_reading_by line.0 (record { lines = lines; ending = ending })
+    (entry_reading_from entry lines ending) (entry line.1)
 
 -- the same of contents
-abbrev pub reading_of : (List ℕ → Result (Option Entry) FeedFault) → Contents → EntryReading
-reading_of entry contents = reading_from entry contents.lines contents.ending
+abbrev pub entry_reading_of : (List ℕ → Result (Option Entry) FeedFault) → Contents → EntryReading
+entry_reading_of entry contents = entry_reading_from entry contents.lines contents.ending
 
 -- ---- the whole feed
 
@@ -126,7 +127,7 @@ feed_by number rest onward events (Err fault) = closed (Err (Fault number fault)
 -- of the events before it
 abbrev pub feed_from :
     Sheet → Bool → List (ℕ × List ℕ) → Result ℕ ReadStop → List Event → Feed
-feed_from sheet proofs [] ending events = closed (given_at_end ending) (ended ending)
+feed_from sheet proofs [] ending events = closed (entry_given_at_end ending) (ended ending)
 feed_from sheet proofs (line ∷ lines) ending events =
     feed_by line.0 (record { lines = lines; ending = ending })
     (feed_from sheet proofs lines ending) events
@@ -174,7 +175,7 @@ round_by number rest onward events (Err fault) = round_closed (Err (Fault number
 -- the round of these lines and this ending, behind these events
 abbrev pub round_from :
     Sheet → Bool → List (ℕ × List ℕ) → Result ℕ ReadStop → List Event → Round
-round_from sheet proofs [] ending events = round_closed (given_at_end ending) (ended ending)
+round_from sheet proofs [] ending events = round_closed (entry_given_at_end ending) (ended ending)
 round_from sheet proofs (line ∷ lines) ending events =
     round_by line.0 (record { lines = lines; ending = ending })
     (round_from sheet proofs lines ending) events

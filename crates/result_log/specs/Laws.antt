@@ -12,7 +12,7 @@ use Rattle.result_log.specs.declared.fault.FeedStop.{FeedStop}
 use Rattle.league_core.specs.Limits.{most_events}
 use Rattle.result_log.specs.Records.{IsEntryAt, entry_of}
 use Rattle.result_log.specs.Feeds.{Feed, closed, count_with, entry_in, events_behind, events_with}
-use Rattle.result_log.specs.Feeds.{feed_of, round_of, reading_of, season_with, with_entry}
+use Rattle.result_log.specs.Feeds.{feed_of, round_of, entry_reading_of, season_with, with_entry}
 
 -- ---- one entry
 
@@ -34,7 +34,7 @@ abbrev pub ReadingsMayCome : Type 0
 ReadingsMayCome =
     (sheet : Sheet) (season : Results) (events : ℕ) (proofs : Bool) (contents : Contents)
     (entry : Entry) → IsSeasonOf sheet season
-    → (reading_of (entry_in sheet season events proofs) contents).gives ≡ Ok entry
+    → (entry_reading_of (entry_in sheet season events proofs) contents).gives ≡ Ok entry
     → IsEntryAt season events proofs entry
 
 -- ---- the whole feed
@@ -53,7 +53,8 @@ feed_behind sheet proofs events rest (Err stop) = closed (Err stop) rest
 abbrev pub FeedsAreReadByEntries : Type 0
 FeedsAreReadByEntries =
     (sheet : Sheet) (proofs : Bool) (contents : Contents) (events : List Event)
-    → let next = reading_of (entry_in sheet (season_after sheet events) (epoch_of events) proofs)
+    → let next = entry_reading_of (entry_in sheet (season_after sheet events)
+    (epoch_of events) proofs)
     contents in
     feed_of sheet proofs contents events
     ≡ feed_behind sheet proofs events next.rest next.gives

@@ -46,13 +46,13 @@ width_of kind.Ask = 1
 width_of kind.Proofs = 1
 
 -- it tells a score
-abbrev pub has_score : Kind → Bool
-has_score kind.Result = true
-has_score kind.Fix = true
-has_score kind.Void = false
-has_score kind.Deduct = false
-has_score kind.Ask = false
-has_score kind.Proofs = false
+abbrev pub tells_a_score : Kind → Bool
+tells_a_score kind.Result = true
+tells_a_score kind.Fix = true
+tells_a_score kind.Void = false
+tells_a_score kind.Deduct = false
+tells_a_score kind.Ask = false
+tells_a_score kind.Proofs = false
 
 -- it is for a fixture that has no score
 abbrev pub is_for_unplayed : Kind → Bool
@@ -92,16 +92,16 @@ is_event kind = is_for_fixture kind || is_for_club kind
 -- ---- what a record tells; it means something where no test refuses the record
 
 -- the number that a field writes
-abbrev pub number_at : ℕ → List (List ℕ) → ℕ
-number_at place fields = digits_value 10 (field place fields)
+abbrev pub number_in_field : ℕ → List (List ℕ) → ℕ
+number_in_field place fields = digits_value 10 (field place fields)
 
 -- the fixture, by its number from 0; a feed counts fixtures from 1
 abbrev pub fixture_told : List (List ℕ) → ℕ
-fixture_told fields = number_at 1 fields - 1
+fixture_told fields = number_in_field 1 fields - 1
 
 -- the score
 abbrev pub score_told : List (List ℕ) → Score
-score_told fields = record { home = number_at 2 fields; away = number_at 3 fields }
+score_told fields = record { home = number_in_field 2 fields; away = number_in_field 3 fields }
 
 -- a number that is found
 abbrev pub found_number : Option ℕ → ℕ
@@ -117,32 +117,33 @@ abbrev pub entry_told : Sheet → List (List ℕ) → Kind → Entry
 entry_told sheet fields kind.Result = Change (Set (fixture_told fields) (score_told fields))
 entry_told sheet fields kind.Fix = Change (Set (fixture_told fields) (score_told fields))
 entry_told sheet fields kind.Void = Change (Clear (fixture_told fields))
-entry_told sheet fields kind.Deduct = Change (Deduct (club_told sheet fields) (number_at 2 fields))
+entry_told sheet fields kind.Deduct = Change
+    (Deduct (club_told sheet fields) (number_in_field 2 fields))
 entry_told sheet fields kind.Ask = Ask
 entry_told sheet fields kind.Proofs = Proofs
 
 -- ---- the tests
 
 -- a field is a number, and in this range
-abbrev pub is_within : ℕ → ℕ → List ℕ → Bool
-is_within least most text = is_some (number_within least most text)
+abbrev pub is_number_within : ℕ → ℕ → List ℕ → Bool
+is_number_within least most text = is_some (number_within least most text)
 
 -- the sheet has the fixture
 abbrev pub has_fixture : Sheet → List (List ℕ) → Bool
-has_fixture sheet fields = is_within 1 (length sheet.fixtures) (field 1 fields)
+has_fixture sheet fields = is_number_within 1 (length sheet.fixtures) (field 1 fields)
 
 -- the score is one that a match may have
 abbrev pub has_goals : List (List ℕ) → Bool
 has_goals fields =
-    is_within 0 most_goals (field 2 fields) && is_within 0 most_goals (field 3 fields)
+    is_number_within 0 most_goals (field 2 fields) && is_number_within 0 most_goals (field 3 fields)
 
 -- the sheet has the club
-abbrev pub has_club : Sheet → List (List ℕ) → Bool
-has_club sheet fields = is_some (club_named sheet (field 1 fields))
+abbrev pub names_a_club : Sheet → List (List ℕ) → Bool
+names_a_club sheet fields = is_some (club_named sheet (field 1 fields))
 
 -- the points are as many as may be taken off
 abbrev pub has_points : List (List ℕ) → Bool
-has_points fields = is_within 0 most_deduction (field 2 fields)
+has_points fields = is_number_within 0 most_deduction (field 2 fields)
 
 -- the fixture has a score
 abbrev pub has_result : Results → ℕ → Bool
@@ -153,8 +154,8 @@ abbrev pub event_tests :
     Sheet → Results → ℕ → List (List ℕ) → Kind → List (Bool × FeedFault)
 event_tests sheet season events fields kind =
     (is_for_fixture kind && not (has_fixture sheet fields), UnknownFixture)
-    ∷ (is_for_club kind && not (has_club sheet fields), UnknownClub)
-    ∷ (has_score kind && not (has_goals fields), BadGoals)
+    ∷ (is_for_club kind && not (names_a_club sheet fields), UnknownClub)
+    ∷ (tells_a_score kind && not (has_goals fields), BadGoals)
     ∷ (is_for_club kind && not (has_points fields), BadPoints)
     ∷ (is_for_unplayed kind && has_result season (fixture_told fields), AlreadyPlayed)
     ∷ (is_for_played kind && not (has_result season (fixture_told fields)), NotPlayed)

@@ -1,7 +1,7 @@
 //! Why a record of the feed is refused, and why no entry is given.
 
 ghost use Rattle.std.specs.Prelude.{◌≡◌};
-ghost use Rattle.result_log.specs.Faults.{code_of};
+ghost use Rattle.result_log.specs.Faults.{feed_code_of};
 
 use port_core::ReadStop;
 use thiserror::Error;
@@ -42,7 +42,7 @@ pub enum FeedFault {
 impl FeedFault {
     /// The code that the refusal is printed by, as in a row of a run.
     pub fn code(self) -> &'static str
-        ensures { result.now ≡ code_of self }
+        ensures { result.now ≡ feed_code_of self }
     {
         match self {
             FeedFault::UnknownRecord => "unknown_record",

@@ -6,7 +6,8 @@ ghost use Rattle.port_core.specs.Readers.{LeavesReader, PassesTo, TakesInput, co
 ghost use Rattle.port_core.specs.Readers.{given_by};
 ghost use Rattle.result_log.specs.Calls.{ComesThere, PassesToEntry};
 ghost use Rattle.result_log.specs.Calls.{AnswersLine, CountsEntry, CountsRecord, MovesToEntry};
-ghost use Rattle.result_log.specs.Calls.{MovesToRecord, ReadsEntry, ReadsRecord, answer_behind};
+ghost use Rattle.result_log.specs.Calls.{MovesToRecord, ReadsEntry, ReadsRecord};
+ghost use Rattle.result_log.specs.Calls.{entry_answer_behind};
 ghost use Rattle.result_log.specs.Calls.{answer_there};
 ghost use Rattle.result_log.specs.Feeds.{entry_in};
 ghost use Rattle.result_log.specs.Records.{IsEntryAt};
@@ -47,7 +48,7 @@ pub fn next_entry<S: Source>(
         reader.old reader.new (S.left source.old) (S.left source.new)
         (S.ended source.old) (S.ended source.new) result }
     ensures leaves { LeavesReader reader.new (S.left source.new)
-        (answer_behind reader.new result) }
+        (entry_answer_behind reader.new result) }
     ensures takes { TakesInput reader.old reader.new (S.left source.old) (S.left source.new) }
     ensures moves { MovesToEntry reader.old reader.new result }
     ensures cause { CountsEntry (S.faults source.old) (S.faults source.new) result }

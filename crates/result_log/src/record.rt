@@ -5,8 +5,8 @@ ghost use Rattle.std.specs.Prelude.{not};
 ghost use Rattle.league_core.specs.Seasons.{IsSeasonOf};
 ghost use Rattle.fixture_sheet.specs.Texts.{only_if};
 ghost use Rattle.result_log.specs.Records.{IsEntryAt, entry_of, club_told, entry_told, event_tests};
-ghost use Rattle.result_log.specs.Records.{fixture_told, has_club, has_fixture, has_goals};
-ghost use Rattle.result_log.specs.Records.{has_points, has_result, number_at, score_told};
+ghost use Rattle.result_log.specs.Records.{fixture_told, names_a_club, has_fixture, has_goals};
+ghost use Rattle.result_log.specs.Records.{has_points, has_result, number_in_field, score_told};
 ghost use Rattle.result_log.specs.Records.{told_unless};
 ghost use Rattle.league_core.specs.Limits.{most_deduction, most_events};
 
@@ -120,7 +120,7 @@ fn read_void(
 fn read_deduct(sheet: &Sheet, events: u64, fields: &Fields) -> Result<Entry, FeedFault>
     requires { length sheet.now.clubs ≤ 255 }
     ensures { result ≡ told_unless
-        ((not (has_club sheet.now fields.now), FeedFault.UnknownClub)
+        ((not (names_a_club sheet.now fields.now), FeedFault.UnknownClub)
         ∷ (not (has_points fields.now), FeedFault.BadPoints)
         ∷ (nat_le most_events events, FeedFault.LogFull) ∷ [])
         (entry_told sheet.now fields.now Kind.Deduct) }
@@ -137,14 +137,14 @@ fn read_deduct(sheet: &Sheet, events: u64, fields: &Fields) -> Result<Entry, Fee
 // The club that the second field names.
 fn club_of(sheet: &Sheet, fields: &Fields) -> Option<u8>
     requires { length sheet.now.clubs ≤ 255 }
-    ensures { result ≡ only_if (has_club sheet.now fields.now) (club_told sheet.now fields.now) }
+    ensures { result ≡ only_if (names_a_club sheet.now fields.now) (club_told sheet.now fields.now) }
 {
     club_named(sheet, fields.at(1))
 }
 
 // The points of the third field.
 fn points_of(fields: &Fields) -> Option<u8>
-    ensures value { result ≡ only_if (has_points fields.now) (number_at 2 fields.now) }
+    ensures value { result ≡ only_if (has_points fields.now) (number_in_field 2 fields.now) }
     ensures within { IfSome result (λ points. points ≤ most_deduction) }
 {
     match number_within(0, u32::from(MOST_DEDUCTION), fields.at(2)) {

@@ -4,13 +4,14 @@ use Rattle.port_core.specs.Readers.{contents_to_come}
 use Rattle.port_core.proofs.TakingLemmas.{TakesInput-more, TakesInput-none}
 use Rattle.result_log.specs.Feeds.{entry_in}
 use Rattle.result_log.proofs.CallLemmas.{blank-none, blank-more, entry-behind, MovesToEntry-from}
-use Rattle.result_log.proofs.CallLemmas.{Passes-more, Passes-none}
+use Rattle.result_log.proofs.CallLemmas.{PassesBareLines-more, PassesBareLines-none}
 use Rattle.result_log.proofs.CallLemmas.{ReadsEntry-behind}
 use Rattle.result_log.proofs.reader.next_entry.Goals as goal
 
 pub records-init : goal.records-init
 records-init g c = record {
-  reads = Passes-none (entry_in c.args.sheet.now c.args.season.now c.args.events c.args.proofs)
+  reads = PassesBareLines-none
+      (entry_in c.args.sheet.now c.args.season.now c.args.events c.args.proofs)
       (contents_to_come c.args.reader.now (g.S.Source.left c.args.source.now));
   passes = blank-none
       (entry_in c.args.sheet.now c.args.season.now c.args.events c.args.proofs)
@@ -22,7 +23,8 @@ records-init g c = record {
 
 pub records-preserved : goal.records-preserved
 records-preserved g c = record {
-  reads = Passes-more (entry_in c.args.sheet.now c.args.season.now c.args.events c.args.proofs)
+  reads = PassesBareLines-more
+      (entry_in c.args.sheet.now c.args.season.now c.args.events c.args.proofs)
       (contents_to_come c.args.reader.now (g.S.Source.left c.args.source.now))
       (contents_to_come c.records.reader (g.S.Source.left c.records.source))
       (contents_to_come c.take_line.new.reader (g.S.Source.left c.take_line.new.source))

@@ -1,14 +1,14 @@
 use Rattle.std.proofs.Common.{◌≡◌, ◌-◌, ◌≤◌}
 use Rattle.port_core.specs.Contents.{input_limit}
 use Rattle.port_core.specs.Readers.{TakesInput, contents_to_come}
-use Rattle.result_log.specs.Calls.{Passes, PassesBlank}
+use Rattle.result_log.specs.Calls.{PassesBareLines, PassesBlank}
 use Rattle.result_log.specs.Feeds.{entry_in}
 use Rattle.result_log.proofs.reader.next_entry.Given as goal
 
 -- the lines so far held no record, and they were passed whole
 abbrev pub invariant-records : goal.invariant-records
 invariant-records g l = record {
-  reads : Passes (entry_in l.sheet l.season l.events l.proofs)
+  reads : PassesBareLines (entry_in l.sheet l.season l.events l.proofs)
       (contents_to_come l.fn.reader (g.S.Source.left l.fn.source))
       (contents_to_come l.reader (g.S.Source.left l.source));
   passes : PassesBlank (entry_in l.sheet l.season l.events l.proofs) l.fn.reader l.reader
