@@ -1,6 +1,7 @@
 //! The program: `futmax MODE`, with the input on standard input and all rows on standard output.
 //!
-//! What it promises is what `futmax_main::futmax` promises of its two devices; it prints nothing by itself.
+//! What it promises is what `futmax_main::futmax` promises of its two devices; it prints nothing by
+//! itself.
 #![tactic(auto)]
 
 use futmax_main::{Status, futmax};

@@ -60,8 +60,8 @@ difference_before_goals : places (for_b (vs 0 2 ∷ vs 1 3 ∷ []))
     (played (ended 2 0 ∷ ended 4 3 ∷ []) (0 ∷ 0 ∷ 0 ∷ 0 ∷ [])) b_draws_first ≡ 1 ∷ 2 ∷ 4 ∷ 3 ∷ []
 difference_before_goals = refl
 
--- away goals before wins: A drew 1:1, 1:1 and 0:0 at C, B beat D 2:0 and lost to it twice 0:1, all at
--- home; three points are taken off C
+-- away goals before wins: A drew 1:1, 1:1 and 0:0 at C, B beat D 2:0 and lost to it twice 0:1, all
+-- at home; three points are taken off C
 away_goals_before_wins : places
     (for_b (vs 2 0 ∷ vs 2 0 ∷ vs 2 0 ∷ vs 1 3 ∷ vs 1 3 ∷ vs 1 3 ∷ []))
     (played (ended 1 1 ∷ ended 1 1 ∷ ended 0 0 ∷ ended 2 0 ∷ ended 0 1 ∷ ended 0 1 ∷ [])
@@ -95,14 +95,14 @@ own_match_before_away_goals : places (overall_first (for_b (vs 0 1 ∷ vs 2 0 �
     ≡ 2 ∷ 3 ∷ 1 ∷ 4 ∷ []
 own_match_before_away_goals = refl
 
--- the group is of one number of points: B and C drew 0:0, and a point is taken off B; C has the same
--- two sums on other points, so its match with B does not count between A and B
+-- the group is of one number of points: B and C drew 0:0, and a point is taken off B; C has the
+-- same two sums on other points, so its match with B does not count between A and B
 other_points_stay_out : places (overall_first (sheet_of (1 ∷ 2 ∷ 3 ∷ []) (vs 1 2 ∷ [])))
     (played (ended 0 0 ∷ []) (0 ∷ 1 ∷ 0 ∷ [])) (1 ∷ 0 ∷ 2 ∷ []) ≡ 2 ∷ 3 ∷ 1 ∷ []
 other_points_stay_out = refl
 
--- and of one number of goals: B drew 1:1 with A and 0:0 with C, and a point is taken off B; C has the
--- difference of both but fewer goals, so B's match with it does not count
+-- and of one number of goals: B drew 1:1 with A and 0:0 with C, and a point is taken off B; C has
+-- the difference of both but fewer goals, so B's match with it does not count
 fewer_goals_stay_out : places (overall_first (sheet_of (2 ∷ 1 ∷ 3 ∷ []) (vs 1 0 ∷ vs 1 2 ∷ [])))
     (played (ended 1 1 ∷ ended 0 0 ∷ []) (0 ∷ 1 ∷ 0 ∷ [])) (1 ∷ 0 ∷ 2 ∷ []) ≡ 1 ∷ 2 ∷ 3 ∷ []
 fewer_goals_stay_out = refl

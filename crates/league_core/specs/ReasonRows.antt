@@ -1,6 +1,6 @@
--- More reasons worked by hand: ceiling cuts and counts among sixteen clubs, cuts of unmarked rivals,
--- and the ends of a window; computed when the crate is checked. Clubs are named by letters in the
--- comments, and count from 0 below.
+-- More reasons worked by hand: ceiling cuts and counts among sixteen clubs, cuts of unmarked
+-- rivals, and the ends of a window; computed when the crate is checked. Clubs are named by letters
+-- in the comments, and count from 0 below.
 use Rattle.std.specs.Prelude.{◌≡◌, pos, true, false, [], ◌∷◌, None, map, refl}
 use Rattle.std.specs.List.{range_with_len}
 use Rattle.league_core.specs.declared.sheet.Sheet.{Sheet}
@@ -64,7 +64,8 @@ cuts_need_marks = refl
 
 -- the ends of the window are no points out of it: C can have 3, and X cannot have fewer
 window_ends : has_reason nine nine_season (record nine_question { low = pos 3 }) [] Window
-    ∷ has_reason nine nine_season (record (full_question 1 1 Inside) { high = pos 3 }) [] Window ∷ []
+    ∷ has_reason nine nine_season (record (full_question 1 1 Inside) { high = pos 3 }) [] Window
+    ∷ []
     ≡ false ∷ false ∷ []
 unfolding has_reason has_finish least_points_of most_points_of
 window_ends = refl

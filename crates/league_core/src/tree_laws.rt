@@ -14,7 +14,8 @@ ghost use Rattle.league_core.specs.SplitLaws.{RivalTestsLeaveFinishes, ProperHal
 ghost use Rattle.league_core.specs.SplitLaws.{ProperTreesHaveFinishes};
 
 /// The list of its leaves, each with its zone and its kind, tells a tree's zones, which of them are
-/// lent under a number, whether a leaf is open and whether all are refuted. A fact of all nodes that
+/// lent under a number, whether a leaf is open and whether all are refuted. A fact of all nodes
+/// that
 /// a `bool` tells is one of all leaves.
 pub fn leaves_tell_the_tree()
     ensures zones { ZonesAreOfLeaves }

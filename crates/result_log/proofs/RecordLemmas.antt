@@ -30,7 +30,7 @@ use Rattle.result_log.specs.Records.{fixture_told, found_number, names_a_club, h
 use Rattle.result_log.specs.Records.{has_goals}
 use Rattle.result_log.specs.Records.{has_points, has_result, tells_a_score, is_event, is_for_club}
 use Rattle.result_log.specs.Records.{is_for_fixture, is_for_played, is_for_unplayed}
-use Rattle.result_log.specs.Records.{is_number_within}
+use Rattle.result_log.specs.Records.{is_field_within}
 use Rattle.result_log.specs.Records.{kind_of, score_told, tests_of, told_unless, width_of}
 
 -- ---- ranges
@@ -51,7 +51,7 @@ number_in_range least most number true some =
     in_range least most number (nat_le least number && nat_le number most) refl some
 
 -- a field that is in a range writes a number there
-pub range-within : (least most : ℕ) (text : List ℕ) → is_number_within least most text ≡ true
+pub range-within : (least most : ℕ) (text : List ℕ) → is_field_within least most text ≡ true
     → (least ≤ digits_value 10 text) × (digits_value 10 text ≤ most)
 range-within least most text within =
     number_in_range least most (digits_value 10 text) (is_number text) within
@@ -67,8 +67,8 @@ fixture-within sheet fields has =
 score-within : (fields : List (List ℕ)) → has_goals fields ≡ true
     → is_score (score_told fields) ≡ true
 score-within fields has =
-    let parts = and_parts (is_number_within 0 most_goals (field 2 fields))
-    (is_number_within 0 most_goals (field 3
+    let parts = and_parts (is_field_within 0 most_goals (field 2 fields))
+    (is_field_within 0 most_goals (field 3
     fields)) has in
     and_from _ _ (le-leb _ _ (range-within 0 most_goals (field 2 fields) parts.0).1)
     (le-leb _ _ (range-within 0 most_goals (field 3 fields) parts.1).1)

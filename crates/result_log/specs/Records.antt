@@ -125,17 +125,17 @@ entry_told sheet fields kind.Proofs = Proofs
 -- ---- the tests
 
 -- a field is a number, and in this range
-abbrev pub is_number_within : ℕ → ℕ → List ℕ → Bool
-is_number_within least most text = is_some (number_within least most text)
+abbrev pub is_field_within : ℕ → ℕ → List ℕ → Bool
+is_field_within least most text = is_some (number_within least most text)
 
 -- the sheet has the fixture
 abbrev pub has_fixture : Sheet → List (List ℕ) → Bool
-has_fixture sheet fields = is_number_within 1 (length sheet.fixtures) (field 1 fields)
+has_fixture sheet fields = is_field_within 1 (length sheet.fixtures) (field 1 fields)
 
 -- the score is one that a match may have
 abbrev pub has_goals : List (List ℕ) → Bool
 has_goals fields =
-    is_number_within 0 most_goals (field 2 fields) && is_number_within 0 most_goals (field 3 fields)
+    is_field_within 0 most_goals (field 2 fields) && is_field_within 0 most_goals (field 3 fields)
 
 -- the sheet has the club
 abbrev pub names_a_club : Sheet → List (List ℕ) → Bool
@@ -143,7 +143,7 @@ names_a_club sheet fields = is_some (club_named sheet (field 1 fields))
 
 -- the points are as many as may be taken off
 abbrev pub has_points : List (List ℕ) → Bool
-has_points fields = is_number_within 0 most_deduction (field 2 fields)
+has_points fields = is_field_within 0 most_deduction (field 2 fields)
 
 -- the fixture has a score
 abbrev pub has_result : Results → ℕ → Bool

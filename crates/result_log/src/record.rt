@@ -137,7 +137,8 @@ fn read_deduct(sheet: &Sheet, events: u64, fields: &Fields) -> Result<Entry, Fee
 // The club that the second field names.
 fn club_of(sheet: &Sheet, fields: &Fields) -> Option<u8>
     requires { length sheet.now.clubs ≤ 255 }
-    ensures { result ≡ only_if (names_a_club sheet.now fields.now) (club_told sheet.now fields.now) }
+    ensures { result
+        ≡ only_if (names_a_club sheet.now fields.now) (club_told sheet.now fields.now) }
 {
     club_named(sheet, fields.at(1))
 }

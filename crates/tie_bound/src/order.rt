@@ -70,8 +70,8 @@ fn by_first_sums(rival: &Sums, club: &Sums) -> Sure
 
 /// What decides after the head-to-head, by the sums over all matches, then the fixed ranks.
 pub fn by_overall(rival: &Sums, club: &Sums, rival_rank: u16, club_rank: u16) -> Sure
-    ensures { result
-        ≡ sure_by_ranges (overall_spans_of rival.now rival_rank) (overall_spans_of club.now club_rank) }
+    ensures { result ≡ sure_by_ranges (overall_spans_of rival.now rival_rank)
+        (overall_spans_of club.now club_rank) }
 {
     let by_rank = by_span(rank_span(rival_rank), rank_span(club_rank));
     let by_away_wins = then(by_span(rival.away_wins, club.away_wins), by_rank);

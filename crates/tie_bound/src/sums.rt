@@ -38,7 +38,8 @@ impl Sums {
     /// The sums with those of a match more.
     pub fn plus(&self, other: &Sums) -> Sums
         requires near { (measure : Measure) → IsSpanNear 1000000 (range_by self.now measure) }
-        requires other_near { (measure : Measure) → IsSpanNear 1000000 (range_by other.now measure) }
+        requires other_near { (measure : Measure)
+            → IsSpanNear 1000000 (range_by other.now measure) }
         ensures { (measure : Measure) → range_by result measure
             ≡ added (range_by self.now measure) (range_by other.now measure) }
     {
