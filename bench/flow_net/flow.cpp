@@ -28,7 +28,8 @@ int main(int argc, char** argv) {
             sum += net.max_flow(0, 25, side);
             sum += net.max_flow(1, 24, side);
         }
-    auto ns = std::chrono::duration_cast<std::chrono::nanoseconds>(std::chrono::steady_clock::now() - start).count();
+    auto taken = std::chrono::steady_clock::now() - start;
+    auto ns = std::chrono::duration_cast<std::chrono::nanoseconds>(taken).count();
     printf("%llu\n", (unsigned long long)sum);
     fprintf(stderr, "%.0f ns per max_flow\n", (double)ns / (rounds * 1000.0));
 }

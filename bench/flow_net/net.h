@@ -1,4 +1,5 @@
-// A network in C++ as flow_net has it: adjacency by linked lists, breadth first, memory once a call.
+// A network in C++ as flow_net has it: adjacency by linked lists, breadth first, memory once a
+// call.
 #pragma once
 #include <algorithm>
 #include <cstddef>
@@ -23,7 +24,8 @@ struct Net {
         next_out.push_back(first_out[from]); first_out[from] = arcs.size();
         next_in.push_back(first_in[to]); first_in[to] = arcs.size();
     }
-    bool find(std::vector<uint8_t>& reached, std::vector<Reach>& queue, uint16_t source, uint16_t sink) {
+    bool find(std::vector<uint8_t>& reached, std::vector<Reach>& queue, uint16_t source,
+              uint16_t sink) {
         std::fill(reached.begin(), reached.end(), 0);
         reached[source] = 1;
         queue.clear();
