@@ -3,7 +3,7 @@
 //!
 //! A device is seen as the bytes that it tells, where it tells them, and a count of faults. What a
 //! call promises is in `specs/Ports.antt`; what a line is, in `specs/Lines.antt`; which lines
-//! count, in `specs/Contents.antt`; what a reader of lines answers, in `specs/Reader.antt`.
+//! count, in `specs/Contents.antt`; what a reader of lines answers, in `specs/Readers.antt`.
 #![tactic(auto)]
 
 mod answers;

@@ -7,7 +7,7 @@ use league_core::Event;
 pub enum Entry {
     /// A result, a correction, an annulment or a deduction.
     Change(Event),
-    /// The verdicts are asked for now.
+    /// An answer is asked for now.
     Ask,
     /// The feed ends here, and proofs follow.
     Proofs,

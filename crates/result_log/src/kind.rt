@@ -17,7 +17,7 @@ pub enum Kind {
     Void,
     /// `deduct,CLUB,P`: the club has P points taken off in all.
     Deduct,
-    /// `ask`: the verdicts are asked for now.
+    /// `ask`: an answer is asked for now.
     Ask,
     /// `proofs`: the feed ends, and proofs follow.
     Proofs,

@@ -1,4 +1,4 @@
-//! Reads a league's feed: results, corrections, annulments and asks, one entry a call.
+//! Reads a league's feed: results, corrections, annulments, deductions and asks, one a call.
 //!
 //!     line  ── fields ──>  record  ── season of the events before it ──>  entry, or a refusal
 //!
