@@ -68,14 +68,15 @@ def pair_doubts(sheet: Sheet) -> Iterator[Doubt]:
     pairs, directed = meetings(sheet)
     every = [tuple(sorted((names[i], names[k])))
              for i in range(len(names)) for k in range(i + 1, len(names))]
-    usual = Counter(pairs[pair] for pair in every).most_common(1)[0][0]
+    usual, frequency = Counter(pairs[pair] for pair in every).most_common(1)[0]
+    most = f"{'most' if 2 * frequency > len(every) else 'many'} pairs of clubs meet {times(usual)}"
     fewer = [pair for pair in every if pairs[pair] < usual]
     more = [pair for pair in every if pairs[pair] > usual]
     if fewer:
-        yield Doubt(0, f"most pairs of clubs meet {times(usual)}, and these meet less often: "
+        yield Doubt(0, f"{most}, and these meet less often: "
                        f"{some_pairs(fewer)}. Is a match missing?")
     if more:
-        yield Doubt(0, f"most pairs of clubs meet {times(usual)}, and these meet more often: "
+        yield Doubt(_last_line(sheet, more[0]), f"{most}, and these meet more often: "
                        f"{some_pairs(more)}. Does a match stand twice?")
     if usual % 2 == 0 and not fewer and not more:
         uneven = [pair for pair in every if directed[pair] != directed[pair[::-1]]]
@@ -85,13 +86,23 @@ def pair_doubts(sheet: Sheet) -> Iterator[Doubt]:
     yield from _club_doubts(sheet)
 
 
+def _last_line(sheet: Sheet, pair: tuple[str, str]) -> int:
+    """The line of the last match between two clubs."""
+    return max(fixture.line for fixture in sheet.fixtures
+               if {fixture.home, fixture.away} == set(pair))
+
+
 def _club_doubts(sheet: Sheet) -> Iterator[Doubt]:
     """Clubs that play more or fewer matches than most."""
     played = Counter({club.name: 0 for club in sheet.clubs})
     for fixture in sheet.fixtures:
         played[fixture.home] += 1
         played[fixture.away] += 1
-    usual = Counter(played.values()).most_common(1)[0][0]
+    usual, frequency = Counter(played.values()).most_common(1)[0]
+    if 2 * frequency <= len(played):
+        numbers = [f"{name} {number}" for name, number in played.items()]
+        yield Doubt(0, "the clubs have different numbers of matches in the sheet: " + some(numbers))
+        return
     others = [f"{name} {number}" for name, number in played.items() if number != usual]
     if others:
         matches = "1 match" if usual == 1 else f"{usual} matches"

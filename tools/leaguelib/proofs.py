@@ -36,7 +36,8 @@ def steps_of(sheet: Sheet, season: Season, verdict: Verdict, proof: Proof) -> li
     name, place = shown(verdict.club), place_phrase(verdict.places)
     is_inside = proof.claim == "inside"
     supposed = f"ended in {place}" if is_inside else f"missed {place}"
-    cases = [Case(Zone(sheet, season, club), 0, f"Suppose that {name} {supposed}.")]
+    opening = f"Suppose that {name} {supposed}. The steps take every way that can be."
+    cases = [Case(Zone(sheet, season, club), 0, "")]
     steps: list[str] = []
     lines = [line.parts for line in proof.lines]
     for position, parts in enumerate(lines):
@@ -60,7 +61,7 @@ def steps_of(sheet: Sheet, season: Season, verdict: Verdict, proof: Proof) -> li
             outer = f"The other case of step {number} is that {no}."
         cases += [Case(case.zone.supposed(test, False), case.depth, outer), inner]
     end = f"No case is left. So {name} {'cannot reach' if is_inside else 'has'} {place}."
-    return [*steps, paragraph(end, 4)]
+    return [paragraph(opening, 4), *steps, paragraph(end, 4)]
 
 
 def _step(number: int, depth: int, text: str) -> str:
@@ -111,13 +112,15 @@ def _count_text(zone: Zone, verdict: Verdict, is_inside: bool) -> str:
     if is_inside:
         ahead = zone.marked(True)
         _hold(len(ahead) >= verdict.places)
-        return (f"Then {_names(zone, ahead)} {_is_are(ahead)} ahead of {club}, which is in place "
-                f"{len(ahead) + 1} or further down, and not in {place_phrase(verdict.places)}.")
+        return (f"With {_names(zone, ahead)} ahead, {club} is in place {len(ahead) + 1} or further "
+                f"down, and not in {place_phrase(verdict.places)}.")
     behind = zone.marked(False)
     _hold(len(behind) >= size - verdict.places)
-    return (f"Then {_names(zone, behind)} {_is_are(behind)} not ahead of {club}, so at most "
-            f"{size - 1 - len(behind)} of the other {size - 1} clubs are, and {club} is in place "
-            f"{size - len(behind)} or higher: it does not miss {place_phrase(verdict.places)}.")
+    left, place = size - 1 - len(behind), size - len(behind)
+    others = f"at most {left} of the other {size - 1} clubs can be" if left else "no club is"
+    where = f"place {place} or higher" if left else f"place {place}"
+    return (f"Then {_names(zone, behind)} {_is_are(behind)} not ahead of {club}, so {others}, and "
+            f"{club} is in {where}: it does not miss {place_phrase(verdict.places)}.")
 
 
 def _is_are(clubs: list[int]) -> str:
@@ -130,8 +133,8 @@ def _low_text(zone: Zone, clubs: list[int]) -> str:
     _hold(set(clubs) <= set(zone.marked(False)))
     _hold(zone.points(clubs, False) > len(clubs) * most)
     each = "" if len(clubs) == 1 else "Each of "
-    return (f"{each}{_names(zone, clubs)}, not being ahead of {club}, has at most as many points "
-            f"as {club}. "
+    return (f"{each}{_names(zone, clubs)}, not being ahead of {club}, ends with at most as many "
+            f"points as {club}. "
             f"{_sum_text(zone, [zone.club], True)} {_bound_text(zone, clubs, most, 'at most')} "
             f"But {_sum_text(zone, clubs, False)} {zone.points(clubs, False)} is more than "
             f"{len(clubs) * most}.")
@@ -143,8 +146,8 @@ def _high_text(zone: Zone, clubs: list[int]) -> str:
     _hold(set(clubs) <= set(zone.marked(True)))
     _hold(zone.points(clubs, True) < len(clubs) * least)
     each = "" if len(clubs) == 1 else "Each of "
-    return (f"{each}{_names(zone, clubs)}, being ahead of {club}, has at least as many points as "
-            f"{club}. {_sum_text(zone, [zone.club], False)} "
+    return (f"{each}{_names(zone, clubs)}, being ahead of {club}, ends with at least as many "
+            f"points as {club}. {_sum_text(zone, [zone.club], False)} "
             f"{_bound_text(zone, clubs, least, 'at least')} But {_sum_text(zone, clubs, True)} "
             f"{zone.points(clubs, True)} is less than {len(clubs) * least}.")
 
@@ -175,7 +178,7 @@ def _shared(fixture: Fixture, names: set[str], gain: int, most: bool) -> str:
     """Why a match between two clubs of a set gives them two points at least."""
     if most or gain != 2 or not {fixture.home, fixture.away} <= names:
         return ""
-    return " (a draw gives one to each, a win three to one)"
+    return " (a draw gives each a point, a win gives the winner three)"
 
 
 def _tie_text(zone: Zone, verdict: Verdict, is_inside: bool) -> str:

@@ -86,10 +86,11 @@ def _decided(sheet: Sheet, season: Season, verdicts: list[Verdict], most_steps: 
 def decided_text(group: list[Verdict], word: str, limit: str) -> str:
     """The sentence on clubs that have one place for sure, or miss it for sure."""
     names = listed([shown(verdict.club) for verdict in group])
-    has, place = "has" if len(group) == 1 else "have", place_phrase(group[0].places)
+    place = place_phrase(group[0].places)
     if word == "clinched":
+        has = "has" if len(group) == 1 else "have"
         return f"{names} {has} clinched {place}: sure to reach it {limit}."
-    return f"{names} {has} lost {place}: sure to miss it {limit}."
+    return f"{names} can no longer reach {place} (`lost`): sure to miss it {limit}."
 
 
 def proof_steps(sheet: Sheet, season: Season, verdict: Verdict, claim: str,
@@ -139,7 +140,7 @@ def unsettled_texts(sheet: Sheet, verdict: Verdict) -> list[str]:
                        f"{counted(sheet.budget, 'step')} was spent; this says nothing for or "
                        "against the club.")]
     for claim, verb, other in (("inside", "reach", "has clinched it"),
-                               ("outside", "miss", "has lost it")):
+                               ("outside", "miss", "can still reach it")):
         if claim in verdict.examples:
             way = way_text(sheet, verdict.examples[claim], verdict.club)
             parts.append(paragraph(f"It can {verb} it, for example, if {way}. What is not known is "

@@ -16,6 +16,7 @@ from .names import nearest_name, shown
 from .pairs import Gaps, gaps_in, lone_names, usual_rounds
 from .records import Refused, number_of, records_of, row_text
 from .texts import ORDERS, USUAL_BUDGET, SheetReader
+from .wording import counted
 from .words import words_for
 
 ORDER_HELP = """\
@@ -174,7 +175,8 @@ def _comments(found: MatchList, gaps: Gaps, ranks: dict[str, int], order: str,
     """What was chosen, as comments at the head of the sheet."""
     number = len(found.matches) + len(gaps.missing)
     limit = arguments.goal_limit
-    comments = [f"# Made by `league sheet`: {len(ranks)} clubs, {number} matches.",
+    comments = [f"# Made by `league sheet`: {len(ranks)} clubs, "
+                f"{counted(number, 'match', 'matches')}.",
                 f"# Goal limit {limit}: it is taken that no side scores more than {limit} goals in "
                 "an open match."]
     if arguments.ranks is None:
