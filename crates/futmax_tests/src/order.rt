@@ -62,8 +62,8 @@ impl Sink for Noting<'_> {
     }
 }
 
-// The first ask ends 14 bytes before the end, the second at the end, and each answer has three rows.
-// The second result is refused at its own end: the eight bytes behind it are never read.
+// The first ask ends 14 bytes before the end, the second at the end, and each answer has three
+// rows. The second result is refused at its own end: the eight bytes behind it are never read.
 #[test]
 fn rows_come_before_more_is_read(rt: HostRuntime) -> Result<(), Fail> {
     let end = CORRECTED.len() as u64;
