@@ -13,15 +13,12 @@ struct Cell {
     bool home_win = true, draw = true, away_win = true;
     uint8_t home_least = 0, home_most = 9, away_least = 0, away_most = 9;
 
-    bool has_home_win() const {
-        return home_win && home_least <= home_most && away_least <= away_most && away_least < home_most;
-    }
+    bool has_goals() const { return home_least <= home_most && away_least <= away_most; }
+    bool has_home_win() const { return home_win && has_goals() && away_least < home_most; }
     bool has_draw() const {
         return draw && std::max(home_least, away_least) <= std::min(home_most, away_most);
     }
-    bool has_away_win() const {
-        return away_win && home_least <= home_most && away_least <= away_most && home_least < away_most;
-    }
+    bool has_away_win() const { return away_win && has_goals() && home_least < away_most; }
 };
 
 struct Box {
@@ -34,10 +31,11 @@ struct Box {
 struct Points { uint8_t least, most; };
 
 static Points points_of(const Cell& cell, bool home, bool away) {
-    uint8_t win = home ? 3 : 0, drawn = home + away, loss = away ? 3 : 0;
+    const uint8_t none = 0, all = 3;
+    uint8_t win = home ? all : none, drawn = home + away, loss = away ? all : none;
     bool wins = cell.has_home_win(), draws = cell.has_draw(), losses = cell.has_away_win();
-    uint8_t least = std::min({wins ? win : uint8_t(3), draws ? drawn : uint8_t(3), losses ? loss : uint8_t(3)});
-    uint8_t most = std::max({wins ? win : uint8_t(0), draws ? drawn : uint8_t(0), losses ? loss : uint8_t(0)});
+    uint8_t least = std::min({wins ? win : all, draws ? drawn : all, losses ? loss : all});
+    uint8_t most = std::max({wins ? win : none, draws ? drawn : none, losses ? loss : none});
     return {least, most};
 }
 
@@ -48,7 +46,8 @@ struct Range { int32_t least, most; };
 static Range points(const Box& box, uint32_t set) {
     int32_t least = 0, most = 0, off = 0;
     for (size_t i = 0; i < box.fixtures.size(); i++) {
-        Points points = points_of(box.cells[i], has(set, box.fixtures[i].home), has(set, box.fixtures[i].away));
+        bool home = has(set, box.fixtures[i].home), away = has(set, box.fixtures[i].away);
+        Points points = points_of(box.cells[i], home, away);
         least += points.least;
         most += points.most;
     }
@@ -62,10 +61,12 @@ struct Worth { int64_t home, away; uint8_t surplus; };
 static Worth worth_of(const Cell& cell, bool floor) {
     bool wins = cell.has_home_win(), draws = cell.has_draw(), losses = cell.has_away_win();
     if (floor) {
-        uint8_t home = losses ? 0 : draws ? 1 : 3, away = wins ? 0 : draws ? 1 : 3, both = draws ? 2 : 3;
+        uint8_t home = losses ? 0 : draws ? 1 : 3, away = wins ? 0 : draws ? 1 : 3;
+        uint8_t both = draws ? 2 : 3;
         return {home, away, uint8_t(both - home - away)};
     }
-    uint8_t home = wins ? 3 : draws ? 1 : 0, away = losses ? 3 : draws ? 1 : 0, both = wins || losses ? 3 : 2;
+    uint8_t home = wins ? 3 : draws ? 1 : 0, away = losses ? 3 : draws ? 1 : 0;
+    uint8_t both = wins || losses ? 3 : 2;
     return {-int64_t(home), -int64_t(away), uint8_t(home + away - both)};
 }
 
@@ -87,7 +88,8 @@ struct Tally {
             Worth worth = worth_of(box.cells[i], floor);
             alone[fixture.home] += worth.home;
             alone[fixture.away] += worth.away;
-            if (worth.surplus && home && away) pairs[count++] = {fixture.home, fixture.away, worth.surplus};
+            if (worth.surplus && home && away)
+                pairs[count++] = {fixture.home, fixture.away, worth.surplus};
         }
     }
 
@@ -116,7 +118,8 @@ struct Tally {
         }
         std::array<int64_t, 32> weights = alone;
         for (size_t i = 0; i < count; i++)
-            if (has(rest, pairs[i].home) && has(rest, pairs[i].away)) weights[pairs[i].home] += pairs[i].surplus;
+            if (has(rest, pairs[i].home) && has(rest, pairs[i].away))
+                weights[pairs[i].home] += pairs[i].surplus;
         uint16_t source = clubs, sink = clubs + 1;
         Net net(clubs + 2, 32 + count);
         uint64_t goal = 0;
@@ -175,7 +178,8 @@ static unsigned round_of(Fixture f) {
 static bool is_second(Fixture f) { return (f.home > f.away) == ((f.home + f.away) % 2 == 0); }
 
 static uint64_t elapsed(std::chrono::steady_clock::time_point start) {
-    return std::chrono::duration_cast<std::chrono::nanoseconds>(std::chrono::steady_clock::now() - start).count();
+    auto taken = std::chrono::steady_clock::now() - start;
+    return std::chrono::duration_cast<std::chrono::nanoseconds>(taken).count();
 }
 
 static uint64_t time_open(unsigned open, uint64_t rounds) {
@@ -191,7 +195,10 @@ static uint64_t time_open(unsigned open, uint64_t rounds) {
         uint8_t home = next(state, 6), away = next(state, 6);
         played.push_back(!is_second(f) || round_of(f) >= open);
         Cell cell;
-        if (played.back()) cell.home_least = cell.home_most = home, cell.away_least = cell.away_most = away;
+        if (played.back()) {
+            cell.home_least = cell.home_most = home;
+            cell.away_least = cell.away_most = away;
+        }
         free.cells.push_back(cell);
     }
 
