@@ -1,4 +1,4 @@
-//! An answer, and the row of a refused line, is on the sink before the next line is read.
+//! An answer is on the sink before the next line is read.
 
 ghost use Rattle.std.specs.Prelude.{None};
 
@@ -11,10 +11,6 @@ use std::test::Fail;
 // A draw with goals, an ask, the score put right, and an ask again.
 const CORRECTED: &[u8] = b"league,Tiny,1\nclub,A,1\nclub,B,2\nmatch,A,B\nline,1\nseason\n\
     result,1,1,1\nask\nfix,1,1,0\nask\n";
-
-// Two results of one match, of which the second is refused, and two asks.
-const REFUSED: &[u8] = b"league,Tiny,1\nclub,A,1\nclub,B,2\nmatch,A,B\nline,1\nseason\n\
-    result,1,1,1\nresult,1,2,2\nask\nask\n";
 
 // Gives a byte at a time, and counts them where the sink can see it.
 #[derive(Drop)]
@@ -62,43 +58,26 @@ impl Sink for Noting<'_> {
     }
 }
 
-// The first ask ends 14 bytes before the end, the second at the end, and each answer has three
-// rows. The second result is refused at its own end: the eight bytes behind it are never read.
+// The first ask ends 14 bytes before the end, the second at the end. Each answer has three rows.
 #[test]
-fn rows_come_before_more_is_read(rt: HostRuntime) -> Result<(), Fail> {
+fn an_answer_comes_before_the_next_line(rt: HostRuntime) -> Result<(), Fail> {
+    let given = Cell::new(0);
+    let mut source = Counted {
+        bytes: CORRECTED,
+        at: 0,
+        given: &given,
+    };
+    let mut sink = Noting {
+        given: &given,
+        notes: [0; 8],
+        pieces: 0,
+    };
+    let words = words_of(rt.alloc())?;
+    let status = futmax(rt.alloc(), words, &mut source, &mut sink);
     let end = CORRECTED.len() as u64;
     let first = end - 14;
-    let refused = REFUSED.len() as u64 - 8;
-    for (input, ended, read, wanted) in [
-        (
-            CORRECTED,
-            Status::Done,
-            end,
-            [first, first, first, end, end, end, 0, 0],
-        ),
-        (
-            REFUSED,
-            Status::BadFeed,
-            refused,
-            [refused, 0, 0, 0, 0, 0, 0, 0],
-        ),
-    ] {
-        let given = Cell::new(0);
-        let mut source = Counted {
-            bytes: input,
-            at: 0,
-            given: &given,
-        };
-        let mut sink = Noting {
-            given: &given,
-            notes: [0; 8],
-            pieces: 0,
-        };
-        let words = words_of(rt.alloc())?;
-        let status = futmax(rt.alloc(), words, &mut source, &mut sink);
-        assert_eq!(rt; status, ended);
-        assert_eq!(rt; sink.notes.as_slice(), wanted.as_slice());
-        assert_eq!(rt; given.get(), read);
-    }
+    assert_eq!(rt; status, Status::Done);
+    let wanted = [first, first, first, end, end, end, 0, 0];
+    assert_eq!(rt; sink.notes.as_slice(), wanted.as_slice());
     Ok(())
 }
