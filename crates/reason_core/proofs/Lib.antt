@@ -1,0 +1,2 @@
+-- What `==` says of literals.
+pub mod LiteralLemmas
