@@ -1,0 +1,4 @@
+-- How scores come one after another, then the first ones of a cell, then the proposed finish.
+pub mod OrderLemmas
+pub mod FirstLemmas
+pub mod ProposedLemmas

@@ -1,0 +1,106 @@
+-- When one score is not taken before another, by the four parts of the wishes that it meets.
+use Rattle.std.proofs.Common.{◌≡◌, ◌≢◌, ◌⊎◌, inl, inr, ◌+◌, ◌<◌, ℤ, pos, neg_ℤ, ◌+ℤ◌, ◌<ℤ◌}
+use Rattle.std.proofs.Common.{Bool, true, List, [], ◌∷◌, Ordering, Less, Equal}
+use Rattle.std.proofs.Common.{Greater, refl, arith}
+use Rattle.std.specs.Ordering.{ordering_then}
+use Rattle.std.proofs.lemmas.Int.{ints}
+use Rattle.std.proofs.lemmas.Bool.{lt-ltb, le-ltb, eq-eqb, ne_eqb, ltb-true, eqb-true}
+use Rattle.league_core.specs.declared.season.Score.{Score}
+use Rattle.league_core.specs.Sums.{match_points, goal_difference}
+use Rattle.league_core.specs.HeadToHead.{greater_first, by_first_difference}
+use Rattle.league_core.specs.Options.{is_home_win, is_draw, is_away_win}
+use Rattle.league_core.specs.Proposals.{weighed, weighed_together, wishes_met, option_order}
+
+greater_first-greater : (number other : ℤ) → number <ℤ other → greater_first number other ≡ Greater
+greater_first-greater number other h = grind (arith, ints)
+
+greater_first-equal : (number other : ℤ) → number ≡ other → greater_first number other ≡ Equal
+greater_first-equal number other h = grind (arith, ints)
+
+then_first : (first second : Ordering) → first ≡ Greater → ordering_then first second ≢ Less
+then_first Greater second is = λ e. cc
+then_first Less second is = λ e. cc
+then_first Equal second is = λ e. cc
+
+then_second : (first second : Ordering) → first ≡ Equal → second ≢ Less
+    → ordering_then first second ≢ Less
+then_second Equal second is not_less = not_less
+then_second Less second is not_less = λ e. cc
+then_second Greater second is not_less = λ e. cc
+
+-- less at the first difference, or nowhere more
+abbrev pub IsNoGreater : List ℤ → List ℤ → Type 0
+IsNoGreater [] others = Unit {0}
+IsNoGreater (number ∷ numbers) [] = Unit {0}
+IsNoGreater (number ∷ numbers) (other ∷ others) =
+    (number <ℤ other) ⊎ ((number ≡ other) × IsNoGreater numbers others)
+
+-- so it is not taken first, where both are as long
+pub by_first_difference-no_greater : (a b c d e f g h : ℤ)
+    → IsNoGreater (a ∷ b ∷ c ∷ d ∷ []) (e ∷ f ∷ g ∷ h ∷ [])
+    → by_first_difference (a ∷ b ∷ c ∷ d ∷ []) (e ∷ f ∷ g ∷ h ∷ []) ≢ Less
+by_first_difference-no_greater a b c d e f g h is =
+    step a e (b ∷ c ∷ d ∷ []) (f ∷ g ∷ h ∷ [])
+    (step b f (c ∷ d ∷ []) (g ∷ h ∷ [])
+    (step c g (d ∷ []) (h ∷ []) (step d h [] [] (λ _ e. cc)))) is
+  where
+    step : (number other : ℤ) (numbers others : List ℤ)
+        → (IsNoGreater numbers others → by_first_difference numbers others ≢ Less)
+        → IsNoGreater (number ∷ numbers) (other ∷ others)
+        → by_first_difference (number ∷ numbers) (other ∷ others) ≢ Less
+    step number other numbers others rest (inl less) =
+        then_first (greater_first number other) (by_first_difference numbers others)
+        (greater_first-greater number other less)
+    step number other numbers others rest (inr same) =
+        then_second (greater_first number other) (by_first_difference numbers others)
+        (greater_first-equal number other same.0) (rest same.1)
+
+-- a score that meets the wishes no more than another is not taken before it
+pub not_before : (home away : Bool) (score other : Score)
+    → IsNoGreater (wishes_met home away other) (wishes_met home away score)
+    → option_order home away other score ≢ Less
+not_before home away score other is =
+    by_first_difference-no_greater
+    (weighed_together match_points home away other)
+    (weighed_together goal_difference home away other)
+    (neg_ℤ (pos (other.home + other.away))) (pos other.home)
+    (weighed_together match_points home away score)
+    (weighed_together goal_difference home away score)
+    (neg_ℤ (pos (score.home + score.away))) (pos score.home) is
+
+-- the points of an outcome
+pub home_win_points : (home away : Bool) (score : Score) → is_home_win score ≡ true
+    → weighed_together match_points home away score
+    ≡ weighed home (pos 3) +ℤ weighed away (pos 0)
+home_win_points home away score wins =
+    let more : score.away < score.home = ltb-true score.away score.home wins in
+    rw (
+      lt-ltb score.away score.home more,
+      le-ltb score.home score.away (omega arith),
+      ne_eqb
+          score.away score.home (λ e. absurd (omega arith)),
+    ) refl
+
+pub draw_points : (home away : Bool) (score : Score) → is_draw score ≡ true
+    → weighed_together match_points home away score
+    ≡ weighed home (pos 1) +ℤ weighed away (pos 1)
+draw_points home away score draws =
+    let same : score.home ≡ score.away = eqb-true score.home score.away draws in
+    rw (
+      le-ltb score.away score.home (omega arith),
+      le-ltb score.home score.away (omega arith),
+      eq-eqb score.home score.away same,
+      eq-eqb score.away score.home (omega arith),
+    ) refl
+
+pub away_win_points : (home away : Bool) (score : Score) → is_away_win score ≡ true
+    → weighed_together match_points home away score
+    ≡ weighed home (pos 0) +ℤ weighed away (pos 3)
+away_win_points home away score wins =
+    let more : score.home < score.away = ltb-true score.home score.away wins in
+    rw (
+      le-ltb score.away score.home (omega arith),
+      lt-ltb score.home score.away more,
+      ne_eqb
+          score.home score.away (λ e. absurd (omega arith)),
+    ) refl

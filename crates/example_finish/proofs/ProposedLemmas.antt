@@ -1,0 +1,170 @@
+-- The proposed finish, fixture by fixture.
+use Rattle.std.proofs.Math.Nat.{eq-or-lt_of_le}
+use Rattle.std.proofs.Common.{inl, inr, ◌≡◌, ◌<◌, ◌≤◌, ◌+◌, ℕ, zero, suc, Bool, true, List, [], ◌∷◌}
+use Rattle.std.proofs.Common.{Option, Some, None, IsSome, is_some, length, get_or, set}
+use Rattle.std.proofs.Common.{nat_le, refl, sym, ap, ap₂, subst, ◌∙◌, arith}
+use Rattle.std.specs.List.{list_all}
+use Rattle.std.proofs.lemmas.Bool.{false≢true, and_parts, and_from, le-leb, leb-true}
+use Rattle.std.proofs.lemmas.List.{ext_get_or, get_or-set_same, get_or-set_other, length-set}
+use Rattle.league_core.specs.declared.sheet.Sheet.{Sheet}
+use Rattle.league_core.specs.declared.sheet.Fixture.{Fixture}
+use Rattle.league_core.specs.declared.season.Score.{Score}
+use Rattle.league_core.specs.declared.question.Question.{Question}
+use Rattle.league_core.specs.declared.zone.Literal.{Literal}
+use Rattle.league_core.specs.Limits.{most_goals}
+use Rattle.league_core.specs.Results.{Results, is_score, is_score_or_none, are_results}
+use Rattle.league_core.specs.Seasons.{IsSeasonOf}
+use Rattle.league_core.specs.Sheets.{IsWithinLimits}
+use Rattle.league_core.specs.Finishes.{may_end}
+use Rattle.league_core.specs.Options.{meets, options_of, options_in}
+use Rattle.league_core.specs.Options.{has_option, has_finish}
+use Rattle.league_core.specs.Proposals.{is_wished, first_option, first_options, proposed_finish}
+use Rattle.league_core.proofs.PlainLemmas.{list_all-at}
+use Rattle.league_core.proofs.OptionLemmas.{length-options_from, get_or-options_from}
+use Rattle.league_core.proofs.OptionLemmas.{has_score-options_of, same_score-true}
+use Rattle.league_core.proofs.ProposalLemmas.{is_some-first_option, first_option_is}
+use Rattle.example_finish.specs.declared.wishes.Wishes.{Wishes}
+use Rattle.example_finish.specs.Wished.{has_wish, AreWishesOf}
+
+-- where the zone has a finish each fixture has an option
+has_option-at : (sheet : Sheet) (season : Results) (zone : List Literal) (k : ℕ)
+    → has_finish sheet season zone ≡ true → k < length season.scores
+    → has_option (get_or (options_in sheet season zone) k []) ≡ true
+unfolding has_finish
+has_option-at sheet season zone k some within =
+    let long = length-options_from sheet.goal_limit zone 0 season.scores in
+    list_all-at has_option (options_in sheet season zone) k [] (omega (arith, long)) some
+
+some_is : {X : Type 0} (o : Option X) → is_some o ≡ true → IsSome o
+some_is None is = absurd (false≢true is)
+some_is (Some x) is = refl
+
+-- so a first one
+pub option_is_there : (sheet : Sheet) (season : Results) (zone : List Literal) (k : ℕ)
+    (home away : Bool) (found : Option Score) → has_finish sheet season zone ≡ true
+    → k < length season.scores
+    → found ≡ first_option home away (get_or (options_in sheet season zone) k [])
+    → IsSome found
+option_is_there sheet season zone k home away found some within is =
+    some_is found (ap is_some is
+    ∙ is_some-first_option home away (get_or (options_in sheet season zone) k [])
+    ∙ has_option-at sheet season zone k some within)
+
+-- an option is a score that a match may have
+may_end_is_score : (limit : ℕ) (played : Option Score) (score : Score) → limit ≤ most_goals
+    → is_score_or_none played ≡ true → may_end limit played (Some score) ≡ true
+    → is_score score ≡ true
+may_end_is_score limit None score low may ends =
+    let parts = and_parts (nat_le score.home limit) (nat_le score.away limit) ends in
+    let home = leb-true score.home limit parts.0 in
+    let away = leb-true score.away limit parts.1 in
+    and_from _ _ (le-leb score.home most_goals (omega arith))
+    (le-leb score.away most_goals (omega arith))
+may_end_is_score limit (Some played) score low may ends =
+    subst (λ s. is_score s ≡ true) (same_score-true played score ends) may
+
+pub option_is_score : (sheet : Sheet) (season : Results) (zone : List Literal) (k : ℕ)
+    (home away : Bool) (score : Score) → IsWithinLimits sheet → are_results season ≡ true
+    → k < length season.scores
+    → first_option home away (get_or (options_in sheet season zone) k []) ≡ Some score
+    → is_score score ≡ true
+option_is_score sheet season zone k home away score limits results within is =
+    let played = get_or season.scores k None in
+    let options = options_of sheet.goal_limit zone k played in
+    let there : get_or (options_in sheet season zone) k [] ≡ options =
+    get_or-options_from sheet.goal_limit zone 0 season.scores k within
+    ∙ ap (λ (f : ℕ). options_of sheet.goal_limit zone f played) (omega arith) in
+    let one = (first_option_is home away options score
+    (sym (ap (first_option home away) there) ∙ is)).option in
+    let both = sym (has_score-options_of sheet.goal_limit zone k played score) ∙ one in
+    may_end_is_score sheet.goal_limit played score (omega (arith, limits.most_goal_limit))
+    (list_all-at is_score_or_none season.scores k None within
+    (and_parts (list_all is_score_or_none season.scores) _ results).0)
+    (and_parts (meets zone k score) (may_end sheet.goal_limit played (Some score)) both).1
+
+-- the sides of a fixture that is none
+abbrev pub no_sides : Fixture
+no_sides = record { home = 0; away = 0 }
+
+-- what a fixture takes, where its sides are these
+abbrev pub option_at : Wishes → Sheet → Results → List Literal → ℕ → Fixture → Option Score
+option_at wishes sheet season zone k sides =
+    first_option (has_wish wishes.near sides.home wishes.claim)
+    (has_wish wishes.near sides.away wishes.claim) (get_or (options_in sheet season zone) k [])
+
+-- the fixtures before a number have taken the first of their options
+pub record HaveTaken (wishes : Wishes) (sheet : Sheet) (season : Results) (zone : List Literal)
+    (finish : Results) (number : ℕ) : Type 0 where
+  pub deductions : finish.deductions ≡ season.deductions
+  pub long : length finish.scores ≡ length season.scores
+  pub taken : (k : ℕ) → k < number → get_or finish.scores k None
+      ≡ option_at wishes sheet season zone k (get_or sheet.fixtures k no_sides)
+
+-- the next one takes its own
+pub have_taken-next : (wishes : Wishes) (sheet : Sheet) (season : Results) (zone : List Literal)
+    (finish : Results) (k : ℕ) (score : Score)
+    → HaveTaken wishes sheet season zone finish k → k < length season.scores
+    → option_at wishes sheet season zone k (get_or sheet.fixtures k no_sides) ≡ Some score
+    → HaveTaken wishes sheet season zone
+    (record finish { scores = set finish.scores k (Some score) }) (k + 1)
+have_taken-next wishes sheet season zone finish k score so_far within is = record {
+  deductions = so_far.deductions;
+  long = length-set finish.scores k (Some score) ∙ so_far.long;
+  taken = λ j below.
+      elim (eq-or-lt_of_le {n = j} {m = k} (omega arith)) as
+      (λ _. get_or (set finish.scores k (Some score)) j None
+      ≡ option_at wishes sheet season zone j (get_or sheet.fixtures j no_sides)) [
+        | inl same ↦
+            subst (λ (n : ℕ). get_or (set finish.scores k (Some score)) n None
+            ≡ option_at wishes sheet season zone n (get_or sheet.fixtures n no_sides)) (sym same)
+            (get_or-set_same finish.scores k (Some score) None (omega (arith, so_far.long))
+            ∙ sym is)
+        | inr before ↦
+            get_or-set_other finish.scores k j (Some score) None (λ e. absurd (omega arith))
+            ∙ so_far.taken j before
+      ];
+}
+
+-- the first options, fixture by fixture
+first_options-at : (wished : ℕ → Bool) (matches : List Fixture) (options : List (List Score))
+    (k : ℕ) (d : Fixture) → k < length matches → length matches ≡ length options
+    → get_or (first_options wished matches options) k None
+    ≡ first_option (wished (get_or matches k d).home) (wished (get_or matches k d).away)
+    (get_or options k [])
+first_options-at wished [] options k d within same = absurd (omega arith)
+first_options-at wished (match ∷ matches) [] k d within same = absurd (omega arith)
+first_options-at wished (match ∷ matches) (one ∷ options) zero d within same = refl
+first_options-at wished (match ∷ matches) (one ∷ options) (suc k) d within same =
+    first_options-at wished matches options k d (omega arith) (omega arith)
+
+length-first_options : (wished : ℕ → Bool) (matches : List Fixture) (options : List (List Score))
+    → length matches ≡ length options
+    → length (first_options wished matches options) ≡ length options
+length-first_options wished [] [] same = refl
+length-first_options wished [] (one ∷ options) same = absurd (omega arith)
+length-first_options wished (match ∷ matches) [] same = absurd (omega arith)
+length-first_options wished (match ∷ matches) (one ∷ options) same =
+    ap suc (length-first_options wished matches options (omega arith))
+
+-- where all have, that is the proposed finish
+pub all_have_taken : (wishes : Wishes) (sheet : Sheet) (season : Results) (zone : List Literal)
+    (question : Question) (finish : Results) → IsSeasonOf sheet season
+    → HaveTaken wishes sheet season zone finish (length sheet.fixtures)
+    → AreWishesOf zone question wishes
+    → finish ≡ proposed_finish sheet season question zone
+unfolding proposed_finish
+all_have_taken wishes sheet season zone question finish of_sheet all are =
+    let wished = λ (club : ℕ). is_wished zone question.club club question.claim in
+    let options = options_in sheet season zone in
+    let long = length-options_from sheet.goal_limit zone 0 season.scores in
+    let same : length sheet.fixtures ≡ length options = sym of_sheet.scores ∙ sym long in
+    let scores =
+    ext_get_or None finish.scores (first_options wished sheet.fixtures options)
+    (all.long ∙ sym long ∙ sym (length-first_options wished sheet.fixtures options same))
+    (λ k within.
+    let below : k < length sheet.fixtures = omega (arith, all.long, of_sheet.scores) in
+    all.taken k below
+    ∙ ap₂ (λ (x y : Bool). first_option x y (get_or options k []))
+    (are (get_or sheet.fixtures k no_sides).home) (are (get_or sheet.fixtures k no_sides).away)
+    ∙ sym (first_options-at wished sheet.fixtures options k no_sides below same)) in
+    λ i. record { scores = scores i; deductions = all.deductions i }

@@ -1,0 +1,22 @@
+use Rattle.std.proofs.Common.{true, false}
+use Rattle.std.proofs.lemmas.Bool.{or_left, or_right, or_cases}
+use Rattle.league_core.specs.Options.{is_home_win, is_draw}
+use Rattle.example_finish.specs.Firsts.{is_no_away_win}
+use Rattle.example_finish.proofs.FirstLemmas.{first_stays, others_first, home_wins_after_draws}
+use Rattle.example_finish.proofs.option.draw_or_home_win.Goals as goal
+
+pub returns-in-Some : goal.returns-in-Some
+returns-in-Some c =
+    first_stays c.args.cell.now is_draw is_home_win is_no_away_win false true c.in-Some.score
+    (c.in-Some.ensures false true)
+    (or_left (is_draw c.in-Some.score) (is_home_win c.in-Some.score) (c.in-Some.ensures false
+    true).one.passed)
+    (λ other is. or_cases (is_draw other) (is_home_win other) is)
+    (home_wins_after_draws c.in-Some.score (c.in-Some.ensures false true).one.passed)
+
+pub returns-in-None : goal.returns-in-None
+returns-in-None c =
+    others_first c.args.cell.now is_draw is_home_win is_no_away_win false true
+    c.narrow_home_win.result (c.in-None.ensures false true) c.narrow_home_win.ensures
+    (λ other is. or_cases (is_draw other) (is_home_win other) is)
+    (λ other is. or_right (is_draw other) (is_home_win other) is)

@@ -1,0 +1,7 @@
+use Rattle.example_finish.proofs.FirstLemmas.{narrow_home_win_is_first}
+use Rattle.example_finish.proofs.wins.narrow_home_win.Goals as goal
+
+pub returns : goal.returns
+returns c =
+    narrow_home_win_is_first c.args.cell.now c.in_ok-goals.goals c.min.result
+    c.in_ok-goals.ensures.goals c.min.ensures

@@ -1,0 +1,7 @@
+use Rattle.example_finish.proofs.FirstLemmas.{wide_away_win_is_first}
+use Rattle.example_finish.proofs.wins.wide_away_win.Goals as goal
+
+pub returns : goal.returns
+returns c =
+    wide_away_win_is_first c.args.cell.now c.in_ok-goals.goals c.in_ok-goals.ensures.goals
+    c.in_ok-goals.ensures.widest

@@ -1,0 +1,17 @@
+//! The finish that is proposed for a zone, and whether a finish is an example of a question.
+//!
+//! No list of scores is ever made: the option that a fixture takes is read off its cell. The
+//! meaning is league_core's `specs/Proposals.antt` and `specs/Questions.antt`; read these first,
+//! then `specs/Firsts.antt` here.
+#![tactic(auto)]
+
+mod example;
+mod option;
+mod proposal;
+mod wins;
+mod wishes;
+
+pub use example::try_example;
+pub use option::first_option;
+pub use proposal::propose;
+pub use wishes::Wishes;
