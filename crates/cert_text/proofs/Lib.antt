@@ -3,6 +3,16 @@
 -- rows worked by hand.
 pub mod RowLemmas
 pub mod SetLemmas
+pub mod SetListLemmas
+pub mod ReadLemmas
+pub mod MemberLemmas
+pub mod RangeLemmas
+pub mod BitSumLemmas
+pub mod FormLemmas
+pub mod TreeRangeLemmas
+pub mod ProperLemmas
+pub mod LotRangeLemmas
+pub mod ExampleRangeLemmas
 pub mod LineLemmas
 pub mod PrintedLemmas
 pub mod WorkedLines

@@ -1,13 +1,14 @@
 -- Which proof lines have a form: the ranges of their numbers, whatever the sheet and the question.
 -- They are the greatest that a league may have.
-use Rattle.std.specs.Prelude.{ℕ, ℤ, Bool, true, ◌&&◌, nat_lt, nat_le, int_le}
+use Rattle.std.specs.Prelude.{ℕ, ◌-◌, ℤ, Bool, true, ◌&&◌, nat_lt, nat_le, int_le}
 use Rattle.std.specs.List.{list_all}
 use Rattle.league_core.specs.declared.club_set.ClubSet.{ClubSet}
 use Rattle.league_core.specs.declared.zone.Test.{Test}
 use Rattle.league_core.specs.declared.zone.Test.TheVariants.{Home, Draw, HomeMost, AwayMost, Rival}
 use Rattle.league_core.specs.declared.zone.Reason.{Reason}
 use Rattle.league_core.specs.declared.zone.Reason.TheVariants.{Count, Window, Low, High, Tie}
-use Rattle.league_core.specs.Limits.{most_clubs, most_fixtures, least_points, most_points}
+use Rattle.league_core.specs.Limits.{most_clubs, most_fixtures, most_goals, least_points}
+use Rattle.league_core.specs.Limits.{most_points}
 use Rattle.league_core.specs.Results.{is_score}
 use Rattle.league_core.specs.ClubSets.{clubs_in}
 use Rattle.league_core.specs.Reasons.{has_member}
@@ -22,9 +23,13 @@ is_fixture_number fixture = nat_lt fixture most_fixtures
 abbrev pub is_club_number : ℕ → Bool
 is_club_number club = nat_lt club most_clubs
 
--- a bound on the goals of a side that a score of at most 99 can miss
+-- the greatest bound on the goals of a side that a score of at most 99 can miss
+abbrev pub most_goal_bound : ℕ
+most_goal_bound = most_goals - 1
+
+-- a bound on goals that a score can miss
 abbrev pub is_goal_bound : ℕ → Bool
-is_goal_bound most = nat_le most 98
+is_goal_bound most = nat_le most most_goal_bound
 
 -- points that a club can have
 abbrev pub are_points : ℤ → Bool

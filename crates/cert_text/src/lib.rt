@@ -1,18 +1,30 @@
 //! What a report is written in: rows of fields, as CSV, and proof lines, as JSON.
 //!
 //! `write_row` has the rows, in the words of `specs/Rows.antt`; `write_line` the proof lines, whose
-//! texts are in `specs/Lines.antt`. A row has its line feed, a proof line has none.
+//! texts are in `specs/Lines.antt`. A row has its line feed, a proof line has none. `read_line`
+//! reads a proof line back (`specs/Forms.antt`). Which lists of lines are trees and examples stands
+//! in `specs/TreeLines.antt` and `specs/ExampleLines.antt`.
 #![tactic(auto)]
 
+mod forms;
+mod laws;
 mod line;
 #[cfg(test)]
 mod line_tests;
+mod places;
 mod proof_line;
+mod range;
+mod reader;
+#[cfg(test)]
+mod reader_tests;
 mod row;
 #[cfg(test)]
 mod row_tests;
 mod values;
 
+pub use laws::lines_are_in_range;
 pub use line::write_line;
 pub use proof_line::{ClubList, ProofLine};
+pub use range::has_form;
+pub use reader::{LineStop, read_line};
 pub use row::write_row;

@@ -1,12 +1,13 @@
 //! The JSON values of proof lines, part by part.
 
-ghost use Rattle.std.specs.Prelude.{◌≡◌, ◌∷◌, [], codes, IfOk};
+ghost use Rattle.std.specs.Prelude.{◌≡◌, ◌∷◌, [], codes, IfOk, IsTrue};
 ghost use Rattle.serde_json.specs.View.{view};
 ghost use Rattle.league_core.specs.ClubSets.{clubs_in};
 ghost use Rattle.cert_text.specs.Lines as lines;
 ghost use Rattle.cert_text.specs.Lines.{word, parts_of, test_parts, reason_parts};
 ghost use Rattle.cert_text.specs.Values as values;
 ghost use Rattle.cert_text.specs.Values.{parts_value};
+ghost use Rattle.cert_text.specs.Widths.{is_set_kept, is_reason_kept, is_line_kept};
 
 use crate::proof_line::ProofLine;
 use league_core::limits::SET_WIDTH;
@@ -16,7 +17,8 @@ use std::alloc::{AllocError, Global};
 
 /// The array that stands for the line.
 pub fn line_value(alloc: Global, line: &ProofLine) -> Result<Value, AllocError>
-    ensures { IfOk result (λ value. view value ≡ parts_value (parts_of line.now)) }
+    ensures value { IfOk result (λ value. view value ≡ parts_value (parts_of line.now)) }
+    ensures kept { IsTrue (is_line_kept line.now) }
 {
     match line {
         ProofLine::Tree(claim) => json!(in alloc; ["tree", claim_word(*claim)]),
@@ -64,8 +66,9 @@ fn test_value(alloc: Global, name: &str, test: Test) -> Result<Value, AllocError
 }
 
 fn reason_value(alloc: Global, name: &str, reason: Reason) -> Result<Value, AllocError>
-    ensures { IfOk result
+    ensures value { IfOk result
         (λ value. view value ≡ parts_value (word name.now ∷ reason_parts reason)) }
+    ensures kept { IsTrue (is_reason_kept reason) }
 {
     match reason {
         Reason::Count => json!(in alloc; [name, "count"]),
@@ -77,8 +80,9 @@ fn reason_value(alloc: Global, name: &str, reason: Reason) -> Result<Value, Allo
 }
 
 fn cut_value(alloc: Global, name: &str, cut: &str, set: ClubSet) -> Result<Value, AllocError>
-    ensures { IfOk result (λ value. view value
+    ensures value { IfOk result (λ value. view value
         ≡ parts_value (word name.now ∷ word cut.now ∷ lines.clubs (clubs_in set) ∷ [])) }
+    ensures kept { IsTrue (is_set_kept set) }
 {
     let listed = listed(alloc, set)?;
     let clubs = clubs_value(alloc, listed.as_slice())?;
