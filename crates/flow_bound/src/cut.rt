@@ -1,11 +1,10 @@
 //! The two calls. A floor cut counts least points, a ceiling cut counts most points with the sign
 //! turned; all else is the same.
 
-ghost use Rattle.std.specs.Prelude.{◌≡◌, ◌<◌, ◌≤ℤ◌, pos, neg_ℤ, false, [], ◌∷◌, None};
+ghost use Rattle.std.specs.Prelude.{◌≡◌, ◌<◌, ◌≤ℤ◌, pos, neg_ℤ, false, None};
 ghost use Rattle.std.specs.Prelude.{IfOk, IfSome, IsTrue, length};
 ghost use Rattle.league_core.specs.declared.club_set.ClubSet.{ClubSet};
 ghost use Rattle.league_core.specs.declared.zone.Reason.TheVariants.{Low, High};
-ghost use Rattle.league_core.specs.ClubSets.{clubs_in};
 ghost use Rattle.league_core.specs.Limits.{most_points};
 ghost use Rattle.score_box.specs.Points.{most_taken_off};
 ghost use Rattle.score_box.specs.Settings.{HasFinish, HasReason};
@@ -96,8 +95,7 @@ fn own_most(zone_box: &ZoneBox, question: &Question) -> i32
         ≡ own_most zone_box.now.sheet zone_box.now.season question.now zone_box.now.zone }
     ensures within { result ≤ℤ most_points }
 {
-    let most = zone_box.high_points(own_club(zone_box, question));
-    question.high.min(most)
+    question.high.min(zone_box.high(question.club))
 }
 
 /// The least points of the question's club in its window.
@@ -108,18 +106,7 @@ fn own_least(zone_box: &ZoneBox, question: &Question) -> i32
         ≡ own_least zone_box.now.sheet zone_box.now.season question.now zone_box.now.zone }
     ensures within { neg_ℤ most_taken_off ≤ℤ result }
 {
-    let least = zone_box.low_points(own_club(zone_box, question));
-    question.low.max(least)
-}
-
-/// The question's club alone.
-fn own_club(zone_box: &ZoneBox, question: &Question) -> ClubSet
-    requires { question.now.club < length zone_box.now.sheet.clubs }
-    ensures { clubs_in result ≡ question.now.club ∷ [] }
-{
-    // A sheet within its limits has no more clubs than a set can have.
-    let _sheet = zone_box.sheet();
-    ClubSet::single(question.club)
+    question.low.max(zone_box.low(question.club))
 }
 
 impl Cut {

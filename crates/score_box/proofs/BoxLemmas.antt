@@ -30,7 +30,7 @@ use Rattle.league_core.proofs.OptionLemmas.{length-options_from, get_or-options_
 use Rattle.league_core.proofs.OptionLemmas.{each_option}
 use Rattle.score_box.specs.declared.cell.Cell.{Cell}
 use Rattle.score_box.specs.Cells.{allows, IsCellOf, IsEmptyCell, HasOneScore}
-use Rattle.score_box.specs.Boxes.{AreCellsOf, TakesLiteral, IsTestBelow}
+use Rattle.score_box.specs.Boxes.{AreCellsOf, IsTestBelow}
 
 -- the options of a fixture by its number in the sheet
 pub options_at : (limit : ℕ) (zone : List Literal) (scores : List (Option Score)) (k : ℕ)
@@ -43,7 +43,7 @@ options_at limit zone scores k within =
     ∙ ap (λ f. options_of limit zone f (get_or scores k None)) same
 
 -- one literal more at the options of a fixture
-options_at-with : (limit : ℕ) (zone : List Literal) (literal : Literal)
+pub options_at-with : (limit : ℕ) (zone : List Literal) (literal : Literal)
     (scores : List (Option Score)) (k : ℕ) (score : Score) → k < length scores
     → has_score (get_or (options_from limit (zone ++ literal ∷ []) 0 scores) k []) score ≡
     (has_score (get_or (options_from limit zone 0 scores) k []) score
@@ -56,7 +56,7 @@ options_at-with limit zone literal scores k score within =
     (sym (options_at limit zone scores k within))
 
 -- a literal of another fixture, or of a rival, takes nothing away
-meets-other : (k : ℕ) (score : Score) (literal : Literal) → is_on k literal.test ≡ false
+pub meets-other : (k : ℕ) (score : Score) (literal : Literal) → is_on k literal.test ≡ false
     → meets_literal k score literal ≡ true
 meets-other k score literal off = ap
     (λ b. not b || is_as_said literal.yes (passes literal.test score)) off
@@ -65,6 +65,13 @@ meets-own : (k : ℕ) (score : Score) (literal : Literal) → is_on k literal.te
     → meets_literal k score literal ≡ is_as_said literal.yes (passes literal.test score)
 meets-own k score literal on = ap
     (λ b. not b || is_as_said literal.yes (passes literal.test score)) on
+
+-- cells of a zone become those of the zone with one literal more
+abbrev pub TakesLiteral : List Cell → List Cell → Literal → Type 0
+TakesLiteral old new literal =
+    (limit : ℕ) (zone : List Literal) (scores : List (Option Score))
+    → AreCellsOf old (options_from limit zone 0 scores)
+    → AreCellsOf new (options_from limit (zone ++ literal ∷ []) 0 scores)
 
 -- where no fixture is tested, each cell stays
 pub takes_mark : (cells : List Cell) (literal : Literal)
@@ -330,7 +337,7 @@ marked_after-push zone literal club =
     (or-false (is_of_rival club literal.test && not literal.yes))
 
 -- a test of the sheet is of one of its fixtures or clubs
-test_below : (sheet : Sheet) (fixtures : ℕ) (test : Test) → length sheet.fixtures ≡ fixtures
+pub test_below : (sheet : Sheet) (fixtures : ℕ) (test : Test) → length sheet.fixtures ≡ fixtures
     → length sheet.clubs ≤ 32 → is_test_of sheet test ≡ true → IsTestBelow fixtures 32 test
 test_below sheet fixtures
     (Home fixture) many few is = let h = ltb-true fixture (length sheet.fixtures) is in omega arith

@@ -1,10 +1,11 @@
 -- Cells: the scores that are still open for one fixture, kept as a set of outcomes and a range of
 -- goals
 -- for each side, and seen as the set of those scores.
-use Rattle.std.specs.Prelude.{◌≡◌, ℕ, ◌≤◌, Bool, true, false, ◌&&◌, nat_le, if◌then◌else◌, IsTrue}
+use Rattle.std.specs.Prelude.{◌≡◌, ℕ, ◌≤◌, Bool, true, false, not, ◌&&◌, nat_le, if◌then◌else◌}
+use Rattle.std.specs.Prelude.{IsTrue}
 use Rattle.std.specs.Prelude.{List}
 use Rattle.league_core.specs.declared.season.Score.{Score}
-use Rattle.league_core.specs.Options.{is_home_win, is_draw, has_score}
+use Rattle.league_core.specs.Options.{is_home_win, is_draw, same_outcome, has_score}
 use Rattle.score_box.specs.declared.cell.Cell.{Cell}
 use Rattle.score_box.specs.declared.cell.goals.Goals.{Goals}
 
@@ -68,3 +69,14 @@ abbrev pub HasOneScore : Cell → Type 0
 HasOneScore cell =
     (score : Score) × IsTrue (allows cell score)
     × ((other : Score) → IsTrue (allows cell other) → score ≡ other)
+
+-- no two of the three are true
+abbrev pub at_most_one : Bool → Bool → Bool → Bool
+at_most_one first second third =
+    not (first && second) && not (first && third) && not (second && third)
+
+-- all scores of the cell have one outcome
+abbrev pub HasOneOutcome : Cell → Type 0
+HasOneOutcome cell =
+    (score other : Score) → allows cell score ≡ true → allows cell other ≡ true
+    → same_outcome score other ≡ true

@@ -2,5 +2,8 @@
 -- leaves.
 pub mod Settings
 pub mod Cells
+pub mod Unplayed
 pub mod Boxes
+pub mod Ends
+pub mod Stages
 pub mod Points

@@ -58,6 +58,15 @@ impl Cell {
         }
     }
 
+    /// No score.
+    pub fn none() -> Cell
+        ensures { IsEmptyCell result }
+    {
+        let mut cell = Cell::any(0);
+        cell.cut_all();
+        cell
+    }
+
     pub fn allows(&self, score: &Score) -> bool
         ensures { result ≡ allows self.now score.now }
     {

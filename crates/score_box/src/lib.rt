@@ -1,21 +1,22 @@
 //! The scores that are still open in a zone of a season, and the points that they leave to clubs.
 //!
 //! `Cell` has the open scores of one fixture, `ZoneBox` those of a zone, fixture by fixture, with
-//! the
-//! zone's marks. No list of scores is ever made: a cell is a set of outcomes and two ranges of
-//! goals.
-//! The meaning is in league_core's `specs/Options.antt` and `specs/PointRanges.antt`, and what a
-//! cell
-//! and a box stand for in `specs/Cells.antt` and `specs/Boxes.antt` here.
+//! the zone's marks; `Played` has what many boxes of one season share. No list of scores is ever
+//! made: a cell is a set of outcomes and two ranges of goals. The meaning is in league_core's
+//! `specs/Options.antt` and `specs/PointRanges.antt`, and what a cell and a box stand for in
+//! `specs/Cells.antt` and `specs/Boxes.antt` here.
 #![tactic(auto)]
 
 mod cell;
+mod ends;
 mod marks;
+mod played;
 mod points;
 #[cfg(test)]
 mod tests;
 mod zone_box;
 
 pub use cell::{Cell, Goals};
+pub use played::Played;
 pub use points::{MatchPoints, PointRange};
 pub use zone_box::ZoneBox;

@@ -1,13 +1,12 @@
 //! Cells and sums against plain lists of scores, over zones that are drawn. The lists are made here
-//! by
-//! trying every score, as a reader would on paper.
+//! by trying every score, as a reader would on paper.
 
 ghost use Rattle.std.specs.Prelude.{◌≡◌, ◌<◌, IfOk, length};
 ghost use Rattle.league_core.specs.declared.sheet.Sheet.{Sheet};
 ghost use Rattle.league_core.specs.Sheets.{IsWithinLimits};
 ghost use Rattle.league_core.specs.Zones.{is_zone_of, is_test_of};
 
-use crate::zone_box::ZoneBox;
+use crate::{Played, ZoneBox};
 use league_core::{
     Club, ClubSet, Event, Fixture, Listing, Literal, Name, Order, OutOfMemory, Score, Season,
     Sheet, Test, Zone,
@@ -245,6 +244,34 @@ fn check_sums(rt: &impl Abort, zone_box: &ZoneBox, fixtures: &[Fixture], literal
     }
 }
 
+/// The fixture has scores of several outcomes left.
+fn is_open(literals: &[Literal], number: u16) -> bool {
+    let mut outcomes = [false, false, false];
+    for home in 0..7 {
+        for away in 0..7 {
+            if is_option(literals, number, Score { home, away }) {
+                outcomes[0] = outcomes[0] || home > away;
+                outcomes[1] = outcomes[1] || home == away;
+                outcomes[2] = outcomes[2] || home < away;
+            }
+        }
+    }
+    outcomes[0] && outcomes[1] || outcomes[0] && outcomes[2] || outcomes[1] && outcomes[2]
+}
+
+fn check_clubs(rt: &impl Abort, zone_box: &ZoneBox, literals: &[Literal]) {
+    let several = (0..4).filter(|number| is_open(literals, *number)).count();
+    assert_eq!(rt; zone_box.open_outcomes(), several);
+    assert!(rt; zone_box.sheet().clubs.len() == 3);
+    if zone_box.has_finish() {
+        for club in 0..3 {
+            let set = ClubSet { bits: 1 << club };
+            assert_eq!(rt; zone_box.low(club), zone_box.low_points(set));
+            assert_eq!(rt; zone_box.high(club), zone_box.high_points(set));
+        }
+    }
+}
+
 fn check_picks(rt: &impl Abort, zone_box: &ZoneBox, literals: &[Literal]) {
     assert!(rt; zone_box.season().scores().len() == 4);
     if zone_box.has_finish() {
@@ -283,9 +310,23 @@ fn check(rt: &impl Abort, alloc: Global, zone: &Zone) -> Result<(), Fail> {
         zone_box.sheet().fixtures.as_slice(),
         literals,
     );
+    check_clubs(rt, &zone_box, literals);
     check_picks(rt, &zone_box, literals);
     check_marks(rt, &zone_box, literals);
     Ok(())
+}
+
+/// One literal more at the end of the zone.
+fn go_on(rt: &impl Abort, zone_box: &mut ZoneBox, literal: Literal) -> Result<(), OutOfMemory> {
+    let fixtures = zone_box.sheet().fixtures.len();
+    let clubs = zone_box.sheet().clubs.len();
+    assert!(rt; is_below(&literal.test, fixtures, clubs));
+    zone_box.cut(literal)
+}
+
+fn go_back(rt: &impl Abort, zone_box: &mut ZoneBox) -> Literal {
+    assert!(rt; !zone_box.zone().is_empty());
+    zone_box.uncut()
 }
 
 #[test]
@@ -336,6 +377,30 @@ fn repeated_contradictory_and_double_marks(rt: HostRuntime) -> Result<(), Fail> 
     for literals in &zones {
         let zone = zone_of(rt.alloc(), literals.as_slice())?;
         check(&rt, rt.alloc(), &zone)?;
+    }
+    Ok(())
+}
+
+#[test]
+fn a_path_leaves_what_a_list_of_scores_leaves(rt: HostRuntime) -> Result<(), Fail> {
+    let sheet = sheet(rt.alloc())?;
+    let season = season(rt.alloc())?;
+    assert!(rt; sheet.fixtures.len() == 4 && sheet.clubs.len() == 3);
+    let played = Played::of(rt.alloc(), &sheet, &season)?;
+    assert_eq!(rt; played.unplayed(), [1, 2, 3].as_slice());
+    let mut zone_box = ZoneBox::over(rt.alloc(), &played, &[])?;
+    let mut path = Vec::new(rt.alloc());
+    let mut draws = Draws { state: 2 };
+    for _ in 0..100 {
+        if draws.below(3) == 0 && !path.is_empty() {
+            assert_eq!(rt; Some(go_back(&rt, &mut zone_box)), path.pop());
+        } else {
+            let literal = draws.literal();
+            go_on(&rt, &mut zone_box, literal)?;
+            path.push(literal)?;
+        }
+        check_cells(&rt, &zone_box, &path);
+        check_marks(&rt, &zone_box, &path);
     }
     Ok(())
 }

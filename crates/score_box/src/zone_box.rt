@@ -10,30 +10,36 @@ ghost use Rattle.league_core.specs.Limits.{most_points};
 ghost use Rattle.league_core.specs.PointRanges.{least_points_of, most_points_of};
 ghost use Rattle.league_core.specs.Zones.{is_zone_of, marked_before, marked_after};
 ghost use Rattle.league_core.specs.Options.{options_in, has_score, has_finish, is_single};
-ghost use Rattle.score_box.specs.Cells.{IsCellOf, IsEmptyCell, HasOneScore};
+ghost use Rattle.score_box.specs.Cells.{IsCellOf, HasOneScore};
 ghost use Rattle.score_box.specs.Boxes.{IsSetOf};
 ghost use Rattle.score_box.specs.Settings.{HasFinish};
 ghost use Rattle.score_box.specs.Points.{most_taken_off};
 
 mod build;
+mod looks;
+mod path;
 
 use crate::cell::Cell;
+use crate::ends::Ends;
 use crate::marks::Marks;
+use crate::played::Played;
 use crate::points::{self, PointRange};
-use league_core::{ClubSet, OutOfMemory, Score, Season, Sheet, Zone};
+pub use build::season_cells;
+use league_core::{ClubSet, Literal, OutOfMemory, Score, Season, Sheet, Zone};
 use std::alloc::Global;
 use std::marker::Model;
 
 /// The options of a zone, one cell for each fixture, with the zone's marks. Contracts see the
-/// sheet,
-/// the season and the literals that it was made from.
+/// sheet, the season and the literals that it was made from.
 #[derive(Drop)]
 pub struct ZoneBox<'a> {
     sheet: &'a Sheet,
     season: &'a Season,
-    zone: &'a Zone,
+    zone: Vec<Literal>,
+    unplayed: Vec<u16>,
     cells: Vec<Cell>,
     marks: Marks,
+    ends: Ends,
 }
 
 impl<'a> Model for ZoneBox<'a> {
@@ -41,26 +47,26 @@ impl<'a> Model for ZoneBox<'a> {
 
     ghost Value = { Setting };
 
-    ghost use Rattle.score_box.specs.Boxes.{IsBoxOf};
+    ghost use Rattle.score_box.specs.Stages.{IsBoxOf};
 
     ghost view = { λ b. record {
       sheet = b.sheet.now;
       season = b.season.now;
-      zone = b.zone.now.literals;
+      zone = b.zone.items;
     } };
 
     ghost invariant = { λ b. IsBoxOf
-        (record { sheet = b.sheet.now; season = b.season.now; zone = b.zone.now.literals })
-        b.cells.items b.marks.before b.marks.after };
+        (record { sheet = b.sheet.now; season = b.season.now; zone = b.zone.items })
+        b.unplayed.items b.cells.items b.marks.before b.marks.after b.ends };
 }
 
 impl<'a> ZoneBox<'a> {
-    /// The box of a zone, in one walk over the fixtures and one over the literals.
+    /// The box of a zone, over tables of its own.
     pub fn of(
         alloc: Global,
         sheet: &'a Sheet,
         season: &'a Season,
-        zone: &'a Zone,
+        zone: &Zone,
     ) -> Result<ZoneBox<'a>, OutOfMemory>
         requires league { IsLeague sheet.now season.now }
         requires zone { IsTrue (is_zone_of sheet.now zone.now.literals) }
@@ -70,14 +76,49 @@ impl<'a> ZoneBox<'a> {
           zone = zone.now.literals;
         }) }
     {
-        let mut cells = build::season_cells(alloc, season.scores(), sheet.goal_limit)?;
-        let marks = build::take_literals(&mut cells, zone.literals.as_slice());
+        let played = Played::of(alloc, sheet, season)?;
+        ZoneBox::over(alloc, &played, zone.literals.as_slice())
+    }
+
+    /// The box of a zone over the tables of its season: a copy of what they have, and one cell cut
+    /// for each literal.
+    pub fn over(
+        alloc: Global,
+        played: &Played<'a>,
+        zone: &[Literal],
+    ) -> Result<ZoneBox<'a>, OutOfMemory>
+        requires { IsTrue (is_zone_of played.now.sheet zone.now) }
+        ensures { IfOk result (λ b. b ≡ record {
+          sheet = played.now.sheet;
+          season = played.now.season;
+          zone = zone.now;
+        }) }
+    {
+        let mut zone_box = ZoneBox::start(alloc, played)?;
+        zone_box.cut_all(zone)?;
+        Ok(zone_box)
+    }
+
+    /// The box of the zone without a literal.
+    fn start(alloc: Global, played: &Played<'a>) -> Result<ZoneBox<'a>, OutOfMemory>
+        ensures { IfOk result (λ b. b ≡ record {
+          sheet = played.now.sheet;
+          season = played.now.season;
+          zone = [];
+        }) }
+    {
+        let sheet = played.sheet();
+        let season = played.season();
+        let cells = Vec::from_slice(alloc, played.cells())?;
+        let unplayed = Vec::from_slice(alloc, played.unplayed())?;
         Ok(ZoneBox {
             sheet,
             season,
-            zone,
+            zone: Vec::new(alloc),
+            unplayed,
             cells,
-            marks,
+            marks: Marks::none(),
+            ends: played.ends(),
         })
     }
 
@@ -85,7 +126,7 @@ impl<'a> ZoneBox<'a> {
     pub fn has_finish(&self) -> bool
         ensures { result ≡ has_finish self.now.sheet self.now.season self.now.zone }
     {
-        have_scores(&self.cells)
+        self.ends.empty == 0
     }
 
     /// Each fixture has one score left.
@@ -181,12 +222,6 @@ impl<'a> ZoneBox<'a> {
     {
         &self.cells[fixture as usize]
     }
-}
-
-fn have_scores(cells: &[Cell]) -> bool
-    ensures { IsTrue result ↔ All (λ cell. ¬ IsEmptyCell cell) cells.now }
-{
-    cells.iter().all(|cell| !cell.is_empty())
 }
 
 fn have_one_score(cells: &[Cell]) -> bool

@@ -11,3 +11,4 @@ pub mod AnswerLemmas
 pub mod RoundLemmas
 pub mod TakenLemmas
 pub mod RivalLemmas
+pub mod GivenLemmas

@@ -1,8 +1,7 @@
 -- A match seen from one of its sides: the goals that it may score, and what these are worth to it.
-use Rattle.std.specs.Prelude.{◌≡◌, ℕ, ℤ, ◌≤◌, ◌<◌, Bool, true, false, not, ◌&&◌, List}
+use Rattle.std.specs.Prelude.{◌≡◌, ℕ, ℤ, ◌≤◌, ◌<◌, Bool, true, false, not, List}
 use Rattle.league_core.specs.declared.season.Score.{Score}
 use Rattle.league_core.specs.Sums.{Worth}
-use Rattle.league_core.specs.Options.{same_outcome}
 use Rattle.league_core.specs.PointRanges.{range_of}
 use Rattle.tie_criteria.specs.declared.measure.Measure.{Measure}
 use Rattle.tie_criteria.specs.Measures.{worth_of}
@@ -20,17 +19,6 @@ goals_by false score = score.home
 -- what a score is worth to a side
 abbrev pub to_side : Worth → Bool → Score → ℤ
 to_side worth away score = worth (goals_by away score) (goals_by (not away) score) away
-
--- no two of the three are true
-abbrev pub at_most_one : Bool → Bool → Bool → Bool
-at_most_one first second third =
-    not (first && second) && not (first && third) && not (second && third)
-
--- all scores of the cell have one outcome
-abbrev pub HasOneOutcome : Cell → Type 0
-HasOneOutcome cell =
-    (score other : Score) → allows cell score ≡ true → allows cell other ≡ true
-    → same_outcome score other ≡ true
 
 -- the goals of a side over the scores of a cell: all lie between these ends, and each end is
 -- reached

@@ -1,5 +1,5 @@
 //! Who is certainly before whom in a zone in which every match has one outcome but its scores may
-//! be open, and the reason that rests on it.
+//! be open, and the reason that rests on it; and whether a reason that is given holds.
 //!
 //! The meaning is league_core's `specs/SureOrder.antt` and `Reasons.antt`; read these first, then
 //! `specs/Sums.antt` here, which ties the tables of this crate to them. No call takes memory:
@@ -9,8 +9,10 @@
 mod against;
 mod answers;
 mod fixtures;
+mod given;
 mod order;
 mod outcomes;
+mod own;
 mod parts;
 mod rivals;
 mod rounds;
@@ -23,7 +25,9 @@ mod table;
 mod tests;
 mod tie;
 
+pub use given::{count_reason, high_reason, holds, low_reason, window_reason};
 pub use league_core::Sure;
 pub use outcomes::has_one_outcome;
+pub use own::{own_least, own_most};
 pub use sure::judge;
 pub use tie::tie_reason;

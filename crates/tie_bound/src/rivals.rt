@@ -41,7 +41,7 @@ impl Rivals {
 }
 
 /// All clubs but the one.
-fn rivals_of(sheet: &Sheet, club: u8) -> ClubSet
+pub fn rivals_of(sheet: &Sheet, club: u8) -> ClubSet
     requires { length sheet.now.clubs ≤ 24 }
     ensures { clubs_in result ≡ rivals_of sheet.now club }
 {

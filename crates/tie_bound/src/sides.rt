@@ -4,7 +4,8 @@
 
 ghost use Rattle.std.specs.Prelude.{◌≡◌, Bool, true, false, not};
 ghost use Rattle.score_box.specs.declared.cell.Cell.{Cell};
-ghost use Rattle.tie_bound.specs.Sides.{HasOneOutcome, AreGoalsOf, Wins, Draws, Loses, AreSumsOf};
+ghost use Rattle.score_box.specs.Cells.{HasOneOutcome};
+ghost use Rattle.tie_bound.specs.Sides.{AreGoalsOf, Wins, Draws, Loses, AreSumsOf};
 
 use crate::span::{GoalSpan, Span};
 use crate::sums::Sums;

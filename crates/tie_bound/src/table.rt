@@ -4,7 +4,7 @@ ghost use Rattle.std.specs.Prelude.{◌≡◌, ◌≢◌, ◌<◌, ◌≤◌, �
 ghost use Rattle.league_core.specs.Sums.{has_club, worth_to, worth_among};
 ghost use Rattle.league_core.specs.ClubSets.{clubs_in};
 ghost use Rattle.tie_bound.specs.Sums.{no_sums, sums_at, AreNear};
-ghost use Rattle.tie_bound.specs.Sides.{HasOneOutcome};
+ghost use Rattle.score_box.specs.Cells.{HasOneOutcome};
 ghost use Rattle.tie_bound.specs.Boxes.{options_in_box, have_one_outcome};
 ghost use Rattle.tie_bound.specs.Tables.{AreSums, AddsSpansOfMatch};
 

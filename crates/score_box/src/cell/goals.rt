@@ -1,12 +1,11 @@
 //! The goals of the scores in a cell, outcome by outcome. Here a cell is shown to have a score of
-//! an
-//! outcome, or none: whether it is empty, or has one score alone, is read off from that.
+//! an outcome, or none: whether it is empty, or has one score alone, is read off from that.
 
 ghost use Rattle.std.specs.Prelude.{◌≡◌, IsTrue, ◌↔◌, MatchOption, IfSome};
 ghost use Rattle.league_core.specs.declared.season.Score.{Score};
 ghost use Rattle.league_core.specs.Options.{score_of, is_home_win, is_draw, is_away_win};
 ghost use Rattle.score_box.specs.Cells.{allows, IsAllowed, AllowsNone, IsSpanOf, IsAt, IsEmptyCell};
-ghost use Rattle.score_box.specs.Cells.{HasOneScore};
+ghost use Rattle.score_box.specs.Cells.{HasOneScore, HasOneOutcome, at_most_one};
 
 use super::Cell;
 use league_core::Score;
@@ -141,6 +140,16 @@ impl Cell {
         }
     }
 
+    /// All scores that are left have one outcome; a cell without any is no exception.
+    pub fn has_one_outcome(&self) -> bool
+        ensures { IsTrue result ↔ HasOneOutcome self.now }
+    {
+        let home_wins = self.home_wins().is_some();
+        let draws = self.draws().is_some();
+        let away_wins = self.away_wins().is_some();
+        at_most_one(home_wins, draws, away_wins)
+    }
+
     fn has_no_other(&self, score: &Score) -> bool
         ensures { IsTrue result
             ↔ ((other : Score) → IsTrue (allows self.now other) → score.now ≡ other) }
@@ -160,4 +169,10 @@ fn are_at(goals: Option<Goals>, score: &Score) -> bool
         Some(ends) => ends.are_of(score),
         None => true,
     }
+}
+
+fn at_most_one(first: bool, second: bool, third: bool) -> bool
+    ensures { result ≡ at_most_one first second third }
+{
+    !(first && second) && !(first && third) && !(second && third)
 }

@@ -31,6 +31,21 @@ impl MatchPoints {
     }
 }
 
+impl MatchPoints {
+    const NONE: MatchPoints = MatchPoints { least: 0, most: 0 };
+
+    /// What any cell leaves to them; nothing where no score is left.
+    pub fn left(cell: &Cell, home: bool, away: bool) -> MatchPoints
+        ensures { IsPointsOf cell.now home away result }
+    {
+        if cell.is_empty() {
+            MatchPoints::NONE
+        } else {
+            MatchPoints::of(cell, home, away)
+        }
+    }
+}
+
 fn least_of(wins: bool, draws: bool, losses: bool, home: bool, away: bool) -> u8
     ensures { result ≡ least_of_three wins draws losses home away }
 {

@@ -1,4 +1,4 @@
-//! How a box is made: the cells of the season, then what each literal leaves of them.
+//! The cells of a season, and the fixture that a literal is of.
 
 ghost use Rattle.std.specs.Prelude.{◌≡◌, ℕ, ◌<◌, ◌==◌, Bool, true, false, IfOk, IfSome, IfNone};
 ghost use Rattle.std.specs.Prelude.{MatchOption, List, [], length, Option, Some};
@@ -7,14 +7,13 @@ ghost use Rattle.league_core.specs.declared.season.Score.{Score};
 ghost use Rattle.league_core.specs.declared.zone.Literal.{Literal};
 ghost use Rattle.league_core.specs.Limits.{set_width};
 ghost use Rattle.league_core.specs.Finishes.{may_end};
-ghost use Rattle.league_core.specs.Zones.{is_on, is_of_score, marked_before, marked_after};
+ghost use Rattle.league_core.specs.Zones.{is_on, is_of_score};
 ghost use Rattle.league_core.specs.Options.{options_from};
 ghost use Rattle.score_box.specs.Cells.{allows};
-ghost use Rattle.score_box.specs.Boxes.{AreCellsOf, IsSetOf, IsTestBelow, TakesLiteral};
+ghost use Rattle.score_box.specs.Boxes.{AreCellsOf, IsTestBelow};
 
 use crate::cell::Cell;
-use crate::marks::Marks;
-use league_core::{Literal, OutOfMemory, Score, Test};
+use league_core::{OutOfMemory, Score, Test};
 use std::alloc::Global;
 
 /// The cells of a season in which no literal is asked for.
@@ -34,7 +33,7 @@ pub fn season_cells(
 }
 
 /// A played fixture has its score, another all scores up to the limit.
-fn first_cell(played: Option<Score>, goal_limit: u8) -> Cell
+pub fn first_cell(played: Option<Score>, goal_limit: u8) -> Cell
     ensures { (score : Score) → allows result score ≡ may_end goal_limit played (Some score) }
 {
     match played {
@@ -43,36 +42,8 @@ fn first_cell(played: Option<Score>, goal_limit: u8) -> Cell
     }
 }
 
-/// Cuts the cells by each literal of a score, and gives the marks of the others.
-pub fn take_literals(cells: &mut [Cell], literals: &[Literal]) -> Marks
-    requires { All (λ literal. IsTestBelow (length cells.old) set_width literal.test) literals.now }
-    ensures cells { (limit : ℕ) (scores : List (Option Score))
-        → AreCellsOf cells.old (options_from limit [] 0 scores)
-        → AreCellsOf cells.new (options_from limit literals.now 0 scores) }
-    ensures before { IsSetOf result.before (marked_before literals.now) }
-    ensures after { IsSetOf result.after (marked_after literals.now) }
-{
-    let mut marks = Marks::none();
-    for literal in literals {
-        cut_cells(cells, literal);
-        marks = marks.with(literal);
-    }
-    marks
-}
-
-/// Cuts the cell of the fixture that a literal is of, if it is of one.
-fn cut_cells(cells: &mut [Cell], literal: &Literal)
-    requires { IsTestBelow (length cells.old) set_width literal.now.test }
-    ensures { TakesLiteral cells.old cells.new literal.now }
-{
-    match fixture_of(&literal.test) {
-        Some(fixture) => cells[fixture as usize].cut(literal),
-        None => {}
-    }
-}
-
 /// The fixture whose score a test looks at.
-fn fixture_of(test: &Test) -> Option<u16>
+pub fn fixture_of(test: &Test) -> Option<u16>
     ensures some { IfSome result (λ fixture. (is_of_score test.now ≡ true)
         × ((number : ℕ) → is_on number test.now ≡ (fixture == number))
         × ((fixtures : ℕ) → IsTestBelow fixtures set_width test.now → fixture < fixtures)) }

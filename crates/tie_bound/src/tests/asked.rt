@@ -4,9 +4,9 @@
 
 use super::leagues::{Game, are_fixtures, fixtures_of, four_clubs};
 use super::zones::{is_of_sheet, zone_of};
-use crate::tie_reason;
+use crate::{holds, own_least, own_most, tie_reason};
 use league_core::Order::{HeadFirst, OverallFirst};
-use league_core::{Claim, Order, Question, Season};
+use league_core::{Claim, ClubSet, Order, Question, Reason, Season};
 use score_box::ZoneBox;
 use std::alloc::Global;
 use std::process::Abort;
@@ -88,6 +88,55 @@ fn check(rt: &impl Abort, alloc: Global, asked: &Asked) -> Result<(), Fail> {
         tie_reason(&zone_box, &question) == wanted,
         "{outcome} {line}"
     );
+    assert_eq!(rt; holds(&zone_box, &question, &Reason::Tie), wanted);
+    Ok(())
+}
+
+/// B, C and D are marked behind A.
+const MARKED: [(u8, bool); 3] = [(1, false), (2, false), (3, false)];
+
+/// A reason, the window that is asked for, and whether it holds.
+type Given = (Reason, i32, i32, bool);
+
+// Worked by hand. A beats B, and the other match is open: A has three points, B none, C and D two
+// or three together.
+const GIVEN: [Given; 9] = [
+    (Reason::Count, -99, 1800, true),
+    (Reason::Window, -99, 1800, false),
+    (Reason::Window, 4, 1800, true),
+    (Reason::Window, -99, 2, true),
+    (Reason::Low(ClubSet { bits: 12 }), -99, 1, false),
+    (Reason::Low(ClubSet { bits: 12 }), -99, 0, true),
+    (Reason::Low(ClubSet { bits: 0 }), -99, -9, false),
+    // B, C and D are not marked before A.
+    (Reason::High(ClubSet { bits: 2 }), 4, 1800, false),
+    (Reason::Tie, -99, 1800, false),
+];
+
+#[test]
+fn a_given_reason_holds_where_the_sums_say_so(rt: HostRuntime) -> Result<(), Fail> {
+    let games: [Game; 2] = [(0, 1, 'H', (0, 9), (0, 9)), (2, 3, '-', (0, 9), (0, 9))];
+    let fixtures = fixtures_of(rt.alloc(), &games)?;
+    assert!(rt; are_fixtures(&fixtures) && fixtures.len() <= 600);
+    let sheet = four_clubs(rt.alloc(), HeadFirst, fixtures)?;
+    let season = Season::unplayed(rt.alloc(), 4, games.len())?;
+    let zone = zone_of(rt.alloc(), &games, &MARKED)?;
+    assert!(rt; is_of_sheet(&sheet, &zone));
+    let zone_box = ZoneBox::of(rt.alloc(), &sheet, &season, &zone)?;
+    for (reason, low, high, wanted) in GIVEN.iter() {
+        let question = Question {
+            club: 0,
+            line: 1,
+            claim: Claim::Outside,
+            low: *low,
+            high: *high,
+        };
+        let found = holds(&zone_box, &question, reason);
+        assert!(rt; found == *wanted, "{low} {high}");
+        assert!(rt; zone_box.has_finish());
+        assert_eq!(rt; own_most(&zone_box, &question), 3.min(*high));
+        assert_eq!(rt; own_least(&zone_box, &question), 3.max(*low));
+    }
     Ok(())
 }
 

@@ -8,7 +8,7 @@ use Rattle.tie_bound.specs.declared.sums.Sums.{Sums}
 use Rattle.tie_bound.specs.Sums.{sums_at}
 use Rattle.tie_bound.specs.Boxes.{options_in_box}
 use Rattle.tie_bound.proofs.BoxLemmas.{each_below, length-options}
-use Rattle.tie_bound.proofs.OutcomeLemmas.{one_outcome_of}
+use Rattle.score_box.proofs.OutcomeLemmas.{one_outcome_of}
 use Rattle.tie_bound.proofs.TableLemmas.{wider}
 use Rattle.tie_bound.proofs.SoFarLemmas.{IsSoFar, so_far_none, so_far_more, so_far_all}
 use Rattle.tie_bound.proofs.table.add_all.Goals as goal

@@ -1,21 +1,15 @@
--- No cell is empty exactly where each fixture has an option.
-use Rattle.std.proofs.Common.{List, subst, sym}
-use Rattle.std.specs.List.{All}
-use Rattle.league_core.specs.Options.{options_in}
-use Rattle.score_box.specs.declared.cell.Cell.{Cell}
-use Rattle.score_box.specs.Cells.{IsEmptyCell}
-use Rattle.score_box.specs.Boxes.{AreCellsOf}
+-- No fixture is without an option exactly where each has one.
+use Rattle.std.proofs.Common.{◌≡◌, ◌==◌, ap, ◌∙◌, subst}
+use Rattle.league_core.specs.Options.{options_in, has_option, has_finish}
 use Rattle.score_box.specs.Settings.{Setting}
-use Rattle.score_box.proofs.BoxLemmas.{has_finish-is}
+use Rattle.score_box.proofs.EndLemmas.{all_counted}
 use Rattle.score_box.proofs.zone_box.ZoneBox.has_finish.Goals as goal
 
 pub returns : goal.returns
+unfolding has_finish
 returns c =
-    let now = c.args.self.now in
-    let cells = c.self.inside.cells.items in
-    let Have : Setting → Type 0 = λ v. AreCellsOf cells (options_in v.sheet v.season v.zone) in
-    let Some_in_each : List Cell → Type 0 = λ xs. All (λ cell. ¬ IsEmptyCell cell) xs in
-    has_finish-is now.sheet now.season now.zone cells c.have_scores.result
-    (subst Have c.self.view_is c.self.invariant.options)
-    (λ e. subst Some_in_each c.deref.ensures.value (c.have_scores.ensures.0 e))
-    (λ all. c.have_scores.ensures.1 (subst Some_in_each (sym c.deref.ensures.value) all))
+    let box = c.self.inside in
+    let At : Setting → Type 0 = λ v. (box.ends.empty == 0) ≡ has_finish v.sheet v.season v.zone in
+    subst At c.self.view_is
+    (ap (λ n. n == 0) c.self.invariant.ends_are.empty
+    ∙ all_counted has_option (options_in box.sheet.now box.season.now box.zone.items))

@@ -23,7 +23,7 @@ match_points-won-requires-clause-many c =
     let box = c.self.inside in
     ap length c.as_slice.ensures
     ∙ sym c.self.invariant.league.of_sheet.scores
-    ∙ sym (cells_of_season box.sheet.now box.season.now box.zone.now.literals box.cells.items
+    ∙ sym (cells_of_season box.sheet.now box.season.now box.zone.items box.cells.items
     c.self.invariant.options)
     ∙ sym (ap length c.deref.ensures.value)
 
@@ -61,7 +61,7 @@ returns-clause-least c =
     (of_z w32 (to_z w32 (of_z w32 won.least) -ℤ to_z w32 (of_z w32 off)))
     ≡ least_points_of v.sheet v.season v.zone clubs in
     subst At c.self.view_is
-    (fits ∙ least_points-is box.sheet.now box.season.now box.zone.now.literals box.cells.items
+    (fits ∙ least_points-is box.sheet.now box.season.now box.zone.items box.cells.items
     clubs won off c.self.invariant.options range taken_off)
 
 pub returns-clause-most : goal.returns-clause-most
@@ -88,5 +88,5 @@ returns-clause-most c =
     (of_z w32 (to_z w32 (of_z w32 won.most) -ℤ to_z w32 (of_z w32 off)))
     ≡ most_points_of v.sheet v.season v.zone clubs in
     subst At c.self.view_is
-    (fits ∙ most_points-is box.sheet.now box.season.now box.zone.now.literals box.cells.items
+    (fits ∙ most_points-is box.sheet.now box.season.now box.zone.items box.cells.items
     clubs won off c.self.invariant.options range taken_off)

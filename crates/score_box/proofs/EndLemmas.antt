@@ -1,0 +1,532 @@
+-- What fixtures come to for a club alone: by its sides, within bounds, and where the options of one
+-- fixture change.
+use Rattle.std.proofs.Common.{◌≡◌, ◌≢◌, ◌⊎◌, ℕ, zero, suc, ◌+◌}
+use Rattle.std.proofs.Common.{◌*◌, ◌<◌, ◌≤◌, ℤ, pos, ◌+ℤ◌, ◌-ℤ◌, ◌≤ℤ◌}
+use Rattle.std.proofs.Common.{Bool, true, false, not, eqb, cond, List}
+use Rattle.std.proofs.Common.{[], ◌∷◌, length, get_or, set, take, count_by}
+use Rattle.std.proofs.Common.{◌&&◌, ◌==◌, nat_lt, replicate, filter}
+use Rattle.std.specs.List.{list_all}
+use Rattle.std.proofs.lemmas.List.Sums.{length-filter}
+use Rattle.std.specs.List.{All}
+use Rattle.std.proofs.lemmas.Bool.{eq-eqb, ne_eqb, eqb-false, ltb-true, and_parts}
+use Rattle.std.proofs.lemmas.List.{get_or-replicate, length-replicate}
+use Rattle.std.proofs.lemmas.List.Sums.{AllPass-from_list_all}
+use Rattle.league_core.specs.declared.sheet.Sheet.{Sheet}
+use Rattle.league_core.specs.Sheets.{IsWithinLimits, is_fixture}
+use Rattle.std.proofs.Common.{refl, sym, ap, ◌∙◌, subst, inl, inr, arith}
+use Rattle.std.proofs.lemmas.Int.{ints, clamps}
+use Rattle.std.proofs.lemmas.Bool.{false≢true, cases_lt, cases_eq, eqb-true, false_from_ne_true}
+use Rattle.std.proofs.lemmas.List.{ext_get_or, get_or-set_same, get_or-set_other, get_or_past}
+use Rattle.std.proofs.lemmas.List.{length-set}
+use Rattle.std.proofs.lemmas.List.Sums.{sum_by-set, get_or-le-sum_by}
+use Rattle.std.proofs.lemmas.List.Sums.{count_by_more_no, count_by_more_yes}
+use Rattle.league_core.specs.declared.sheet.Fixture.{Fixture}
+use Rattle.league_core.specs.declared.season.Score.{Score}
+use Rattle.league_core.specs.Sums.{match_points, worth_to}
+use Rattle.league_core.specs.Options.{has_option, has_one_outcome}
+use Rattle.league_core.specs.PointRanges.{Range, one_value, added, widened, range_of, range_from}
+use Rattle.league_core.specs.PointRanges.{points_together, points_of_sides}
+use Rattle.league_core.proofs.OptionLemmas.{has_score-first}
+use Rattle.league_core.proofs.PointRangeLemmas.{range_of-same}
+use Rattle.score_box.specs.declared.cell.Cell.{Cell}
+use Rattle.score_box.specs.declared.points.outcomes.MatchPoints.{MatchPoints}
+use Rattle.score_box.specs.Cells.{IsCellOf, IsEmptyCell}
+use Rattle.score_box.specs.Points.{IsPointsOf}
+use Rattle.score_box.specs.Boxes.{AreCellsOf, open_outcomes_in}
+use Rattle.score_box.specs.Ends.{alone_in, alone_over, empty_in, end_at, IsMatch, AreSpans}
+use Rattle.score_box.specs.Ends.{MovesSpans}
+use Rattle.score_box.specs.Cells.{HasOneOutcome}
+use Rattle.score_box.proofs.OutcomeLemmas.{one_outcome_of, outcome_of_cell}
+
+-- ---- bounds
+
+-- no match gives a club more than three points
+abbrev pub IsSmall : ℤ → Type 0
+IsSmall value = (pos 0 ≤ℤ value) × (value ≤ℤ pos 3)
+
+cond_small : (b : Bool) (x y : ℤ) → IsSmall x → IsSmall y → IsSmall (cond b x y)
+cond_small true x y first second = first
+cond_small false x y first second = second
+
+points_small : (scored conceded : ℕ) (away : Bool) → IsSmall (match_points scored conceded away)
+points_small scored conceded away =
+    cond_small _ (pos 3) _ (omega (arith, ints), omega (arith, ints))
+    (cond_small _ (pos 1) (pos 0) (omega (arith, ints), omega (arith, ints))
+    (omega (arith, ints), omega (arith, ints)))
+
+worth_small : (club : ℕ) (match : Fixture) (score : Score)
+    → IsSmall (worth_to match_points club match score)
+worth_small club match score =
+    cond_small (eqb match.home club) (match_points score.home score.away false) _
+    (points_small score.home score.away false)
+    (cond_small (eqb match.away club) (match_points score.away score.home true) (pos 0)
+    (points_small score.away score.home true) (omega (arith, ints), omega (arith, ints)))
+
+alone_small : (club : ℕ) (match : Fixture) (score : Score)
+    → IsSmall (points_together (club ∷ []) match score)
+alone_small club match score =
+    let one = worth_small club match score in
+    (omega (arith, ints, one.0), omega (arith, ints, one.1))
+
+-- both ends of a range of small values are small
+range_small : (value : Score → ℤ) → ((score : Score) → IsSmall (value score))
+    → (options : List Score) → IsSmall (range_of value options).least
+    × IsSmall (range_of value options).greatest
+range_small value small [] = (
+  (omega (arith, ints), omega (arith, ints)),
+  (omega (arith, ints), omega (arith, ints)),
+)
+range_small value small (score ∷ []) = (small score, small score)
+range_small value small (score ∷ other ∷ options) =
+    let rest = range_small value small (other ∷ options) in
+    let one = small score in (
+      (
+        omega (arith, ints, clamps, one.0, rest.0.0),
+        omega (arith, ints, clamps, one.1, rest.0.1),
+      ),
+      (
+        omega (arith, ints, clamps, one.0, rest.1.0),
+        omega (arith, ints, clamps, one.1, rest.1.1),
+      ),
+    )
+
+-- three points a fixture at most
+pub ends_small : (club : ℕ) (fixtures : List Fixture) (options : List (List Score))
+    → ((pos 0 ≤ℤ (alone_over fixtures options club).least)
+    × ((alone_over fixtures options club).least ≤ℤ pos (3 * length fixtures)))
+    × ((pos 0 ≤ℤ (alone_over fixtures options club).greatest)
+    × ((alone_over fixtures options club).greatest ≤ℤ pos (3 * length fixtures)))
+ends_small club [] options = (
+  (omega (arith, ints), omega (arith, ints)),
+  (omega (arith, ints), omega (arith, ints)),
+)
+ends_small club (match ∷ fixtures) [] = (
+  (omega (arith, ints), omega (arith, ints)),
+  (omega (arith, ints), omega (arith, ints)),
+)
+ends_small club (match ∷ fixtures) (scores ∷ options) =
+    let rest = ends_small club fixtures options in
+    let here = range_small (points_together (club ∷ []) match)
+    (λ score. alone_small club match score) scores in (
+      (
+        omega (arith, ints, here.0.0, rest.0.0),
+        omega (arith, ints, here.0.1, rest.0.1),
+      ),
+      (
+        omega (arith, ints, here.1.0, rest.1.0),
+        omega (arith, ints, here.1.1, rest.1.1),
+      ),
+    )
+
+-- one match alone
+pub one_small : (club : ℕ) (match : Fixture) (options : List Score)
+    → IsSmall (alone_in club match options).least × IsSmall (alone_in club match options).greatest
+one_small club match options =
+    range_small (points_together (club ∷ []) match) (λ score. alone_small club match score) options
+
+-- so the numbers of spans are small too
+pub spans_small : (fixtures : List Fixture) (options : List (List Score)) (lows highs : List ℤ)
+    → length fixtures ≤ 600 → AreSpans fixtures options lows highs → (club : ℕ)
+    → ((pos 0 ≤ℤ end_at lows club) × (end_at lows club ≤ℤ pos 1800))
+    × ((pos 0 ≤ℤ end_at highs club) × (end_at highs club ≤ℤ pos 1800))
+spans_small fixtures options lows highs few are club = at (cases_lt club 24)
+  where
+    at : (club < 24) ⊎ (24 ≤ club)
+        → ((pos 0 ≤ℤ end_at lows club) × (end_at lows club ≤ℤ pos 1800))
+        × ((pos 0 ≤ℤ end_at highs club) × (end_at highs club ≤ℤ pos 1800))
+    at (inl below) =
+        let least = are.least club below in
+        let most = are.most club below in
+        let small = ends_small club fixtures options in (
+          (omega (arith, ints, least, small.0.0), omega (arith, ints, least, small.0.1)),
+          (omega (arith, ints, most, small.1.0), omega (arith, ints, most, small.1.1)),
+        )
+    at (inr past) =
+        let low : end_at lows club ≡ pos 0 = get_or_past lows club (pos 0)
+        (omega (arith, are.many_lows)) in
+        let high : end_at highs club ≡ pos 0 = get_or_past highs club (pos 0)
+        (omega (arith, are.many_highs)) in (
+          (omega (arith, ints, low), omega (arith, ints, low)),
+          (omega (arith, ints, high), omega (arith, ints, high)),
+        )
+
+-- ---- one match, by its two sides
+
+alone_sides : (club : ℕ) (match : Fixture) (score : Score) → match.home ≢ match.away
+    → points_together (club ∷ []) match score
+    ≡ points_of_sides (eqb match.home club) (eqb match.away club) score
+alone_sides club match score apart =
+    at (eqb match.home club) (eqb match.away club) (match_points score.home score.away false)
+    (match_points score.away score.home true)
+    (λ home away. apart (eqb-true match.home club home ∙ sym (eqb-true match.away club away)))
+  where
+    at : (h a : Bool) (home away : ℤ) → (h ≡ true → a ≡ true → ⊥)
+        → (cond h home (cond a away (pos 0)) +ℤ pos 0)
+        ≡ (cond h home (pos 0) +ℤ cond a away (pos 0))
+    at true true home away not_both = absurd (not_both refl refl)
+    at true false home away not_both = omega (arith, ints)
+    at false true home away not_both = omega (arith, ints)
+    at false false home away not_both = omega (arith, ints)
+
+-- options that all are worth nothing
+range_none : (options : List Score) → range_of (λ score. pos 0) options ≡ one_value (pos 0)
+range_none [] = refl
+range_none (score ∷ []) = refl
+range_none (score ∷ other ∷ options) =
+    ap (λ (r : Range). widened (pos 0) r) (range_none (other ∷ options))
+
+-- what a cell leaves a club, from what it leaves each side
+pub alone_is : (club : ℕ) (match : Fixture) (cell : Cell) (options : List Score)
+    (home away : MatchPoints) → match.home ≢ match.away → IsCellOf cell options
+    → IsPointsOf cell true false home → IsPointsOf cell false true away
+    → ((alone_in club match options).least
+    ≡ cond (eqb match.home club) (pos home.least) (cond (eqb match.away club) (pos away.least)
+    (pos 0)))
+    × ((alone_in club match options).greatest
+    ≡ cond (eqb match.home club) (pos home.most) (cond (eqb match.away club) (pos away.most)
+    (pos 0)))
+alone_is club match cell options home away apart is home_is away_is =
+    let sides = range_of-same (points_together (club ∷ []) match)
+    (points_of_sides (eqb match.home club) (eqb match.away club)) options
+    (λ score. alone_sides club match score apart) in
+    let both = at (eqb match.home club) (eqb match.away club)
+    (λ h a. apart (eqb-true match.home club h ∙ sym (eqb-true match.away club a))) in (
+      ap (λ (r : Range). r.least) sides ∙ both.0,
+      ap (λ (r : Range). r.greatest) sides ∙ both.1,
+    )
+  where
+    at : (h a : Bool) → (h ≡ true → a ≡ true → ⊥)
+        → ((range_of (points_of_sides h a) options).least
+        ≡ cond h (pos home.least) (cond a (pos away.least) (pos 0)))
+        × ((range_of (points_of_sides h a) options).greatest
+        ≡ cond h (pos home.most) (cond a (pos away.most) (pos 0)))
+    at true true not_both = absurd (not_both refl refl)
+    at true false not_both = (sym (home_is.least options is), sym (home_is.most options is))
+    at false true not_both = (sym (away_is.least options is), sym (away_is.most options is))
+    at false false not_both = (
+      ap (λ (r : Range). r.least) (range_none options),
+      ap (λ (r : Range). r.greatest) (range_none options),
+    )
+
+-- a cell without a score leaves no points
+pub empty_points : (cell : Cell) (home away : Bool) → IsEmptyCell cell
+    → IsPointsOf cell home away (record { least = 0; most = 0 })
+empty_points cell home away none = record {
+  least = λ options is. ap (λ (r : Range). r.least) (sym (nothing options is));
+  most = λ options is. ap (λ (r : Range). r.greatest) (sym (nothing options is));
+  at_most = omega arith;
+  in_order = omega arith;
+}
+  where
+    nothing : (options : List Score) → IsCellOf cell options
+        → range_of (points_of_sides home away) options ≡ one_value (pos 0)
+    nothing [] is = refl
+    nothing (score ∷ options) is = absurd (false≢true
+        (sym (none score) ∙ is score ∙ has_score-first score options))
+
+-- ---- the options of one fixture change
+
+pub range_set : (value : Fixture → Score → ℤ) (matches : List Fixture)
+    (options : List (List Score)) (f : ℕ) (after : List Score) (d : Fixture) → f < length matches
+    → length options ≡ length matches
+    → ((range_from value matches (set options f after)).least
+    +ℤ (range_of (value (get_or matches f d)) (get_or options f [])).least
+    ≡ (range_from value matches options).least
+    +ℤ (range_of (value (get_or matches f d)) after).least)
+    × ((range_from value matches (set options f after)).greatest
+    +ℤ (range_of (value (get_or matches f d)) (get_or options f [])).greatest
+    ≡ (range_from value matches options).greatest
+    +ℤ (range_of (value (get_or matches f d)) after).greatest)
+range_set value [] options f after d within many = absurd (omega arith)
+range_set value (match ∷ matches) [] f after d within many = absurd (omega arith)
+range_set value (match ∷ matches) (scores ∷ options) zero after d within many =
+    (omega (arith, ints), omega (arith, ints))
+range_set value (match ∷ matches) (scores ∷ options) (suc f) after d within many =
+    let rest = range_set value matches options f after d (omega arith) (omega arith) in
+    (omega (arith, ints, rest.0), omega (arith, ints, rest.1))
+
+-- the numbers of spans move with them
+pub spans_moved : (fixtures : List Fixture) (options : List (List Score)) (f : ℕ) (d : Fixture)
+    (was now : Cell) (after : List Score) (lows lows_new highs highs_new : List ℤ)
+    → f < length fixtures → length options ≡ length fixtures
+    → AreSpans fixtures options lows highs
+    → MovesSpans (get_or fixtures f d) was now lows lows_new highs highs_new
+    → IsCellOf was (get_or options f []) → IsCellOf now after
+    → length lows_new ≡ length lows → length highs_new ≡ length highs
+    → AreSpans fixtures (set options f after) lows_new highs_new
+spans_moved fixtures options f d was now after lows lows_new highs highs_new within many are moves
+    was_is now_is same_lows same_highs = record {
+      many_lows = same_lows ∙ are.many_lows;
+      many_highs = same_highs ∙ are.many_highs;
+      least = λ club below.
+          let move = (moves club (get_or options f []) after was_is now_is).0 in
+          let change = (range_set (points_together (club ∷ [])) fixtures options f after d within
+          many).0
+          in
+          omega (arith, ints, move, change, are.least club below);
+      most = λ club below.
+          let move = (moves club (get_or options f []) after was_is now_is).1 in
+          let change = (range_set (points_together (club ∷ [])) fixtures options f after d within
+          many).1
+          in
+          omega (arith, ints, move, change, are.most club below);
+    }
+
+-- and so do the counts
+pub empty_set : (options : List (List Score)) (f : ℕ) (after : List Score) → f < length options
+    → empty_in (set options f after) + cond (not (has_option (get_or options f []))) 1 0
+    ≡ empty_in options + cond (not (has_option after)) 1 0
+empty_set options f after within =
+    sum_by-set (λ (scores : List Score). cond (not (has_option scores)) 1 0) options f after []
+    within
+
+pub several_set : (options : List (List Score)) (f : ℕ) (after : List Score) → f < length options
+    → open_outcomes_in (set options f after)
+    + cond (not (has_one_outcome (get_or options f []))) 1 0
+    ≡ open_outcomes_in options + cond (not (has_one_outcome after)) 1 0
+several_set options f after within =
+    sum_by-set (λ (scores : List Score). cond (not (has_one_outcome scores)) 1 0) options f after []
+    within
+
+-- one that counts is counted
+pub empty_counts : (options : List (List Score)) (f : ℕ) → f < length options
+    → cond (not (has_option (get_or options f []))) 1 0 ≤ empty_in options
+empty_counts options f within =
+    get_or-le-sum_by (λ (scores : List Score). cond (not (has_option scores)) 1 0) options f []
+    within
+
+pub several_counts : (options : List (List Score)) (f : ℕ) → f < length options
+    → cond (not (has_one_outcome (get_or options f []))) 1 0 ≤ open_outcomes_in options
+several_counts options f within =
+    get_or-le-sum_by (λ (scores : List Score). cond (not (has_one_outcome scores)) 1 0) options f []
+    within
+
+-- options that differ in one place are those with that place written
+pub set_is : (old new : List (List Score)) (f : ℕ) → f < length old → length old ≡ length new
+    → ((k : ℕ) → k ≢ f → get_or new k [] ≡ get_or old k []) → set old f (get_or new f []) ≡ new
+set_is old new f within many same =
+    ext_get_or [] (set old f (get_or new f [])) new (length-set old f (get_or new f []) ∙ many)
+    (λ k below. at k (cases_eq k f))
+  where
+    at : (k : ℕ) → (k ≡ f) ⊎ (k ≢ f) → get_or (set old f (get_or new f [])) k [] ≡ get_or new k []
+    at k (inl here) =
+        ap (λ n. get_or (set old f (get_or new f [])) n []) here
+        ∙ get_or-set_same old f (get_or new f []) [] within
+        ∙ ap (λ n. get_or new n []) (sym here)
+    at k (inr other) = get_or-set_other old f k (get_or new f []) [] other ∙ sym (same k other)
+
+-- ---- what a cell says of its options
+
+-- how many of the lists pass
+abbrev count_of : (List Score → Bool) → List (List Score) → ℕ
+count_of test options = count_by test options
+
+pub empty_is : (cell : Cell) (options : List Score) (empty : Bool) → IsCellOf cell options
+    → (empty ≡ true → IsEmptyCell cell) → (IsEmptyCell cell → empty ≡ true)
+    → empty ≡ not (has_option options)
+empty_is cell [] true is gives from = refl
+empty_is cell [] false is gives from = from is
+empty_is cell (score ∷ options) true is gives from =
+    absurd (false≢true (sym (gives refl score) ∙ is score ∙ has_score-first score options))
+empty_is cell (score ∷ options) false is gives from = refl
+
+pub outcome_is : (cell : Cell) (options : List Score) (one : Bool) → IsCellOf cell options
+    → (one ≡ true → HasOneOutcome cell) → (HasOneOutcome cell → one ≡ true)
+    → one ≡ has_one_outcome options
+outcome_is cell options true is gives from = sym (outcome_of_cell cell options is (gives refl))
+outcome_is cell options false is gives from =
+    sym (false_from_ne_true (has_one_outcome options)
+    (λ has. false≢true (from (one_outcome_of cell options is has))))
+
+-- one fixture more counts where it passes
+pub count_more : (test : List Score → Bool) (options : List (List Score)) (k : ℕ) (b : Bool)
+    → k < length options → b ≡ test (get_or options k [])
+    → count_of test (take (k + 1) options) ≡ count_of test (take k options) + cond b 1 0
+count_more test options k true within is =
+    count_by_more_yes test options k [] within (sym is)
+count_more test options k false within is =
+    let same = count_by_more_no test options k [] within (sym is) in omega (arith, same)
+
+-- ---- the first walk over the fixtures
+
+-- the options of the fixtures before a number, and none from there on
+pub record IsFront (i : ℕ) (cells : List Cell) (options : List (List Score)) : Type 0 where
+  pub many : length options ≡ length cells
+  pub before : (k : ℕ) (d : Cell) → k < i → k < length cells
+      → IsCellOf (get_or cells k d) (get_or options k [])
+  pub after : (k : ℕ) → i ≤ k → get_or options k [] ≡ []
+
+-- where no fixture has an option, all come to nothing
+none_over : (club : ℕ) (fixtures : List Fixture) (options : List (List Score))
+    → ((k : ℕ) → get_or options k [] ≡ []) → alone_over fixtures options club ≡ one_value (pos 0)
+none_over club [] options none = refl
+none_over club (match ∷ fixtures) [] none = refl
+none_over club (match ∷ fixtures) (scores ∷ options) none =
+    ap (λ (r : Range). added (range_of (points_together (club ∷ []) match) scores) r)
+    (none_over club fixtures options (λ k. none (suc k)))
+    ∙ ap (λ (s : List Score). added (range_of (points_together (club ∷ []) match) s)
+    (one_value (pos 0))) (none 0)
+
+pub spans_none : (fixtures : List Fixture) (cells : List Cell) (options : List (List Score))
+    (lows highs : List ℤ) → IsFront 0 cells options → length lows ≡ 24 → length highs ≡ 24
+    → ((club : ℕ) → end_at lows club ≡ pos 0) → ((club : ℕ) → end_at highs club ≡ pos 0)
+    → AreSpans fixtures options lows highs
+spans_none fixtures cells options lows highs front many_lows many_highs low high = record {
+  many_lows = many_lows;
+  many_highs = many_highs;
+  least = λ club below.
+      low club
+      ∙ sym (ap (λ (r : Range). r.least) (none_over club fixtures options (λ k. front.after k
+      (omega arith))));
+  most = λ club below.
+      high club
+      ∙ sym (ap (λ (r : Range). r.greatest) (none_over club fixtures options (λ k. front.after k
+      (omega arith))));
+}
+
+-- the front with one fixture less
+pub front_less : (i : ℕ) (cells : List Cell) (options : List (List Score)) → i < length cells
+    → IsFront (i + 1) cells options → IsFront i cells (set options i [])
+front_less i cells options within front = record {
+  many = length-set options i [] ∙ front.many;
+  before = λ k d below inside.
+      let other : k ≢ i = λ e. absurd (omega arith) in
+      let At : List Score → Type 0 = λ scores. IsCellOf (get_or cells k d) scores in
+      subst At (sym (get_or-set_other options i k [] [] other)) (front.before k d (omega arith)
+      inside);
+  after = λ k above. at k above (cases_eq k i);
+}
+  where
+    at : (k : ℕ) → i ≤ k → (k ≡ i) ⊎ (k ≢ i) → get_or (set options i []) k [] ≡ []
+    at k above (inl here) =
+        ap (λ n. get_or (set options i []) n []) here
+        ∙ get_or-set_same options i [] [] (omega (arith, front.many))
+    at k above (inr other) =
+        get_or-set_other options i k [] [] other ∙ front.after k (later k above other)
+      where
+        later : (k : ℕ) → i ≤ k → k ≢ i → i + 1 ≤ k
+        later k above other = omega arith
+
+-- and that one put back
+pub front_back : (i : ℕ) (cells : List Cell) (options : List (List Score)) → i < length cells
+    → length options ≡ length cells
+    → set (set options i []) i (get_or options i []) ≡ options
+front_back i cells options within many =
+    set_is (set options i []) options i (omega (arith, length-set options i []))
+    (length-set options i []) (λ k other. sym (get_or-set_other options i k [] [] other))
+
+-- all fixtures are before their number
+pub front_all : (cells : List Cell) (options : List (List Score)) → AreCellsOf cells options
+    → IsFront (length cells) cells options
+front_all cells options are = record {
+  many = sym are.many;
+  before = λ k d below inside. are.each k d inside;
+  after = λ k above. get_or_past options k [] (omega (arith, are.many));
+}
+
+-- small numbers stay small, by three a fixture
+pub moved_small : (fixtures : List Fixture) (i : ℕ) (d : Fixture) (was now : Cell)
+    (after : List Score) (lows lows_new highs highs_new : List ℤ)
+    → MovesSpans (get_or fixtures i d) was now lows lows_new highs highs_new
+    → IsCellOf was [] → IsCellOf now after
+    → ((club : ℕ) → (pos 0 ≤ℤ end_at lows club) × (end_at lows club ≤ℤ pos (3 * i)))
+    → ((club : ℕ) → (pos 0 ≤ℤ end_at highs club) × (end_at highs club ≤ℤ pos (3 * i)))
+    → (club : ℕ) → ((pos 0 ≤ℤ end_at lows_new club)
+    × (end_at lows_new club ≤ℤ pos (3 * (i + 1))))
+    × ((pos 0 ≤ℤ end_at highs_new club) × (end_at highs_new club ≤ℤ pos (3 * (i + 1))))
+moved_small fixtures i d was now after lows lows_new highs highs_new moves was_is now_is low high
+    club =
+    let move = moves club [] after was_is now_is in
+    let small = one_small club (get_or fixtures i d) after in (
+      (
+        omega (arith, ints, move.0, small.0.0, (low club).0),
+        omega (arith, ints, move.0, small.0.1, (low club).1),
+      ),
+      (
+        omega (arith, ints, move.1, small.1.0, (high club).0),
+        omega (arith, ints, move.1, small.1.1, (high club).1),
+      ),
+    )
+
+-- a number written at a club's place
+pub one_moved : (numbers : List ℤ) (club : ℕ) (value by : ℤ) → club < length numbers
+    → value ≡ end_at numbers club +ℤ by → (other : ℕ)
+    → end_at (set numbers club value) other
+    ≡ end_at numbers other +ℤ cond (eqb club other) by (pos 0)
+one_moved numbers club value by within is other = at (cases_eq other club)
+  where
+    at : (other ≡ club) ⊎ (other ≢ club) → end_at (set numbers club value) other
+        ≡ end_at numbers other +ℤ cond (eqb club other) by (pos 0)
+    at (inl here) =
+        ap (λ n. end_at (set numbers club value) n) here
+        ∙ get_or-set_same numbers club value (pos 0) within ∙ is
+        ∙ ap (λ n. end_at numbers n +ℤ by) (sym here)
+        ∙ ap (λ b. end_at numbers other +ℤ cond b by (pos 0))
+        (sym (eq-eqb club other (sym here)))
+    at (inr away) =
+        let none : end_at numbers other ≡ end_at numbers other +ℤ pos 0 =
+        omega (arith, ints) in
+        get_or-set_other numbers club other value (pos 0) away ∙ none
+        ∙ ap (λ b. end_at numbers other +ℤ cond b by (pos 0))
+        (sym (ne_eqb club other (λ e. away (sym e))))
+
+-- both clubs of a match, one after the other
+pub two_moved : (h a : Bool) (old middle new x x_new y y_new : ℤ) → (h ≡ true → a ≡ true → ⊥)
+    → middle ≡ old +ℤ cond h (x_new -ℤ x) (pos 0) → new ≡ middle +ℤ cond a (y_new -ℤ y) (pos 0)
+    → new +ℤ cond h x (cond a y (pos 0)) ≡ old +ℤ cond h x_new (cond a y_new (pos 0))
+two_moved true true old middle new x x_new y y_new not_both first second =
+    absurd (not_both refl refl)
+two_moved true false old middle new x x_new y y_new not_both first second = omega (arith, ints)
+two_moved false true old middle new x x_new y y_new not_both first second = omega (arith, ints)
+two_moved false false old middle new x x_new y y_new not_both first second = omega (arith, ints)
+
+-- numbers that are nothing
+pub zero_at : (clubs club : ℕ) → end_at (replicate clubs (pos 0)) club ≡ pos 0
+zero_at clubs club =
+    elim (cases_lt club clubs) as (λ _. end_at (replicate clubs (pos 0)) club ≡ pos 0) [
+      | inl within ↦ get_or-replicate clubs club (pos 0) (pos 0) within
+      | inr past ↦ get_or_past (replicate clubs (pos 0)) club (pos 0)
+          (omega (arith, length-replicate {A = ℤ}))
+    ]
+
+-- ---- sheets
+
+not_true : (b : Bool) → not b ≡ true → b ≡ false
+not_true true h = absurd (false≢true h)
+not_true false h = refl
+
+-- each fixture of a sheet is a match
+pub matches_of : (sheet : Sheet) → IsWithinLimits sheet → All IsMatch sheet.fixtures
+matches_of sheet limits i d within =
+    let match = get_or sheet.fixtures i d in
+    let clubs = length sheet.clubs in
+    let is = AllPass-from_list_all (is_fixture clubs) sheet.fixtures limits.fixtures i d within in
+    let parts = and_parts (nat_lt match.home clubs && nat_lt match.away clubs) (not (match.home ==
+    match.away)) is in
+    let low = and_parts (nat_lt match.home clubs) (nat_lt match.away clubs) parts.0 in
+    let home = ltb-true match.home clubs low.0 in
+    let away = ltb-true match.away clubs low.1 in
+    record {
+      home = omega (arith, limits.most_clubs);
+      away = omega (arith, limits.most_clubs);
+      apart = eqb-false match.home match.away (not_true (match.home == match.away) parts.1);
+    }
+
+-- all pass exactly where none fails
+none_fails : {X : Type 0} (test : X → Bool) (xs : List X)
+    → (length (filter (λ x. not (test x)) xs) == 0) ≡ list_all test xs
+none_fails test [] = refl
+none_fails test (x ∷ xs) = by_test (test x) (none_fails test xs)
+  where
+    by_test : (b : Bool)
+        → (length (filter (λ y. not (test y)) xs) == 0) ≡ list_all test xs
+        → (length (cond (not b) (x ∷ filter (λ y. not (test y)) xs)
+        (filter (λ y. not (test y)) xs)) == 0) ≡ (b && list_all test xs)
+    by_test true later = later
+    by_test false later = ne_eqb (length (x ∷ filter (λ y. not (test y)) xs)) 0
+        (λ e. omega arith)
+
+pub all_counted : {X : Type 0} (test : X → Bool) (xs : List X)
+    → (count_by (λ x. not (test x)) xs == 0) ≡ list_all test xs
+all_counted test xs =
+    ap (λ n. n == 0) (sym (length-filter (λ x. not (test x)) xs)) ∙ none_fails test xs

@@ -1,0 +1,99 @@
+-- The literal is of the sheet, so it is of one of the cells or marks a club; and the cells, the
+-- ends and the marks take it.
+use Rattle.std.proofs.Common.{◌≡◌, true, List, length, drop, subst, refl, sym, ap}
+use Rattle.std.proofs.Common.{◌∙◌, arith}
+use Rattle.league_core.specs.declared.sheet.Fixture.{Fixture}
+use Rattle.league_core.specs.declared.zone.Literal.{Literal}
+use Rattle.league_core.specs.Zones.{is_test_of}
+use Rattle.league_core.specs.Options.{options_in}
+use Rattle.score_box.specs.declared.cell.Cell.{Cell}
+use Rattle.score_box.specs.Settings.{Setting}
+use Rattle.score_box.specs.Ends.{HasEndsOfCells, IsMatch}
+use Rattle.std.specs.List.{All}
+use Rattle.score_box.specs.Stages.{IsBoxOf, TakesOneMore}
+use Rattle.score_box.proofs.BoxLemmas.{cells_of_season, test_below}
+use Rattle.score_box.proofs.EndLemmas.{matches_of}
+use Rattle.score_box.proofs.PathLemmas.{box_with, written}
+use Rattle.score_box.proofs.zone_box.ZoneBox.cut.Goals as goal
+
+pub take_one-requires : goal.take_one-requires
+take_one-requires c =
+    let box = c.self.inside in
+    let is : is_test_of box.sheet.now c.args.literal.test ≡ true =
+    ap (λ (s : Setting). is_test_of s.sheet c.args.literal.test) c.self.view_is ∙ c.requires in
+    let fixtures : c.as_slice-fixtures.result.now ≡ box.sheet.now.fixtures =
+    c.as_slice-fixtures.ensures in
+    let many : length box.sheet.now.fixtures ≡ length c.deref_mut.result.now =
+    sym c.self.invariant.league.of_sheet.scores
+    ∙ sym (cells_of_season box.sheet.now box.season.now box.zone.items box.cells.items
+    c.self.invariant.options)
+    ∙ sym (ap length c.deref_mut.ensures.value) in
+    let Matches : List Fixture → Type 0 = λ fs. All IsMatch fs in
+    let Over_fixtures : List Fixture → Type 0 = λ fs. HasEndsOfCells fs c.deref_mut.result.now
+    box.ends in
+    let Over_cells : List Cell → Type 0 = λ cs. HasEndsOfCells box.sheet.now.fixtures cs box.ends in
+    record {
+      in_range = test_below box.sheet.now (length c.deref_mut.result.now) c.args.literal.test many
+          (omega (arith, c.self.invariant.league.limits.most_clubs)) is;
+      many = ap length fixtures ∙ many;
+      few = omega (arith, ap length fixtures, c.self.invariant.league.limits.most_fixtures);
+      matches = subst Matches (sym fixtures) (matches_of box.sheet.now
+          c.self.invariant.league.limits);
+      ends = subst Over_fixtures (sym fixtures) (subst Over_cells (sym c.deref_mut.ensures.value) (
+        options_in box.sheet.now box.season.now box.zone.items,
+        c.self.invariant.options,
+        c.self.invariant.ends_are,
+      ));
+    }
+
+pub with-self-inside-requires : goal.with-self-inside-requires
+with-self-inside-requires c =
+    let box = c.self.inside in
+    let is : is_test_of box.sheet.now c.args.literal.test ≡ true =
+    ap (λ (s : Setting). is_test_of s.sheet c.args.literal.test) c.self.view_is ∙ c.requires in (
+      length box.sheet.now.fixtures,
+      test_below box.sheet.now (length box.sheet.now.fixtures) c.args.literal.test refl
+          (omega (arith, c.self.invariant.league.limits.most_clubs)) is,
+    )
+
+pub invariant_of-self-2 : goal.invariant_of-self-2
+invariant_of-self-2 c =
+    let box = c.self.inside in
+    let literal = c.args.literal in
+    let is : is_test_of box.sheet.now literal.test ≡ true =
+    ap (λ (s : Setting). is_test_of s.sheet literal.test) c.self.view_is ∙ c.requires in
+    let new = c.take_one.new.cells in
+    let ends = c.take_one.new.ends in
+    let before = c.with-self-inside.result.before in
+    let after = c.with-self-inside.result.after in
+    let many : length new ≡ box.cells.len = omega (
+      arith,
+      c.take_one.auto.cells,
+      ap length c.deref_mut.ensures.value,
+      box.cells.ok.0,
+    ) in
+    let all = written box.cells.len new (drop (length new) box.cells.items) many in
+    let Over_fixtures : List Fixture → Type 0 = λ fs. TakesOneMore fs c.deref_mut.result.now new
+    box.ends ends literal in
+    let Over_cells : List Cell → Type 0 = λ cs. TakesOneMore box.sheet.now.fixtures cs new
+    box.ends ends literal in
+    let takes = subst Over_cells c.deref_mut.ensures.value
+    (subst Over_fixtures c.as_slice-fixtures.ensures c.take_one.ensures) in
+    let more = takes box.sheet.now.goal_limit box.zone.items box.season.now.scores
+    c.self.invariant.options c.self.invariant.ends_are in
+    let With_cells : List Cell → Type 0 = λ cells. IsBoxOf (record {
+      sheet = box.sheet.now;
+      season = box.season.now;
+      zone = c.push.new.self.items;
+    }) box.unplayed.items cells before after ends in
+    let With_zone : List Literal → Type 0 = λ zone. IsBoxOf (record {
+      sheet = box.sheet.now;
+      season = box.season.now;
+      zone = zone;
+    }) box.unplayed.items new before after ends in
+    subst With_cells (sym all)
+    (subst With_zone (sym c.in_ok-push.ensures.items)
+    (box_with box.sheet.now box.season.now box.zone.items literal box.unplayed.items
+    box.cells.items new box.marks.before box.marks.after before after box.ends ends
+    c.self.invariant is more.0 more.1 c.with-self-inside.ensures.before
+    c.with-self-inside.ensures.after))

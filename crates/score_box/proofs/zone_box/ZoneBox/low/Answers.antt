@@ -1,0 +1,58 @@
+-- The club's number is that of its match points, and what is off comes off.
+use mir.Syntax.{w32}
+use mir.Val.{to_z, of_z}
+use Rattle.std.proofs.Common.{◌≡◌, ◌<◌, pos, ◌-ℤ◌, [], ◌∷◌, length, slice_index, subst, ap, ◌∙◌}
+use Rattle.std.proofs.Common.{arith}
+use Rattle.std.proofs.lemmas.Int.{ints}
+use Rattle.league_core.specs.Options.{options_in}
+use Rattle.league_core.specs.PointRanges.{least_points_of}
+use Rattle.score_box.specs.Ends.{end_at}
+use Rattle.score_box.specs.Settings.{Setting}
+use Rattle.score_box.proofs.EndLemmas.{spans_small}
+use Rattle.score_box.proofs.zone_box.ZoneBox.low.Goals as goal
+
+pub overflow_sub-result : goal.overflow_sub-result
+overflow_sub-result c =
+    let box = c.self.inside in
+    let small = spans_small box.sheet.now.fixtures (options_in box.sheet.now box.season.now
+    box.zone.items) box.ends.lows box.ends.highs c.self.invariant.league.limits.most_fixtures
+    c.self.invariant.ends_are.spans c.args.club in
+    omega (arith, ints, small.0.0, small.0.1, c.from-off.ensures, c.deducted.type_inv)
+
+pub returns-clause-value : goal.returns-clause-value
+unfolding least_points_of
+returns-clause-value c =
+    let box = c.self.inside in
+    let club = c.args.club in
+    let options = options_in box.sheet.now box.season.now box.zone.items in
+    let small = spans_small box.sheet.now.fixtures options box.ends.lows box.ends.highs
+    c.self.invariant.league.limits.most_fixtures c.self.invariant.ends_are.spans club in
+    let below : club < 24 = omega (
+      arith,
+      c.requires.in_range,
+      ap (λ (s : Setting). length s.sheet.clubs) c.self.view_is,
+      c.self.invariant.league.limits.most_clubs,
+    ) in
+    let fits : to_z w32 (of_z w32 (to_z w32 (of_z w32 (end_at box.ends.lows club)) -ℤ to_z w32
+    (of_z w32 c.from-off.result))) ≡ end_at box.ends.lows club -ℤ c.from-off.result =
+    omega (arith, ints, small.0.0, small.0.1, c.from-off.ensures, c.deducted.type_inv) in
+    let off : c.from-off.result ≡ pos (slice_index box.season.now.deductions club) =
+    c.from-off.ensures ∙ ap pos c.deducted.ensures in
+    let is : to_z w32 (of_z w32 (to_z w32 (of_z w32 (end_at box.ends.lows club)) -ℤ to_z w32
+    (of_z w32 c.from-off.result)))
+    ≡ least_points_of box.sheet.now box.season.now box.zone.items (club ∷ []) =
+    omega (arith, ints, fits, off, c.self.invariant.ends_are.spans.least club below) in
+    let At : Setting → Type 0 = λ v. to_z w32 (of_z w32 (to_z w32 (of_z w32
+    (end_at box.ends.lows club)) -ℤ to_z w32 (of_z w32 c.from-off.result)))
+    ≡ least_points_of v.sheet v.season v.zone (club ∷ []) in
+    subst At c.self.view_is is
+
+pub returns-clause-within : goal.returns-clause-within
+returns-clause-within c =
+    let box = c.self.inside in
+    let small = spans_small box.sheet.now.fixtures (options_in box.sheet.now box.season.now
+    box.zone.items) box.ends.lows box.ends.highs c.self.invariant.league.limits.most_fixtures
+    c.self.invariant.ends_are.spans c.args.club in (
+      omega (arith, ints, small.0.0, small.0.1, c.from-off.ensures, c.deducted.type_inv),
+      omega (arith, ints, small.0.0, small.0.1, c.from-off.ensures, c.deducted.type_inv),
+    )

@@ -1,0 +1,51 @@
+-- What boxes and the tables under them keep.
+use Rattle.std.specs.Prelude.{◌≡◌, ℕ, IsTrue, List, [], ◌∷◌, ◌++◌, Option}
+use Rattle.league_core.specs.declared.sheet.Sheet.{Sheet}
+use Rattle.league_core.specs.declared.sheet.Fixture.{Fixture}
+use Rattle.league_core.specs.declared.season.Score.{Score}
+use Rattle.league_core.specs.declared.club_set.ClubSet.{ClubSet}
+use Rattle.league_core.specs.declared.zone.Literal.{Literal}
+use Rattle.league_core.specs.Results.{Results}
+use Rattle.league_core.specs.Seasons.{IsLeague}
+use Rattle.league_core.specs.Zones.{marked_before, marked_after, is_zone_of}
+use Rattle.league_core.specs.Options.{options_from, options_in}
+use Rattle.score_box.specs.declared.cell.Cell.{Cell}
+use Rattle.score_box.specs.declared.ends.Ends.{Ends}
+use Rattle.score_box.specs.Settings.{Setting}
+use Rattle.score_box.specs.Unplayed.{unplayed_in}
+use Rattle.score_box.specs.Boxes.{AreCellsOf, IsSetOf}
+use Rattle.score_box.specs.Ends.{AreEnds}
+
+-- a sheet and a season of it
+pub record Stage : Type 0 where
+  pub sheet : Sheet
+  pub season : Results
+
+-- what the tables of a stage keep: the cells before any literal, what is not played, and the ends
+pub record ArePlayed (stage : Stage) (cells : List Cell) (unplayed : List ℕ) (ends : Ends) : Type 0
+  where
+    pub league : IsLeague stage.sheet stage.season
+    pub options : AreCellsOf cells (options_in stage.sheet stage.season [])
+    pub open_fixtures : unplayed ≡ unplayed_in stage.season.scores
+    pub ends_are : AreEnds stage.sheet.fixtures (options_in stage.sheet stage.season []) ends
+
+-- what a box keeps: the zone's options as cells, its marks as sets, and the ends
+pub record IsBoxOf (setting : Setting) (unplayed : List ℕ) (cells : List Cell)
+    (before after : ClubSet) (ends : Ends) : Type 0 where
+  pub league : IsLeague setting.sheet setting.season
+  pub open_fixtures : unplayed ≡ unplayed_in setting.season.scores
+  pub of_zone : IsTrue (is_zone_of setting.sheet setting.zone)
+  pub options : AreCellsOf cells (options_in setting.sheet setting.season setting.zone)
+  pub marks_before : IsSetOf before (marked_before setting.zone)
+  pub marks_after : IsSetOf after (marked_after setting.zone)
+  pub ends_are : AreEnds setting.sheet.fixtures
+      (options_in setting.sheet setting.season setting.zone) ends
+
+-- cells and ends of a zone become those of the zone with one literal more
+abbrev pub TakesOneMore : List Fixture → List Cell → List Cell → Ends → Ends → Literal → Type 0
+TakesOneMore fixtures cells_old cells_new ends_old ends_new literal =
+    (limit : ℕ) (zone : List Literal) (scores : List (Option Score))
+    → AreCellsOf cells_old (options_from limit zone 0 scores)
+    → AreEnds fixtures (options_from limit zone 0 scores) ends_old
+    → AreCellsOf cells_new (options_from limit (zone ++ literal ∷ []) 0 scores)
+    × AreEnds fixtures (options_from limit (zone ++ literal ∷ []) 0 scores) ends_new

@@ -1,0 +1,128 @@
+//! What was played in a season, worked out once for many boxes.
+
+ghost use Rattle.std.specs.Prelude.{◌≡◌, ◌≤◌, ◌++◌, ◌↔◌, IsTrue, IfOk, [], ◌∷◌, length};
+ghost use Rattle.std.specs.Prelude.{if◌then◌else◌};
+ghost use Rattle.league_core.specs.Limits.{most_fixtures};
+ghost use Rattle.league_core.specs.Options.{options_in};
+ghost use Rattle.league_core.specs.Seasons.{IsLeague, IsSeasonOf};
+ghost use Rattle.league_core.specs.Sheets.{IsWithinLimits};
+ghost use Rattle.score_box.specs.Boxes.{AreCellsOf};
+ghost use Rattle.score_box.specs.Ends.{AreEnds};
+ghost use Rattle.score_box.specs.Unplayed.{is_unplayed, unplayed_in};
+
+use crate::cell::Cell;
+use crate::ends::Ends;
+use crate::zone_box::season_cells;
+use league_core::{OutOfMemory, Score, Season, Sheet};
+use std::alloc::Global;
+use std::marker::Model;
+
+/// The tables of a season that boxes stand over. Contracts see the sheet and the season.
+#[derive(Drop)]
+pub struct Played<'a> {
+    sheet: &'a Sheet,
+    season: &'a Season,
+    cells: Vec<Cell>,
+    unplayed: Vec<u16>,
+    ends: Ends,
+}
+
+impl<'a> Model for Played<'a> {
+    ghost use Rattle.score_box.specs.Stages.{Stage};
+
+    ghost Value = { Stage };
+
+    ghost use Rattle.score_box.specs.Stages.{ArePlayed};
+
+    ghost view = { λ p. record { sheet = p.sheet.now; season = p.season.now } };
+
+    ghost invariant = { λ p. ArePlayed (record { sheet = p.sheet.now; season = p.season.now })
+        p.cells.items p.unplayed.items p.ends };
+}
+
+impl<'a> Played<'a> {
+    /// The tables of a season, in a few walks over its fixtures.
+    pub fn of(
+        alloc: Global,
+        sheet: &'a Sheet,
+        season: &'a Season,
+    ) -> Result<Played<'a>, OutOfMemory>
+        requires { IsLeague sheet.now season.now }
+        ensures { IfOk result (λ p. p ≡ record { sheet = sheet.now; season = season.now }) }
+    {
+        let cells = season_cells(alloc, season.scores(), sheet.goal_limit)?;
+        let unplayed = unplayed_fixtures(alloc, season.scores())?;
+        let ends = Ends::of(sheet.fixtures.as_slice(), &cells);
+        Ok(Played {
+            sheet,
+            season,
+            cells,
+            unplayed,
+            ends,
+        })
+    }
+
+    pub fn sheet(&self) -> &'a Sheet
+        ensures sheet { result.now ≡ self.now.sheet }
+        ensures limits { IsWithinLimits result.now }
+    {
+        self.sheet
+    }
+
+    pub fn season(&self) -> &'a Season
+        ensures season { result.now ≡ self.now.season }
+        ensures of_sheet { IsSeasonOf self.now.sheet result.now }
+    {
+        self.season
+    }
+
+    /// The fixtures that are not played, by their numbers from 0, in order.
+    pub fn unplayed(&self) -> &[u16]
+        ensures { result.now ≡ unplayed_in self.now.season.scores }
+    {
+        self.unplayed.as_slice()
+    }
+
+    /// The cells of the zone without a literal.
+    pub(crate) fn cells(&self) -> &[Cell]
+        ensures { AreCellsOf result.now (options_in self.now.sheet self.now.season []) }
+    {
+        self.cells.as_slice()
+    }
+
+    /// The ends of these cells.
+    pub(crate) fn ends(&self) -> Ends
+        ensures { AreEnds self.now.sheet.fixtures (options_in self.now.sheet self.now.season [])
+            result }
+    {
+        self.ends
+    }
+}
+
+/// The fixtures without a score, in order.
+fn unplayed_fixtures(alloc: Global, scores: &[Option<Score>]) -> Result<Vec<u16>, OutOfMemory>
+    requires { length scores.now ≤ most_fixtures }
+    ensures { IfOk result (λ found. found.items ≡ unplayed_in scores.now) }
+{
+    let mut found = Vec::new(alloc);
+    for fixture in 0..scores.len() {
+        push_if(&mut found, is_unplayed(scores[fixture]), fixture as u16)?;
+    }
+    Ok(found)
+}
+
+fn is_unplayed(played: Option<Score>) -> bool
+    ensures { result ≡ is_unplayed played }
+{
+    played.is_none()
+}
+
+fn push_if(found: &mut Vec<u16>, keep: bool, fixture: u16) -> Result<(), OutOfMemory>
+    ensures { IfOk result (λ _. found.new.items
+        ≡ found.old.items ++ (if keep then fixture ∷ [] else [])) }
+{
+    if keep {
+        found.push(fixture)?;
+    }
+    Ok(())
+}
