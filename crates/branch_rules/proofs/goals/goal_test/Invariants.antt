@@ -1,0 +1,15 @@
+-- The best so far splits; where there is none, the fixtures so far have one score each, if they
+-- have
+-- one outcome.
+use Rattle.std.proofs.Common.{◌≡◌, ◌<◌, ℕ, IsTrue, IfSome, None, get_or}
+use Rattle.league_core.specs.Options.{has_one_outcome, has_one_score}
+use Rattle.branch_rules.specs.declared.rated.Rated.{Rated}
+use Rattle.branch_rules.specs.Choices.{IsGoalSplit, options_at_fixture}
+use Rattle.branch_rules.proofs.goals.goal_test.Given as goal
+
+abbrev pub invariant-loop-i : goal.invariant-loop-i
+invariant-loop-i l =
+    IfSome l.best (λ (one : Rated). IsGoalSplit l.zone_box l.question one.test)
+    × (l.best ≡ None → (j : ℕ) → j < l.i
+    → IsTrue (has_one_outcome (options_at_fixture l.zone_box (get_or l.unplayed j 0)))
+    → IsTrue (has_one_score (options_at_fixture l.zone_box (get_or l.unplayed j 0))))

@@ -1,0 +1,28 @@
+use Rattle.std.proofs.Common.{◌<◌, IsTrue, List, ℕ, length, get_or, subst, sym, ap, arith}
+use Rattle.league_core.specs.Options.{has_one_outcome}
+use Rattle.league_core.specs.Splits.{are_outcomes_fixed}
+use Rattle.branch_rules.specs.Choices.{options_at_fixture}
+use Rattle.branch_rules.proofs.UnplayedLemmas.{unplayed_in_range}
+use Rattle.branch_rules.proofs.RatedLemmas.{test_of_none}
+use Rattle.branch_rules.proofs.OutcomeTestLemmas.{outcomes_fixed}
+use Rattle.branch_rules.proofs.outcomes.outcome_test.Goals as goal
+
+pub rated_outcome-requires-clause-in_range : goal.rated_outcome-requires-clause-in_range
+rated_outcome-requires-clause-in_range c =
+    let scores = c.args.zone_box.now.season.scores in
+    let i = c.loop-i.i in
+    subst (λ (xs : List ℕ). get_or xs i 0 < length scores) (sym c.unplayed-unplayed.ensures)
+    (unplayed_in_range scores i
+    (subst (λ (xs : List ℕ). i < length xs) c.unplayed-unplayed.ensures c.loop-i-test.true))
+
+pub returns-clause-none : goal.returns-clause-none
+returns-clause-none c =
+    let b = c.args.zone_box.now in
+    test_of_none c.loop-i.best c.test_of.result (IsTrue (are_outcomes_fixed b.sheet b.season
+    b.zone))
+    c.test_of.ensures (λ is.
+    outcomes_fixed b.sheet b.season b.zone (λ j within.
+    let long = ap (λ (xs : List ℕ). length xs) c.unplayed-unplayed.ensures in
+    subst (λ (xs : List ℕ). IsTrue (has_one_outcome (options_at_fixture b (get_or xs j 0))))
+    c.unplayed-unplayed.ensures
+    (c.loop-i.invariant.1 is j (omega (arith, long, c.loop-i-test.false)))))

@@ -1,0 +1,47 @@
+//! Which test splits a zone.
+
+ghost use Rattle.std.specs.Prelude.{◌≡◌, ◌<◌, false, length, IsTrue};
+ghost use Rattle.league_core.specs.Options.{is_single};
+ghost use Rattle.league_core.specs.Splits.{are_all_marked};
+ghost use Rattle.score_box.specs.Settings.{HasFinish};
+ghost use Rattle.branch_rules.specs.Choices.{IsDueSplit};
+
+use crate::goals::goal_test;
+use crate::outcomes::outcome_test;
+use crate::rivals::unmarked_rival;
+use crate::totals::Totals;
+use league_core::{Literal, Question, Test};
+use score_box::ZoneBox;
+
+/// A proper split of the box's zone, in the order in which splits are due: a rival that is not
+/// marked, else an outcome of a fixture that has several left, else goals. Both halves have a
+/// finish. Equal boxes and questions have equal choices; no memory is taken.
+pub fn choose(zone_box: &ZoneBox, question: &Question) -> Literal
+    requires has_finish { HasFinish zone_box.now }
+    requires of_sheet { question.now.club < length zone_box.now.sheet.clubs }
+    requires several { is_single zone_box.now.sheet zone_box.now.season zone_box.now.zone
+        ≡ false }
+    ensures { IsDueSplit zone_box.now question.now result.test }
+{
+    let totals = Totals::of(zone_box);
+    let test = match unmarked_rival(zone_box, question, &totals) {
+        Some(club) => Test::Rival { club },
+        None => score_test(zone_box, question, &totals),
+    };
+    Literal { test, yes: true }
+}
+
+fn score_test(zone_box: &ZoneBox, question: &Question, totals: &Totals) -> Test
+    requires has_finish { HasFinish zone_box.now }
+    requires of_sheet { question.now.club < length zone_box.now.sheet.clubs }
+    requires marked { IsTrue
+        (are_all_marked zone_box.now.sheet question.now zone_box.now.zone) }
+    requires several { is_single zone_box.now.sheet zone_box.now.season zone_box.now.zone
+        ≡ false }
+    ensures { IsDueSplit zone_box.now question.now result }
+{
+    match outcome_test(zone_box, question, totals) {
+        Some(test) => test,
+        None => goal_test(zone_box, question, totals).unwrap(),
+    }
+}

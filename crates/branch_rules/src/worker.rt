@@ -1,0 +1,112 @@
+//! A worker of one season, who keeps the box between pieces.
+
+ghost use Rattle.std.specs.Prelude.{◌≡◌, ◌↔◌, ◌≤◌, ◌++◌, IfOk, OnOk, IsTrue, length, take};
+ghost use Rattle.league_core.specs.Questions.{IsQuestionOf};
+ghost use Rattle.league_core.specs.Zones.{IsZoneFor, is_zone_of};
+ghost use Rattle.league_core.specs.Options.{has_finish};
+ghost use Rattle.reason_core.specs.Findings.{IsTrueFinding};
+ghost use Rattle.branch_rules.specs.Found.{IsFoundIn};
+
+use crate::search::find;
+use league_core::{Literal, OutOfMemory, Question};
+use reason_core::{Finding, Solver};
+use score_box::{Played, ZoneBox};
+use std::alloc::Global;
+
+/// Works on zones of one season. From one zone to the next the box goes back to what both have in
+/// front, and on from there.
+#[derive(Drop)]
+pub struct Worker<'a> {
+    alloc: Global,
+    zone_box: ZoneBox<'a>,
+}
+
+impl<'a> Worker<'a> {
+    /// A worker of the season that the tables are of.
+    pub fn new(alloc: Global, played: &'a Played<'a>) -> Result<Worker<'a>, OutOfMemory>
+        ensures { IfOk result (λ worker. (worker.zone_box.sheet ≡ played.now.sheet)
+            × (worker.zone_box.season ≡ played.now.season)) }
+    {
+        let zone_box = ZoneBox::over(alloc, played, &[])?;
+        Ok(Worker { alloc, zone_box })
+    }
+}
+
+impl<'a> Solver for Worker<'a> {
+    ghost sheet = { λ worker. worker.zone_box.sheet };
+
+    ghost season = { λ worker. worker.zone_box.season };
+
+    fn solve(&mut self, question: &Question, zone: &[Literal]) -> Result<Finding, OutOfMemory>
+        requires of_sheet { IsQuestionOf self.old.zone_box.sheet question.now }
+        requires of_zone { IsZoneFor self.old.zone_box.sheet question.now zone.now }
+        requires has_finish { IsTrue
+            (has_finish self.old.zone_box.sheet self.old.zone_box.season zone.now) }
+        ensures found { IfOk result (IsTrueFinding self.old.zone_box.sheet self.old.zone_box.season
+            question.now zone.now) }
+        ensures first { IfOk result (IsFoundIn self.old.zone_box.sheet self.old.zone_box.season
+            question.now zone.now) }
+        ensures same_sheet { self.new.zone_box.sheet ≡ self.old.zone_box.sheet }
+        ensures same_season { self.new.zone_box.season ≡ self.old.zone_box.season }
+    {
+        move_to(&mut self.zone_box, zone)?;
+        find(self.alloc, &self.zone_box, question)
+    }
+}
+
+/// Makes the box that of another zone.
+fn move_to(zone_box: &mut ZoneBox, zone: &[Literal]) -> Result<(), OutOfMemory>
+    requires { IsTrue (is_zone_of zone_box.old.sheet zone.now) }
+    ensures ok { OnOk result (zone_box.new ≡ record zone_box.old { zone = zone.now }) }
+    ensures sheet { zone_box.new.sheet ≡ zone_box.old.sheet }
+    ensures season { zone_box.new.season ≡ zone_box.old.season }
+{
+    let common = common_front(zone_box.zone(), zone);
+    go_back(zone_box, common);
+    go_on(zone_box, &zone[common..])
+}
+
+/// How many literals both zones have in front.
+fn common_front(zone: &[Literal], other: &[Literal]) -> usize
+    ensures one { result ≤ length zone.now }
+    ensures two { result ≤ length other.now }
+    ensures same { take result zone.now ≡ take result other.now }
+{
+    let most = zone.len().min(other.len());
+    for k in 0..most {
+        if !are_same(&zone[k], &other[k]) {
+            return k;
+        }
+    }
+    most
+}
+
+fn are_same(literal: &Literal, other: &Literal) -> bool
+    ensures { IsTrue result ↔ (literal.now ≡ other.now) }
+{
+    literal == other
+}
+
+/// Takes literals off the box until so many are left.
+fn go_back(zone_box: &mut ZoneBox, left: usize)
+    requires { left ≤ length zone_box.old.zone }
+    ensures { zone_box.new ≡ record zone_box.old { zone = take left zone_box.old.zone } }
+{
+    while left < zone_box.zone().len() {
+        zone_box.uncut();
+    }
+}
+
+/// Puts literals at the end of the box's zone.
+fn go_on(zone_box: &mut ZoneBox, literals: &[Literal]) -> Result<(), OutOfMemory>
+    requires { IsTrue (is_zone_of zone_box.old.sheet literals.now) }
+    ensures ok { OnOk result
+        (zone_box.new ≡ record zone_box.old { zone = zone_box.old.zone ++ literals.now }) }
+    ensures sheet { zone_box.new.sheet ≡ zone_box.old.sheet }
+    ensures season { zone_box.new.season ≡ zone_box.old.season }
+{
+    for literal in literals {
+        zone_box.cut(*literal)?;
+    }
+    Ok(())
+}
