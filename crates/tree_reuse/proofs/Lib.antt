@@ -2,3 +2,4 @@
 pub mod LendRules
 pub mod ListLemmas
 pub mod RetargetLemmas
+pub mod CarryLemmas

@@ -1,28 +1,37 @@
 -- A tree that is carried over to another season: what is counted of it, and that its nodes are good
 -- there.
-use Rattle.std.proofs.Common.{◌≡◌, ℕ, ◌+◌, ◌≤◌, Bool, true, false, ◌&&◌, ◌||◌, ◌==◌, not, nat_le}
-use Rattle.std.proofs.Common.{nat_lt, List, [], ◌∷◌, length, cond, refl, sym, ap, ◌∙◌, arith}
-use Rattle.std.proofs.lemmas.Bool.{false≢true, and_parts, and_from, leb-true}
+use Rattle.std.proofs.Common.{◌++◌, ◌≡◌, ℕ, ◌+◌, ◌<◌, ◌≤◌, Bool, true, false, ◌&&◌, ◌||◌, ◌==◌, not}
+use Rattle.std.proofs.Common.{nat_le}
+use Rattle.std.proofs.Common.{None, nat_lt, List, [], ◌∷◌, length, cond, refl, sym, ap, ◌∙◌, arith}
+use Rattle.std.proofs.lemmas.Bool.{false≢true, and_parts, and_from, leb-true, le-leb}
+use Rattle.std.proofs.lemmas.Option.{none-some}
+use Rattle.std.proofs.lemmas.List.Elements.{All-nil, All-cons, All-append}
 use Rattle.std.proofs.lemmas.List.Folds.{list_any-append}
 use Rattle.league_core.specs.declared.sheet.Sheet.{Sheet}
 use Rattle.league_core.specs.declared.question.Question.{Question}
 use Rattle.league_core.specs.declared.zone.Test.{Test}
 use Rattle.league_core.specs.declared.zone.Test.TheVariants.{Home, Draw, HomeMost, AwayMost, Rival}
 use Rattle.league_core.specs.declared.zone.Literal.{Literal}
+use Rattle.league_core.specs.declared.tree.TreeNode.{TreeNode}
+use Rattle.league_core.specs.declared.tree.TreeNode.TheVariants.{Split, Open, Lent, Refuted}
 use Rattle.league_core.specs.Results.{Results}
 use Rattle.league_core.specs.Zones.{with_test, is_of_rival, is_of_score, marked_before}
-use Rattle.league_core.specs.Zones.{marked_after}
+use Rattle.league_core.specs.Zones.{marked_after, is_marked, is_test_of}
 use Rattle.league_core.specs.Options.{has_finish}
 use Rattle.league_core.specs.Reasons.{has_reason}
 use Rattle.league_core.specs.Trees.{Tree, open_leaf, lent_leaf, refuted_leaf, branch, NodesMeet}
-use Rattle.league_core.specs.Trees.{node_count, new_count}
+use Rattle.league_core.specs.Trees.{preorder, node_count, new_count}
 use Rattle.league_core.specs.Lending.{lent_count, times_lent}
 use Rattle.league_core.specs.Splits.{IsProperNode, is_proper, have_both_finish}
 use Rattle.league_core.proofs.HalfLemmas.{half_has_finish, root_has_finish}
+use Rattle.league_core.specs.TreeLists.{tree_of, tree_of-preorder}
+use Rattle.league_core.proofs.TreeLemmas.{length-preorder}
+use Rattle.league_core.proofs.TreeListLemmas.{preorder_injective}
 use Rattle.league_core.proofs.LendingLemmas.{times_lent-le}
 use Rattle.tree_reuse.specs.declared.halves.Halves.{Halves}
 use Rattle.tree_reuse.specs.declared.halves.Halves.TheVariants.{Both, YesAlone, NoAlone}
 use Rattle.tree_reuse.specs.declared.halves.TheConstants.{MOST_KEPT}
+use Rattle.tree_reuse.specs.Calls.{IsNodeOf, AreTestsOf}
 use Rattle.tree_reuse.specs.Retargets.{halves_by, halves_in, leaf_kept, retargeted_from}
 use Rattle.tree_reuse.specs.Retargets.{within_limit, retargeted}
 use Rattle.tree_reuse.specs.RetargetLaws.{IsKeptNode}
@@ -335,3 +344,70 @@ kept_good sheet before season question tree proper =
     (λ _. kept_nodes sheet before season question [] [] tree
     (record { front = λ _. refl; back = λ _. refl }) root proper)
     (record { proper = tt; reason = tt; some = root; not_new = refl })
+
+-- a proper split tests what the sheet has
+proper_is_of : (sheet : Sheet) (season : Results) (question : Question) (zone : List Literal)
+    (test : Test) → is_proper sheet season question zone test ≡ true → is_test_of sheet test ≡ true
+proper_is_of sheet season question zone (Home fixture) proper =
+    (and_parts (nat_lt fixture (length sheet.fixtures))
+    (have_both_finish sheet season zone (Home fixture)) proper).0
+proper_is_of sheet season question zone (Draw fixture) proper =
+    (and_parts (nat_lt fixture (length sheet.fixtures))
+    (have_both_finish sheet season zone (Draw fixture)) proper).0
+proper_is_of sheet season question zone (HomeMost fixture most) proper =
+    (and_parts (nat_lt fixture (length sheet.fixtures))
+    (have_both_finish sheet season zone (HomeMost fixture most)) proper).0
+proper_is_of sheet season question zone (AwayMost fixture most) proper =
+    (and_parts (nat_lt fixture (length sheet.fixtures))
+    (have_both_finish sheet season zone (AwayMost fixture most)) proper).0
+proper_is_of sheet season question zone (Rival club) proper =
+    (and_parts (nat_lt club (length sheet.clubs)) (not (club == question.club))
+    (and_parts (nat_lt club (length sheet.clubs) && not (club == question.club))
+    (not (is_marked zone club)) proper).0).0
+
+-- so the tests of a tree of proper splits are the sheet's
+pub proper_tests : (sheet : Sheet) (season : Results) (question : Question) (zone : List Literal)
+    (tree : Tree) → NodesMeet (IsProperNode sheet season question) zone tree → AreTestsOf sheet tree
+proper_tests sheet season question zone open_leaf proper =
+    All-cons (IsNodeOf sheet) Open [] tt (All-nil (IsNodeOf sheet))
+proper_tests sheet season question zone (lent_leaf number) proper =
+    All-cons (IsNodeOf sheet) (Lent number) [] tt (All-nil (IsNodeOf sheet))
+proper_tests sheet season question zone (refuted_leaf reason fresh) proper =
+    All-cons (IsNodeOf sheet) (Refuted reason fresh) [] tt (All-nil (IsNodeOf sheet))
+proper_tests sheet season question zone (branch test fresh yes_half no_half) proper =
+    All-cons (IsNodeOf sheet) (Split test fresh) (preorder yes_half ++ preorder no_half)
+    (proper_is_of sheet season question zone test proper.0)
+    (All-append (IsNodeOf sheet) (preorder yes_half) (preorder no_half)
+    (proper_tests sheet season question (with_test zone test true) yes_half proper.1)
+    (proper_tests sheet season question (with_test zone test false) no_half proper.2))
+
+-- a list of more nodes than the limit is that of a tree that becomes one open leaf
+pub retargeted-many : (sheet : Sheet) (season : Results) (question : Question) (tree : Tree)
+    (found : List TreeNode) → found ≡ preorder (retargeted_from sheet season question [] tree)
+    → MOST_KEPT < length found → open_leaf ≡ retargeted sheet season question tree
+unfolding retargeted
+retargeted-many sheet season question tree found is many =
+    let new = retargeted_from sheet season question [] tree in
+    let count : length found ≡ node_count new = ap length is ∙ length-preorder new in
+    limit_cases (λ kept. open_leaf ≡ kept) new (λ few. absurd (omega arith)) refl
+
+-- any other is that of the tree that is left
+pub retargeted-few : (sheet : Sheet) (season : Results) (question : Question) (tree kept : Tree)
+    (found : List TreeNode) → found ≡ preorder (retargeted_from sheet season question [] tree)
+    → length found ≤ MOST_KEPT → preorder kept ≡ found
+    → kept ≡ retargeted sheet season question tree
+unfolding retargeted
+retargeted-few sheet season question tree kept found is few same =
+    let new = retargeted_from sheet season question [] tree in
+    let count : length found ≡ node_count new = ap length is ∙ length-preorder new in
+    preorder_injective kept new (same ∙ is)
+    ∙ ap (λ b. cond b new open_leaf)
+    (sym (le-leb (node_count new) MOST_KEPT (omega arith)))
+
+-- it is that of a tree
+pub retargeted-read : (sheet : Sheet) (season : Results) (question : Question) (tree : Tree)
+    (found : List TreeNode) → found ≡ preorder (retargeted_from sheet season question [] tree)
+    → tree_of found ≡ None → ⊥
+retargeted-read sheet season question tree found is none =
+    let new = retargeted_from sheet season question [] tree in
+    none-some new (sym none ∙ ap tree_of is ∙ tree_of-preorder new)

@@ -1,9 +1,14 @@
 -- What the calls on a tree do, said of the tree of league_core that it is seen as. This project's
 -- own choice; that leaves leave nothing out is a law of league_core for every tree.
-use Rattle.std.specs.Prelude.{◌≡◌, ℕ, false, List, [], ◌∷◌, map, Option, Some, None}
+use Rattle.std.specs.Prelude.{◌≡◌, ℕ, false, IsTrue, List, [], ◌∷◌, map, Option, Some, None}
+use Rattle.std.specs.List.{All}
+use Rattle.league_core.specs.declared.sheet.Sheet.{Sheet}
 use Rattle.league_core.specs.declared.zone.Literal.{Literal}
 use Rattle.league_core.specs.declared.zone.Zone.{Zone}
-use Rattle.league_core.specs.Trees.{Tree, open_leaf, has_open}
+use Rattle.league_core.specs.declared.tree.TreeNode.{TreeNode}
+use Rattle.league_core.specs.declared.tree.TreeNode.TheVariants.{Split, Open, Lent, Refuted}
+use Rattle.league_core.specs.Zones.{is_test_of}
+use Rattle.league_core.specs.Trees.{Tree, open_leaf, preorder, has_open}
 use Rattle.league_core.specs.Lending.{lent_zones, put}
 
 -- one leaf that was open is lent under the number, and this is its zone; all else is as before
@@ -24,3 +29,14 @@ Lending number old new (Some zone) = LendsLeaf number old new zone.literals
 -- the literals of each zone
 abbrev pub literals_of : List Zone → List (List Literal)
 literals_of zones = map (λ zone. zone.literals) zones
+
+-- the node's test is one of the sheet's fixtures or clubs
+abbrev pub IsNodeOf : Sheet → TreeNode → Type 0
+IsNodeOf sheet Open = Unit {0}
+IsNodeOf sheet (Lent number) = Unit {0}
+IsNodeOf sheet (Refuted reason fresh) = Unit {0}
+IsNodeOf sheet (Split test fresh) = IsTrue (is_test_of sheet test)
+
+-- the tests of a tree are of the sheet's fixtures and clubs
+abbrev pub AreTestsOf : Sheet → Tree → Type 0
+AreTestsOf sheet tree = All (IsNodeOf sheet) (preorder tree)

@@ -12,6 +12,7 @@ use Rattle.league_core.specs.Trees.{Tree, NodesMeet, node_count, new_count, is_n
 use Rattle.league_core.specs.Lending.{lent_count, lent_zones, times_lent}
 use Rattle.league_core.specs.Splits.{IsProperNode, IsReasonTrue}
 use Rattle.tree_reuse.specs.declared.halves.TheConstants.{MOST_KEPT}
+use Rattle.tree_reuse.specs.Calls.{AreTestsOf}
 use Rattle.tree_reuse.specs.Retargets.{retargeted}
 
 -- nothing is lent afterwards, under no number
@@ -50,3 +51,9 @@ RetargetedTreesAreGood =
     (sheet : Sheet) (before season : Results) (question : Question) (tree : Tree)
     → NodesMeet (IsProperNode sheet before question) [] tree
     → NodesMeet (IsKeptNode sheet season question) [] (retargeted sheet season question tree)
+
+-- where the splits are proper in some season, the tests are of the sheet's fixtures and clubs
+abbrev pub ProperTreesAreOfTheSheet : Type 0
+ProperTreesAreOfTheSheet =
+    (sheet : Sheet) (season : Results) (question : Question) (tree : Tree)
+    → NodesMeet (IsProperNode sheet season question) [] tree → AreTestsOf sheet tree

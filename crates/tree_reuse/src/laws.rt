@@ -6,7 +6,7 @@
 ghost use Rattle.tree_reuse.specs.RetargetLaws.{RetargetedTreesLendNothing};
 ghost use Rattle.tree_reuse.specs.RetargetLaws.{RetargetedTreesHaveNothingNew};
 ghost use Rattle.tree_reuse.specs.RetargetLaws.{RetargetedTreesAreNoGreater};
-ghost use Rattle.tree_reuse.specs.RetargetLaws.{RetargetedTreesAreGood};
+ghost use Rattle.tree_reuse.specs.RetargetLaws.{RetargetedTreesAreGood, ProperTreesAreOfTheSheet};
 
 /// A tree that was carried over lends nothing, has nothing new and is no greater; where its splits
 /// were proper, all its nodes are good in the new season.
@@ -15,4 +15,5 @@ pub fn retargeting_keeps_what_holds()
     ensures fresh { RetargetedTreesHaveNothingNew }
     ensures nodes { RetargetedTreesAreNoGreater }
     ensures good { RetargetedTreesAreGood }
+    ensures tests { ProperTreesAreOfTheSheet }
 {}

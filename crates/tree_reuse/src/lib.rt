@@ -5,10 +5,14 @@
 //! `specs/Calls.antt` first.
 #![tactic(auto)]
 
+mod carry;
 mod halves;
 mod laws;
+mod retargeting;
 mod tree;
+mod way;
 
 pub use halves::MOST_KEPT;
 pub use laws::retargeting_keeps_what_holds;
+pub use retargeting::retarget;
 pub use tree::{MOST_NODES, Tree, TreeStop};

@@ -3,6 +3,7 @@ use Rattle.league_core.proofs.LendingLemmas.{lent_zones_absent}
 use Rattle.tree_reuse.specs.Retargets.{retargeted}
 use Rattle.tree_reuse.proofs.RetargetLemmas.{lent_count-retargeted, times_lent-retargeted}
 use Rattle.tree_reuse.proofs.RetargetLemmas.{new_count-retargeted, node_count-retargeted, kept_good}
+use Rattle.tree_reuse.proofs.RetargetLemmas.{proper_tests}
 use Rattle.tree_reuse.proofs.laws.retargeting_keeps_what_holds.Goals as goal
 
 pub returns-clause-lent : goal.returns-clause-lent
@@ -21,3 +22,6 @@ returns-clause-nodes c = node_count-retargeted
 
 pub returns-clause-good : goal.returns-clause-good
 returns-clause-good c = kept_good
+
+pub returns-clause-tests : goal.returns-clause-tests
+returns-clause-tests c = λ sheet season question tree. proper_tests sheet season question [] tree

@@ -1,0 +1,44 @@
+use Rattle.std.proofs.Common.{◌<◌, ap, arith, reverse, length, refl}
+use Rattle.tree_reuse.specs.Calls.{IsNodeOf}
+use Rattle.tree_reuse.proofs.CarryLemmas.{walk_started, walk_within, walk_on}
+use Rattle.tree_reuse.proofs.carry.carry.Goals as goal
+
+pub loop-part-init : goal.loop-part-init
+loop-part-init c =
+    let way = c.start-way.ensures in
+    record {
+      within = omega arith;
+      sheet_is = cc (ap (λ setting. setting.sheet) way);
+      season_is = cc (ap (λ setting. setting.season) way);
+      of_sheet = rw c.in_ok-nodes.ensures c.requires.tests;
+      walk = walk_started c.args.question.now c.args.sheet.now c.args.season.now c.args.tree.now
+          c.start-way.result c.in_ok-nodes.nodes.items (reverse c.push.new.self.items)
+          c.new-found.result.items way c.in_ok-nodes.ensures
+          (rw (c.in_ok-push.ensures.items, c.new-parts.ensures.items) refl)
+          c.new-found.ensures.items;
+    }
+
+pub loop-part-preserved : goal.loop-part-preserved
+loop-part-preserved c =
+    let before = c.loop-part.invariant in
+    let nodes = c.in_ok-nodes.nodes.items in
+    let taken = c.in-Some.ensures.items in
+    let done = c.in_ok-take_part.ensures in
+    let within : c.loop-part.at < length nodes =
+    walk_within c.args.question.now c.loop-part.way nodes c.loop-part.at
+    c.loop-part.parts.items c.pop.new.self.items c.in-Some.part c.loop-part.found.items _
+    before.walk taken in
+    let of_sheet : IsNodeOf c.loop-part.way.sheet c.index.result.now =
+    rw (before.sheet_is, c.index.ensures)
+    (before.of_sheet c.loop-part.at c.index.result.now within) in
+    record {
+      within = omega arith;
+      sheet_is = cc (ap (λ setting. setting.sheet) done.way);
+      season_is = cc (ap (λ setting. setting.season) done.way);
+      of_sheet = before.of_sheet;
+      walk = walk_on c.args.question.now c.loop-part.way c.take_part.new.way nodes c.loop-part.at
+          c.index.result.now c.loop-part.parts.items c.pop.new.self.items
+          c.take_part.new.parts.items c.in-Some.part c.loop-part.found.items
+          c.take_part.new.found.items _ before.walk taken within c.index.ensures of_sheet
+          done.way done.parts done.found;
+    }

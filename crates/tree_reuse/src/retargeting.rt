@@ -1,0 +1,37 @@
+//! A tree carried over to another season.
+
+ghost use Rattle.std.specs.Prelude.{◌≡◌, ◌<◌, length, IfOk};
+ghost use Rattle.league_core.specs.Seasons.{IsLeague};
+ghost use Rattle.tree_reuse.specs.Calls.{AreTestsOf};
+ghost use Rattle.tree_reuse.specs.Retargets.{retargeted};
+
+use crate::carry::carry;
+use crate::halves::MOST_KEPT;
+use crate::tree::{Tree, TreeStop};
+use league_core::{OutOfMemory, Question, Season, Sheet};
+use std::alloc::Global;
+
+/// What the season leaves of a tree: refuted leaves whose reasons still hold, and the splits above
+/// them; a tree of more than 100,001 nodes is one open leaf. One look at each node.
+pub fn retarget(
+    alloc: Global,
+    sheet: &Sheet,
+    question: &Question,
+    tree: &Tree,
+    season: &Season,
+) -> Result<Tree, OutOfMemory>
+    requires league { IsLeague sheet.now season.now }
+    requires club { question.now.club < length sheet.now.clubs }
+    requires tests { AreTestsOf sheet.now tree.now }
+    ensures { IfOk result (λ new. new ≡ retargeted sheet.now season.now question.now tree.now) }
+{
+    let found = carry(alloc, sheet, question, tree, season)?;
+    if found.len() > MOST_KEPT as usize {
+        return Tree::root(alloc);
+    }
+    match Tree::of_nodes(alloc, found) {
+        Ok(kept) => Ok(kept),
+        Err(TreeStop::NoTree(_)) => unreachable!(),
+        Err(TreeStop::OutOfMemory) => Err(OutOfMemory),
+    }
+}
