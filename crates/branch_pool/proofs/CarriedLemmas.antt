@@ -1,0 +1,83 @@
+-- What is kept of a question over a change: the tree is good for the new season, and an example
+-- stays exactly where it is one.
+use Rattle.std.proofs.Common.{◌≡◌, true, [], Option}
+use Rattle.std.proofs.Common.{Some, None, refl, sym, ◌∙◌, inl, inr, arith}
+use Rattle.std.specs.Prelude.{IfSome}
+use Rattle.std.proofs.lemmas.Bool.{false≢true, and_parts, and_from, cases_Bool}
+use Rattle.std.proofs.lemmas.Slice.Eq.{bytes_eq-Decides}
+use Rattle.league_core.specs.declared.sheet.Sheet.{Sheet}
+use Rattle.league_core.specs.declared.question.Question.{Question}
+use Rattle.league_core.specs.Results.{Results}
+use Rattle.league_core.specs.Finishes.{IsFinishOf}
+use Rattle.league_core.specs.Splits.{IsProperNode}
+use Rattle.league_core.proofs.TreeLemmas.{NodesMeet-weaker}
+use Rattle.tree_reuse.specs.RetargetLaws.{IsKeptNode}
+use Rattle.tree_reuse.specs.Retargets.{retargeted}
+use Rattle.tree_reuse.proofs.RetargetLemmas.{kept_good, lent_count-retargeted}
+use Rattle.tree_reuse.proofs.RetargetLemmas.{new_count-retargeted, node_count-retargeted}
+use Rattle.branch_pool.specs.declared.seat.Example.{Example}
+use Rattle.branch_pool.specs.declared.seat.Seat.{Seat}
+use Rattle.branch_pool.specs.Steps.{may_end_as, example_kept, seat_changed}
+use Rattle.branch_pool.specs.Goodness.{IsGoodNode, IsGoodSeat, IsExampleOf}
+
+-- the test of a finish is the definition
+pub ends_by_test : (sheet : Sheet) (season finish : Results)
+    → may_end_as sheet season finish ≡ true → IsFinishOf sheet season finish
+ends_by_test sheet season finish test =
+    let parts = and_parts _ _ test in
+    record {
+      deductions = (bytes_eq-Decides finish.deductions season.deductions).0 parts.0;
+      scores = parts.1;
+    }
+
+pub test_by_ends : (sheet : Sheet) (season finish : Results)
+    → IsFinishOf sheet season finish → may_end_as sheet season finish ≡ true
+test_by_ends sheet season finish is =
+    and_from _ _ ((bytes_eq-Decides finish.deductions season.deductions).1 is.deductions) is.scores
+
+-- an example that stays is one in the new season
+pub example_kept_good : (sheet : Sheet) (before season : Results) (question : Question)
+    (kept : Option Example) → IfSome kept (IsExampleOf sheet before question)
+    → IfSome (example_kept sheet season kept) (IsExampleOf sheet season question)
+example_kept_good sheet before season question None is = tt
+example_kept_good sheet before season question (Some example) is =
+    elim (cases_Bool (may_end_as sheet season example.finish)) as (λ _. IfSome
+    (example_kept sheet season (Some example)) (IsExampleOf sheet season question)) [
+      | inl ends ↦ rw ends (record {
+        is_finish = ends_by_test sheet season example.finish ends;
+        is_drawn = is.is_drawn;
+        holds = is.holds;
+      })
+      | inr not ↦ rw not tt
+    ]
+
+-- it stays where it is one
+pub example_stays : (sheet : Sheet) (season : Results) (question : Question) (example : Example)
+    → IsExampleOf sheet season question example
+    → example_kept sheet season (Some example) ≡ Some example
+example_stays sheet season question example is =
+    rw (test_by_ends sheet season example.finish is.is_finish) refl
+
+-- a question in a new season
+pub seat_changed_good : (sheet : Sheet) (before season : Results) (seat : Seat)
+    → IsGoodSeat sheet before seat → IsGoodSeat sheet season (seat_changed sheet season seat)
+seat_changed_good sheet before season seat good =
+    let proper = NodesMeet-weaker (IsGoodNode sheet before seat.question)
+    (IsProperNode sheet before seat.question) (λ zone node fact. fact.proper) seat.tree []
+    good.nodes in
+    let kept = kept_good sheet before season seat.question seat.tree proper in
+    record {
+      nodes = NodesMeet-weaker (IsKeptNode sheet season seat.question)
+          (IsGoodNode sheet season seat.question)
+          (λ zone node fact. record {
+            proper = fact.proper;
+            refuted = fact.reason;
+            unit = λ new. absurd (false≢true (sym fact.not_new ∙ new));
+          })
+          (retargeted sheet season seat.question seat.tree) [] kept;
+      units = sym (new_count-retargeted sheet season seat.question seat.tree);
+      lent = sym (lent_count-retargeted sheet season seat.question seat.tree);
+      within = omega arith;
+      few = (node_count-retargeted sheet season seat.question seat.tree).1;
+      example = example_kept_good sheet before season seat.question seat.example good.example;
+    }

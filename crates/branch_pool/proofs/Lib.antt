@@ -1,0 +1,9 @@
+pub mod SlotLemmas
+pub mod SeatLemmas
+pub mod LoanLemmas
+pub mod CarriedLemmas
+pub mod StepLemmas
+pub mod GoodLemmas
+pub mod CallLemmas
+pub mod RunLemmas
+pub mod WorkLemmas

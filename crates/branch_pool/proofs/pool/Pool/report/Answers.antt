@@ -1,0 +1,38 @@
+use Rattle.std.proofs.Common.{◌<◌, length, sym, subst}
+use Rattle.std.specs.List.{All}
+use Rattle.league_core.specs.Limits.{most_events}
+use Rattle.league_core.specs.Seasons.{IsEventOf}
+use Rattle.league_core.proofs.LogLemmas.{IsSeasonOf-applied}
+use Rattle.branch_pool.specs.States.{PoolState}
+use Rattle.branch_pool.specs.Seats.{MayBeCarried}
+use Rattle.branch_pool.specs.Views.{state_of}
+use Rattle.branch_pool.proofs.GoodLemmas.{seats_ready, sound_season}
+use Rattle.branch_pool.proofs.StepLemmas.{changed_sound}
+use Rattle.branch_pool.proofs.pool.Pool.report.Goals as goal
+
+pub trees_for-requires-clause-league : goal.trees_for-requires-clause-league
+trees_for-requires-clause-league c =
+    rw (c.apply.ensures, c.in_ok-season.ensures) (record {
+      limits = c.self.invariant.limits;
+      of_sheet = IsSeasonOf-applied c.self.inside.sheet c.self.inside.season c.args.event
+          (sound_season (state_of c.self.inside) c.self.invariant);
+    })
+
+pub trees_for-requires-clause-ready : goal.trees_for-requires-clause-ready
+trees_for-requires-clause-ready c =
+    subst (All (MayBeCarried c.self.inside.sheet)) (sym c.as_slice.ensures.value)
+    (seats_ready (state_of c.self.inside) c.self.invariant)
+
+pub invariant_of-self-2 : goal.invariant_of-self-2
+invariant_of-self-2 c =
+    let pool : PoolState = state_of c.self.inside in
+    let room = subst (λ (p : PoolState). length p.log < most_events) (sym c.self.view_is)
+    c.requires.room in
+    let may_be = subst (λ (p : PoolState). IsEventOf p.season c.args.event) (sym c.self.view_is)
+    c.requires.may_be in
+    rw (
+      c.change_seats.ensures,
+      c.in_ok-push.ensures.items,
+      c.apply.ensures,
+      c.in_ok-season.ensures,
+    ) (changed_sound pool c.args.event c.self.invariant room may_be)

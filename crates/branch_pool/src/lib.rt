@@ -1,0 +1,18 @@
+//! The pool: questions about a season while it is played, each with a tree that is worked on leaf
+//! by leaf, by any number of workers.
+//!
+//! Read `specs/States.antt` first: what a pool is. `specs/Steps.antt` says what each call does to
+//! it, `specs/Goodness.antt` what all of them keep.
+#![tactic(auto)]
+
+mod laws;
+mod loans;
+mod pool;
+mod seat;
+mod seats;
+mod ticket;
+
+pub use laws::{pools_stay_good, work_comes_to_an_end};
+pub use pool::Pool;
+pub use seat::{Example, Loan, MOST_QUESTIONS, Seat};
+pub use ticket::{Answer, ChangeStop, Gave, Ticket, Took, Turn};

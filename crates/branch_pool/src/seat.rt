@@ -1,0 +1,235 @@
+//! What the pool keeps for each of its questions.
+
+ghost use Rattle.std.specs.Prelude.{◌≡◌, ◌<◌, ◌≤◌, ◌+◌, ◌^◌, IfOk, OnErr, OnOk, true, None};
+ghost use Rattle.std.specs.Prelude.{if◌then◌else◌};
+ghost use Rattle.league_core.specs.Seasons.{IsLeague};
+ghost use Rattle.league_core.specs.Trees.{open_leaf, has_open, node_count};
+ghost use Rattle.league_core.specs.Lending.{times_lent, lent_count, lent_zones, put};
+ghost use Rattle.tree_reuse.specs.Retargets.{retargeted};
+ghost use Rattle.branch_pool.specs.States.{new_seat, is_workable};
+ghost use Rattle.branch_pool.specs.Steps.{seat_given, seat_recalled, seat_changed, example_kept};
+ghost use Rattle.branch_pool.specs.Steps.{example_given, units_given};
+ghost use Rattle.branch_pool.specs.Calls.{is_untouched, answer_of};
+ghost use Rattle.branch_pool.specs.Seats.{LendsSeat, MayLend, WorksSeat, seat_found, tree_for};
+ghost use Rattle.branch_pool.specs.Goodness.{IsGoodSeat};
+ghost use Rattle.league_core.specs.Questions.{IsQuestionOf};
+
+use crate::ticket::Answer;
+use league_core::{Finish, Lots, OutOfMemory, Question, Season, Sheet, Zone};
+use reason_core::{Done, Finding, Solver};
+use std::alloc::Global;
+use std::mem;
+use tree_reuse::{MOST_NODES, Tree};
+
+/// A pool has at most so many questions.
+pub const MOST_QUESTIONS: u32 = 65_536;
+
+/// A finish with a drawing of lots, at which a question holds.
+#[derive(Drop)]
+pub struct Example {
+    pub finish: Finish,
+    pub lots: Lots,
+}
+
+/// A question, how far it has been taken apart, and what was found.
+#[derive(Drop)]
+pub struct Seat {
+    pub question: Question,
+    pub tree: Tree,
+    /// The nodes that the present epoch has split or refuted.
+    pub units: u32,
+    /// The leaves that are lent.
+    pub lent: u32,
+    pub example: Option<Example>,
+}
+
+/// A leaf that is out with a worker: the epoch in which it was lent, the place of its question, and
+/// its zone.
+#[derive(Drop)]
+pub struct Loan {
+    pub epoch: u64,
+    pub place: u16,
+    pub zone: Zone,
+}
+
+impl Seat {
+    /// A question without work.
+    pub fn new(alloc: Global, question: Question) -> Result<Seat, OutOfMemory>
+        ensures { IfOk result (λ seat. seat ≡ new_seat question) }
+    {
+        Ok(Seat {
+            question,
+            tree: Tree::root(alloc)?,
+            units: 0,
+            lent: 0,
+            example: None,
+        })
+    }
+
+    /// There is work for the question.
+    pub fn is_workable(&self, sheet: &Sheet) -> bool
+        ensures { result ≡ is_workable sheet.now self.now }
+    {
+        self.example.is_none()
+            && self.tree.has_open()
+            && u64::from(self.units) + u64::from(self.lent) < u64::from(sheet.budget)
+    }
+
+    /// There is work for the question, and none of it is out.
+    pub fn is_untouched(&self, sheet: &Sheet) -> bool
+        ensures { result ≡ is_untouched sheet.now self.now }
+    {
+        self.is_workable(sheet) && self.lent == 0
+    }
+
+    /// Lends an open leaf under a number, and answers its zone twice: one for who works on it, one
+    /// for who waits for it.
+    #[tactic(auto, using(crate::proofs::SeatLemmas::lent_once))]
+    pub fn lend(&mut self, alloc: Global, number: u64) -> Result<(Zone, Zone), OutOfMemory>
+        requires open_leaf { has_open self.old.tree ≡ true }
+        requires free { times_lent number self.old.tree ≡ 0 }
+        requires few { node_count self.old.tree + lent_count self.old.tree ≤ MOST_NODES }
+        requires fits { self.old.lent + 1 < 2 ^ 32 }
+        ensures ok { IfOk result (λ zones. LendsSeat number self.old self.new zones.0 zones.1) }
+        ensures err { OnErr result (self.new ≡ self.old) }
+    {
+        let Some(zone) = self.tree.lend(number)? else {
+            unreachable!()
+        };
+        match zone.literals.copy(alloc) {
+            Ok(literals) => {
+                self.lent += 1;
+                Ok((Zone { literals }, zone))
+            }
+            Err(refused) => {
+                self.tree.reopen(number);
+                Err(refused)
+            }
+        }
+    }
+
+    /// Puts what was done in place of the leaf that is lent under a number.
+    pub fn give(&mut self, number: u64, done: Done)
+        requires out { times_lent number self.old.tree ≡ 1 }
+        requires some { 0 < self.old.lent }
+        requires fits { self.old.units + 1 < 2 ^ 32 }
+        ensures { self.new ≡ seat_given number done self.old }
+    {
+        self.lent -= 1;
+        match done {
+            Done::Refuted(_, reason) => {
+                self.units += 1;
+                self.tree.refute(number, reason);
+            }
+            Done::Split(_, literal) => {
+                self.units += 1;
+                self.tree.split(number, literal.test);
+            }
+            Done::Won(_, finish, lots) => {
+                self.tree.reopen(number);
+                if self.example.is_none() {
+                    self.example = Some(Example { finish, lots });
+                }
+            }
+            Done::Undone => self.tree.reopen(number),
+        }
+    }
+
+    /// Has an open leaf worked on in its place, under a number, and puts what was found there.
+    pub fn work<W: Solver>(&mut self, number: u64, worker: &mut W) -> Result<(), OutOfMemory>
+        requires may_lend { MayLend number self.old }
+        requires good { IsGoodSeat (W.sheet worker.old) (W.season worker.old) self.old }
+        requires question { IsQuestionOf (W.sheet worker.old) self.old.question }
+        ensures ok { OnOk result
+            (WorksSeat (W.sheet worker.old) (W.season worker.old) number self.old self.new) }
+        ensures err { OnErr result (self.new ≡ self.old) }
+        ensures same_sheet { W.sheet worker.new ≡ W.sheet worker.old }
+        ensures same_season { W.season worker.new ≡ W.season worker.old }
+    {
+        let Some(zone) = self.tree.lend(number)? else {
+            unreachable!()
+        };
+        match worker.solve(&self.question, zone.literals.as_slice()) {
+            Ok(finding) => {
+                self.put(number, finding);
+                Ok(())
+            }
+            Err(refused) => {
+                self.tree.reopen(number);
+                Err(refused)
+            }
+        }
+    }
+
+    // Puts what was found in place of the leaf that is lent under a number.
+    fn put(&mut self, number: u64, finding: Finding)
+        requires out { times_lent number self.old.tree ≡ 1 }
+        requires fits { self.old.units + 1 < 2 ^ 32 }
+        ensures { self.new ≡ seat_found number finding self.old.tree self.old }
+    {
+        match finding {
+            Finding::Refuted(reason) => {
+                self.units += 1;
+                self.tree.refute(number, reason);
+            }
+            Finding::Split(literal) => {
+                self.units += 1;
+                self.tree.split(number, literal.test);
+            }
+            Finding::Won(finish, lots) => {
+                self.tree.reopen(number);
+                if self.example.is_none() {
+                    self.example = Some(Example { finish, lots });
+                }
+            }
+        }
+    }
+
+    /// Opens each lent leaf.
+    pub fn recall(&mut self)
+        ensures { self.new ≡ seat_recalled self.old }
+    {
+        self.tree.reopen_all();
+        self.lent = 0;
+    }
+
+    /// Goes on in another season with the tree that was made for it; an example stays where it is
+    /// one there.
+    pub fn change(&mut self, sheet: &Sheet, season: &Season, tree: &mut Tree)
+        requires { tree.old ≡ tree_for sheet.now season.now self.old }
+        ensures { self.new ≡ seat_changed sheet.now season.now self.old }
+    {
+        mem::swap(&mut self.tree, tree);
+        self.units = 0;
+        self.lent = 0;
+        if !is_kept(sheet, season, &self.example) {
+            self.example = None;
+        }
+    }
+
+    /// How far the question is.
+    pub fn answer(&self, sheet: &Sheet) -> Answer
+        ensures { result ≡ answer_of sheet.now self.now }
+    {
+        if self.example.is_some() {
+            Answer::Won
+        } else if self.tree.is_refuted() {
+            Answer::Refuted
+        } else if self.units == sheet.budget {
+            Answer::Spent
+        } else {
+            Answer::NotYet
+        }
+    }
+}
+
+// The example, if there is one, is one of the season too.
+fn is_kept(sheet: &Sheet, season: &Season, example: &Option<Example>) -> bool
+    ensures { example_kept sheet.now season.now example.now
+        ≡ (if result then example.now else None) }
+{
+    match example {
+        Some(example) => example.finish.is_of(sheet, season),
+        None => true,
+    }
+}
