@@ -1,0 +1,214 @@
+-- Rivals counted by sets of clubs.
+use Rattle.std.proofs.Common.{◌≡◌, ℕ, zero, suc, ◌+◌, ◌*◌, ◌-◌, ◌<◌, ◌≤◌, ℤ, pos, neg_ℤ, ◌*ℤ◌}
+use Rattle.std.proofs.Common.{◌≤ℤ◌, Bool, true, false, not, ◌&&◌, ◌||◌, ◌==◌, nat_lt, nat_le, ltb}
+use Rattle.std.proofs.Common.{cond, List, [], ◌∷◌, length, refl, sym, ap, subst, ◌∙◌, arith}
+use Rattle.std.specs.Prelude.{IsTrue, ◌↔◌, count_by}
+use Rattle.std.specs.List.{list_all, list_any, range_with_len}
+use Rattle.std.proofs.Math.Bool.{or-false, not-not}
+use Rattle.std.proofs.lemmas.Bool.{false≢true, and_parts, and_from, ltb-true, lt-ltb}
+use Rattle.std.proofs.lemmas.Bool.{eqb-true, eq-eqb, or_right}
+use Rattle.std.proofs.lemmas.Bool.Decides.{same_from_decides}
+use Rattle.std.proofs.lemmas.Int.{ints}
+use Rattle.std.proofs.lemmas.List.Sums.{length-filter, sum_by-cons}
+use Rattle.league_core.specs.declared.sheet.Sheet.{Sheet}
+use Rattle.league_core.specs.declared.question.Claim.{Claim}
+use Rattle.league_core.specs.declared.question.Claim.TheVariants.{Inside, Outside}
+use Rattle.league_core.specs.declared.question.Question.{Question}
+use Rattle.league_core.specs.declared.sure.Sure.{Sure}
+use Rattle.league_core.specs.SureOrder.{is_above, is_below}
+use Rattle.league_core.specs.Sums.{has_club}
+use Rattle.league_core.specs.ClubSets.{clubs_below}
+use Rattle.league_core.specs.LotsFor.{others_of}
+use Rattle.league_core.specs.Reasons.{has_member, too_many}
+use Rattle.league_core.proofs.PlainLemmas.{eqb-swap, times-suc}
+use Rattle.league_core.proofs.ClubSetLemmas.{clubs_below-filter_range, has_club-range}
+use Rattle.league_core.proofs.ClubSetLemmas.{filter-filter, filter_agree_in, has_club-filter}
+
+-- the rivals of a set, counted
+pub count_rivals-is : (clubs club bits chosen without first single : ℕ) → clubs ≤ 32
+    → clubs_below 32 first ≡ range_with_len 0 clubs → clubs_below 32 single ≡ club ∷ []
+    → ((x : ℕ) → has_club (clubs_below 32 without) x
+    ≡ (has_club (clubs_below 32 first) x && not (has_club (clubs_below 32 single) x)))
+    → ((x : ℕ) → has_club (clubs_below 32 bits) x
+    ≡ (has_club (clubs_below 32 without) x && has_club (clubs_below 32 chosen) x))
+    → length (clubs_below 32 bits) ≡ count_by (has_club (clubs_below 32 chosen))
+    (others_of clubs club)
+count_rivals-is clubs club bits chosen without first single few first_is single_is without_is is =
+    let has = has_club (clubs_below 32 chosen) in
+    let other : ℕ → Bool = λ x. not (x == club) in
+    ap length
+    (clubs_below-filter_range 32 bits clubs (λ x. other x && has x) few
+    (λ x. is x ∙ ap (λ b. b && has x)
+    (without_is x
+    ∙ (λ i. has_club (first_is i) x && not (has_club (single_is i) x))
+    ∙ (λ i. has_club-range clubs x i && not (alone x i)))
+    ∙ grouped (ltb x clubs) (other x) (has x))
+    ∙ sym (filter-filter has other (range_with_len 0 clubs)))
+    ∙ length-filter has (others_of clubs club)
+  where
+    alone : (x : ℕ) → ((club == x) || false) ≡ (x == club)
+    alone x = or-false (club == x) ∙ eqb-swap club x
+
+    grouped : (a b c : Bool) → ((a && b) && c) ≡ (a && (b && c))
+    grouped true b c = refl
+    grouped false b c = refl
+
+-- a rival is a club of the sheet
+rival_below : (clubs club x : ℕ) → has_club (others_of clubs club) x ≡ true → x < clubs
+rival_below clubs club x has =
+    let parts = and_parts (has_club (range_with_len 0 clubs) x) (not (x == club))
+    (sym (has_club-filter (λ y. not (y == club)) (range_with_len 0 clubs) x) ∙ has) in
+    ltb-true x clubs (sym (has_club-range clubs x) ∙ parts.0)
+
+-- tests that agree on the clubs count the same rivals
+pub count_same : (clubs club : ℕ) (test other : ℕ → Bool)
+    → ((x : ℕ) → x < clubs → test x ≡ other x)
+    → count_by test (others_of clubs club) ≡ count_by other (others_of clubs club)
+count_same clubs club test other same =
+    sym (length-filter test (others_of clubs club))
+    ∙ ap length (filter_agree_in test other (others_of clubs club)
+    (λ x has. same x (rival_below clubs club x has)))
+    ∙ length-filter other (others_of clubs club)
+
+pub too_many_same : (sheet : Sheet) (question : Question) (front back front' back' : ℕ → Bool)
+    (claim : Claim) → ((x : ℕ) → x < length sheet.clubs → front x ≡ front' x)
+    → ((x : ℕ) → x < length sheet.clubs → back x ≡ back' x)
+    → too_many sheet question front back claim ≡ too_many sheet question front' back' claim
+too_many_same sheet question front back front' back' Inside fronts backs =
+    ap (nat_le question.line)
+    (count_same (length sheet.clubs) question.club front front' fronts)
+too_many_same sheet question front back front' back' Outside fronts backs =
+    ap (nat_le (length sheet.clubs - question.line))
+    (count_same (length sheet.clubs) question.club back back' backs)
+
+-- one rival passes exactly where the count is not 0
+pub any_counted : (test : ℕ → Bool) (xs : List ℕ) → nat_lt 0 (count_by test xs) ≡ list_any test xs
+any_counted test [] = refl
+any_counted test (x ∷ xs) =
+    counted (test x) (count_by test (x ∷ xs)) (count_by test xs) (list_any test xs)
+    (sum_by-cons (λ (y : ℕ). cond (test y) 1 0) x xs) (any_counted test xs)
+  where
+    counted : (b : Bool) (all rest : ℕ) (later : Bool) → all ≡ cond b 1 0 + rest
+        → nat_lt 0 rest ≡ later → nat_lt 0 all ≡ (b || later)
+    counted true all rest later more is = lt-ltb 0 all (omega (arith, more))
+    counted false all rest later more is =
+        let none : all ≡ rest = omega (arith, more) in ap (nat_lt 0) none ∙ is
+
+-- what all of a list's clubs pass, each of them passes
+each_member : (test : ℕ → Bool) (clubs : List ℕ) → list_all test clubs ≡ true → (club : ℕ)
+    → has_club clubs club ≡ true → test club ≡ true
+each_member test [] all club has = absurd (false≢true has)
+each_member test (first ∷ clubs) all club has =
+    let parts = and_parts (test first) (list_all test clubs) all in
+    elim (first == club) as (λ b. (first == club) ≡ b → (b || has_club clubs club) ≡ true
+    → test club ≡ true) [
+      | true ↦ λ same has. subst (λ (x : ℕ). test x ≡ true) (eqb-true first club same) parts.0
+      | false ↦ λ other has. each_member test clubs parts.1 club has
+    ] refl has
+
+-- and what each of them passes, all of them pass
+all_members : (test : ℕ → Bool) (clubs : List ℕ)
+    → ((club : ℕ) → has_club clubs club ≡ true → test club ≡ true) → list_all test clubs ≡ true
+all_members test [] each = refl
+all_members test (first ∷ clubs) each =
+    and_from (test first) (list_all test clubs)
+    (each first (ap (λ b. b || has_club clubs first) (eq-eqb first first refl)))
+    (all_members test clubs
+    (λ club has. each club (or_right (first == club) (has_club clubs club) has)))
+
+-- a list that has no club is empty
+no_member : (clubs : List ℕ) → ((club : ℕ) → has_club clubs club ≡ false) → clubs ≡ []
+no_member [] none = refl
+no_member (first ∷ clubs) none =
+    absurd (false≢true (sym (none first)
+    ∙ ap (λ b. b || has_club clubs first) (eq-eqb first first refl)))
+
+-- a list has a club, or it is empty
+pub has_member-not_empty : (clubs : List ℕ) (is_empty : Bool) → (IsTrue is_empty ↔ (clubs ≡ []))
+    → not is_empty ≡ has_member clubs
+has_member-not_empty [] is_empty says = ap not (says.1 refl)
+has_member-not_empty (club ∷ clubs) true says = absurd (let e = says.0 refl in cc)
+has_member-not_empty (club ∷ clubs) false says = refl
+
+-- all of a list are in another where nothing is left of it without the other
+pub all_within : (clubs others rest : List ℕ) (is_empty : Bool)
+    → ((club : ℕ) → has_club rest club ≡ (has_club clubs club && not (has_club others club)))
+    → (IsTrue is_empty ↔ (rest ≡ [])) → is_empty ≡ list_all (has_club others) clubs
+all_within clubs others rest is_empty has says =
+    same_from_decides {P = rest ≡ []} is_empty (list_all (has_club others) clubs) says (
+      λ all. no_member rest (λ club. has club ∙ neither club (has_club clubs club) all refl),
+      λ empty. all_members (has_club others) clubs (λ club here.
+          sym (not-not (has_club others club))
+          ∙ ap not (sym (ap (λ b. b && not (has_club others club)) here) ∙ sym (has club)
+          ∙ ap (λ xs. has_club xs club) empty)),
+    )
+  where
+    neither : (club : ℕ) (b : Bool) → list_all (has_club others) clubs ≡ true
+        → has_club clubs club ≡ b → (b && not (has_club others club)) ≡ false
+    neither club false all here = refl
+    neither club true all here = ap not (each_member (has_club others) clubs all club here)
+
+-- so many times a number that is not far from 0
+pub times_near : (count : ℕ) (number : ℤ) → neg_ℤ (pos 3000000000) ≤ℤ number
+    → number ≤ℤ pos 3000000000
+    → (neg_ℤ (pos (3000000000 * count)) ≤ℤ (pos count *ℤ number))
+    × ((pos count *ℤ number) ≤ℤ pos (3000000000 * count))
+times_near zero number low high = (omega (arith, ints), omega (arith, ints))
+times_near (suc count) number low high =
+    let rest = times_near count number low high in
+    let more = times-suc count number in
+    (omega (arith, ints, rest.0, more, low), omega (arith, ints, rest.1, more, high))
+
+-- a club of the sheet that is surely before or behind, by a set
+by_set : (clubs : List ℕ) (test : Sure → Bool) (said known : ℕ → Sure)
+    → ((x : ℕ) → x < 32 → said x ≡ known x)
+    → ((x : ℕ) → has_club clubs x ≡ (nat_lt x 32 && test (said x))) → (x : ℕ) → x < 32
+    → has_club clubs x ≡ test (known x)
+by_set clubs test said known is has x inside =
+    has x ∙ ap (λ b. b && test (said x)) (lt-ltb x 32 inside) ∙ ap test (is x inside)
+
+-- too many rivals, by sets
+pub decided_by_sets : (sheet : Sheet) (question : Question)
+    (before after above below front back : List ℕ) (said known : ℕ → Sure)
+    → length sheet.clubs ≤ 24 → ((x : ℕ) → x < 32 → said x ≡ known x)
+    → ((x : ℕ) → has_club above x ≡ (nat_lt x 32 && is_above (said x)))
+    → ((x : ℕ) → has_club below x ≡ (nat_lt x 32 && is_below (said x)))
+    → ((x : ℕ) → has_club front x ≡ (has_club before x || has_club above x))
+    → ((x : ℕ) → has_club back x ≡ (has_club after x || has_club below x))
+    → too_many sheet question (has_club front) (has_club back) question.claim
+    ≡ too_many sheet question (λ rival. has_club before rival || is_above (known rival))
+    (λ rival. has_club after rival || is_below (known rival)) question.claim
+decided_by_sets sheet question before after above below front back said known few is above_is
+    below_is front_is back_is =
+    too_many_same sheet question (has_club front) (has_club back)
+    (λ rival. has_club before rival || is_above (known rival))
+    (λ rival. has_club after rival || is_below (known rival)) question.claim
+    (λ x inside. front_is x ∙ ap (λ b. has_club before x || b)
+    (by_set above is_above said known is above_is x (omega (arith, inside, few))))
+    (λ x inside. back_is x ∙ ap (λ b. has_club after x || b)
+    (by_set below is_below said known is below_is x (omega (arith, inside, few))))
+
+-- a rival on the wrong side, by sets
+pub wrong_by_sets : (clubs club : ℕ)
+    (before after above below not_after not_before wrong : List ℕ) (said known : ℕ → Sure)
+    → clubs ≤ 24 → ((x : ℕ) → x < 32 → said x ≡ known x)
+    → ((x : ℕ) → has_club above x ≡ (nat_lt x 32 && is_above (said x)))
+    → ((x : ℕ) → has_club below x ≡ (nat_lt x 32 && is_below (said x)))
+    → ((x : ℕ) → has_club not_after x ≡ (has_club after x && has_club above x))
+    → ((x : ℕ) → has_club not_before x ≡ (has_club before x && has_club below x))
+    → ((x : ℕ) → has_club wrong x ≡ (has_club not_after x || has_club not_before x))
+    → nat_lt 0 (count_by (has_club wrong) (others_of clubs club))
+    ≡ list_any (λ rival. (has_club after rival && is_above (known rival))
+    || (has_club before rival && is_below (known rival))) (others_of clubs club)
+wrong_by_sets clubs club before after above below not_after not_before wrong said known few is
+    above_is below_is not_after_is not_before_is wrong_is =
+    let wanted : ℕ → Bool = λ rival. (has_club after rival && is_above (known rival))
+    || (has_club before rival && is_below (known rival)) in
+    ap (nat_lt 0)
+    (count_same clubs club (has_club wrong) wanted
+    (λ x inside. wrong_is x
+    ∙ (λ i. (not_after_is x ∙ ap (λ b. has_club after x && b)
+    (by_set above is_above said known is above_is x (omega (arith, inside, few)))) i
+    || (not_before_is x ∙ ap (λ b. has_club before x && b)
+    (by_set below is_below said known is below_is x (omega (arith, inside, few)))) i)))
+    ∙ any_counted wanted (others_of clubs club)

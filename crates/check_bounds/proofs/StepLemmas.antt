@@ -1,0 +1,103 @@
+-- Tables of answers, club by club: each answer that was level takes the next.
+use Rattle.std.proofs.Common.{◌≡◌, ◌≢◌, ◌⊎◌, inl, inr, ℕ, ◌+◌, ◌<◌, ◌≤◌, Bool, true, false, ◌&&◌}
+use Rattle.std.proofs.Common.{not, cond, List, [], ◌∷◌, length, get_or, set, filter, refl}
+use Rattle.std.proofs.Common.{sym, ap, ◌∙◌, arith}
+use Rattle.std.specs.Prelude.{IsTrue, ◌↔◌}
+use Rattle.std.specs.List.{list_all}
+use Rattle.std.proofs.lemmas.Bool.{cases_eq, and_parts}
+use Rattle.std.proofs.lemmas.Bool.Decides.{same_from_decides}
+use Rattle.std.proofs.lemmas.List.{get_or-set_same, get_or-set_other, length-set}
+use Rattle.league_core.specs.declared.sure.Sure.{Sure}
+use Rattle.league_core.specs.declared.sure.Sure.TheVariants.{Above, Below, Level, Unknown}
+use Rattle.league_core.specs.SureOrder.{sure_then}
+use Rattle.check_bounds.specs.Steps.{sure_at, TakesNext}
+
+pub sure_then-assoc : (a b c : Sure) → sure_then (sure_then a b) c ≡ sure_then a (sure_then b c)
+sure_then-assoc Above b c = refl
+sure_then-assoc Below b c = refl
+sure_then-assoc Level b c = refl
+sure_then-assoc Unknown b c = refl
+
+pub sure_then-level : (a : Sure) → sure_then a Level ≡ a
+sure_then-level Above = refl
+sure_then-level Below = refl
+sure_then-level Level = refl
+sure_then-level Unknown = refl
+
+-- the clubs below a number have taken the next answer, and the others have not
+pub record IsTakenBelow (old now : List Sure) (count : ℕ) (next : ℕ → Sure) : Type 0 where
+  pub long : length now ≡ 32
+  pub done : (rival : ℕ) → rival < count → sure_at now rival ≡ sure_then (sure_at old rival)
+      (next rival)
+  pub left : (rival : ℕ) → count ≤ rival → sure_at now rival ≡ sure_at old rival
+
+pub taken_none : (old : List Sure) (next : ℕ → Sure) → length old ≡ 32
+    → IsTakenBelow old old 0 next
+taken_none old next long = record {
+  long = long;
+  done = λ rival below. absurd (omega (arith, below));
+  left = λ rival above. refl;
+}
+
+-- one club more
+pub taken_more : (old now : List Sure) (count : ℕ) (next : ℕ → Sure) (was answer said : Sure)
+    → count < 32 → IsTakenBelow old now count next → was ≡ get_or now count Unknown
+    → said ≡ next count → answer ≡ sure_then was said
+    → IsTakenBelow old (set now count answer) (count + 1) next
+taken_more old now count next was answer said inside taken was_is said_is is = record {
+  long = length-set now count answer ∙ taken.long;
+  done = λ rival below. at rival below (cases_eq rival count);
+  left = λ rival above.
+      get_or-set_other now count rival answer Unknown (omega (arith, above))
+      ∙ taken.left rival (omega (arith, above));
+}
+  where
+    here : count < length now
+    here = omega (arith, inside, taken.long)
+
+    own : answer ≡ sure_then (sure_at old count) (next count)
+    own =
+        is
+        ∙ ap (λ s. sure_then s said) (was_is ∙ taken.left count (omega arith))
+        ∙ ap (sure_then (sure_at old count)) said_is
+
+    at : (rival : ℕ) → rival < count + 1 → (rival ≡ count) ⊎ (rival ≢ count)
+        → sure_at (set now count answer) rival ≡ sure_then (sure_at old rival) (next rival)
+    at rival below (inl same) =
+        ap (sure_at (set now count answer)) same
+        ∙ get_or-set_same now count answer Unknown here
+        ∙ own
+        ∙ ap (λ n. sure_then (sure_at old n) (next n)) (sym same)
+    at rival below (inr other) =
+        get_or-set_other now count rival answer Unknown other
+        ∙ taken.done rival (omega (arith, below, other))
+
+-- all of them
+pub taken_all : (old now : List Sure) (count : ℕ) (next : ℕ → Sure) → 32 ≤ count
+    → IsTakenBelow old now count next → TakesNext old now next
+taken_all old now count next all taken rival below = taken.done rival (omega (arith, all, below))
+
+-- all pass a test exactly where none of them fails it
+pub all_pass-none_fails : (test : ℕ → Bool) (clubs failed : List ℕ) (is_empty : Bool)
+    → failed ≡ filter (λ x. not (test x)) clubs → (IsTrue is_empty ↔ (failed ≡ []))
+    → is_empty ≡ list_all test clubs
+all_pass-none_fails test clubs failed is_empty are says =
+    same_from_decides {P = failed ≡ []} is_empty (list_all test clubs) says
+    (λ all. are ∙ none clubs all, λ empty. each clubs (sym are ∙ empty))
+  where
+    none : (clubs : List ℕ) → list_all test clubs ≡ true → filter (λ x. not (test x)) clubs ≡ []
+    none [] all = refl
+    none (club ∷ clubs) all =
+        let parts = and_parts (test club) (list_all test clubs) all in
+        ap (λ b. cond (not b) (club ∷ filter (λ x. not (test x)) clubs)
+        (filter (λ x. not (test x)) clubs)) parts.0
+        ∙ none clubs parts.1
+
+    each : (clubs : List ℕ) → filter (λ x. not (test x)) clubs ≡ [] → list_all test clubs ≡ true
+    each [] empty = refl
+    each (club ∷ clubs) empty =
+        elim (test club) as (λ b. cond (not b) (club ∷ filter (λ x. not (test x)) clubs)
+        (filter (λ x. not (test x)) clubs) ≡ [] → (b && list_all test clubs) ≡ true) [
+          | true ↦ λ e. each clubs e
+          | false ↦ λ e. absurd (cc)
+        ] empty

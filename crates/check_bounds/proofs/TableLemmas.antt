@@ -1,0 +1,370 @@
+-- Tables of sums, match by match.
+use Rattle.std.proofs.Common.{◌≡◌, ◌≢◌, ◌⊎◌, inl, inr, ℕ, ◌+◌, ◌*◌, ◌<◌, ◌≤◌, ℤ, pos, neg_ℤ, Bool}
+use Rattle.std.proofs.Common.{true, false, ◌&&◌, nat_lt, eqb, cond, List, [], ◌∷◌, length, get_or}
+use Rattle.std.proofs.Common.{set}
+use Rattle.std.proofs.Common.{drop, replicate, not, ◌-◌, ◌^◌, ◌+ℤ◌, refl, sym}
+use Rattle.std.proofs.Common.{ap, subst, ◌∙◌, arith}
+use Rattle.std.specs.List.{list_all}
+use Rattle.std.proofs.lemmas.Bool.{cases_eq, cases_lt, eq-eqb, ne_eqb, and_parts, and_from, lt-ltb}
+use Rattle.std.proofs.lemmas.Bool.{ltb-true, eqb-false, not-true}
+use Rattle.std.proofs.lemmas.Int.{ints}
+use Rattle.std.proofs.lemmas.List.{get_or-set_same, get_or-set_other, length-set, get_or_past}
+use Rattle.std.proofs.lemmas.List.{get_or-replicate, length-replicate}
+use Rattle.league_core.specs.declared.sheet.Sheet.{Sheet}
+use Rattle.league_core.specs.declared.sheet.Fixture.{Fixture}
+use Rattle.league_core.specs.declared.season.Score.{Score}
+use Rattle.league_core.specs.Ahead.{rank_of}
+use Rattle.league_core.specs.Sheets.{is_fixture}
+use Rattle.league_core.specs.Sums.{Worth, match_points, has_club, worth_to, worth_among}
+use Rattle.league_core.specs.ClubSets.{clubs_below}
+use Rattle.league_core.specs.PointRanges.{one_value, added, range_of, range_from}
+use Rattle.league_core.specs.PointRanges.{points_together, points_of_sides}
+use Rattle.league_core.proofs.ClubBitLemmas.{clubs_below-ones}
+use Rattle.league_core.proofs.ClubSetLemmas.{has_club-range}
+use Rattle.league_core.proofs.PointRangeLemmas.{range_from-more, range_from-all, range_of-same}
+use Rattle.league_core.proofs.PointRangeLemmas.{points_together-sides}
+use Rattle.check_bounds.specs.declared.look.Kind.{Kind}
+use Rattle.check_bounds.specs.declared.span.Span.{Span}
+use Rattle.check_bounds.specs.Looks.{worth_by, side_worth}
+use Rattle.check_bounds.specs.Spans.{range_of_span, span_at, no_span, IsSpanWithin}
+use Rattle.check_bounds.specs.Tables.{IsTableOf}
+use Rattle.check_bounds.proofs.SpanLemmas.{added-none, none-added, added-assoc}
+use Rattle.check_bounds.proofs.SpanLemmas.{near_wider, range_of-nothing}
+
+-- each club's sum so far, and that of the matches that are left, make the whole; none is far from 0
+pub record IsTableSoFar (value : ℕ → Fixture → Score → ℤ) (fixtures : List Fixture)
+    (corners : List (List Score)) (count : ℕ) (table : List Span) : Type 0 where
+  pub long : length table ≡ 32
+  pub sums : (club : ℕ) → added (range_of_span (span_at table club))
+      (range_from (value club) (drop count fixtures) (drop count corners))
+      ≡ range_from (value club) fixtures corners
+  pub near : (club : ℕ) → IsSpanWithin (255 * count) (span_at table club)
+
+-- one match more
+pub table_more : (value : ℕ → Fixture → Score → ℤ) (fixtures : List Fixture)
+    (corners : List (List Score)) (count : ℕ) (table new : List Span) (d : Fixture)
+    → count < length fixtures → count < length corners
+    → IsTableSoFar value fixtures corners count table → length new ≡ 32
+    → ((club : ℕ) → range_of_span (span_at new club)
+    ≡ added (range_of_span (span_at table club))
+    (range_of (value club (get_or fixtures count d)) (get_or corners count [])))
+    → ((bound : ℕ) → ((club : ℕ) → IsSpanWithin bound (span_at table club))
+    → (club : ℕ) → IsSpanWithin (bound + 255) (span_at new club))
+    → IsTableSoFar value fixtures corners (count + 1) new
+table_more value fixtures corners count table new d inside there so_far long adds grows = record {
+  long = long;
+  sums = λ club.
+      let rest = range_from (value club) (drop (count + 1) fixtures) (drop (count + 1) corners) in
+      let here = range_of (value club (get_or fixtures count d)) (get_or corners count []) in
+      ap (λ r. added r rest) (adds club)
+      ∙ added-assoc (range_of_span (span_at table club)) here rest
+      ∙ ap (added (range_of_span (span_at table club)))
+      (sym (range_from-more (value club) fixtures corners count d inside there))
+      ∙ so_far.sums club;
+  near = λ club.
+      near_wider (255 * count + 255) (255 * (count + 1)) (span_at new club) (omega arith)
+      (grows (255 * count) so_far.near club);
+}
+
+-- all of them
+pub table_all : (value : ℕ → Fixture → Score → ℤ) (fixtures : List Fixture)
+    (corners : List (List Score)) (count : ℕ) (table : List Span) → length fixtures ≤ count
+    → IsTableSoFar value fixtures corners count table → IsTableOf value fixtures corners table
+table_all value fixtures corners count table all so_far club =
+    sym (added-none (range_of_span (span_at table club)))
+    ∙ ap (added (range_of_span (span_at table club)))
+    (sym (range_from-all (value club) fixtures corners count all))
+    ∙ so_far.sums club
+
+-- what a match in which both clubs count adds to the sums of each club
+pub match_adds : (group : List ℕ) (kind : Kind) (match : Fixture) (corners : List Score)
+    (table middle new : List Span) (home away : Span)
+    → (has_club group match.home && has_club group match.away) ≡ true
+    → match.home ≢ match.away
+    → range_of_span home ≡ range_of (side_worth kind false) corners
+    → range_of_span away ≡ range_of (side_worth kind true) corners
+    → range_of_span (span_at middle match.home)
+    ≡ added (range_of_span (span_at table match.home)) (range_of_span home)
+    → ((other : ℕ) → other ≢ match.home → span_at middle other ≡ span_at table other)
+    → range_of_span (span_at new match.away)
+    ≡ added (range_of_span (span_at middle match.away)) (range_of_span away)
+    → ((other : ℕ) → other ≢ match.away → span_at new other ≡ span_at middle other)
+    → (club : ℕ) → range_of_span (span_at new club)
+    ≡ added (range_of_span (span_at table club))
+    (range_of (worth_among group (worth_by kind) club match) corners)
+match_adds group kind match corners table middle new home away counts apart home_is away_is
+    home_adds home_others away_adds away_others club =
+    by_home (cases_eq match.home club)
+    ∙ ap (λ b. added (range_of_span (span_at table club))
+    (range_of (λ score. cond b (worth_to (worth_by kind) club match score) (pos 0)) corners))
+    (sym counts)
+  where
+    side : Bool → Bool → Score → ℤ
+    side at_home at_away score = cond at_home (side_worth kind false score)
+        (cond at_away (side_worth kind true score) (pos 0))
+
+    by_away : (match.home ≢ club) → (match.away ≡ club) ⊎ (match.away ≢ club)
+        → range_of_span (span_at new club) ≡ added (range_of_span (span_at table club))
+        (range_of (side (eqb match.home club) (eqb match.away club)) corners)
+    by_away not_home (inl same) =
+        ap (λ n. range_of_span (span_at new n)) (sym same)
+        ∙ away_adds
+        ∙ ap (λ s. added (range_of_span s) (range_of_span away))
+        (home_others match.away (λ e. apart (sym e)))
+        ∙ ap (added (range_of_span (span_at table match.away))) away_is
+        ∙ ap (λ n. added (range_of_span (span_at table n))
+        (range_of (side_worth kind true) corners)) same
+        ∙ ap (λ b. added (range_of_span (span_at table club)) (range_of (side false b) corners))
+        (sym (eq-eqb match.away club same))
+        ∙ ap (λ b. added (range_of_span (span_at table club))
+        (range_of (side b (eqb match.away club)) corners))
+        (sym (ne_eqb match.home club not_home))
+    by_away not_home (inr not_away) =
+        ap range_of_span (away_others club (λ e. not_away (sym e))
+        ∙ home_others club (λ e. not_home (sym e)))
+        ∙ sym (added-none (range_of_span (span_at table club)))
+        ∙ ap (added (range_of_span (span_at table club))) (sym (range_of-nothing corners))
+        ∙ ap (λ b. added (range_of_span (span_at table club)) (range_of (side false b) corners))
+        (sym (ne_eqb match.away club not_away))
+        ∙ ap (λ b. added (range_of_span (span_at table club))
+        (range_of (side b (eqb match.away club)) corners))
+        (sym (ne_eqb match.home club not_home))
+
+    by_home : (match.home ≡ club) ⊎ (match.home ≢ club)
+        → range_of_span (span_at new club) ≡ added (range_of_span (span_at table club))
+        (range_of (side (eqb match.home club) (eqb match.away club)) corners)
+    by_home (inl same) =
+        ap range_of_span (away_others club (λ e. apart (same ∙ e)))
+        ∙ ap (λ n. range_of_span (span_at middle n)) (sym same)
+        ∙ home_adds
+        ∙ ap (added (range_of_span (span_at table match.home))) home_is
+        ∙ ap (λ n. added (range_of_span (span_at table n))
+        (range_of (side_worth kind false) corners)) same
+        ∙ ap (λ b. added (range_of_span (span_at table club))
+        (range_of (side b (eqb match.away club)) corners))
+        (sym (eq-eqb match.home club same))
+    by_home (inr not_home) = by_away not_home (cases_eq match.away club)
+
+-- and one in which they do not
+pub match_adds_nothing : (group : List ℕ) (kind : Kind) (match : Fixture) (corners : List Score)
+    (table : List Span) (counts : Bool)
+    → counts ≡ (has_club group match.home && has_club group match.away) → counts ≡ false
+    → (club : ℕ) → range_of_span (span_at table club)
+    ≡ added (range_of_span (span_at table club))
+    (range_of (worth_among group (worth_by kind) club match) corners)
+match_adds_nothing group kind match corners table counts is none club =
+    sym (added-none (range_of_span (span_at table club)))
+    ∙ ap (added (range_of_span (span_at table club))) (sym (range_of-nothing corners))
+    ∙ ap (λ b. added (range_of_span (span_at table club))
+    (range_of (λ score. cond b (worth_to (worth_by kind) club match score) (pos 0)) corners))
+    (sym (sym is ∙ none))
+
+-- the clubs below a number have their ranks, the others none
+pub record AreRanksBelow (sheet : Sheet) (table : List Span) (count : ℕ) : Type 0 where
+  pub long : length table ≡ 32
+  pub done : (club : ℕ) → club < count
+      → range_of_span (span_at table club) ≡ one_value (neg_ℤ (pos (rank_of sheet club)))
+  pub left : (club : ℕ) → count ≤ club → range_of_span (span_at table club) ≡ one_value (pos 0)
+
+pub ranks_more : (sheet : Sheet) (table : List Span) (count rank : ℕ) (span : Span) → count < 32
+    → AreRanksBelow sheet table count → rank ≡ rank_of sheet count
+    → range_of_span span ≡ one_value (neg_ℤ (pos rank))
+    → AreRanksBelow sheet (set table count span) (count + 1)
+ranks_more sheet table count rank span inside so_far rank_is is = record {
+  long = length-set table count span ∙ so_far.long;
+  done = λ club below. at club below (cases_eq club count);
+  left = λ club above.
+      ap range_of_span (get_or-set_other table count club span no_span (omega (arith, above)))
+      ∙ so_far.left club (omega (arith, above));
+}
+  where
+    here : count < length table
+    here = omega (arith, inside, so_far.long)
+
+    at : (club : ℕ) → club < count + 1 → (club ≡ count) ⊎ (club ≢ count)
+        → range_of_span (span_at (set table count span) club)
+        ≡ one_value (neg_ℤ (pos (rank_of sheet club)))
+    at club below (inl same) =
+        ap (λ n. range_of_span (span_at (set table count span) n)) same
+        ∙ ap range_of_span (get_or-set_same table count span no_span here)
+        ∙ is
+        ∙ ap (λ n. one_value (neg_ℤ (pos n))) (rank_is ∙ ap (rank_of sheet) (sym same))
+    at club below (inr other) =
+        ap range_of_span (get_or-set_other table count club span no_span other)
+        ∙ so_far.done club (omega (arith, below, other))
+
+-- a table without a match
+pub nothing_at : (count club : ℕ) → span_at (replicate count no_span) club ≡ no_span
+nothing_at count club =
+    elim (cases_lt club count) as (λ _. span_at (replicate count no_span) club ≡ no_span) [
+      | inl within ↦ get_or-replicate count club no_span no_span within
+      | inr past ↦ get_or_past (replicate count no_span) club no_span
+          (omega (arith, past, length-replicate {A = Span}))
+    ]
+
+pub near_nothing : (bound : ℕ) (span : Span) → span ≡ no_span → IsSpanWithin bound span
+near_nothing bound span is =
+    let At : Span → Type 0 = λ s. IsSpanWithin bound s in
+    subst At (sym is) (record {
+      least_above = omega (arith, ints);
+      least_below = omega (arith, ints);
+      greatest_above = omega (arith, ints);
+      greatest_below = omega (arith, ints);
+    })
+
+pub table_none : (value : ℕ → Fixture → Score → ℤ) (fixtures : List Fixture)
+    (corners : List (List Score))
+    → IsTableSoFar value fixtures corners 0 (replicate 32 no_span)
+table_none value fixtures corners = record {
+  long = refl;
+  sums = λ club.
+      ap (λ s. added (range_of_span s) (range_from (value club) fixtures corners))
+      (nothing_at 32 club)
+      ∙ none-added (range_from (value club) fixtures corners);
+  near = λ club. near_nothing 0 (span_at (replicate 32 no_span) club) (nothing_at 32 club);
+}
+
+-- how far the sums are from 0 after a match
+pub match_near : (bound : ℕ) (match : Fixture) (table middle new : List Span)
+    → match.home ≢ match.away → ((club : ℕ) → IsSpanWithin bound (span_at table club))
+    → (IsSpanWithin bound (span_at table match.home)
+    → IsSpanWithin (bound + 255) (span_at middle match.home))
+    → ((other : ℕ) → other ≢ match.home → span_at middle other ≡ span_at table other)
+    → (IsSpanWithin bound (span_at middle match.away)
+    → IsSpanWithin (bound + 255) (span_at new match.away))
+    → ((other : ℕ) → other ≢ match.away → span_at new other ≡ span_at middle other)
+    → (club : ℕ) → IsSpanWithin (bound + 255) (span_at new club)
+match_near bound match table middle new apart all home_grows home_others away_grows away_others
+    club = by_away (cases_eq match.away club)
+  where
+    At : Span → Type 0
+    At s = IsSpanWithin (bound + 255) s
+
+    Was : Span → Type 0
+    Was s = IsSpanWithin bound s
+
+    by_home : (match.away ≢ club) → (match.home ≡ club) ⊎ (match.home ≢ club)
+        → IsSpanWithin (bound + 255) (span_at new club)
+    by_home not_away (inl same) =
+        subst (λ (s : Span). IsSpanWithin (bound + 255) s)
+        (sym (away_others club (λ e. not_away (sym e))))
+        (subst (λ (n : ℕ). IsSpanWithin (bound + 255) (span_at middle n)) same
+        (home_grows (all match.home)))
+    by_home not_away (inr other) =
+        subst (λ (s : Span). IsSpanWithin (bound + 255) s)
+        (sym (away_others club (λ e. not_away (sym e)) ∙ home_others club (λ e. other (sym e))))
+        (near_wider bound (bound + 255) (span_at table club) (omega arith) (all club))
+
+    by_away : (match.away ≡ club) ⊎ (match.away ≢ club)
+        → IsSpanWithin (bound + 255) (span_at new club)
+    by_away (inl same) =
+        subst (λ (n : ℕ). IsSpanWithin (bound + 255) (span_at new n)) same
+        (away_grows (subst (λ (s : Span). IsSpanWithin bound s)
+        (sym (home_others match.away (λ e. apart (sym e)))) (all match.away)))
+    by_away (inr other) = by_home other (cases_eq match.home club)
+
+-- the two clubs of a match are two
+pub teams_apart : (count : ℕ) (match : Fixture) → is_fixture count match ≡ true
+    → match.home ≢ match.away
+teams_apart count match is =
+    let parts = and_parts (nat_lt match.home count && nat_lt match.away count)
+    (not (eqb match.home match.away)) is in
+    eqb-false match.home match.away (not-true (eqb match.home match.away) parts.1)
+
+pub ranks_none : (sheet : Sheet) → AreRanksBelow sheet (replicate 32 no_span) 0
+ranks_none sheet = record {
+  long = refl;
+  done = λ club below. absurd (omega (arith, below));
+  left = λ club above. ap range_of_span (nothing_at 32 club);
+}
+
+-- in the group of all clubs every match counts
+pub among_all : (group : List ℕ) (worth : Worth) (club : ℕ) (matches : List Fixture)
+    (corners : List (List Score)) → ((x : ℕ) → x < 24 → has_club group x ≡ true)
+    → list_all (is_fixture 24) matches ≡ true
+    → range_from (worth_among group worth club) matches corners ≡ range_from (worth_to worth club)
+    matches corners
+among_all group worth club [] corners has are = refl
+among_all group worth club (match ∷ matches) [] has are = refl
+among_all group worth club (match ∷ matches) (o ∷ corners) has are =
+    let here = and_parts (is_fixture 24 match) (list_all (is_fixture 24) matches) are in
+    let ends = and_parts (nat_lt match.home 24 && nat_lt match.away 24)
+    (not (eqb match.home match.away)) here.0 in
+    let both = and_parts (nat_lt match.home 24) (nat_lt match.away 24) ends.0 in
+    let counts : (has_club group match.home && has_club group match.away) ≡ true =
+    and_from (has_club group match.home) (has_club group match.away)
+    (has match.home (ltb-true match.home 24 both.0))
+    (has match.away (ltb-true match.away 24 both.1)) in
+    ap (λ r. added r (range_from (worth_among group worth club) matches corners))
+    (range_of-same (worth_among group worth club match) (worth_to worth club match) o
+    (λ score. ap (λ b. cond b (worth_to worth club match score) (pos 0)) counts))
+    ∙ ap (added (range_of (worth_to worth club match) o))
+    (among_all group worth club matches corners has here.1)
+
+-- the set of all numbers has each of them
+pub all_clubs : (x : ℕ) → x < 24 → has_club (clubs_below 32 (2 ^ 32 - 1)) x ≡ true
+all_clubs x below =
+    ap (λ xs. has_club xs x) (clubs_below-ones 32 32 (omega arith))
+    ∙ has_club-range 32 x ∙ lt-ltb x 32 (omega (arith, below))
+
+-- the points of a set in a match, by which of its ends are of the set
+pub together_by_ends : (bits : ℕ) (match : Fixture) (corners : List Score) (home away : Bool)
+    (span : Span) → match.home ≢ match.away → home ≡ has_club (clubs_below 32 bits) match.home
+    → away ≡ has_club (clubs_below 32 bits) match.away
+    → range_of_span span ≡ range_of (points_of_sides home away) corners
+    → range_of_span span ≡ range_of (points_together (clubs_below 32 bits) match) corners
+together_by_ends bits match corners home away span apart home_is away_is is =
+    is
+    ∙ ap (λ b. range_of (points_of_sides b away) corners) home_is
+    ∙ ap (λ b. range_of (points_of_sides (has_club (clubs_below 32 bits) match.home) b) corners)
+    away_is
+    ∙ sym (range_of-same (points_together (clubs_below 32 bits) match)
+    (points_of_sides (has_club (clubs_below 32 bits) match.home)
+    (has_club (clubs_below 32 bits) match.away)) corners
+    (λ score. points_together-sides bits match score apart))
+
+-- one match more of one sum
+pub sum_more : (value : Fixture → Score → ℤ) (fixtures : List Fixture)
+    (corners : List (List Score)) (count : ℕ) (old here new : Span) (d : Fixture)
+    → count < length fixtures → count < length corners
+    → added (range_of_span old) (range_from value (drop count fixtures) (drop count corners))
+    ≡ range_from value fixtures corners
+    → range_of_span here ≡ range_of (value (get_or fixtures count d)) (get_or corners count [])
+    → range_of_span new ≡ added (range_of_span old) (range_of_span here)
+    → added (range_of_span new)
+    (range_from value (drop (count + 1) fixtures) (drop (count + 1) corners))
+    ≡ range_from value fixtures corners
+sum_more value fixtures corners count old here new d inside there so_far here_is is =
+    let rest = range_from value (drop (count + 1) fixtures) (drop (count + 1) corners) in
+    ap (λ r. added r rest) is
+    ∙ added-assoc (range_of_span old) (range_of_span here) rest
+    ∙ ap (λ r. added (range_of_span old) (added r rest)) here_is
+    ∙ ap (added (range_of_span old)) (sym (range_from-more value fixtures corners count d inside
+    there))
+    ∙ so_far
+
+-- the match points of one club
+pub points_alone : (club : ℕ) (fixtures : List Fixture) (corners : List (List Score))
+    → range_from (worth_to match_points club) fixtures corners
+    ≡ range_from (points_together (club ∷ [])) fixtures corners
+points_alone club fixtures corners =
+    ap (λ v. range_from v fixtures corners)
+    (λ i match score. without (worth_to match_points club match score) i)
+  where
+    without : (n : ℤ) → n ≡ (n +ℤ pos 0)
+    without n = omega (arith, ints)
+
+-- what holds of each club passed, and of one more
+pub each_more : (Fact : ℕ → Span → Type 0) (table : List Span) (count : ℕ) (span : Span)
+    → count < length table → ((x : ℕ) → x < count → Fact x (span_at table x)) → Fact count span
+    → (x : ℕ) → x < count + 1 → Fact x (span_at (set table count span) x)
+each_more Fact table count span inside so_far here x below = at (cases_eq x count)
+  where
+    at : (x ≡ count) ⊎ (x ≢ count) → Fact x (span_at (set table count span) x)
+    at (inl same) =
+        subst (λ (n : ℕ). Fact n (span_at (set table count span) n)) (sym same)
+        (subst (λ (s : Span). Fact count s)
+        (sym (get_or-set_same table count span no_span inside)) here)
+    at (inr other) =
+        subst (λ (s : Span). Fact x s) (sym (get_or-set_other table count x span no_span other))
+        (so_far x (omega (arith, below, other)))

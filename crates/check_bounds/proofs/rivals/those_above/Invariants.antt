@@ -1,0 +1,11 @@
+use Rattle.std.proofs.Common.{◌≡◌, ℕ, ◌&&◌, nat_lt}
+use Rattle.league_core.specs.Sums.{has_club}
+use Rattle.league_core.specs.ClubSets.{clubs_in}
+use Rattle.league_core.specs.SureOrder.{is_above}
+use Rattle.check_bounds.specs.Steps.{sure_at}
+use Rattle.check_bounds.proofs.rivals.those_above.Given as goal
+
+-- the clubs passed that are surely before
+abbrev pub invariant-loop-club : goal.invariant-loop-club
+invariant-loop-club l =
+    (x : ℕ) → has_club (clubs_in l.found) x ≡ (nat_lt x l.club && is_above (sure_at l.sure x))

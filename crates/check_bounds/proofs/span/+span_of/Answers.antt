@@ -1,0 +1,11 @@
+use Rattle.std.proofs.Common.{arith}
+use Rattle.std.proofs.lemmas.Int.{ints}
+use Rattle.check_bounds.proofs.SpanLemmas.{near_widened}
+use Rattle.check_bounds.proofs.span.+span_of.Goals as goal
+
+pub returns-clause-near : goal.returns-clause-near
+returns-clause-near n c =
+    let low = c.seen_in-value.ensures.near.0 in
+    let high = c.seen_in-value.ensures.near.1 in
+    near_widened _ c.span_of.result c.widened.result c.widened.ensures
+    (omega (arith, ints, low, high)) (omega (arith, ints, low, high)) c.span_of.ensures.near

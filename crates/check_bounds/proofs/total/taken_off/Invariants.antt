@@ -1,0 +1,12 @@
+use Rattle.std.proofs.Common.{◌≡◌, ◌*◌, pos, ◌≤ℤ◌, slice_index}
+use Rattle.league_core.specs.ClubSets.{clubs_below}
+use Rattle.league_core.specs.PointRanges.{total_of}
+use Rattle.check_bounds.proofs.total.taken_off.Given as goal
+
+-- what is taken off the clubs of the set so far
+abbrev pub invariant-loop-club : goal.invariant-loop-club
+invariant-loop-club l =
+    (l.taken ≡ total_of (λ club. pos (slice_index l.deductions club))
+    (clubs_below l.club l.set.bits))
+    × (pos 0 ≤ℤ l.taken)
+    × (l.taken ≤ℤ pos (255 * l.club))

@@ -1,0 +1,84 @@
+//! Two clubs by their sums: what is sure of a rival against the club.
+
+ghost use Rattle.std.specs.Prelude.{◌≡◌};
+ghost use Rattle.league_core.specs.SureOrder.{sure_by_range, sure_then, is_apart};
+ghost use Rattle.check_bounds.specs.Spans as spans;
+ghost use Rattle.check_bounds.specs.Spans.{range_of_span, ranges_at};
+ghost use Rattle.check_bounds.specs.Steps.{sure_by_tables, is_level_by_tables, is_sure_by_tables};
+
+use crate::span::Span;
+use league_core::Sure;
+
+fn by_span(rival: Span, club: Span) -> Sure
+    ensures { result ≡ sure_by_range (range_of_span rival) (range_of_span club) }
+{
+    if club.greatest < rival.least {
+        Sure::Above
+    } else if rival.greatest < club.least {
+        Sure::Below
+    } else if rival.least == rival.greatest && club.least == club.greatest {
+        Sure::Level
+    } else {
+        Sure::Unknown
+    }
+}
+
+/// Where one step leaves the two level, the next decides.
+pub fn then(first: Sure, next: Sure) -> Sure
+    ensures { result ≡ sure_then first next }
+{
+    match first {
+        Sure::Above => Sure::Above,
+        Sure::Below => Sure::Below,
+        Sure::Level => next,
+        Sure::Unknown => Sure::Unknown,
+    }
+}
+
+/// What the table has at the club's number; past the last one a sum without a match.
+pub fn span_at(table: &[Span; 32], club: u8) -> Span
+    ensures { result ≡ spans.span_at table.now club }
+{
+    table.get(club as usize).copied().unwrap_or(Span::ZERO)
+}
+
+/// The rival against the club by these tables, the first one first.
+pub fn by_tables(tables: &[[Span; 32]], club: u8, rival: u8) -> Sure
+    ensures { result ≡ sure_by_tables tables.now club rival }
+{
+    if tables.is_empty() {
+        return Sure::Level;
+    }
+    let first = by_span(span_at(&tables[0], rival), span_at(&tables[0], club));
+    then(first, by_tables(&tables[1..], club, rival))
+}
+
+fn are_apart(tables: &[[Span; 32]], club: u8, other: u8) -> bool
+    ensures { result ≡ is_apart (ranges_at tables.now other) (ranges_at tables.now club) }
+{
+    if tables.is_empty() {
+        return false;
+    }
+    let own = span_at(&tables[0], club);
+    let found = span_at(&tables[0], other);
+    own.greatest < found.least || found.greatest < own.least || are_apart(&tables[1..], club, other)
+}
+
+/// The other club is surely level with the club by these tables.
+pub fn is_level(tables: &[[Span; 32]], club: u8, other: u8) -> bool
+    ensures { result ≡ is_level_by_tables tables.now club other }
+{
+    match by_tables(tables, club, other) {
+        Sure::Level => true,
+        Sure::Above => false,
+        Sure::Below => false,
+        Sure::Unknown => false,
+    }
+}
+
+/// It is sure whether it is.
+pub fn is_sure(tables: &[[Span; 32]], club: u8, other: u8) -> bool
+    ensures { result ≡ is_sure_by_tables tables.now club other }
+{
+    is_level(tables, club, other) || are_apart(tables, club, other)
+}

@@ -1,0 +1,21 @@
+//! The checker's own test of a reason: whether it holds in a zone.
+//!
+//! What a reason says is league_core's `specs/Reasons.antt` and `SureOrder.antt`; read these first.
+//! Here each fixture has a scope, then a few corners (`corners.rt`), and sums over corners are
+//! those over all options. Nothing of the search is used.
+#![tactic(auto)]
+
+mod compare;
+mod corners;
+mod look;
+mod outcomes;
+mod reasons;
+mod rivals;
+mod rounds;
+mod scope;
+mod span;
+mod table;
+mod total;
+mod zone;
+
+pub use reasons::holds_in;

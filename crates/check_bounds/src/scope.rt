@@ -1,0 +1,146 @@
+//! The scores with which a fixture may still end: which outcomes, and how many goals a side.
+
+ghost use Rattle.std.specs.Prelude.{◌≡◌, ◌&&◌, ℕ, nat_le, IsTrue, Some, ◌==◌};
+ghost use Rattle.league_core.specs.declared.season.Score.{Score};
+ghost use Rattle.league_core.specs.Finishes.{may_end};
+ghost use Rattle.league_core.specs.Zones.{passes, is_as_said, is_of_score};
+ghost use Rattle.league_core.specs.Options.{is_home_win, is_draw};
+ghost use Rattle.check_bounds.specs.Scopes.{is_goals_of, is_left};
+
+use league_core::{Literal, Score, Test};
+
+/// A range of goals; none where the least is above the most.
+#[derive(Clone, Copy)]
+pub struct Goals {
+    pub least: u16,
+    pub most: u8,
+}
+
+/// The scores that are left: those of an outcome that is left, with goals in both ranges.
+#[derive(Clone, Copy)]
+pub struct Scope {
+    pub home_win: bool,
+    pub draw: bool,
+    pub away_win: bool,
+    pub home: Goals,
+    pub away: Goals,
+}
+
+impl Scope {
+    /// What the season leaves of a fixture: its score where it was played, any up to the goal limit
+    /// where it was not.
+    pub fn of(played: Option<Score>, goal_limit: u8) -> Scope
+        ensures { (score : Score) → is_left result score ≡ may_end goal_limit played (Some score) }
+    {
+        match played {
+            Some(score) => Scope::all(Goals::only(score.home), Goals::only(score.away)),
+            None => Scope::all(Goals::up_to(goal_limit), Goals::up_to(goal_limit)),
+        }
+    }
+
+    // Every outcome, with goals in these ranges.
+    fn all(home: Goals, away: Goals) -> Scope
+        ensures { (score : Score) → is_left result score
+            ≡ (is_goals_of home score.home && is_goals_of away score.away) }
+    {
+        Scope {
+            home_win: true,
+            draw: true,
+            away_win: true,
+            home,
+            away,
+        }
+    }
+
+    /// Leaves the scores that make a literal of the fixture's score true.
+    pub fn cut(&mut self, literal: &Literal)
+        requires { IsTrue (is_of_score literal.now.test) }
+        ensures { (score : Score) → is_left self.new score
+            ≡ (is_left self.old score
+            && is_as_said literal.now.yes (passes literal.now.test score)) }
+    {
+        match literal.test {
+            Test::Home { .. } => self.cut_home_win(literal.yes),
+            Test::Draw { .. } => self.cut_draw(literal.yes),
+            Test::HomeMost { most, .. } => self.cut_home(most, literal.yes),
+            Test::AwayMost { most, .. } => self.cut_away(most, literal.yes),
+            Test::Rival { .. } => unreachable!(),
+        }
+    }
+
+    fn cut_home_win(&mut self, yes: bool)
+        ensures { (score : Score) → is_left self.new score
+            ≡ (is_left self.old score && is_as_said yes (is_home_win score)) }
+    {
+        if yes {
+            self.draw = false;
+            self.away_win = false;
+        } else {
+            self.home_win = false;
+        }
+    }
+
+    fn cut_draw(&mut self, yes: bool)
+        ensures { (score : Score) → is_left self.new score
+            ≡ (is_left self.old score && is_as_said yes (is_draw score)) }
+    {
+        if yes {
+            self.home_win = false;
+            self.away_win = false;
+        } else {
+            self.draw = false;
+        }
+    }
+
+    fn cut_home(&mut self, most: u8, yes: bool)
+        ensures { (score : Score) → is_left self.new score
+            ≡ (is_left self.old score && is_as_said yes (nat_le score.home most)) }
+    {
+        self.home = self.home.cut(most, yes);
+    }
+
+    fn cut_away(&mut self, most: u8, yes: bool)
+        ensures { (score : Score) → is_left self.new score
+            ≡ (is_left self.old score && is_as_said yes (nat_le score.away most)) }
+    {
+        self.away = self.away.cut(most, yes);
+    }
+}
+
+impl Goals {
+    fn only(goals: u8) -> Goals
+        ensures { (number : ℕ) → is_goals_of result number ≡ (goals == number) }
+    {
+        Goals {
+            least: u16::from(goals),
+            most: goals,
+        }
+    }
+
+    fn up_to(limit: u8) -> Goals
+        ensures { (number : ℕ) → is_goals_of result number ≡ nat_le number limit }
+    {
+        Goals {
+            least: 0,
+            most: limit,
+        }
+    }
+
+    // Those of at most so many; with `yes` false, those of more.
+    fn cut(self, most: u8, yes: bool) -> Goals
+        ensures { (number : ℕ) → is_goals_of result number
+            ≡ (is_goals_of self number && is_as_said yes (nat_le number most)) }
+    {
+        if yes {
+            Goals {
+                least: self.least,
+                most: self.most.min(most),
+            }
+        } else {
+            Goals {
+                least: self.least.max(u16::from(most) + 1),
+                most: self.most,
+            }
+        }
+    }
+}
