@@ -1,0 +1,59 @@
+-- Trees all of whose splits and refuted leaves are new: they stay so while leaves are lent and come
+-- back as new nodes.
+use Rattle.std.proofs.Common.{◌≡◌, ℕ, Bool, true, false, ◌&&◌, ◌==◌, cond, refl}
+use Rattle.std.proofs.lemmas.Bool.{and_parts, and_from}
+use Rattle.league_core.specs.Trees.{Tree, open_leaf, lent_leaf, refuted_leaf, branch}
+use Rattle.league_core.specs.Lending.{put}
+use Rattle.reason_core.specs.declared.done.Done.{Done}
+use Rattle.reason_core.specs.declared.done.Done.TheVariants.{Refuted, Split, Won, Undone}
+use Rattle.branch_pool.specs.Steps.{leaf_given}
+use Rattle.verdict_run.specs.NewTrees.{is_all_new}
+
+-- the parts of a split that is all new
+split_new : (fresh yes_new no_new : Bool) → (fresh && yes_new && no_new) ≡ true
+    → (fresh ≡ true) × (yes_new ≡ true) × (no_new ≡ true)
+split_new fresh yes_new no_new new =
+    let parts = and_parts (fresh && yes_new) no_new new in
+    let more = and_parts fresh yes_new parts.0 in
+    (more.0, more.1, parts.1)
+
+-- and the split from them
+split_from : (fresh yes_new no_new : Bool) → fresh ≡ true → yes_new ≡ true → no_new ≡ true
+    → (fresh && yes_new && no_new) ≡ true
+split_from fresh yes_new no_new f y n =
+    and_from (fresh && yes_new) no_new (and_from fresh yes_new f y) n
+
+-- a new tree in the place of leaves of a new tree
+pub is_all_new-put : (number : ℕ) (new tree : Tree) → is_all_new new ≡ true
+    → is_all_new tree ≡ true → is_all_new (put number new tree) ≡ true
+is_all_new-put number new open_leaf fresh all = refl
+is_all_new-put number new (lent_leaf other) fresh all = at_leaf (other == number)
+  where
+    at_leaf : (b : Bool) → is_all_new (cond b new (lent_leaf other)) ≡ true
+    at_leaf true = fresh
+    at_leaf false = refl
+is_all_new-put number new (refuted_leaf reason marked) fresh all = all
+is_all_new-put number new (branch test marked yes_half no_half) fresh all =
+    let parts = split_new marked (is_all_new yes_half) (is_all_new no_half) all in
+    split_from marked (is_all_new (put number new yes_half)) (is_all_new (put number new no_half))
+    parts.0 (is_all_new-put number new yes_half fresh parts.1)
+    (is_all_new-put number new no_half fresh parts.2)
+
+-- a tree is new where it was new before a leaf was lent
+pub is_all_new-lend : (number : ℕ) (tree : Tree) → is_all_new (put number open_leaf tree) ≡ true
+    → is_all_new tree ≡ true
+is_all_new-lend number open_leaf all = refl
+is_all_new-lend number (lent_leaf other) all = refl
+is_all_new-lend number (refuted_leaf reason marked) all = all
+is_all_new-lend number (branch test marked yes_half no_half) all =
+    let parts = split_new marked (is_all_new (put number open_leaf yes_half))
+    (is_all_new (put number open_leaf no_half)) all in
+    split_from marked (is_all_new yes_half) (is_all_new no_half) parts.0
+    (is_all_new-lend number yes_half parts.1) (is_all_new-lend number no_half parts.2)
+
+-- what comes in the place of a leaf is new
+pub given_new : (done : Done) → is_all_new (leaf_given done) ≡ true
+given_new (Refuted piece reason) = refl
+given_new (Split piece literal) = refl
+given_new (Won piece finish lots) = refl
+given_new Undone = refl

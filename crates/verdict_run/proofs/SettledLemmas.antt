@@ -1,0 +1,166 @@
+-- Where no number is out and there is no work left, the work on each question is done: what that
+-- means for its tree and its units.
+use Rattle.std.proofs.Common.{◌≡◌, ◌≢◌, ℕ, zero, suc, Bool, true, false}
+use Rattle.std.proofs.Common.{◌||◌, ◌==◌, List, [], ◌∷◌, length, Option, Some, None, refl}
+use Rattle.std.proofs.Common.{sym}
+use Rattle.std.proofs.Common.{ap, ◌∙◌, subst, arith, cond, if◌then◌else◌, inl, inr, map}
+use Rattle.std.proofs.Common.{◌++◌}
+use Rattle.std.specs.Option.{option_map}
+use Rattle.std.specs.Prelude.{is_some, All}
+use Rattle.std.specs.List.{slice_get}
+use Rattle.std.proofs.lemmas.Bool.{true≢false, false≢true, and_from, or_parts}
+use Rattle.std.proofs.lemmas.Bool.{cases_Bool}
+use Rattle.std.proofs.lemmas.Bool.{eq-eqb, eqb-true}
+use Rattle.std.proofs.lemmas.List.Elements.{All-head, All-tail}
+use Rattle.std.proofs.lemmas.List.Sums.{sum_by-cons}
+use Rattle.league_core.specs.declared.sheet.Sheet.{Sheet}
+use Rattle.league_core.specs.declared.question.Question.{Question}
+use Rattle.league_core.specs.declared.zone.Literal.{Literal}
+use Rattle.league_core.specs.declared.tree.TreeNode.{TreeNode}
+use Rattle.league_core.specs.Results.{Results}
+use Rattle.league_core.specs.Zones.{with_test}
+use Rattle.league_core.specs.Trees.{Tree, open_leaf, lent_leaf, refuted_leaf, branch, NodesMeet}
+use Rattle.league_core.specs.Trees.{has_open, is_refuted, is_spent, new_count}
+use Rattle.league_core.specs.Lending.{lent_count}
+use Rattle.league_core.proofs.LendingLemmas.{length-lent_zones, lent_count-none, settled_is_refuted}
+use Rattle.branch_pool.specs.declared.seat.Example.{Example}
+use Rattle.branch_pool.specs.declared.seat.Seat.{Seat}
+use Rattle.branch_pool.specs.declared.seat.Loan.{Loan}
+use Rattle.branch_pool.specs.declared.ticket.Answer.TheVariants.{Won, NotYet}
+use Rattle.branch_pool.specs.Calls.{answer_without, answer_of}
+use Rattle.branch_pool.specs.States.{PoolState, loan_at, out_count}
+use Rattle.branch_pool.specs.States.{present_epoch}
+use Rattle.branch_pool.specs.Goodness.{IsSoundPool, IsGoodSeat, zones_due}
+use Rattle.verdict_run.specs.NewTrees.{is_all_new}
+use Rattle.verdict_run.specs.Working.{is_settled, AreSettled, is_decided, AreAllNew}
+
+-- where no number is out, none is under any number
+none_out : (loans : List (Option Loan)) (number : ℕ) → out_count loans ≡ 0
+    → loan_at loans number ≡ None
+none_out [] number none = refl
+none_out (None ∷ loans) zero none = refl
+none_out (None ∷ loans) (suc number) none =
+    let first = sum_by-cons (λ x. cond (is_some {T = Loan} x) 1 0) None loans in
+    none_out loans number (omega (arith, first, none))
+none_out (Some loan ∷ loans) number none =
+    let first = sum_by-cons (λ x. cond (is_some {T = Loan} x) 1 0) (Some loan) loans in
+    absurd (omega (arith, first, none))
+
+-- where no number is out, no leaf is lent
+pub none_lent : (pool : PoolState) (place : ℕ) (seat : Seat) → IsSoundPool pool
+    → out_count pool.loans ≡ 0 → slice_get pool.seats place ≡ Some seat → lent_count seat.tree ≡ 0
+none_lent pool place seat sound home found =
+    lent_count-none seat.tree (λ number.
+    sym (length-lent_zones number seat.tree [])
+    ∙ ap length (sound.due number place seat found
+    ∙ ap (zones_due (present_epoch pool) place) (none_out pool.loans number home)))
+
+-- by what is not settled
+not_yet_by : (won refuted used : Bool) → (won || refuted || used) ≡ false
+    → (if won then Won else answer_without refuted used) ≡ NotYet
+not_yet_by true refuted used open_yet = absurd (true≢false open_yet)
+not_yet_by false true used open_yet = absurd (true≢false open_yet)
+not_yet_by false false true open_yet = absurd (true≢false open_yet)
+not_yet_by false false false open_yet = refl
+
+-- where no question is answered by `NotYet`, the work on each is done
+pub settled_at : (pool : PoolState) (place : ℕ) (seat : Seat) → AreSettled pool
+    → slice_get pool.seats place ≡ Some seat → is_settled pool.sheet seat ≡ true
+settled_at pool place seat settled found =
+    elim (cases_Bool (is_settled pool.sheet seat)) as (λ _. is_settled pool.sheet seat ≡ true) [
+      | inl known ↦ known
+      | inr unknown ↦ absurd (settled place (ap (option_map (answer_of pool.sheet)) found
+          ∙ ap Some (not_yet_by (is_some seat.example) (is_refuted seat.tree)
+          (seat.units == pool.sheet.budget) unknown)))
+    ]
+
+-- ---- a question whose budget is used up
+
+-- what is neither won nor refuted is spent
+spent_by : (example : Option Example) (refuted : Bool) (units budget : ℕ)
+    → (is_some example || refuted) ≡ false
+    → (is_some example || refuted || (units == budget)) ≡ true → units ≡ budget
+spent_by example refuted units budget unknown settled =
+    let P : Bool → Type 0 = λ b. (b || (units == budget)) ≡ true in
+    eqb-true units budget (subst P unknown settled)
+
+-- such a tree has as many new nodes as the budget, and an open leaf
+pub seat_spent : (sheet : Sheet) (season : Results) (seat : Seat) → IsGoodSeat sheet season seat
+    → is_decided seat ≡ false → is_settled sheet seat ≡ true
+    → is_spent sheet.budget seat.tree ≡ true
+seat_spent sheet season seat good unknown settled =
+    let used = spent_by seat.example (is_refuted seat.tree) seat.units sheet.budget unknown settled
+    in
+    let within = good.within in
+    let lent : lent_count seat.tree ≡ 0 = omega (arith, used, within, good.lent) in
+    let count : new_count seat.tree ≡ sheet.budget = sym good.units ∙ used in
+    let shut : is_refuted seat.tree ≡ false = (or_parts _ _ unknown).1 in
+    and_from (new_count seat.tree == sheet.budget) (has_open seat.tree)
+    (eq-eqb (new_count seat.tree) sheet.budget count)
+    (some_open (has_open seat.tree) (λ none.
+    false≢true (sym shut ∙ settled_is_refuted seat.tree none lent)))
+  where
+    some_open : (ready : Bool) → ready ≢ false → ready ≡ true
+    some_open true not_shut = refl
+    some_open false not_shut = absurd (not_shut refl)
+
+-- ---- facts of nodes
+
+-- a fact of each node is any fact that follows from it
+pub facts_map : (P Q : List Literal → TreeNode → Type 0) (tree : Tree) (zone : List Literal)
+    → ((z : List Literal) (node : TreeNode) → P z node → Q z node)
+    → NodesMeet P zone tree → NodesMeet Q zone tree
+facts_map P Q open_leaf zone gives facts = gives zone _ facts
+facts_map P Q (lent_leaf number) zone gives facts = gives zone _ facts
+facts_map P Q (refuted_leaf reason fresh) zone gives facts = gives zone _ facts
+facts_map P Q (branch test fresh yes_half no_half) zone gives facts = (
+  gives zone _ facts.0,
+  facts_map P Q yes_half (with_test zone test true) gives facts.1,
+  facts_map P Q no_half (with_test zone test false) gives facts.2,
+)
+
+-- ---- the one question of a pool
+
+-- what holds of the one question of a pool on which the work is done
+pub record IsOnlySeat (pool : PoolState) (question : Question) (seat : Seat) : Type 0 where
+  pub good : IsGoodSeat pool.sheet pool.season seat
+  pub asks : seat.question ≡ question
+  pub settled : is_settled pool.sheet seat ≡ true
+  pub all_new : is_all_new seat.tree ≡ true
+
+-- the last seat of a pool with one question asks this question
+only_asks : (question : Question) (rest : List Seat) (seat : Seat)
+    → map (λ (s : Seat). s.question) (rest ++ seat ∷ []) ≡ question ∷ []
+    → seat.question ≡ question
+only_asks question [] seat is = cc
+only_asks question (first ∷ []) seat is = absurd (cc)
+only_asks question (first ∷ second ∷ rest) seat is = absurd (cc)
+
+-- what is true of all is true of the last
+all_last : (P : Seat → Type 0) (rest : List Seat) (seat : Seat) → All P (rest ++ seat ∷ [])
+    → P seat
+all_last P [] seat all = All-head P seat [] all
+all_last P (first ∷ rest) seat all = all_last P rest seat (All-tail P first (rest ++ seat ∷ []) all)
+
+-- the last stands behind the others
+last_at : (rest : List Seat) (seat : Seat)
+    → slice_get (rest ++ seat ∷ []) (length rest) ≡ Some seat
+last_at [] seat = refl
+last_at (first ∷ rest) seat = last_at rest seat
+
+pub only_seat : (pool : PoolState) (question : Question) (rest : List Seat) (seat : Seat)
+    → IsSoundPool pool → pool.questions ≡ question ∷ [] → AreSettled pool → AreAllNew pool
+    → pool.seats ≡ rest ++ seat ∷ [] → IsOnlySeat pool question seat
+only_seat pool question rest seat sound asked settled all_new are =
+    let New : Seat → Type 0 = λ s. is_all_new s.tree ≡ true in
+    let last : (P : Seat → Type 0) → All P pool.seats → P seat =
+    λ P all. let Q : List Seat → Type 0 = λ seats. All P seats in
+    all_last P rest seat (subst Q are all) in
+    record {
+      good = last (IsGoodSeat pool.sheet pool.season) sound.seats;
+      asks = only_asks question rest seat
+          (ap (map (λ (s : Seat). s.question)) (sym are) ∙ sound.asked ∙ asked);
+      settled = settled_at pool (length rest) seat settled
+          (ap (λ seats. slice_get seats (length rest)) are ∙ last_at rest seat);
+      all_new = last New all_new;
+    }

@@ -1,0 +1,67 @@
+//! A question worked on from its root, with the whole budget.
+
+ghost use Rattle.std.specs.Prelude.{◌≡◌, [], ◌∷◌, IfOk, length};
+ghost use Rattle.league_core.specs.declared.question.Question.{Question};
+ghost use Rattle.league_core.specs.Seasons.{IsLeague};
+ghost use Rattle.league_core.specs.Questions.{IsQuestionOf};
+ghost use Rattle.verdict_run.specs.Working.{AreSettled, AreAllNew};
+ghost use Rattle.verdict_run.specs.Solving.{IsSolved};
+
+use crate::telling::tell_season;
+use crate::turns::finish;
+use branch_pool::{Example, Pool, Seat};
+use league_core::{Finish, Lots, OutOfMemory, Question, Season, Sheet};
+use std::alloc::Global;
+use tree_reuse::Tree;
+
+/// What is found of a question from its root on. All splits and refuted leaves of the trees are
+/// new.
+#[derive(Drop)]
+pub enum Solved {
+    /// A finish and lots at which it holds.
+    Won(Finish, Lots),
+    /// Each leaf is refuted by a reason that holds.
+    Refuted(Tree),
+    /// The budget was spent on this tree.
+    Spent(Tree),
+}
+
+/// Works on one question of a season from its root on, until it is known or the budget is spent.
+pub fn solve_fresh(
+    alloc: Global,
+    sheet: &Sheet,
+    season: &Season,
+    question: &Question,
+) -> Result<Solved, OutOfMemory>
+    requires league { IsLeague sheet.now season.now }
+    requires of_sheet { IsQuestionOf sheet.now question.now }
+    ensures { IfOk result (IsSolved sheet.now season.now question.now) }
+{
+    let asked = Vec::from_slice(alloc, &[*question])?;
+    let sheet = sheet.copy(alloc)?;
+    let mut pool = Pool::begin(alloc, sheet, asked)?;
+    tell_season(&mut pool, season)?;
+    let pool = finish(alloc, pool)?;
+    Ok(kept_of(pool))
+}
+
+// What is kept of the one question of a pool.
+fn kept_of(pool: Pool) -> Solved
+    requires one { length pool.questions ≡ 1 }
+    requires settled { AreSettled pool }
+    requires all_new { AreAllNew pool }
+    ensures { (question : Question) → pool.questions ≡ question ∷ []
+        → IsSolved pool.sheet pool.season question result }
+{
+    pool.is_sound();
+    let mut seats = pool.into_seats();
+    let Some(seat) = seats.pop() else {
+        unreachable!()
+    };
+    let Seat { tree, example, .. } = seat;
+    match example {
+        Some(Example { finish, lots }) => Solved::Won(finish, lots),
+        None if tree.is_refuted() => Solved::Refuted(tree),
+        None => Solved::Spent(tree),
+    }
+}

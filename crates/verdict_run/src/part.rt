@@ -1,0 +1,204 @@
+//! What stands for one question in an answer.
+
+ghost use Rattle.std.specs.Prelude.{◌≡◌, ◌≢◌, ◌<◌, IfOk, IfSome, IsTrue, length};
+ghost use Rattle.std.specs.List.{list_all};
+ghost use Rattle.league_core.specs.Results.{are_results};
+ghost use Rattle.league_core.specs.Seasons.{IsLeague};
+ghost use Rattle.league_core.specs.Questions.{IsExample, IsQuestionOf};
+ghost use Rattle.cert_text.specs.TreeLines.{IsFairSpentTree, IsRefutationTree};
+ghost use Rattle.verdict_run.specs.NewTrees.{is_all_new, is_not_old};
+ghost use Rattle.verdict_run.specs.Working.{AreSettled, IsEnough};
+ghost use Rattle.verdict_run.specs.Parts.{IsAnswerPart, IsPartAt};
+ghost use Rattle.verdict_run.specs.Parts.{IsDoneSeat, IsRefutedPart, IsRefutedAt};
+
+use crate::fresh::{Solved, solve_fresh};
+use crate::lines::{example_lines, refutation_lines, spent_lines};
+use branch_pool::{Pool, Seat};
+use cert_text::ProofLine;
+use league_core::{Finish, Lots, OutOfMemory, Question, Season, Sheet, TreeNode};
+use std::alloc::Global;
+use tree_reuse::Tree;
+
+/// How far a question is.
+#[derive(Clone, Copy)]
+pub(crate) enum Known {
+    Won,
+    Refuted,
+    Spent,
+}
+
+/// What is known of a question, and the lines that show it.
+#[derive(Drop)]
+pub(crate) struct Part {
+    pub(crate) known: Known,
+    pub(crate) lines: Vec<ProofLine>,
+}
+
+/// The part of the question at a place. A tree that is not all new is no part of an answer: where
+/// the budget was spent on one, the question is worked on once more from its root.
+pub(crate) fn part_of(alloc: Global, pool: &Pool, place: u16) -> Result<Part, OutOfMemory>
+    requires in_range { place < length pool.now.questions }
+    requires settled { AreSettled pool.now }
+    ensures part { IfOk result (IsPartAt pool.now place) }
+    ensures enough { IfOk result (λ part. IsEnough pool.now.sheet pool.now.season
+        → part.known ≢ Known.Spent) }
+{
+    pool.is_sound();
+    part_of_seat(alloc, pool.sheet(), pool.season(), pool.seat(place))
+}
+
+/// The part of the question at a place, where its tree is refuted.
+pub(crate) fn refuted_at(
+    alloc: Global,
+    pool: &Pool,
+    place: u16,
+) -> Result<Option<Part>, OutOfMemory>
+    requires in_range { place < length pool.now.questions }
+    requires settled { AreSettled pool.now }
+    ensures { IfOk result (λ found. IfSome found (IsRefutedAt pool.now place)) }
+{
+    pool.is_sound();
+    refuted_seat(alloc, pool.sheet(), pool.season(), pool.seat(place))
+}
+
+fn part_of_seat(
+    alloc: Global,
+    sheet: &Sheet,
+    season: &Season,
+    seat: &Seat,
+) -> Result<Part, OutOfMemory>
+    requires { IsDoneSeat sheet.now season.now seat.now }
+    ensures part { IfOk result (IsAnswerPart sheet.now season.now seat.now.question) }
+    ensures enough { IfOk result (λ part. IsEnough sheet.now season.now
+        → part.known ≢ Known.Spent) }
+{
+    match &seat.example {
+        Some(example) => won(
+            alloc,
+            sheet,
+            season,
+            &seat.question,
+            &example.finish,
+            &example.lots,
+        ),
+        None if seat.tree.is_refuted() => refuted(alloc, sheet, season, &seat.question, &seat.tree),
+        None => spent_or_fresh(alloc, sheet, season, &seat.question, &seat.tree),
+    }
+}
+
+fn refuted_seat(
+    alloc: Global,
+    sheet: &Sheet,
+    season: &Season,
+    seat: &Seat,
+) -> Result<Option<Part>, OutOfMemory>
+    requires { IsDoneSeat sheet.now season.now seat.now }
+    ensures { IfOk result (λ found.
+        IfSome found (IsRefutedPart sheet.now season.now seat.now.question)) }
+{
+    if seat.tree.is_refuted() {
+        let part = refuted(alloc, sheet, season, &seat.question, &seat.tree)?;
+        Ok(Some(part))
+    } else {
+        Ok(None)
+    }
+}
+
+fn won(
+    alloc: Global,
+    sheet: &Sheet,
+    season: &Season,
+    question: &Question,
+    finish: &Finish,
+    lots: &Lots,
+) -> Result<Part, OutOfMemory>
+    requires league { IsLeague sheet.now season.now }
+    requires results { IsTrue (are_results season.now) }
+    requires example { IsExample sheet.now season.now question.now finish.now lots.now }
+    ensures part { IfOk result (IsAnswerPart sheet.now season.now question.now) }
+    ensures known { IfOk result (λ part. part.known ≡ Known.Won) }
+{
+    let lines = example_lines(alloc, season, question.claim, finish, lots)?;
+    let known = Known::Won;
+    Ok(Part { known, lines })
+}
+
+fn refuted(
+    alloc: Global,
+    sheet: &Sheet,
+    season: &Season,
+    question: &Question,
+    tree: &Tree,
+) -> Result<Part, OutOfMemory>
+    requires { IsRefutationTree sheet.now season.now question.now tree.now }
+    ensures part { IfOk result (IsAnswerPart sheet.now season.now question.now) }
+    ensures known { IfOk result (λ part. part.known ≡ Known.Refuted) }
+{
+    let lines = refutation_lines(alloc, question.claim, tree)?;
+    let known = Known::Refuted;
+    Ok(Part { known, lines })
+}
+
+fn spent(
+    alloc: Global,
+    sheet: &Sheet,
+    season: &Season,
+    question: &Question,
+    tree: &Tree,
+) -> Result<Part, OutOfMemory>
+    requires spent { IsFairSpentTree sheet.now season.now question.now sheet.now.budget tree.now }
+    requires all_new { IsTrue (is_all_new tree.now) }
+    ensures { IfOk result (IsAnswerPart sheet.now season.now question.now) }
+{
+    let nodes = tree.nodes()?;
+    let lines = spent_lines(alloc, question.claim, nodes.as_slice())?;
+    let known = Known::Spent;
+    Ok(Part { known, lines })
+}
+
+fn spent_or_fresh(
+    alloc: Global,
+    sheet: &Sheet,
+    season: &Season,
+    question: &Question,
+    tree: &Tree,
+) -> Result<Part, OutOfMemory>
+    requires league { IsLeague sheet.now season.now }
+    requires results { IsTrue (are_results season.now) }
+    requires of_sheet { IsQuestionOf sheet.now question.now }
+    requires spent { IsFairSpentTree sheet.now season.now question.now sheet.now.budget tree.now }
+    ensures { IfOk result (IsAnswerPart sheet.now season.now question.now) }
+{
+    if all_new(tree)? {
+        return spent(alloc, sheet, season, question, tree);
+    }
+    match solve_fresh(alloc, sheet, season, question)? {
+        Solved::Won(finish, lots) => won(alloc, sheet, season, question, &finish, &lots),
+        Solved::Refuted(tree) => refuted(alloc, sheet, season, question, &tree),
+        Solved::Spent(tree) => spent(alloc, sheet, season, question, &tree),
+    }
+}
+
+// Each split and each refuted leaf is of the present epoch.
+fn all_new(tree: &Tree) -> Result<bool, OutOfMemory>
+    ensures { IfOk result (λ all. all ≡ is_all_new tree.now) }
+{
+    let nodes = tree.nodes()?;
+    Ok(are_all_new(nodes.as_slice()))
+}
+
+fn are_all_new(nodes: &[TreeNode]) -> bool
+    ensures { result ≡ list_all is_not_old nodes.now }
+{
+    nodes.iter().all(|node| is_not_old(*node))
+}
+
+fn is_not_old(node: TreeNode) -> bool
+    ensures { result ≡ is_not_old node }
+{
+    match node {
+        TreeNode::Split { test: _, fresh } => fresh,
+        TreeNode::Refuted { reason: _, fresh } => fresh,
+        TreeNode::Open | TreeNode::Lent(_) => true,
+    }
+}
