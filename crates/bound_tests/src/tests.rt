@@ -1,0 +1,228 @@
+//! Boxes along drawn paths of literals: what they leave beside the plain program, beside boxes made
+//! anew, and beside the cuts.
+
+ghost use Rattle.std.specs.Prelude.{◌≡◌, ◌<◌, IsTrue, IfOk, length};
+ghost use Rattle.league_core.specs.declared.sheet.Sheet.{Sheet};
+ghost use Rattle.league_core.specs.Seasons.{IsLeague};
+ghost use Rattle.league_core.specs.Zones.{is_zone_of, is_test_of};
+
+use crate::plain::{is_option, sums_of};
+use flow_bound::{high_cut, low_cut};
+use league_core::{
+    Claim, ClubSet, Listing, Literal, OutOfMemory, Question, Reason, Score, Sheet, Test, Zone,
+};
+use sample_leagues::{Draws, Sample, drawn_league, sample_of};
+use score_box::{Played, ZoneBox};
+use std::alloc::Global;
+use std::process::Abort;
+use std::test::Fail;
+use tie_bound::{holds, tie_reason};
+
+const CLUBS: u8 = 6;
+
+const MATCHES: u8 = 12;
+
+fn drawn_sample(alloc: Global, draws: &mut Draws) -> Result<Sample, Fail>
+    ensures { IfOk result (λ sample. IsLeague sample.sheet sample.season) }
+{
+    let text = drawn_league(alloc, draws, CLUBS, MATCHES, 7)?;
+    Ok(sample_of(alloc, &text).ok_or("no league")?)
+}
+
+fn drawn_literal(draws: &mut Draws) -> Literal {
+    let fixture = u16::from(draws.below(MATCHES));
+    let most = draws.below(2);
+    let test = match draws.below(7) {
+        0 => Test::Home { fixture },
+        1 => Test::Draw { fixture },
+        2 => Test::HomeMost { fixture, most },
+        3 => Test::AwayMost { fixture, most },
+        _ => Test::Rival {
+            club: draws.below(CLUBS),
+        },
+    };
+    Literal {
+        test,
+        yes: draws.flip(),
+    }
+}
+
+/// Whether a test is of one of so many fixtures or clubs.
+fn is_below(test: &Test, fixtures: usize, clubs: usize) -> bool
+    ensures { (sheet : Sheet) → length sheet.fixtures ≡ fixtures → length sheet.clubs ≡ clubs
+        → result ≡ is_test_of sheet test.now }
+{
+    match test {
+        Test::Home { fixture }
+        | Test::Draw { fixture }
+        | Test::HomeMost { fixture, .. }
+        | Test::AwayMost { fixture, .. } => (*fixture as usize) < fixtures,
+        Test::Rival { club } => (*club as usize) < clubs,
+    }
+}
+
+fn is_of_sheet(sheet: &Sheet, zone: &[Literal]) -> bool
+    ensures { result ≡ is_zone_of sheet.now zone.now }
+{
+    let fixtures = sheet.fixtures.len();
+    let clubs = sheet.clubs.len();
+    zone.iter()
+        .all(|literal| is_below(&literal.test, fixtures, clubs))
+}
+
+fn go_on(rt: &impl Abort, zone_box: &mut ZoneBox, literal: Literal) -> Result<(), OutOfMemory> {
+    let fixtures = zone_box.sheet().fixtures.len();
+    let clubs = zone_box.sheet().clubs.len();
+    assert!(rt; is_below(&literal.test, fixtures, clubs));
+    zone_box.cut(literal)
+}
+
+fn go_back(rt: &impl Abort, zone_box: &mut ZoneBox) -> Literal {
+    assert!(rt; !zone_box.zone().is_empty());
+    zone_box.uncut()
+}
+
+fn check_cells(rt: &impl Abort, zone_box: &ZoneBox, zone: &[Literal]) {
+    let fixtures = zone_box.season().scores().len();
+    for number in 0..fixtures {
+        let number = u16::try_from(number).unwrap_or(0);
+        assert!(rt; (number as usize) < zone_box.season().scores().len());
+        let played = zone_box.season().score(number);
+        let cell = zone_box.cell(number);
+        for home in 0..4 {
+            for away in 0..4 {
+                let score = Score { home, away };
+                let wanted = is_option(zone_box.sheet(), played, zone, number, score);
+                assert_eq!(rt; cell.allows(&score), wanted, "{number}: {home}:{away}");
+            }
+        }
+    }
+}
+
+fn check_sums(rt: &impl Abort, zone_box: &ZoneBox, zone: &[Literal], set: ClubSet) {
+    let wanted = sums_of(zone_box.sheet(), zone_box.season(), zone, set);
+    assert_eq!(rt; zone_box.has_finish(), wanted.has_finish);
+    assert_eq!(rt; zone_box.open_outcomes(), wanted.open_outcomes);
+    if zone_box.has_finish() {
+        assert_eq!(rt; zone_box.low_points(set), wanted.least);
+        assert_eq!(rt; zone_box.high_points(set), wanted.most);
+    }
+}
+
+fn check_clubs(rt: &impl Abort, zone_box: &ZoneBox, zone: &[Literal]) {
+    for club in 0..CLUBS {
+        let set = ClubSet { bits: 1 << club };
+        check_sums(rt, zone_box, zone, set);
+        assert!(rt; (club as usize) < zone_box.sheet().clubs.len());
+        if zone_box.has_finish() {
+            assert_eq!(rt; zone_box.low(club), zone_box.low_points(set));
+            assert_eq!(rt; zone_box.high(club), zone_box.high_points(set));
+        }
+    }
+}
+
+/// What the same question is answered over both boxes: a cut is found exactly where a set makes
+/// one, and the reasons that are given hold alike.
+fn check_reasons(
+    rt: &impl Abort,
+    alloc: Global,
+    kept: &ZoneBox,
+    fresh: &ZoneBox,
+    question: &Question,
+) -> Result<(), Fail> {
+    assert!(rt; (question.club as usize) < kept.sheet().clubs.len());
+    assert!(rt; (question.club as usize) < fresh.sheet().clubs.len());
+    assert!(rt; kept.has_finish() && fresh.has_finish());
+    let mut low = false;
+    let mut high = false;
+    for bits in 0..64 {
+        let set = ClubSet { bits };
+        low = low || holds(fresh, question, &Reason::Low(set));
+        high = high || holds(fresh, question, &Reason::High(set));
+    }
+    let low_set = low_cut(alloc, kept, question)?;
+    let high_set = high_cut(alloc, kept, question)?;
+    assert_eq!(rt; low_set.is_some(), low);
+    assert_eq!(rt; high_set.is_some(), high);
+    assert!(rt; low_set == low_cut(alloc, fresh, question)?);
+    assert!(rt; high_set == high_cut(alloc, fresh, question)?);
+    assert_eq!(rt; tie_reason(kept, question), tie_reason(fresh, question));
+    for reason in [Reason::Count, Reason::Window, Reason::Tie].iter() {
+        assert_eq!(rt;
+            holds(kept, question, reason),
+            holds(fresh, question, reason)
+        );
+    }
+    Ok(())
+}
+
+fn drawn_question(draws: &mut Draws) -> Question {
+    let claim = if draws.flip() {
+        Claim::Inside
+    } else {
+        Claim::Outside
+    };
+    Question {
+        club: draws.below(CLUBS),
+        line: draws.below(CLUBS - 1) + 1,
+        claim,
+        low: i32::from(draws.below(8)) - 3,
+        high: i32::from(draws.below(8)) + 2,
+    }
+}
+
+fn check(
+    rt: &impl Abort,
+    alloc: Global,
+    sample: &Sample,
+    kept: &ZoneBox,
+    draws: &mut Draws,
+) -> Result<(), Fail>
+    requires { IsLeague sample.now.sheet sample.now.season }
+{
+    let path = kept.zone();
+    check_cells(rt, kept, path);
+    check_clubs(rt, kept, path);
+    check_sums(
+        rt,
+        kept,
+        path,
+        ClubSet {
+            bits: u32::from(draws.below(64)),
+        },
+    );
+    assert!(rt; is_of_sheet(&sample.sheet, path));
+    let zone = Zone {
+        literals: Listing::from_vec(path.to_vec(alloc)?),
+    };
+    assert!(rt; is_of_sheet(&sample.sheet, zone.literals.as_slice()));
+    let fresh = ZoneBox::of(alloc, &sample.sheet, &sample.season, &zone)?;
+    assert!(rt; kept.before() == fresh.before() && kept.after() == fresh.after());
+    assert_eq!(rt; kept.is_single(), fresh.is_single());
+    if kept.has_finish() {
+        check_reasons(rt, alloc, kept, &fresh, &drawn_question(draws))?;
+    }
+    Ok(())
+}
+
+#[test]
+fn a_path_of_literals_leaves_what_the_plain_program_leaves(rt: HostRuntime) -> Result<(), Fail> {
+    let mut draws = Draws::new(18);
+    for _ in 0..6 {
+        let sample = drawn_sample(rt.alloc(), &mut draws)?;
+        let played = Played::of(rt.alloc(), &sample.sheet, &sample.season)?;
+        let mut kept = ZoneBox::over(rt.alloc(), &played, &[])?;
+        let mut path = Vec::new(rt.alloc());
+        for _ in 0..60 {
+            if draws.below(2) == 0 && !path.is_empty() {
+                assert_eq!(rt; Some(go_back(&rt, &mut kept)), path.pop());
+            } else {
+                let literal = drawn_literal(&mut draws);
+                go_on(&rt, &mut kept, literal)?;
+                path.push(literal)?;
+            }
+            check(&rt, rt.alloc(), &sample, &kept, &mut draws)?;
+        }
+    }
+    Ok(())
+}
