@@ -1,0 +1,136 @@
+-- What the code of examples rests on: lots, and scores fixture by fixture.
+use Rattle.std.proofs.Common.{◌≡◌, ◌≤◌, ℕ, ◌+◌, Bool, true, false, List, [], ◌∷◌, Option}
+use Rattle.std.proofs.Common.{Some, None, Result, Ok, Err, length, take, refl, sym, ap, ◌∙◌, arith}
+use Rattle.std.specs.Prelude.{if◌then◌else◌}
+use Rattle.std.proofs.lemmas.Bool.{false≢true, and_parts, and_from, leb-true, le-leb}
+use Rattle.std.proofs.lemmas.List.{take_all, drop_all}
+use Rattle.league_core.specs.declared.sheet.Sheet.{Sheet}
+use Rattle.league_core.specs.declared.season.Score.{Score}
+use Rattle.league_core.specs.declared.question.Question.{Question}
+use Rattle.league_core.specs.Results.{Results, is_score}
+use Rattle.league_core.specs.Sheets.{IsWithinLimits}
+use Rattle.league_core.specs.Ranking.{are_lots}
+use Rattle.league_core.specs.Questions.{holds_at}
+use Rattle.cert_text.specs.declared.proof_line.ProofLine.TheVariants as line
+use Rattle.cert_check.specs.declared.token.Token.{Token}
+use Rattle.cert_check.specs.declared.token.Token.TheVariants.{Passed, Row, Proof, Neither}
+use Rattle.cert_check.specs.declared.stop.Halt.{Halt}
+use Rattle.cert_check.specs.declared.stop.Halt.TheVariants as halt
+use Rattle.cert_check.specs.Tokens.{counts}
+use Rattle.cert_check.specs.Dues.{Basis, Due, lots, bad, go, after, is_ending, finish_with}
+use Rattle.cert_check.specs.Dues.{lots_if_drawn, scores_due}
+use Rattle.cert_check.specs.Calls.{Judged, ending_from, HaltsAt, Goes, IsNextAt, after_lots_if}
+use Rattle.cert_check.specs.Calls.{lots_of_token, example_due}
+use Rattle.cert_check.proofs.CallLemmas.{next_ends, next_unproved, next_bad}
+
+-- a score of an unplayed match is one that a match may have
+pub ending_is_score : (sheet : Sheet) (ending : Score) → IsWithinLimits sheet
+    → is_ending sheet ending ≡ true → is_score ending ≡ true
+ending_is_score sheet ending limits is =
+    let parts = and_parts _ _ is in
+    let home = leb-true ending.home sheet.goal_limit parts.0 in
+    let away = leb-true ending.away sheet.goal_limit parts.1 in
+    and_from _ _ (le-leb ending.home 99 (omega (arith, home, limits.most_goal_limit)))
+    (le-leb ending.away 99 (omega (arith, away, limits.most_goal_limit)))
+
+-- what is due behind a line where lots are due, by the lots that it tells
+pub after_lots-token : (basis : Basis) (question : Question) (ended : List (Option Score))
+    (token : Token) → counts token ≡ true → after basis (lots question ended) token
+    ≡ after_lots_if basis question ended (lots_of_token (length basis.sheet.clubs) token)
+after_lots-token basis question ended Passed counted = absurd (false≢true counted)
+after_lots-token basis question ended (Row fields) counted = refl
+after_lots-token basis question ended (Proof (line.Lots told)) counted =
+    by_test (are_lots (length basis.sheet.clubs) told.list)
+  where
+    by_test : (test : Bool)
+        → (if test then go (holds_at basis.sheet question (finish_with basis.season ended)
+        told.list) [] else bad)
+        ≡ after_lots_if basis question ended (lots_if_drawn test told.list)
+    by_test true = refl
+    by_test false = refl
+after_lots-token basis question ended (Proof _) counted = refl
+after_lots-token basis question ended Neither counted = refl
+
+-- a finish with the season's deductions is the season with its scores
+pub same_finish : (season finish : Results) → finish.deductions ≡ season.deductions
+    → finish_with season finish.scores ≡ finish
+same_finish season finish same =
+    λ i. record { scores = finish.scores; deductions = sym same i }
+
+-- what lots leave due, where they are told
+told_lots : (judged : Judged) (question : Question) (finish : Results) (token : Token)
+    (found : Option (List ℕ)) (drawn : List ℕ) (holds : Bool) → counts token ≡ true
+    → finish.deductions ≡ judged.basis.season.deductions
+    → found ≡ lots_of_token (length judged.basis.sheet.clubs) token → found ≡ Some drawn
+    → holds ≡ holds_at judged.basis.sheet question finish drawn
+    → after judged.basis (lots question finish.scores) token ≡ go holds []
+told_lots judged question finish token found drawn holds counted deductions is some says =
+    after_lots-token judged.basis question finish.scores token counted
+    ∙ ap (after_lots_if judged.basis question finish.scores) (sym is ∙ some)
+    ∙ ap (λ it. go (holds_at judged.basis.sheet question it drawn) [])
+    (same_finish judged.basis.season finish deductions)
+    ∙ ap (λ it. go it []) (sym says)
+
+-- lots with which the question holds
+pub lots_end : (judged : Judged) (from at : ℕ) (token : Token) → IsNextAt judged from at token
+    → (question : Question) (finish : Results) (found : Option (List ℕ)) (drawn : List ℕ)
+    (holds : Bool) → finish.deductions ≡ judged.basis.season.deductions
+    → found ≡ lots_of_token (length judged.basis.sheet.clubs) token → found ≡ Some drawn
+    → holds ≡ holds_at judged.basis.sheet question finish drawn → holds ≡ true
+    → Goes judged from (lots question finish.scores) (Ok (at + 1))
+lots_end judged from at token next question finish found drawn holds deductions is some says so =
+    next_ends judged from at token next (lots question finish.scores) refl
+    (told_lots judged question finish token found drawn holds next.counted deductions is some says
+    ∙ ap (λ it. go it []) so)
+
+-- lots with which it does not
+pub lots_fail : (judged : Judged) (from at : ℕ) (token : Token) → IsNextAt judged from at token
+    → (question : Question) (finish : Results) (found : Option (List ℕ)) (drawn : List ℕ)
+    (holds : Bool) → finish.deductions ≡ judged.basis.season.deductions
+    → found ≡ lots_of_token (length judged.basis.sheet.clubs) token → found ≡ Some drawn
+    → holds ≡ holds_at judged.basis.sheet question finish drawn → holds ≡ false
+    → HaltsAt judged from (lots question finish.scores) (halt.NoProof at)
+lots_fail judged from at token next question finish found drawn holds deductions is some says so =
+    next_unproved judged from at token next (lots question finish.scores) []
+    (told_lots judged question finish token found drawn holds next.counted deductions is some says
+    ∙ ap (λ it. go it []) so)
+
+-- a line that tells no lots
+pub lots_missing : (judged : Judged) (from at : ℕ) (token : Token) → IsNextAt judged from at token
+    → (question : Question) (ended : List (Option Score)) (found : Option (List ℕ))
+    → found ≡ lots_of_token (length judged.basis.sheet.clubs) token → found ≡ None
+    → HaltsAt judged from (lots question ended) (halt.BadLine at)
+lots_missing judged from at token next question ended found is none =
+    next_bad judged from at token next (lots question ended)
+    (after_lots-token judged.basis question ended token next.counted
+    ∙ ap (after_lots_if judged.basis question ended) (sym is ∙ none))
+
+-- behind all fixtures the lots are due
+pub example_due-end : (question : Question) (fixture : ℕ) (scores : List (Option Score))
+    → length scores ≤ fixture → example_due question fixture scores ≡ lots question scores
+example_due-end question fixture scores all =
+    ap (λ left. scores_due question (take fixture scores) left) (drop_all fixture scores all)
+    ∙ ap (λ ended. lots question ended) (take_all fixture scores all)
+
+-- the reading stops along the way
+pub halt_along : (judged : Judged) (from at : ℕ) (first second : Due) (stop : Halt)
+    → ((dues : List Due) (unsettled : ℕ) → ending_from judged from (first ∷ dues) unsettled
+    ≡ ending_from judged at (second ∷ dues) unsettled)
+    → HaltsAt judged at second stop → HaltsAt judged from first stop
+halt_along judged from at first second (halt.BadLine place) way halts =
+    (halts.0, λ dues unsettled. way dues unsettled ∙ halts.1 dues unsettled)
+halt_along judged from at first second (halt.NoProof place) way halts =
+    (halts.0, λ dues unsettled. way dues unsettled ∙ halts.1 dues unsettled)
+halt_along judged from at first second halt.Short way halts =
+    λ dues unsettled. way dues unsettled ∙ halts dues unsettled
+halt_along judged from at first second halt.OutOfMemory way halts = tt
+
+-- what is due at the end of the way is read
+pub goes_along : (judged : Judged) (from at : ℕ) (first second : Due) (result : Result ℕ Halt)
+    → ((dues : List Due) (unsettled : ℕ) → ending_from judged from (first ∷ dues) unsettled
+    ≡ ending_from judged at (second ∷ dues) unsettled)
+    → Goes judged at second result → Goes judged from first result
+goes_along judged from at first second (Ok to) way goes =
+    (goes.0, λ dues unsettled. way dues unsettled ∙ goes.1 dues unsettled)
+goes_along judged from at first second (Err stop) way goes =
+    halt_along judged from at first second stop way goes

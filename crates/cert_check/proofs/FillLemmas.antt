@@ -1,0 +1,186 @@
+-- Everything that is due can be met, as the grammar has it: a leaf for each zone, no goals for each
+-- match that is left, lots in the order of the sheet.
+use Rattle.std.proofs.Common.{◌≡◌, ℕ, zero, suc, true, false, ◌&&◌, List, [], ◌∷◌, ◌++◌}
+use Rattle.std.proofs.Common.{length, map, Option, Some, None, refl, inl, arith}
+use Rattle.std.specs.Prelude.{IsTrue, nat_le}
+use Rattle.std.specs.Bool.{OnTrue}
+use Rattle.std.proofs.lemmas.Bool.{OnTrue_from, false≢true, and_from, le-leb}
+use Rattle.league_core.specs.declared.season.Score.{Score}
+use Rattle.league_core.specs.declared.question.Claim.TheVariants.{Inside, Outside}
+use Rattle.league_core.specs.declared.question.Question.{Question}
+use Rattle.league_core.specs.declared.zone.Literal.{Literal}
+use Rattle.league_core.specs.declared.zone.Reason.TheVariants.{Count}
+use Rattle.league_core.specs.Finishes.{may_all_end, same_score}
+use Rattle.league_core.specs.Ranking.{are_lots}
+use Rattle.league_core.specs.Questions.{holds_at, full_question}
+use Rattle.league_core.specs.Reasons.{has_reason}
+use Rattle.league_core.specs.Trees.{Tree, refuted_leaf}
+use Rattle.league_core.specs.LotsFor.{lots_for_claim}
+use Rattle.league_core.proofs.LotsLemmas.{lots_for_claim-are_lots}
+use Rattle.league_core.proofs.OptionLemmas.{same_score-itself}
+use Rattle.cert_text.specs.declared.proof_line.ProofLine.TheVariants as line
+use Rattle.cert_text.specs.ExampleLines.{score_lines, lots_line}
+use Rattle.cert_check.specs.declared.token.Token.{Token}
+use Rattle.cert_check.specs.declared.token.Token.TheVariants.{Row, Proof}
+use Rattle.cert_check.specs.declared.dues.RowWord.TheVariants.{Clinched}
+use Rattle.cert_check.specs.declared.dues.TreeKind.{TreeKind}
+use Rattle.cert_check.specs.declared.dues.TreeKind.TheVariants.{Refutation, Spent}
+use Rattle.cert_check.specs.declared.dues.Tally.{Tally}
+use Rattle.cert_check.specs.Dues.{Basis, Due, ask_row, verdict_row, tree_head, spent_head}
+use Rattle.cert_check.specs.Dues.{finish_head, both_parts, one_part, nodes, score, lots}
+use Rattle.cert_check.specs.Dues.{ask_fields, verdict_fields, name_of_club, finish_with}
+use Rattle.cert_check.specs.Dues.{is_tally_whole}
+use Rattle.cert_check.specs.Grammar.{IsPartFor, AreParts, TreesFit, AreNodes}
+use Rattle.cert_check.specs.Grammar.{lines_of_trees, no_tally}
+use Rattle.cert_check.specs.Grammar.{IsExampleFrom, IsRefutationPart, IsSpentPart}
+use Rattle.cert_check.specs.Grammar.{IsExamplePart, tally_behind}
+
+-- where proofs are not asked for, nothing has to hold
+asked_not : (P : Type 0) → OnTrue false P
+asked_not P = OnTrue_from false P (λ it. absurd (false≢true it))
+
+-- a refuted leaf
+some_leaf : Tree
+some_leaf = refuted_leaf Count false
+
+-- a leaf for each zone
+leaves_for : List (List Literal) → List Tree
+leaves_for zones = map (λ _. some_leaf) zones
+
+-- they fit
+leaves_fit : (basis : Basis) (kind : TreeKind) (question : Question) (zones : List (List Literal))
+    → TreesFit false basis kind question zones (leaves_for zones)
+unfolding leaves_for some_leaf
+leaves_fit basis kind question [] = tt
+leaves_fit basis kind question (zone ∷ zones) = (
+  (refl, asked_not (IsTrue (has_reason basis.sheet basis.season question zone Count))),
+  leaves_fit basis kind question zones,
+)
+
+-- some nodes for zones
+some_nodes : (basis : Basis) (kind : TreeKind) (question : Question) (zones : List (List Literal))
+    (tally : Tally) → (tokens : List Token) × AreNodes false basis kind question zones tally tokens
+some_nodes basis kind question zones tally = (
+  lines_of_trees kind (leaves_for zones),
+  (
+    leaves_for zones,
+    leaves_fit basis kind question zones,
+    asked_not (IsTrue (is_tally_whole basis.sheet.budget kind
+        (tally_behind tally (leaves_for zones)))),
+    refl,
+  ),
+)
+
+-- a match ends as it did, or without goals
+ended_somehow : Option Score → Option Score
+ended_somehow None = Some (record { home = 0; away = 0 })
+ended_somehow (Some played) = Some played
+
+-- so all may end
+all_end : (limit : ℕ) (left : List (Option Score))
+    → may_all_end limit left (map ended_somehow left) ≡ true
+unfolding ended_somehow
+all_end limit [] = refl
+all_end limit (None ∷ left) =
+    and_from (nat_le 0 limit && nat_le 0 limit) (may_all_end limit left (map ended_somehow left))
+    (and_from (nat_le 0 limit) (nat_le 0 limit) (le-leb 0 limit (omega arith))
+    (le-leb 0 limit (omega arith))) (all_end limit left)
+all_end limit (Some played ∷ left) =
+    and_from (same_score played played) (may_all_end limit left (map ended_somehow left))
+    (same_score-itself played played refl) (all_end limit left)
+
+-- some lots of so many clubs
+some_lots : (clubs : ℕ) → (drawn : List ℕ) × (are_lots clubs drawn ≡ true)
+some_lots zero = ([], refl)
+some_lots (suc clubs) = (
+  lots_for_claim (suc clubs) 0 Inside,
+  lots_for_claim-are_lots (suc clubs) 0 Inside (omega arith),
+)
+
+-- some rest of an example
+some_rest : (basis : Basis) (question : Question) (ended left : List (Option Score))
+    → (tokens : List Token) × IsExampleFrom false basis question ended left tokens
+some_rest basis question ended left =
+    let drawn = some_lots (length basis.sheet.clubs) in
+    let scores = map ended_somehow left in (
+      map Proof (score_lines (length ended) left scores ++ lots_line drawn.0 ∷ []),
+      (
+        scores,
+        drawn.0,
+        all_end basis.sheet.goal_limit left,
+        drawn.1,
+        asked_not (IsTrue (holds_at basis.sheet question (finish_with basis.season (ended ++
+            scores))
+            drawn.0)),
+        refl,
+      ),
+    )
+
+-- some refutation
+some_refutation : (basis : Basis) (question : Question)
+    → (tokens : List Token) × IsRefutationPart false basis question tokens
+some_refutation basis question =
+    let tree = some_nodes basis Refutation question ([] ∷ []) no_tally in
+    (Proof (line.Tree question.claim) ∷ tree.0, (tree.0, tree.1, refl))
+
+-- some spent tree
+some_spent : (basis : Basis) (question : Question)
+    → (tokens : List Token) × IsSpentPart false basis question tokens
+some_spent basis question =
+    let tree = some_nodes basis Spent question ([] ∷ []) no_tally in
+    (Proof (line.Spent question.claim) ∷ tree.0, (tree.0, tree.1, refl))
+
+-- some example
+some_example : (basis : Basis) (question : Question)
+    → (tokens : List Token) × IsExamplePart false basis question tokens
+some_example basis question =
+    let rest = some_rest basis question [] basis.season.scores in
+    (Proof (line.Finish question.claim) ∷ rest.0, (rest.0, rest.1, refl))
+
+-- some part for anything that is due
+some_part : (basis : Basis) (due : Due) → (tokens : List Token) × IsPartFor false basis due tokens
+some_part basis ask_row = (Row (ask_fields basis.epoch) ∷ [], refl)
+some_part basis (verdict_row number club) =
+    let tree = some_refutation basis (full_question club number Outside) in (
+      Row (verdict_fields number (name_of_club basis.sheet club) Clinched) ∷ tree.0,
+      (Clinched, tree.0, tree.1, refl),
+    )
+some_part basis (tree_head question) = some_refutation basis question
+some_part basis (spent_head question) = some_spent basis question
+some_part basis (finish_head question) = some_example basis question
+some_part basis (both_parts number club) =
+    let front = some_example basis (full_question club number Inside) in
+    let back = some_spent basis (full_question club number Outside) in
+    (front.0 ++ back.0, (front.0, back.0, inl (front.1, back.1), refl))
+some_part basis (one_part question) =
+    let it = some_example basis question in (it.0, inl it.1)
+some_part basis (nodes kind question zone zones tally) =
+    some_nodes basis kind question (zone ∷ zones) tally
+some_part basis (score question ended left) = some_rest basis question ended (None ∷ left)
+some_part basis (lots question ended) =
+    let drawn = some_lots (length basis.sheet.clubs) in (
+      Proof (lots_line drawn.0) ∷ [],
+      (
+        drawn.0,
+        drawn.1,
+        asked_not (IsTrue (holds_at basis.sheet question (finish_with basis.season ended) drawn.0)),
+        refl,
+      ),
+    )
+
+-- parts for everything that is due
+pub some_parts : (basis : Basis) (dues : List Due)
+    → (tokens : List Token) × AreParts false basis dues tokens
+some_parts basis [] = ([], refl)
+some_parts basis (due ∷ dues) =
+    let front = some_part basis due in
+    let back = some_parts basis dues in (
+      front.0 ++ back.0,
+      (
+        front.0,
+        back.0,
+        front.1,
+        back.1,
+        refl,
+      ),
+    )

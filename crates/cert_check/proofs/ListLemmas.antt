@@ -1,0 +1,56 @@
+-- A part of an item of a list, seen through the list of what the items show.
+use Rattle.std.proofs.Common.{◌≡◌, ◌<◌, ℕ, ◌∙◌, List, length, map, get_or, sym, ap, arith}
+use Rattle.std.proofs.Common.{drop, Result, Ok, Err, [], ◌∷◌, ◌+◌}
+use Rattle.std.specs.Prelude.{IfOk}
+use Rattle.std.proofs.lemmas.List.{length-map, get_or-map, drop_more}
+use Rattle.std.proofs.Common.{Bool, true, ◌++◌}
+use Rattle.std.specs.List.{list_all}
+use Rattle.std.proofs.lemmas.Bool.{and_parts, and_from}
+use Rattle.std.proofs.lemmas.List.Folds.{list_all-append}
+use Rattle.league_core.specs.declared.memory.OutOfMemory.{OutOfMemory}
+use Rattle.league_core.specs.declared.zone.Literal.{Literal}
+use Rattle.league_core.specs.declared.zone.Test.{Test}
+use Rattle.cert_check.specs.declared.token.Token.{Token}
+use Rattle.cert_check.specs.declared.token.Token.TheVariants.{Neither}
+use Rattle.cert_check.specs.Tokens.{token_of}
+use Rattle.cert_check.specs.LineLists.{NumberedLine, tokens_of, text_at}
+
+-- what an item of a list shows of itself stands at its place
+pub shown_at : {A B C : Type 0} (f : A → B) (g : B → C) (items : List A) (at : ℕ) (item : A)
+    (other : C) → at < length items → item ≡ get_or items at item
+    → g (f item) ≡ get_or (map g (map f items)) at other
+shown_at f g items at item other within there =
+    let there_too : at < length (map f items) = omega (arith, length-map items f) in
+    ap (λ it. g (f it)) there
+    ∙ ap g (sym (get_or-map f items at item (f item) within))
+    ∙ sym (get_or-map g (map f items) at (f item) other there_too)
+
+-- what is read of the text of a line is what the line is among all
+pub token_there : (lines : List NumberedLine) (at : ℕ) (result : Result Token OutOfMemory)
+    → at < length (tokens_of lines)
+    → IfOk result (λ (token : Token). token ≡ token_of (text_at lines at))
+    → IfOk result
+    (λ (token : Token). drop at (tokens_of lines) ≡ token ∷ drop (at + 1) (tokens_of lines))
+token_there lines at (Err stop) within read = tt
+token_there lines at (Ok token) within read =
+    let shown = λ (it : NumberedLine). token_of it.text in
+    let there : at < length lines = omega (arith, within, length-map lines shown) in
+    let none : NumberedLine = record { number = 0; text = [] } in
+    drop_more (tokens_of lines) at Neither within
+    ∙ ap (λ (it : Token). it ∷ drop (at + 1) (tokens_of lines))
+    (get_or-map shown lines at none Neither there
+    ∙ ap token_of (sym (get_or-map (λ (it : NumberedLine). it.text) lines at none [] there))
+    ∙ sym read)
+
+-- a way whose last literal is said the other way has the same tests
+pub last_turned : (test : Test → Bool) (old front new : List Literal) (last : Literal) (said : Bool)
+    → old ≡ front ++ last ∷ [] → new ≡ front ++ record { test = last.test; yes = said } ∷ []
+    → list_all (λ (it : Literal). test it.test) old ≡ true
+    → list_all (λ (it : Literal). test it.test) new ≡ true
+last_turned test old front new last said was is all =
+    let passes = λ (it : Literal). test it.test in
+    let turned : Literal = record { test = last.test; yes = said } in
+    let parts = and_parts (list_all passes front) (list_all passes (last ∷ []))
+    (sym (list_all-append passes front (last ∷ [])) ∙ ap (list_all passes) (sym was) ∙ all) in
+    ap (list_all passes) is ∙ list_all-append passes front (turned ∷ [])
+    ∙ and_from (list_all passes front) (list_all passes (turned ∷ [])) parts.0 parts.1

@@ -1,0 +1,362 @@
+-- Trees line by line: a node with what is due behind it is a tree, and the first line of a tree
+-- leaves due what its other lines are.
+use Rattle.std.proofs.Common.{◌≡◌, ℕ, Bool, true, false, ◌&&◌, ◌||◌, List, [], ◌∷◌, ◌++◌, Option}
+use Rattle.std.proofs.Common.{Some, None, refl, sym, ap, ◌∙◌, subst, append_assoc, arith}
+use Rattle.std.specs.Prelude.{IsTrue}
+use Rattle.std.specs.Bool.{OnTrue}
+use Rattle.std.proofs.Math.Bool.{or-true, or-false}
+use Rattle.std.proofs.lemmas.Bool.{OnTrue_at, OnTrue_from, and_parts, and_from}
+use Rattle.std.proofs.lemmas.List.{map-append}
+use Rattle.league_core.specs.declared.question.Question.{Question}
+use Rattle.league_core.specs.declared.zone.Literal.{Literal}
+use Rattle.league_core.specs.declared.tree.TreeNode.{TreeNode}
+use Rattle.league_core.specs.declared.tree.TreeNode.TheVariants as node
+use Rattle.league_core.specs.Zones.{with_test}
+use Rattle.league_core.specs.Reasons.{has_reason}
+use Rattle.league_core.specs.Trees.{Tree, open_leaf, lent_leaf, refuted_leaf, branch, preorder}
+use Rattle.league_core.specs.Trees.{has_open}
+use Rattle.cert_text.specs.declared.proof_line.ProofLine.{ProofLine}
+use Rattle.cert_text.specs.declared.proof_line.ProofLine.TheVariants as line
+use Rattle.cert_check.specs.declared.token.Token.{Token}
+use Rattle.cert_check.specs.declared.token.Token.TheVariants.{Proof}
+use Rattle.cert_check.specs.declared.dues.TreeKind.{TreeKind}
+use Rattle.cert_check.specs.declared.dues.TreeKind.TheVariants.{Refutation, Spent}
+use Rattle.cert_check.specs.declared.dues.Tally.{Tally}
+use Rattle.cert_check.specs.Dues.{Basis, Due, nodes, go, node_in, with_fresh, with_open}
+use Rattle.cert_check.specs.Dues.{is_tally_whole, behind_leaf, after_node}
+use Rattle.cert_check.specs.Dues.{after_node_if, is_reason_for}
+use Rattle.cert_text.specs.TreeLines.{is_test_for}
+use Rattle.cert_check.specs.Grammar.{NodeFits, TreesFit, line_of_node}
+use Rattle.cert_check.specs.Grammar.{lines_of_tree, lines_of_trees}
+use Rattle.cert_check.specs.Grammar.{with_tree, tally_behind, AreNodes, AreParts}
+use Rattle.cert_check.proofs.NextLemmas.{go-same, bad-go, go-if, if-go, only_part, as_only_part}
+use Rattle.cert_check.proofs.NextLemmas.{Parted, OnTrue-weaker}
+
+-- tallies with the same parts are the same
+same_tally : (tally other : Tally) → tally.news ≡ other.news → tally.some_open ≡ other.some_open
+    → tally ≡ other
+same_tally tally other news some_open = λ i. record { news = news i; some_open = some_open i }
+
+or_again : (first second third : Bool) → ((first || second) || third) ≡ (first || (second || third))
+or_again true second third = refl
+or_again false second third = refl
+
+-- the tally behind a branch is that behind its halves
+with_tree-branch : (tally : Tally) (fresh : Bool) (yes_half no_half : Tree) (test : _)
+    → with_tree (with_tree (with_fresh fresh tally) yes_half) no_half
+    ≡ with_tree tally (branch test fresh yes_half no_half)
+with_tree-branch tally true yes_half no_half test =
+    same_tally _ _ (omega arith)
+    (or_again tally.some_open (has_open yes_half) (has_open no_half))
+with_tree-branch tally false yes_half no_half test =
+    same_tally _ _ (omega arith)
+    (or_again tally.some_open (has_open yes_half) (has_open no_half))
+
+-- that behind a refuted leaf counts it where it is new
+with_tree-refuted : (tally : Tally) (fresh : Bool) (reason : _)
+    → with_tree tally (refuted_leaf reason fresh) ≡ with_fresh fresh tally
+with_tree-refuted tally true reason =
+    same_tally _ _ refl (or-false tally.some_open)
+with_tree-refuted tally false reason =
+    same_tally _ _ (omega arith) (or-false tally.some_open)
+
+-- that behind an open leaf has one
+with_tree-open : (tally : Tally) → with_tree tally open_leaf ≡ with_open tally
+with_tree-open tally = same_tally _ _ (omega arith) (or-true tally.some_open)
+
+-- ---- a line with what is due behind it
+
+-- a test's line in front of the lines of its halves
+branch_lines : (kind : TreeKind) (test : _) (fresh : Bool) (yes_half no_half : Tree)
+    (trees : List Tree)
+    → lines_of_trees kind (branch test fresh yes_half no_half ∷ trees)
+    ≡ Proof (line_of_node kind (node.Split test fresh))
+    ∷ lines_of_trees kind (yes_half ∷ no_half ∷ trees)
+branch_lines kind test fresh yes_half no_half trees =
+    let shown = λ (it : TreeNode). Proof (line_of_node kind it) in
+    ap (λ it. (Proof (line_of_node kind (node.Split test fresh)) ∷ it) ++ lines_of_trees kind trees)
+    (map-append shown (preorder yes_half) (preorder no_half))
+    ∙ ap (λ it. Proof (line_of_node kind (node.Split test fresh)) ∷ it)
+    (append_assoc (lines_of_tree kind yes_half) (lines_of_tree kind no_half)
+    (lines_of_trees kind trees))
+
+-- a split whose halves follow, and what else was due
+join_split : (proved : Bool) (basis : Basis) (kind : TreeKind) (question : Question)
+    (zone : List Literal) (zones : List (List Literal)) (tally : Tally) (test : _) (fresh : Bool)
+    (holds : Bool) (more : List Due) (tokens : List Token)
+    → after_node basis kind question zone zones tally (node.Split test fresh) ≡ go holds more
+    → AreParts proved basis more tokens
+    → AreNodes proved basis kind question (zone ∷ zones) tally
+    (Proof (line_of_node kind (node.Split test fresh)) ∷ tokens)
+join_split proved basis kind question zone zones tally test fresh holds more tokens goes parts =
+    let fits = go-if (is_test_for basis.sheet question test) _ holds more goes in
+    let dues = (go-same true holds _ more fits.1).1 in
+    let P : List Due → Type 0 = λ it. AreParts proved basis it tokens in
+    let halves = only_part proved basis
+    (nodes kind question (with_test zone test true) (with_test zone test false ∷ zones)
+    (with_fresh fresh tally)) tokens (subst P (sym dues) parts) in
+    joined halves.0 fits.0 halves.1 halves.2 halves.3
+  where
+    joined : (trees : List Tree) → is_test_for basis.sheet question test ≡ true
+        → TreesFit proved basis kind question
+        (with_test zone test true ∷ with_test zone test false ∷ zones) trees
+        → OnTrue proved (IsTrue (is_tally_whole basis.sheet.budget kind
+        (tally_behind (with_fresh fresh tally) trees)))
+        → tokens ≡ lines_of_trees kind trees
+        → AreNodes proved basis kind question (zone ∷ zones) tally
+        (Proof (line_of_node kind (node.Split test fresh)) ∷ tokens)
+    joined [] fits trees_fit whole lines = absurd trees_fit
+    joined (yes_half ∷ []) fits trees_fit whole lines = absurd trees_fit.1
+    joined (yes_half ∷ no_half ∷ trees) fits trees_fit whole lines =
+        let T : Tally → Type 0 = λ it. OnTrue proved
+        (IsTrue (is_tally_whole basis.sheet.budget kind (tally_behind it trees))) in (
+          branch test fresh yes_half no_half ∷ trees,
+          ((fits, trees_fit.0, trees_fit.1.0), trees_fit.1.1),
+          subst T (with_tree-branch tally fresh yes_half no_half test) whole,
+          ap (λ it. Proof (line_of_node kind (node.Split test fresh)) ∷ it) lines
+              ∙ sym (branch_lines kind test fresh yes_half no_half trees),
+        )
+
+-- a leaf, and what else was due
+join_leaf : (proved : Bool) (basis : Basis) (kind : TreeKind) (question : Question)
+    (zone : List Literal) (zones : List (List Literal)) (tally behind : Tally) (leaf : Tree)
+    (shown : ProofLine) (says holds : Bool) (more : List Due) (tokens : List Token)
+    → ((proved ≡ true → says ≡ true)
+    → TreesFit proved basis kind question (zone ∷ []) (leaf ∷ []))
+    → with_tree tally leaf ≡ behind → lines_of_tree kind leaf ≡ Proof shown ∷ []
+    → behind_leaf basis kind question zones behind says ≡ go holds more
+    → (proved ≡ true → holds ≡ true) → AreParts proved basis more tokens
+    → AreNodes proved basis kind question (zone ∷ zones) tally (Proof shown ∷ tokens)
+join_leaf proved basis kind question zone [] tally behind leaf shown says holds more tokens fits
+    counted lines goes so parts =
+    let same = go-same (says && is_tally_whole basis.sheet.budget kind behind) holds [] more goes in
+    let P : List Due → Type 0 = λ it. AreParts proved basis it tokens in
+    let ends : tokens ≡ [] = subst P (sym same.1) parts in
+    let both : proved ≡ true → (says ≡ true)
+    × (is_tally_whole basis.sheet.budget kind behind ≡ true) =
+    λ it. and_parts says (is_tally_whole basis.sheet.budget kind behind) (same.0 ∙ so it) in (
+      leaf ∷ [],
+      fits (λ it. (both it).0),
+      OnTrue_from proved _
+          (λ it. ap (is_tally_whole basis.sheet.budget kind) counted ∙ (both it).1),
+      ap (λ it. Proof shown ∷ it) ends ∙ ap (λ it. it ++ []) (sym lines),
+    )
+join_leaf proved basis kind question zone (next ∷ zones) tally behind leaf shown says holds more
+    tokens fits counted lines goes so parts =
+    let same = go-same says holds (nodes kind question next zones behind ∷ []) more goes in
+    let P : List Due → Type 0 = λ it. AreParts proved basis it tokens in
+    let rest = only_part proved basis (nodes kind question next zones behind) tokens
+    (subst P (sym same.1) parts) in
+    let T : Tally → Type 0 = λ it. OnTrue proved
+    (IsTrue (is_tally_whole basis.sheet.budget kind (tally_behind it rest.0))) in (
+      leaf ∷ rest.0,
+      ((fits (λ it. same.0 ∙ so it)).0, rest.1),
+      subst T (sym counted) rest.2,
+      ap (λ it. Proof shown ∷ it) rest.3
+          ∙ ap (λ it. it ++ lines_of_trees kind rest.0) (sym lines),
+    )
+
+-- the node that a line stands for in a tree is written as this line
+node_line : (kind : TreeKind) (shown : ProofLine) (it : TreeNode) → node_in kind shown ≡ Some it
+    → shown ≡ line_of_node kind it
+node_line Refutation (line.Split test) it is = cc
+node_line Refutation (line.Leaf reason) it is = cc
+node_line Refutation _ it is = absurd cc
+node_line Spent (line.Split test) it is = cc
+node_line Spent (line.NewSplit test) it is = cc
+node_line Spent (line.Leaf reason) it is = cc
+node_line Spent (line.NewLeaf reason) it is = cc
+node_line Spent line.OpenLeaf it is = cc
+node_line Spent _ it is = absurd cc
+
+-- an open leaf stands in a spent tree
+open_fits : (proved : Bool) (basis : Basis) (kind : TreeKind) (question : Question)
+    (zone : List Literal) (shown : ProofLine) → node_in kind shown ≡ Some node.Open
+    → NodeFits proved basis kind question zone node.Open
+open_fits proved basis Refutation question zone (line.Split test) is = absurd cc
+open_fits proved basis Refutation question zone (line.Leaf reason) is = absurd cc
+open_fits proved basis Refutation question zone _ is = absurd cc
+open_fits proved basis Spent question zone shown is = tt
+
+-- a line of a tree, with what is due behind it, is the tree
+pub join_nodes : (proved : Bool) (basis : Basis) (kind : TreeKind) (question : Question)
+    (zone : List Literal) (zones : List (List Literal)) (tally : Tally) (shown : ProofLine)
+    (holds : Bool) (more : List Due) (tokens : List Token)
+    → after_node_if basis kind question zone zones tally (node_in kind shown) ≡ go holds more
+    → (proved ≡ true → holds ≡ true) → AreParts proved basis more tokens
+    → AreNodes proved basis kind question (zone ∷ zones) tally (Proof shown ∷ tokens)
+join_nodes proved basis kind question zone zones tally shown holds more tokens goes so parts =
+    by_node (node_in kind shown) refl goes
+  where
+    written : (it : TreeNode) → node_in kind shown ≡ Some it
+        → AreNodes proved basis kind question (zone ∷ zones) tally
+        (Proof (line_of_node kind it) ∷ tokens)
+        → AreNodes proved basis kind question (zone ∷ zones) tally (Proof shown ∷ tokens)
+    written it is joined =
+        let P : ProofLine → Type 0 = λ written_line. AreNodes proved basis kind question
+        (zone ∷ zones) tally (Proof written_line ∷ tokens) in
+        subst P (sym (node_line kind shown it is)) joined
+
+    by_node : (found : Option TreeNode) → node_in kind shown ≡ found
+        → after_node_if basis kind question zone zones tally found ≡ go holds more
+        → AreNodes proved basis kind question (zone ∷ zones) tally (Proof shown ∷ tokens)
+    by_node None is goes = absurd (bad-go holds more goes)
+    by_node (Some (node.Split test fresh)) is goes =
+        written (node.Split test fresh) is
+        (join_split proved basis kind question zone zones tally test fresh holds more tokens goes
+        parts)
+    by_node (Some (node.Refuted reason fresh)) is goes =
+        let says = has_reason basis.sheet basis.season question zone reason in
+        let fits = go-if (is_reason_for basis.sheet question reason) (behind_leaf basis kind
+        question zones (with_fresh fresh tally) says) holds more goes in
+        written (node.Refuted reason fresh) is
+        (join_leaf proved basis kind question zone zones tally (with_fresh fresh tally)
+        (refuted_leaf reason fresh) (line_of_node kind (node.Refuted reason fresh)) says holds more
+        tokens (λ it. ((fits.0, OnTrue_from proved (IsTrue says) it), tt))
+        (with_tree-refuted tally fresh reason) refl fits.1 so parts)
+    by_node (Some node.Open) is goes =
+        written node.Open is
+        (join_leaf proved basis kind question zone zones tally (with_open tally) open_leaf
+        (line_of_node kind node.Open) true holds more tokens
+        (λ it. (open_fits proved basis kind question zone shown is, tt)) (with_tree-open tally) refl
+        goes so parts)
+    by_node (Some (node.Lent number)) is goes = absurd (bad-go holds more goes)
+
+-- ---- a tree's first line
+
+-- in a refutation no node is marked new
+kept : TreeKind → Bool → Bool
+kept Refutation fresh = false
+kept Spent fresh = fresh
+
+-- the line of a split stands for it
+line_split : (kind : TreeKind) (test : _) (fresh : Bool)
+    → node_in kind (line_of_node kind (node.Split test fresh))
+    ≡ Some (node.Split test (kept kind fresh))
+unfolding kept
+line_split Refutation test fresh = refl
+line_split Spent test true = refl
+line_split Spent test false = refl
+
+-- the line of a refuted leaf stands for it
+line_refuted : (kind : TreeKind) (reason : _) (fresh : Bool)
+    → node_in kind (line_of_node kind (node.Refuted reason fresh))
+    ≡ Some (node.Refuted reason (kept kind fresh))
+unfolding kept
+line_refuted Refutation reason fresh = refl
+line_refuted Spent reason true = refl
+line_refuted Spent reason false = refl
+
+-- a tree is as whole without the marks of a refutation
+whole_kept : (budget : ℕ) (kind : TreeKind) (fresh : Bool) (tally : Tally) (trees : List Tree)
+    → is_tally_whole budget kind (tally_behind (with_fresh fresh tally) trees) ≡ true
+    → is_tally_whole budget kind (tally_behind (with_fresh (kept kind fresh) tally) trees) ≡ true
+unfolding kept
+whole_kept budget Refutation fresh tally trees whole = refl
+whole_kept budget Spent fresh tally trees whole = whole
+
+-- what a leaf leaves due, and that it proves what it says
+leaf_goes : (proved : Bool) (basis : Basis) (kind : TreeKind) (question : Question)
+    (zones : List (List Literal)) (behind : Tally) (says : Bool) (trees : List Tree)
+    → (proved ≡ true → says ≡ true) → TreesFit proved basis kind question zones trees
+    → OnTrue proved (IsTrue (is_tally_whole basis.sheet.budget kind (tally_behind behind trees)))
+    → (holds : Bool) × (more : List Due)
+    × (behind_leaf basis kind question zones behind says ≡ go holds more)
+    × (proved ≡ true → holds ≡ true) × AreParts proved basis more (lines_of_trees kind trees)
+leaf_goes proved basis kind question [] behind says [] so fits whole = (
+  says && is_tally_whole basis.sheet.budget kind behind,
+  [],
+  refl,
+  λ it. and_from says (is_tally_whole basis.sheet.budget kind behind) (so it)
+      (OnTrue_at {b = proved} it whole),
+  refl,
+)
+leaf_goes proved basis kind question [] behind says (tree ∷ trees) so fits whole = absurd fits
+leaf_goes proved basis kind question (zone ∷ zones) behind says trees so fits whole = (
+  says,
+  nodes kind question zone zones behind ∷ [],
+  refl,
+  so,
+  as_only_part proved basis (nodes kind question zone zones behind) (lines_of_trees kind trees)
+      (trees, fits, whole, refl),
+)
+
+-- the line of an open leaf stands for it
+open_line : (proved : Bool) (basis : Basis) (kind : TreeKind) (question : Question)
+    (zone : List Literal) → NodeFits proved basis kind question zone node.Open
+    → node_in kind (line_of_node kind node.Open) ≡ Some node.Open
+open_line proved basis Refutation question zone fits = absurd fits
+open_line proved basis Spent question zone fits = refl
+
+-- the first line of trees leaves due what the other lines are
+pub part_nodes : (proved : Bool) (basis : Basis) (kind : TreeKind) (question : Question)
+    (zone : List Literal) (zones : List (List Literal)) (tally : Tally) (tokens : List Token)
+    → AreNodes proved basis kind question (zone ∷ zones) tally tokens
+    → Parted proved basis (nodes kind question zone zones tally) tokens
+part_nodes proved basis kind question zone zones tally tokens are =
+    by_tree are.0 are.1 are.2 are.3
+  where
+    first_line : (it : TreeNode) (holds : Bool) (more : List Due) (rest : List Token)
+        → tokens ≡ Proof (line_of_node kind it) ∷ rest
+        → after_node_if basis kind question zone zones tally (node_in kind (line_of_node kind it))
+        ≡ go holds more
+        → (proved ≡ true → holds ≡ true) → AreParts proved basis more rest
+        → Parted proved basis (nodes kind question zone zones tally) tokens
+    first_line it holds more rest lines goes so parts =
+        (Proof (line_of_node kind it), rest, holds, more, lines, goes, so, refl, parts)
+
+    by_tree : (trees : List Tree) → TreesFit proved basis kind question (zone ∷ zones) trees
+        → OnTrue proved (IsTrue (is_tally_whole basis.sheet.budget kind (tally_behind tally trees)))
+        → tokens ≡ lines_of_trees kind trees
+        → Parted proved basis (nodes kind question zone zones tally) tokens
+    by_tree [] fits whole lines = absurd fits
+    by_tree (branch test fresh yes_half no_half ∷ trees) fits whole lines =
+        let behind = with_fresh (kept kind fresh) tally in
+        let due = nodes kind question (with_test zone test true)
+        (with_test zone test false ∷ zones) behind in
+        let halves = yes_half ∷ no_half ∷ trees in
+        let T : Tally → Type 0 = λ it. OnTrue proved
+        (IsTrue (is_tally_whole basis.sheet.budget kind (tally_behind it trees))) in
+        let moved = subst T (sym (with_tree-branch tally fresh yes_half no_half test)) whole in
+        first_line (node.Split test fresh) true (due ∷ []) (lines_of_trees kind halves)
+        (lines ∙ branch_lines kind test fresh yes_half no_half trees)
+        (ap (after_node_if basis kind question zone zones tally) (line_split kind test fresh)
+        ∙ if-go (is_test_for basis.sheet question test) (go true (due ∷ [])) fits.0.0) (λ _. refl)
+        (as_only_part proved basis due (lines_of_trees kind halves) (
+          halves,
+          (fits.0.1, (fits.0.2, fits.1)),
+          OnTrue-weaker proved
+              (IsTrue (is_tally_whole basis.sheet.budget kind
+              (tally_behind (with_fresh fresh tally) halves)))
+              (IsTrue (is_tally_whole basis.sheet.budget kind (tally_behind behind halves)))
+              (whole_kept basis.sheet.budget kind fresh tally halves) moved,
+          refl,
+        ))
+    by_tree (refuted_leaf reason fresh ∷ trees) fits whole lines =
+        let says = has_reason basis.sheet basis.season question zone reason in
+        let behind = with_fresh (kept kind fresh) tally in
+        let T : Tally → Type 0 = λ it. OnTrue proved
+        (IsTrue (is_tally_whole basis.sheet.budget kind (tally_behind it trees))) in
+        let moved = OnTrue-weaker proved
+        (IsTrue (is_tally_whole basis.sheet.budget kind
+        (tally_behind (with_fresh fresh tally) trees)))
+        (IsTrue (is_tally_whole basis.sheet.budget kind (tally_behind behind trees)))
+        (whole_kept basis.sheet.budget kind fresh tally trees)
+        (subst T (with_tree-refuted tally fresh reason) whole) in
+        let goes = leaf_goes proved basis kind question zones behind says trees
+        (λ it. OnTrue_at {b = proved} it fits.0.1) fits.1 moved in
+        first_line (node.Refuted reason fresh) goes.0 goes.1 (lines_of_trees kind trees) lines
+        (ap (after_node_if basis kind question zone zones tally) (line_refuted kind reason fresh)
+        ∙ if-go (is_reason_for basis.sheet question reason)
+        (behind_leaf basis kind question zones behind says) fits.0.0 ∙ goes.2) goes.3 goes.4
+    by_tree (open_leaf ∷ trees) fits whole lines =
+        let T : Tally → Type 0 = λ it. OnTrue proved
+        (IsTrue (is_tally_whole basis.sheet.budget kind (tally_behind it trees))) in
+        let goes = leaf_goes proved basis kind question zones (with_open tally) true trees
+        (λ _. refl) fits.1 (subst T (with_tree-open tally) whole) in
+        first_line node.Open goes.0 goes.1 (lines_of_trees kind trees) lines
+        (ap (after_node_if basis kind question zone zones tally) (open_line proved basis kind
+        question
+        zone fits.0) ∙ goes.2)
+        goes.3 goes.4
+    by_tree (lent_leaf number ∷ trees) fits whole lines = absurd fits.0

@@ -1,0 +1,122 @@
+-- Parts one after another: what is due is shown piece by piece, or the reading stops.
+use Rattle.std.proofs.Common.{◌≡◌, ◌<◌, ℕ, ◌+◌, List, [], ◌∷◌, ◌++◌, Result, Ok, Err, drop}
+use Rattle.std.proofs.Common.{refl, sym, ap, ◌∙◌, append_assoc, arith}
+use Rattle.std.specs.List.{range_with_len}
+use Rattle.std.proofs.Common.{append-nil, zero-add}
+use Rattle.std.proofs.lemmas.List.{drop_more}
+use Rattle.std.proofs.lemmas.List.FromFn.{length-range_with_len, get_or-range_with_len}
+use Rattle.cert_check.specs.declared.part.Item.{Item}
+use Rattle.cert_check.specs.declared.stop.Halt.{Halt}
+use Rattle.cert_check.specs.declared.stop.Halt.TheVariants as halt
+use Rattle.cert_check.specs.Dues.{Due}
+use Rattle.cert_check.specs.Machine.{Ending, ending_of, whole_at}
+use Rattle.cert_check.specs.Calls.{Judged, ending_from, HaltsAt, Goes, AllHalt, GoesBehind}
+use Rattle.cert_check.specs.Calls.{GoesOverAll, Reaches}
+
+-- one thing due is all that is
+pub goes_behind : (judged : Judged) (from : ℕ) (due : Due) (result : Result ℕ Halt)
+    → Goes judged from due result → GoesBehind judged from (due ∷ []) result
+goes_behind judged from due (Ok at) goes = goes
+goes_behind judged from due (Err (halt.BadLine at)) goes = goes
+goes_behind judged from due (Err (halt.NoProof at)) goes = goes
+goes_behind judged from due (Err halt.Short) goes = goes
+goes_behind judged from due (Err halt.OutOfMemory) goes = tt
+
+-- of two things due the first stops the reading
+pub first_halts : (judged : Judged) (from : ℕ) (first second : Due) (stop : Halt)
+    → HaltsAt judged from first stop → AllHalt judged from (first ∷ second ∷ []) stop
+first_halts judged from first second (halt.BadLine at) halts =
+    (halts.0, λ dues unsettled. halts.1 (second ∷ dues) unsettled)
+first_halts judged from first second (halt.NoProof at) halts =
+    (halts.0, λ dues unsettled. halts.1 (second ∷ dues) unsettled)
+first_halts judged from first second halt.Short halts =
+    λ dues unsettled. halts (second ∷ dues) unsettled
+first_halts judged from first second halt.OutOfMemory halts = tt
+
+-- of two things due the first is shown
+pub first_shown : (judged : Judged) (from at : ℕ) (first second : Due) (result : Result ℕ Halt)
+    → Goes judged from first (Ok at) → Goes judged at second result
+    → GoesBehind judged from (first ∷ second ∷ []) result
+first_shown judged from at first second (Ok to) goes later =
+    (later.0, λ dues unsettled. goes.1 (second ∷ dues) unsettled ∙ later.1 dues unsettled)
+first_shown judged from at first second (Err (halt.BadLine place)) goes later =
+    (later.0, λ dues unsettled. goes.1 (second ∷ dues) unsettled ∙ later.1 dues unsettled)
+first_shown judged from at first second (Err (halt.NoProof place)) goes later =
+    (later.0, λ dues unsettled. goes.1 (second ∷ dues) unsettled ∙ later.1 dues unsettled)
+first_shown judged from at first second (Err halt.Short) goes later =
+    λ dues unsettled. goes.1 (second ∷ dues) unsettled ∙ later dues unsettled
+first_shown judged from at first second (Err halt.OutOfMemory) goes later = tt
+
+-- at the start all is due
+pub reach_start : (judged : Judged) (from : ℕ) (wanted : List Due)
+    → Reaches judged from wanted from wanted 0
+reach_start judged from wanted = λ dues before.
+    ap (λ count. ending_from judged from (wanted ++ dues) count) (omega arith)
+
+-- one piece more is shown
+pub reach_on : (judged : Judged) (from at unsettled : ℕ) (wanted first later : List Due)
+    (found : Item) → Reaches judged from wanted at (first ++ later) unsettled
+    → GoesOverAll judged at first (Ok found)
+    → Reaches judged from wanted found.next later (unsettled + found.unsettled)
+reach_on judged from at unsettled wanted first later found reaches goes = λ dues before.
+    reaches dues before
+    ∙ ap (λ due. ending_from judged at due (before + unsettled)) (append_assoc first later dues)
+    ∙ goes.1 (later ++ dues) (before + unsettled)
+    ∙ ap (λ count. ending_from judged found.next (later ++ dues) count) (omega arith)
+
+-- a piece stops the reading
+pub reach_halt : (judged : Judged) (from at unsettled : ℕ) (wanted first later : List Due)
+    (stop : Halt) → Reaches judged from wanted at (first ++ later) unsettled
+    → AllHalt judged at first stop → AllHalt judged from wanted stop
+reach_halt judged from at unsettled wanted first later (halt.BadLine place) reaches halts = (
+  halts.0,
+  λ dues before. reaches dues before
+      ∙ ap (λ due. ending_from judged at due (before + unsettled)) (append_assoc first later dues)
+      ∙ halts.1 (later ++ dues) (before + unsettled),
+)
+reach_halt judged from at unsettled wanted first later (halt.NoProof place) reaches halts = (
+  halts.0,
+  λ dues before. reaches dues before
+      ∙ ap (λ due. ending_from judged at due (before + unsettled)) (append_assoc first later dues)
+      ∙ halts.1 (later ++ dues) (before + unsettled),
+)
+reach_halt judged from at unsettled wanted first later halt.Short reaches halts =
+    λ dues before. reaches dues before
+    ∙ ap (λ due. ending_from judged at due (before + unsettled)) (append_assoc first later dues)
+    ∙ halts (later ++ dues) (before + unsettled)
+reach_halt judged from at unsettled wanted first later halt.OutOfMemory reaches halts = tt
+
+-- where nothing is due the reading ends
+pub ends_whole : (judged : Judged) (at unsettled : ℕ)
+    → ending_from judged at [] unsettled ≡ whole_at at unsettled
+ends_whole judged at unsettled = of_lines (drop at judged.tokens)
+  where
+    of_lines : (tokens : List _) → ending_of judged.basis tokens [] at unsettled
+        ≡ whole_at at unsettled
+    of_lines [] = refl
+    of_lines (token ∷ tokens) = refl
+
+-- nothing else being due
+pub all_due : (judged : Judged) (from : ℕ) (wanted : List Due) (ending : Ending)
+    → ((dues : List Due) (unsettled : ℕ)
+    → ending_from judged from (wanted ++ dues) unsettled ≡ ending)
+    → ending_from judged from wanted 0 ≡ ending
+all_due judged from wanted ending is =
+    ap (λ due. ending_from judged from due 0) (sym (append-nil wanted)) ∙ is [] 0
+
+-- all being shown, the reading ends
+pub all_shown_ends : (judged : Judged) (from : ℕ) (wanted : List Due) (found : Item)
+    → GoesOverAll judged from wanted (Ok found)
+    → ending_from judged from wanted 0 ≡ whole_at found.next found.unsettled
+all_shown_ends judged from wanted found goes =
+    ap (λ due. ending_from judged from due 0) (sym (append-nil wanted))
+    ∙ goes.1 [] 0 ∙ ends_whole judged found.next (0 + found.unsettled)
+    ∙ ap (whole_at found.next) (omega arith)
+
+-- the clubs from one on
+pub clubs_left : (clubs club : ℕ) → club < clubs
+    → drop club (range_with_len 0 clubs) ≡ club ∷ drop (club + 1) (range_with_len 0 clubs)
+clubs_left clubs club within =
+    drop_more (range_with_len 0 clubs) club 0 (omega (arith, length-range_with_len 0 clubs))
+    ∙ ap (λ it. it ∷ drop (club + 1) (range_with_len 0 clubs))
+    (get_or-range_with_len 0 clubs club 0 within ∙ zero-add club)

@@ -1,0 +1,11 @@
+use Rattle.std.proofs.Common.{◌≤◌, drop, length}
+use Rattle.league_core.specs.Sheets.{clubs_of}
+use Rattle.cert_check.specs.Machine.{rows_on_line}
+use Rattle.cert_check.specs.Calls.{Reaches}
+use Rattle.cert_check.proofs.report.Report.line.Given as goal
+
+abbrev pub invariant-loop-club : goal.invariant-loop-club
+invariant-loop-club l =
+    (l.found.next ≤ length l.self.tokens) × (l.found.unsettled ≤ l.club)
+    × Reaches l.self l.from (rows_on_line (clubs_of l.self.basis.sheet) l.line) l.found.next
+    (rows_on_line (drop l.club (clubs_of l.self.basis.sheet)) l.line) l.found.unsettled

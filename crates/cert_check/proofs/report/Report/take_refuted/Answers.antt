@@ -1,0 +1,23 @@
+use Rattle.std.proofs.Common.{◌≡◌, true, false, sym, ◌∙◌, subst, refl}
+use Rattle.league_core.specs.Reasons.{has_reason}
+use Rattle.cert_check.specs.Dues.{is_reason_for}
+use Rattle.cert_check.specs.Calls.{Judged, pending_of}
+use Rattle.cert_check.proofs.CallLemmas.{reason_unproved}
+use Rattle.cert_check.proofs.report.Report.take_refuted.Goals as goal
+
+pub returns-then-not-branch-clause-says : goal.returns-then-not-branch-clause-says
+returns-then-not-branch-clause-says c =
+    let basis = c.args.self.now.basis in
+    let question = c.args.wanted.question in
+    let path = c.args.walk.now.path.items in
+    let P : Judged → Type 0 = λ it. is_reason_for it.basis.sheet question c.args.reason ≡ true in
+    let fits = subst P c.self.view_is (sym c.is_reason_for.ensures ∙
+    c.if-not-is_reason_for.false) in
+    let said = c.in_ok-has_reason.ensures {u = tt} in
+    let way = c.as_slice.ensures.value in
+    let no = c.if-not-branch.true in
+    let fails : has_reason basis.sheet basis.season question path c.args.reason ≡ false = cc in (
+      refl,
+      reason_unproved basis c.args.wanted.kind question path (pending_of path)
+          c.args.walk.now.tally c.args.reason c.args.fresh fits fails,
+    )

@@ -1,0 +1,306 @@
+-- What the calls of the checker come to, each by the reading line by line: a call that reads what
+-- is due leaves the rest to be read from where it stops, whatever else is due; or the reading
+-- stops.
+use Rattle.std.specs.Prelude.{◌≡◌, ◌<◌, ◌≤◌, ℕ, ◌+◌, ◌^◌, Bool, true, false}
+use Rattle.std.specs.Prelude.{IsTrue, List, [], ◌∷◌, ◌++◌}
+use Rattle.std.specs.Prelude.{◌*◌, length, take, drop, reverse, Result, Ok, Err, Option, Some, None}
+use Rattle.std.specs.Prelude.{if◌then◌else◌}
+use Rattle.league_core.specs.declared.tree.TreeNode.{TreeNode}
+use Rattle.league_core.specs.declared.question.Question.{Question}
+use Rattle.league_core.specs.declared.zone.Literal.{Literal}
+use Rattle.league_core.specs.declared.sheet.Sheet.{Sheet}
+use Rattle.league_core.specs.Results.{Results}
+use Rattle.league_core.specs.Zones.{with_test}
+use Rattle.cert_check.specs.declared.token.Token.{Token}
+use Rattle.cert_check.specs.declared.stop.Accepted.{Accepted}
+use Rattle.cert_check.specs.declared.stop.CheckStop.{CheckStop}
+use Rattle.cert_check.specs.declared.stop.CheckStop.TheVariants as stop
+use Rattle.cert_check.specs.declared.stop.Halt.{Halt}
+use Rattle.cert_check.specs.declared.stop.Halt.TheVariants as halt
+use Rattle.cert_check.specs.declared.dues.RowWord.{RowWord}
+use Rattle.cert_check.specs.declared.dues.RowWord.TheVariants.{Clinched, Lost, Possible, Unsettled}
+use Rattle.cert_check.specs.declared.dues.TreeKind.{TreeKind}
+use Rattle.cert_check.specs.Tokens.{counts, counted_lines}
+use Rattle.cert_check.specs.LineLists.{NumberedLine, tokens_of, line_number_at}
+use Rattle.cert_check.specs.declared.token.Token.TheVariants.{Passed, Row, Proof, Neither}
+use Rattle.cert_check.specs.declared.part.Item.{Item}
+use Rattle.cert_check.specs.declared.tree.Wanted.{Wanted}
+use Rattle.cert_check.specs.declared.tree.Walk.{Walk}
+use Rattle.cert_check.specs.Dues.{Basis, Due, verdict_row, nodes, dues_of_word, Next, bad, go}
+use Rattle.cert_check.specs.Dues.{node_in, after_node, head_in, scores_due, finish_with}
+use Rattle.cert_check.specs.declared.dues.Head.{Head}
+use Rattle.league_core.specs.declared.question.Claim.{Claim}
+use Rattle.league_core.specs.declared.season.Score.{Score}
+use Rattle.league_core.specs.Questions.{holds_at}
+use Rattle.league_core.specs.Ranking.{are_lots}
+use Rattle.cert_text.specs.declared.proof_line.ProofLine.TheVariants as line
+use Rattle.cert_check.specs.Dues.{lots_if_drawn}
+use Rattle.cert_check.specs.Machine.{Ending, whole_at, bad_line, no_proof, short, ending_of}
+use Rattle.cert_check.specs.Machine.{part_of_ask}
+use Rattle.cert_check.specs.Truths.{AreTrueRows}
+
+-- the sheet, the season and the epoch of an ask, as a basis
+abbrev pub basis_of : Sheet → Results → ℕ → Basis
+basis_of sheet season epoch = record { sheet = sheet; season = season; epoch = epoch }
+
+-- what is judged: by what, and which lines
+pub record Judged : Type 0 where
+  pub basis : Basis
+  pub tokens : List Token
+
+-- what the lines from a position on come to, where this is due first
+abbrev pub ending_from : Judged → ℕ → List Due → ℕ → Ending
+ending_from judged from dues unsettled =
+    ending_of judged.basis (drop from judged.tokens) dues from unsettled
+
+-- the reading stops so, whatever else is due
+abbrev pub HaltsAt : Judged → ℕ → Due → Halt → Type 0
+HaltsAt judged from due (halt.BadLine at) =
+    (at < length judged.tokens)
+    × ((dues : List Due) (unsettled : ℕ)
+    → ending_from judged from (due ∷ dues) unsettled ≡ bad_line at)
+HaltsAt judged from due (halt.NoProof at) =
+    (at < length judged.tokens)
+    × ((dues : List Due) (unsettled : ℕ)
+    → ending_from judged from (due ∷ dues) unsettled ≡ no_proof at)
+HaltsAt judged from due halt.Short =
+    (dues : List Due) (unsettled : ℕ)
+    → ending_from judged from (due ∷ dues) unsettled ≡ short
+HaltsAt judged from due halt.OutOfMemory = Unit {0}
+
+-- the position from which the rest is read, where what was due is shown; or why the reading stops
+abbrev pub Goes : Judged → ℕ → Due → Result ℕ Halt → Type 0
+Goes judged from due (Ok at) =
+    (at ≤ length judged.tokens)
+    × ((dues : List Due) (unsettled : ℕ)
+    → ending_from judged from (due ∷ dues) unsettled ≡ ending_from judged at dues unsettled)
+Goes judged from due (Err stop) = HaltsAt judged from due stop
+
+-- the next line that counts
+pub record IsNextAt (judged : Judged) (from at : ℕ) (token : Token) : Type 0 where
+  pub behind : from ≤ at
+  pub within : at < length judged.tokens
+  pub fits : at + 1 < 2 ^ 64
+  pub there : drop at judged.tokens ≡ token ∷ drop (at + 1) judged.tokens
+  pub counted : IsTrue (counts token)
+  pub same : (due : Due) (dues : List Due) (unsettled : ℕ)
+      → ending_from judged from (due ∷ dues) unsettled
+      ≡ ending_from judged at (due ∷ dues) unsettled
+
+-- a call that looks for the next line that counts: there is none where lines are missing
+abbrev pub FindsNext : Judged → ℕ → Result (ℕ × Token) Halt → Type 0
+FindsNext judged from (Ok found) = IsNextAt judged from found.0 found.1
+FindsNext judged from (Err halt.Short) =
+    (due : Due) (dues : List Due) (unsettled : ℕ)
+    → ending_from judged from (due ∷ dues) unsettled ≡ short
+FindsNext judged from (Err halt.OutOfMemory) = Unit {0}
+FindsNext judged from (Err (halt.BadLine at)) = ⊥
+FindsNext judged from (Err (halt.NoProof at)) = ⊥
+
+-- ---- rows
+
+-- what is due behind the row of an ask, where it is that
+abbrev pub after_ask_row_if : Bool → Next
+after_ask_row_if is = if is then go true [] else bad
+
+-- a row of this word counts so many unsettled rows
+abbrev pub unsettled_in : RowWord → ℕ
+unsettled_in Clinched = 0
+unsettled_in Lost = 0
+unsettled_in Possible = 0
+unsettled_in Unsettled = 1
+
+-- the row of a line and a club leaves due what its word asks for
+abbrev pub GoesByWord : Judged → ℕ → ℕ → ℕ → Result (ℕ × RowWord) Halt → Type 0
+GoesByWord judged from line club (Ok found) =
+    (found.0 ≤ length judged.tokens)
+    × ((dues : List Due) (unsettled : ℕ)
+    → ending_from judged from (verdict_row line club ∷ dues) unsettled
+    ≡ ending_from judged found.0 (dues_of_word line club found.1 ++ dues)
+    (unsettled + unsettled_in found.1))
+GoesByWord judged from line club (Err stop) = HaltsAt judged from (verdict_row line club) stop
+
+-- ---- trees
+
+-- the halves that are still due behind the end of a way, its last literal first: one for each yes
+-- on it
+abbrev pub pending : List Literal → List (List Literal)
+pending [] = []
+pending (literal ∷ up) =
+    if literal.yes then with_test (reverse up) literal.test false ∷ pending up else pending up
+
+-- the same for a way from the root on
+abbrev pub pending_of : List Literal → List (List Literal)
+pending_of path = pending (reverse path)
+
+-- what is due where the reading of a tree stands so
+abbrev pub nodes_due : Wanted → Walk → Due
+nodes_due wanted walk =
+    nodes wanted.kind wanted.question walk.path.items (pending_of walk.path.items) walk.tally
+
+-- what is due behind a node where it stands so
+abbrev pub after_walked : Basis → Wanted → Walk → TreeNode → Next
+after_walked basis wanted walk node =
+    after_node basis wanted.kind wanted.question walk.path.items (pending_of walk.path.items)
+    walk.tally node
+
+-- the node that a line stands for, where it is a proof line that stands for one
+abbrev pub node_of_token : TreeKind → Token → Option TreeNode
+node_of_token kind Passed = None
+node_of_token kind (Row fields) = None
+node_of_token kind (Proof line) = node_in kind line
+node_of_token kind Neither = None
+
+-- what a call says of a node: true where it ends its tree, false where nodes are due behind it
+abbrev pub NodeSays : Next → ℕ → Due → Result Bool Halt → Type 0
+NodeSays next at due (Ok true) = next ≡ go true []
+NodeSays next at due (Ok false) = next ≡ go true (due ∷ [])
+NodeSays next at due (Err (halt.BadLine place)) = (place ≡ at) × (next ≡ bad)
+NodeSays next at due (Err (halt.NoProof place)) =
+    (place ≡ at) × ((more : List Due) × (next ≡ go false more))
+NodeSays next at due (Err halt.Short) = ⊥
+NodeSays next at due (Err halt.OutOfMemory) = Unit {0}
+
+-- ---- heads
+
+-- the head of a claim that a line is, where it is a proof line that is one
+abbrev pub head_of_token : Claim → Token → Option Head
+head_of_token claim Passed = None
+head_of_token claim (Row fields) = None
+head_of_token claim (Proof line) = head_in claim line
+head_of_token claim Neither = None
+
+-- ---- examples
+
+-- what is due of an example where the fixtures before this one have ended with these scores
+abbrev pub example_due : Question → ℕ → List (Option Score) → Due
+example_due question fixture scores = scores_due question (take fixture scores) (drop fixture
+    scores)
+
+-- what is due behind a score, where the line is one that may come
+abbrev pub after_score_if : Question → List (Option Score) → List (Option Score) → Option Score →
+    Next
+after_score_if question ended left None = bad
+after_score_if question ended left (Some ending) =
+    go true (scores_due question (ended ++ Some ending ∷ []) left ∷ [])
+
+-- what is due behind lots, where the line has such
+abbrev pub after_lots_if : Basis → Question → List (Option Score) → Option (List ℕ) → Next
+after_lots_if basis question ended None = bad
+after_lots_if basis question ended (Some drawn) =
+    go (holds_at basis.sheet question (finish_with basis.season ended) drawn) []
+
+-- the lots that a line tells, where it tells some of so many clubs
+abbrev pub lots_of_token : ℕ → Token → Option (List ℕ)
+lots_of_token clubs Passed = None
+lots_of_token clubs (Row fields) = None
+lots_of_token clubs (Proof (line.Lots told)) = lots_if_drawn (are_lots clubs told.list) told.list
+lots_of_token clubs (Proof _) = None
+lots_of_token clubs Neither = None
+
+-- a call that goes on over one fixture: the scores so far are longer by its score
+abbrev pub GoesOverFixture : Judged → ℕ → ℕ → List (Option Score) → List (Option Score)
+    → Result ℕ Halt → Type 0
+GoesOverFixture judged from fixture old new (Ok at) =
+    (at ≤ length judged.tokens)
+    × ((question : Question) (dues : List Due) (unsettled : ℕ)
+    → ending_from judged from (example_due question fixture old ∷ dues) unsettled
+    ≡ ending_from judged at (example_due question (fixture + 1) new ∷ dues) unsettled)
+GoesOverFixture judged from fixture old new (Err stop) =
+    (question : Question) → HaltsAt judged from (example_due question fixture old) stop
+
+-- ---- items
+
+-- the reading stops so where all of this is due, whatever else is
+abbrev pub AllHalt : Judged → ℕ → List Due → Halt → Type 0
+AllHalt judged from wanted (halt.BadLine at) =
+    (at < length judged.tokens)
+    × ((dues : List Due) (unsettled : ℕ)
+    → ending_from judged from (wanted ++ dues) unsettled ≡ bad_line at)
+AllHalt judged from wanted (halt.NoProof at) =
+    (at < length judged.tokens)
+    × ((dues : List Due) (unsettled : ℕ)
+    → ending_from judged from (wanted ++ dues) unsettled ≡ no_proof at)
+AllHalt judged from wanted halt.Short =
+    (dues : List Due) (unsettled : ℕ)
+    → ending_from judged from (wanted ++ dues) unsettled ≡ short
+AllHalt judged from wanted halt.OutOfMemory = Unit {0}
+
+-- the position from which the rest is read, where all of this is shown; or why the reading stops
+abbrev pub GoesBehind : Judged → ℕ → List Due → Result ℕ Halt → Type 0
+GoesBehind judged from wanted (Ok at) =
+    (at ≤ length judged.tokens)
+    × ((dues : List Due) (unsettled : ℕ)
+    → ending_from judged from (wanted ++ dues) unsettled ≡ ending_from judged at dues unsettled)
+GoesBehind judged from wanted (Err stop) = AllHalt judged from wanted stop
+
+-- items are shown, with so many unsettled rows among them, or the reading stops
+abbrev pub GoesOverAll : Judged → ℕ → List Due → Result Item Halt → Type 0
+GoesOverAll judged from wanted (Ok found) =
+    (found.next ≤ length judged.tokens)
+    × ((dues : List Due) (unsettled : ℕ)
+    → ending_from judged from (wanted ++ dues) unsettled
+    ≡ ending_from judged found.next dues (unsettled + found.unsettled))
+GoesOverAll judged from wanted (Err stop) = AllHalt judged from wanted stop
+
+-- one item is
+abbrev pub GoesOverItem : Judged → ℕ → ℕ → ℕ → Result Item Halt → Type 0
+GoesOverItem judged from line club result =
+    GoesOverAll judged from (verdict_row line club ∷ []) result
+
+-- a season that has gone over one fixture: this fixture has a score, and the rest is as it was
+pub record IsOver (fixture : ℕ) (old new : Results) : Type 0 where
+  pub scores : length new.scores ≡ length old.scores
+  pub deductions : new.deductions ≡ old.deductions
+
+-- what is due is shown up to a position, with so many unsettled rows, and the rest is still due
+abbrev pub Reaches : Judged → ℕ → List Due → ℕ → List Due → ℕ → Type 0
+Reaches judged from wanted at left unsettled =
+    (dues : List Due) (before : ℕ)
+    → ending_from judged from (wanted ++ dues) before
+    ≡ ending_from judged at (left ++ dues) (before + unsettled)
+
+-- ---- the whole
+
+-- what the lines from a position on come to as the part of one ask
+abbrev pub part_ending : Basis → List NumberedLine → ℕ → Ending
+part_ending basis lines from =
+    ending_of basis (drop from (tokens_of lines)) (part_of_ask basis.sheet) from 0
+
+-- the lines up to a position are the rows of an ask with what stands behind each, some lines being
+-- passed over, and each row is true of the season
+abbrev pub TellsTruly : Basis → List NumberedLine → ℕ → ℕ → Type 0
+TellsTruly basis lines from next =
+    (taken : List Token) × (rest : List Token) × (drop from (tokens_of lines) ≡ taken ++ rest)
+    × (next ≡ from + length taken)
+    × AreTrueRows basis (part_of_ask basis.sheet) (counted_lines taken)
+
+-- a call that checks the part of one ask: it is whole, with a row for each line and each club, and
+-- tells the truth; or
+-- the reading stops at a line, whose number is told
+abbrev pub ChecksPart : Basis → List NumberedLine → ℕ → Result Accepted CheckStop → Type 0
+ChecksPart basis lines from (Ok accepted) =
+    (part_ending basis lines from ≡ whole_at accepted.next accepted.unsettled)
+    × (accepted.rows ≡ length basis.sheet.lines * length basis.sheet.clubs)
+    × TellsTruly basis lines from accepted.next
+ChecksPart basis lines from (Err (stop.BadLine number)) =
+    (at : ℕ) × (at < length lines) × (part_ending basis lines from ≡ bad_line at)
+    × (number ≡ line_number_at lines at)
+ChecksPart basis lines from (Err (stop.NoProof number)) =
+    (at : ℕ) × (at < length lines) × (part_ending basis lines from ≡ no_proof at)
+    × (number ≡ line_number_at lines at)
+ChecksPart basis lines from (Err stop.Short) = part_ending basis lines from ≡ short
+ChecksPart basis lines from (Err stop.OutOfMemory) = Unit {0}
+
+-- a call that looks for lines behind a report: there is none that counts; or the first that does is
+-- told
+abbrev pub ChecksEnd : List NumberedLine → ℕ → Result (Unit {0}) CheckStop → Type 0
+ChecksEnd lines from (Ok it) = counted_lines (drop from (tokens_of lines)) ≡ []
+ChecksEnd lines from (Err (stop.BadLine number)) =
+    (at : ℕ) × (from ≤ at) × (at < length lines) × (number ≡ line_number_at lines at)
+    × (counted_lines (drop from (tokens_of lines)) ≡ counted_lines (drop at (tokens_of lines)))
+    × ((token : Token) × (drop at (tokens_of lines) ≡ token ∷ drop (at + 1) (tokens_of lines))
+    × IsTrue (counts token))
+ChecksEnd lines from (Err (stop.NoProof number)) = ⊥
+ChecksEnd lines from (Err stop.Short) = ⊥
+ChecksEnd lines from (Err stop.OutOfMemory) = Unit {0}

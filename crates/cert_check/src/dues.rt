@@ -1,0 +1,39 @@
+//! What a report's parts are told apart by.
+
+/// The word of a verdict row.
+#[derive(Clone, Copy, Debug, PartialEq, Eq)]
+pub enum RowWord {
+    Clinched,
+    Lost,
+    Possible,
+    Unsettled,
+}
+
+/// What a tree in a report stands for.
+#[derive(Clone, Copy, Debug, PartialEq, Eq)]
+pub enum TreeKind {
+    /// Each leaf is refuted; no node is marked new.
+    Refutation,
+    /// The budget was spent on it, and a leaf is open.
+    Spent,
+}
+
+/// What was counted in a tree so far.
+#[derive(Clone, Copy, Debug, PartialEq, Eq)]
+pub struct Tally {
+    /// How many nodes are new.
+    pub news: usize,
+    /// Some leaf is open.
+    pub some_open: bool,
+}
+
+/// Which head a proof line is.
+#[derive(Clone, Copy, Debug, PartialEq, Eq)]
+pub enum Head {
+    /// A refutation follows.
+    RefutedTree,
+    /// A tree on which the budget was spent follows.
+    SpentTree,
+    /// An example follows.
+    Example,
+}

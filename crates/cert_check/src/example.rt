@@ -1,0 +1,164 @@
+//! Examples in a report, score by score, and the lots that end them.
+
+ghost use Rattle.std.specs.Prelude.{◌≡◌, ◌<◌, ◌≤◌, List, Option, IsTrue, IfOk, IfSome, length};
+ghost use Rattle.league_core.specs.Seasons.{IsSeasonOf};
+ghost use Rattle.league_core.specs.Questions.{IsQuestionOf, holds_at};
+ghost use Rattle.league_core.specs.Questions as questions;
+ghost use Rattle.league_core.specs.Ranking.{are_lots};
+ghost use Rattle.league_core.specs.Sums as sums;
+ghost use Rattle.cert_check.specs.Tokens.{counts};
+ghost use Rattle.cert_check.specs.Dues.{after, score, lots, whole_example};
+ghost use Rattle.cert_check.specs.Dues as dues;
+ghost use Rattle.cert_check.specs.Calls.{Goes, GoesOverFixture, after_score_if, lots_of_token};
+ghost use Rattle.cert_check.specs.Calls.{IsOver};
+
+use crate::ranges::is_ending;
+use crate::report::Report;
+use crate::stop::Halt;
+use crate::token::Token;
+use cert_text::ProofLine;
+use final_rank::place;
+use league_core::{Claim, Event, Lots, OutOfMemory, Question, Score, Season};
+use tie_criteria::points_of;
+
+impl<'a> Report<'a> {
+    /// An example behind its head: a score for each fixture that the season has none for, and lots
+    /// with which the question holds.
+    pub fn example(&self, from: usize, question: Question) -> Result<usize, Halt>
+        requires room { from ≤ length self.now.tokens }
+        requires question { IsQuestionOf self.now.basis.sheet question }
+        ensures { Goes self.now from (whole_example self.now.basis question) result }
+    {
+        let mut finish = self.season.copy(self.alloc)?;
+        let mut at = from;
+        for fixture in 0..self.fixtures() {
+            at = self.take_fixture(at, fixture, &mut finish)?;
+        }
+        self.lots(at, question, &finish)
+    }
+
+    // Goes on over one fixture: its score is read where it has none.
+    fn take_fixture(&self, from: usize, fixture: u16, finish: &mut Season) -> Result<usize, Halt>
+        requires room { from ≤ length self.now.tokens }
+        requires in_range { fixture < length finish.old.scores }
+        ensures goes { GoesOverFixture self.now from fixture finish.old.scores finish.new.scores
+            result }
+        ensures over { IfOk result (λ _. IsOver fixture finish.old finish.new) }
+    {
+        if finish.score(fixture).is_some() {
+            return Ok(from);
+        }
+        let (at, token) = self.next(from)?;
+        match self.score_in(&token, fixture) {
+            Some(score) => {
+                self.keeps_league();
+                finish.apply(&Event::Set { fixture, score });
+                Ok(at + 1)
+            }
+            None => Err(Halt::BadLine(at)),
+        }
+    }
+
+    fn score_in(&self, token: &Token, fixture: u16) -> Option<Score>
+        requires { IsTrue (counts token.now) }
+        ensures score { (question : Question) (ended left : List (Option Score))
+            → fixture ≡ length ended
+            → after self.now.basis (score question ended left) token.now
+            ≡ after_score_if question ended left result }
+        ensures within { IfSome result
+            (λ it. IsTrue (dues.is_ending self.now.basis.sheet it)) }
+    {
+        match token {
+            Token::Proof(
+                ProofLine::Score {
+                    fixture: told,
+                    score,
+                },
+            ) => {
+                if *told == fixture && is_ending(self.sheet, *score) {
+                    Some(*score)
+                } else {
+                    None
+                }
+            }
+            _ => None,
+        }
+    }
+
+    fn lots(&self, from: usize, question: Question, finish: &Season) -> Result<usize, Halt>
+        requires room { from ≤ length self.now.tokens }
+        requires question { IsQuestionOf self.now.basis.sheet question }
+        requires of_sheet { IsSeasonOf self.now.basis.sheet finish.now }
+        requires deductions { finish.now.deductions ≡ self.now.basis.season.deductions }
+        ensures { Goes self.now from (lots question finish.now.scores) result }
+    {
+        let (at, token) = self.next(from)?;
+        match self.lots_in(&token)? {
+            Some(drawn) => {
+                if self.holds(question, finish, &drawn)? {
+                    Ok(at + 1)
+                } else {
+                    Err(Halt::NoProof(at))
+                }
+            }
+            None => Err(Halt::BadLine(at)),
+        }
+    }
+
+    fn lots_in(&self, token: &Token) -> Result<Option<Lots>, OutOfMemory>
+        requires { IsTrue (counts token.now) }
+        ensures lots { IfOk result (λ found.
+            found ≡ lots_of_token (length self.now.basis.sheet.clubs) token.now) }
+        ensures drawn { IfOk result (λ found. IfSome found
+            (λ it. IsTrue (are_lots (length self.now.basis.sheet.clubs) it))) }
+    {
+        match token {
+            Token::Proof(ProofLine::Lots(told)) => self.drawn(told.list.as_slice()),
+            _ => Ok(None),
+        }
+    }
+
+    fn drawn(&self, order: &[u8]) -> Result<Option<Lots>, OutOfMemory>
+        ensures { IfOk result (λ found. found ≡ dues.lots_if_drawn
+            (are_lots (length self.now.basis.sheet.clubs) order.now) order.now) }
+    {
+        if order.len() != self.sheet.clubs.len() {
+            return Ok(None);
+        }
+        match Lots::new(Vec::from_slice(self.alloc, order)?) {
+            Ok(lots) => Ok(Some(lots)),
+            Err(_) => Ok(None),
+        }
+    }
+
+    fn holds(&self, question: Question, finish: &Season, drawn: &Lots) -> Result<bool, OutOfMemory>
+        requires question { IsQuestionOf self.now.basis.sheet question }
+        requires of_sheet { IsSeasonOf self.now.basis.sheet finish.now }
+        requires drawn { IsTrue (are_lots (length self.now.basis.sheet.clubs) drawn.now) }
+        ensures { IfOk result (λ holds.
+            holds ≡ holds_at self.now.basis.sheet question finish.now drawn.now) }
+    {
+        let place = place(self.alloc, self.sheet, finish, drawn, question.club)?;
+        let on_side = is_on_side(place <= question.line, question.claim);
+        Ok(self.is_in_window(question, finish) && on_side)
+    }
+
+    fn is_in_window(&self, question: Question, finish: &Season) -> bool
+        requires question { IsQuestionOf self.now.basis.sheet question }
+        requires of_sheet { IsSeasonOf self.now.basis.sheet finish.now }
+        ensures { result ≡ questions.is_in_window question
+            (sums.points_of self.now.basis.sheet finish.now question.club) }
+    {
+        let points = points_of(self.sheet, finish, question.club);
+        question.low <= points && points <= question.high
+    }
+}
+
+fn is_on_side(inside: bool, claim: Claim) -> bool
+    ensures { result ≡ questions.is_on_side inside claim }
+{
+    match claim {
+        Claim::Inside => inside,
+        Claim::Outside => !inside,
+    }
+}

@@ -1,0 +1,93 @@
+//! A report with what it is judged by, and the next of its lines that counts.
+
+ghost use Rattle.std.specs.Prelude.{◌≡◌, ◌<◌, ◌≤◌, ◌+◌, ◌∷◌, length, drop, IfOk};
+ghost use Rattle.league_core.specs.Seasons.{IsLeague};
+ghost use Rattle.cert_check.specs.Calls.{IsNextAt, FindsNext};
+
+use crate::line_list::LineList;
+use crate::stop::Halt;
+use crate::token::{Token, counts};
+use league_core::{OutOfMemory, Season, Sheet};
+use std::alloc::Global;
+use std::marker::Model;
+
+/// The lines of a report with the sheet, the season and the epoch by which they are judged.
+/// Contracts see what each line is.
+#[derive(Drop)]
+pub struct Report<'a> {
+    pub alloc: Global,
+    pub sheet: &'a Sheet,
+    pub season: &'a Season,
+    pub epoch: u64,
+    pub lines: &'a LineList,
+}
+
+impl<'a> Model for Report<'a> {
+    ghost use Rattle.cert_check.specs.Calls.{Judged, basis_of};
+    ghost use Rattle.cert_check.specs.LineLists.{tokens_of};
+
+    ghost Value = { Judged };
+
+    ghost use Rattle.league_core.specs.Seasons.{IsLeague};
+
+    ghost view = { λ report. record {
+      basis = basis_of report.sheet.now report.season.now report.epoch;
+      tokens = tokens_of report.lines.now;
+    } };
+
+    ghost invariant = { λ report. IsLeague report.sheet.now report.season.now };
+}
+
+impl<'a> Report<'a> {
+    /// Hands on what the type keeps: a sheet within the limits, and a season of it.
+    pub fn keeps_league(&self)
+        ensures { IsLeague self.now.basis.sheet self.now.basis.season }
+    {
+        let _sheet = self.sheet;
+    }
+
+    /// How many lines there are, with those that are passed over.
+    pub fn len(&self) -> usize
+        ensures { result ≡ length self.now.tokens }
+    {
+        self.lines.len()
+    }
+
+    /// How many clubs there are.
+    pub fn clubs(&self) -> u8
+        ensures { result ≡ length self.now.basis.sheet.clubs }
+    {
+        self.sheet.clubs.len() as u8
+    }
+
+    /// How many fixtures there are.
+    pub fn fixtures(&self) -> u16
+        ensures value { result ≡ length self.now.basis.sheet.fixtures }
+        ensures season { length self.now.basis.season.scores ≡ result }
+    {
+        self.sheet.fixtures.len() as u16
+    }
+
+    /// What the line at a position is.
+    pub fn token(&self, at: usize) -> Result<Token, OutOfMemory>
+        requires { at < length self.now.tokens }
+        ensures { IfOk result
+            (λ token. drop at self.now.tokens ≡ token ∷ drop (at + 1) self.now.tokens) }
+    {
+        self.lines.token(self.alloc, at)
+    }
+
+    /// The next line that counts, from a position on, with its position.
+    pub fn next(&self, from: usize) -> Result<(usize, Token), Halt>
+        requires { from ≤ length self.now.tokens }
+        ensures { FindsNext self.now from result }
+    {
+        for at in from..self.len() {
+            let token = self.token(at)?;
+            if counts(&token) {
+                return Ok((at, token));
+            }
+        }
+        Err(Halt::Short)
+    }
+}

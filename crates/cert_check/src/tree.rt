@@ -1,0 +1,257 @@
+//! Trees in a report, node by node.
+
+ghost use Rattle.std.specs.Prelude.{◌≡◌, ◌<◌, ◌≤◌, ◌+◌, ◌^◌, IsTrue, OnOk, IfOk, true, length};
+ghost use Rattle.league_core.specs.Questions.{IsQuestionOf};
+ghost use Rattle.league_core.specs.Reasons as reasons;
+ghost use Rattle.cert_check.specs.Tokens.{counts};
+ghost use Rattle.cert_check.specs.Dues.{whole_tree, is_path_for, after};
+ghost use Rattle.cert_check.specs.Dues as dues;
+ghost use Rattle.cert_check.specs.Calls.{Goes, NodeSays, nodes_due, node_of_token, pending_of};
+ghost use Rattle.cert_check.specs.Calls.{after_walked};
+
+use crate::dues::{Tally, TreeKind};
+use crate::path::{go_down, next_half};
+use crate::ranges::{is_reason_for, is_test_for};
+use crate::report::Report;
+use crate::stop::Halt;
+use crate::token::Token;
+use cert_text::ProofLine;
+use check_bounds::holds_in;
+use league_core::{Literal, OutOfMemory, Question, Reason, Test, TreeNode};
+
+// What kind of tree, for which question.
+#[derive(Clone, Copy, Debug, PartialEq, Eq)]
+pub struct Wanted {
+    pub kind: TreeKind,
+    pub question: Question,
+}
+
+// Where the reading of a tree stands: the way to the zone that is due, and what was counted.
+#[derive(Drop)]
+pub struct Walk {
+    pub path: Vec<Literal>,
+    pub tally: Tally,
+}
+
+impl<'a> Report<'a> {
+    /// The nodes of a tree from its root on.
+    pub fn tree(&self, from: usize, wanted: Wanted) -> Result<usize, Halt>
+        requires room { from ≤ length self.now.tokens }
+        requires question { IsQuestionOf self.now.basis.sheet wanted.question }
+        ensures { Goes self.now from (whole_tree wanted.kind wanted.question) result }
+    {
+        let mut walk = Walk {
+            path: Vec::new(self.alloc),
+            tally: Tally {
+                news: 0,
+                some_open: false,
+            },
+        };
+        let mut at = from;
+        loop {
+            let (place, token) = self.next(at)?;
+            at = place + 1;
+            if self.take_node(place, &token, wanted, &mut walk)? {
+                return Ok(at);
+            }
+        }
+    }
+
+    // True where the tree is whole behind this line.
+    fn take_node(
+        &self,
+        at: usize,
+        token: &Token,
+        wanted: Wanted,
+        walk: &mut Walk,
+    ) -> Result<bool, Halt>
+        requires counted { IsTrue (counts token.now) }
+        requires question { IsQuestionOf self.now.basis.sheet wanted.question }
+        requires path { IsTrue
+            (is_path_for self.now.basis.sheet wanted.question walk.old.path.items) }
+        requires few { walk.old.tally.news + 1 < 2 ^ 64 }
+        ensures says { NodeSays
+            (after self.now.basis (nodes_due wanted walk.old) token.now)
+            at (nodes_due wanted walk.new) result }
+        ensures path { OnOk result (IsTrue
+            (is_path_for self.now.basis.sheet wanted.question walk.new.path.items)) }
+        ensures few { walk.new.tally.news ≤ walk.old.tally.news + 1 }
+    {
+        match node_of(wanted.kind, token) {
+            Some(TreeNode::Split { test, fresh }) => self.take_split(at, test, fresh, wanted, walk),
+            Some(TreeNode::Refuted { reason, fresh }) => {
+                self.take_refuted(at, reason, fresh, wanted, walk)
+            }
+            Some(TreeNode::Open) => {
+                walk.tally.some_open = true;
+                self.leave(at, wanted, walk)
+            }
+            Some(TreeNode::Lent(_)) => Err(Halt::BadLine(at)),
+            None => Err(Halt::BadLine(at)),
+        }
+    }
+
+    fn take_split(
+        &self,
+        at: usize,
+        test: Test,
+        fresh: bool,
+        wanted: Wanted,
+        walk: &mut Walk,
+    ) -> Result<bool, Halt>
+        requires path { IsTrue
+            (is_path_for self.now.basis.sheet wanted.question walk.old.path.items) }
+        requires few { walk.old.tally.news + 1 < 2 ^ 64 }
+        ensures says { NodeSays
+            (after_walked self.now.basis wanted walk.old (TreeNode.Split test fresh))
+            at (nodes_due wanted walk.new) result }
+        ensures path { OnOk result (IsTrue
+            (is_path_for self.now.basis.sheet wanted.question walk.new.path.items)) }
+        ensures few { walk.new.tally.news ≤ walk.old.tally.news + 1 }
+    {
+        if !is_test_for(self.sheet, &wanted.question, test) {
+            return Err(Halt::BadLine(at));
+        }
+        walk.tally = with_fresh(fresh, walk.tally);
+        go_down(&mut walk.path, test)?;
+        Ok(false)
+    }
+
+    fn take_refuted(
+        &self,
+        at: usize,
+        reason: Reason,
+        fresh: bool,
+        wanted: Wanted,
+        walk: &mut Walk,
+    ) -> Result<bool, Halt>
+        requires question { IsQuestionOf self.now.basis.sheet wanted.question }
+        requires path { IsTrue
+            (is_path_for self.now.basis.sheet wanted.question walk.old.path.items) }
+        requires few { walk.old.tally.news + 1 < 2 ^ 64 }
+        ensures says { NodeSays
+            (after_walked self.now.basis wanted walk.old (TreeNode.Refuted reason fresh))
+            at (nodes_due wanted walk.new) result }
+        ensures path { OnOk result (IsTrue
+            (is_path_for self.now.basis.sheet wanted.question walk.new.path.items)) }
+        ensures few { walk.new.tally.news ≤ walk.old.tally.news + 1 }
+    {
+        if !is_reason_for(self.sheet, &wanted.question, reason) {
+            return Err(Halt::BadLine(at));
+        }
+        if !self.has_reason(wanted.question, walk.path.as_slice(), reason)? {
+            return Err(Halt::NoProof(at));
+        }
+        walk.tally = with_fresh(fresh, walk.tally);
+        self.leave(at, wanted, walk)
+    }
+
+    fn has_reason(
+        &self,
+        question: Question,
+        path: &[Literal],
+        reason: Reason,
+    ) -> Result<bool, OutOfMemory>
+        requires question { IsQuestionOf self.now.basis.sheet question }
+        requires path { IsTrue (is_path_for self.now.basis.sheet question path.now) }
+        ensures { IfOk result (λ holds. holds ≡ reasons.has_reason self.now.basis.sheet
+            self.now.basis.season question path.now reason) }
+    {
+        holds_in(self.alloc, self.sheet, self.season, &question, path, reason)
+    }
+
+    // Leaves a leaf that proves what it says.
+    fn leave(&self, at: usize, wanted: Wanted, walk: &mut Walk) -> Result<bool, Halt>
+        requires path { IsTrue
+            (is_path_for self.now.basis.sheet wanted.question walk.old.path.items) }
+        ensures says { NodeSays
+            (dues.behind_leaf self.now.basis wanted.kind wanted.question
+            (pending_of walk.old.path.items) walk.old.tally true)
+            at (nodes_due wanted walk.new) result }
+        ensures path { OnOk result (IsTrue
+            (is_path_for self.now.basis.sheet wanted.question walk.new.path.items)) }
+        ensures same { walk.new.tally ≡ walk.old.tally }
+    {
+        if next_half(&mut walk.path) {
+            Ok(false)
+        } else if is_tally_whole(self.sheet.budget, wanted.kind, walk.tally) {
+            Ok(true)
+        } else {
+            Err(Halt::NoProof(at))
+        }
+    }
+}
+
+fn with_fresh(fresh: bool, tally: Tally) -> Tally
+    requires { tally.news + 1 < 2 ^ 64 }
+    ensures { result ≡ dues.with_fresh fresh tally }
+{
+    if fresh {
+        Tally {
+            news: tally.news + 1,
+            some_open: tally.some_open,
+        }
+    } else {
+        tally
+    }
+}
+
+fn is_tally_whole(budget: u32, kind: TreeKind, tally: Tally) -> bool
+    ensures { result ≡ dues.is_tally_whole budget kind tally }
+{
+    match kind {
+        TreeKind::Refutation => true,
+        TreeKind::Spent => tally.news == budget as usize && tally.some_open,
+    }
+}
+
+fn node_of(kind: TreeKind, token: &Token) -> Option<TreeNode>
+    ensures { result ≡ node_of_token kind token.now }
+{
+    match token {
+        Token::Proof(line) => match kind {
+            TreeKind::Refutation => refutation_node(line),
+            TreeKind::Spent => spent_node(line),
+        },
+        _ => None,
+    }
+}
+
+fn refutation_node(line: &ProofLine) -> Option<TreeNode>
+    ensures { result ≡ dues.node_in TreeKind.Refutation line.now }
+{
+    let fresh = false;
+    match line {
+        ProofLine::Split(test) => Some(TreeNode::Split { test: *test, fresh }),
+        ProofLine::Leaf(reason) => Some(TreeNode::Refuted {
+            reason: *reason,
+            fresh,
+        }),
+        _ => None,
+    }
+}
+
+fn spent_node(line: &ProofLine) -> Option<TreeNode>
+    ensures { result ≡ dues.node_in TreeKind.Spent line.now }
+{
+    match line {
+        ProofLine::Split(test) => Some(TreeNode::Split {
+            test: *test,
+            fresh: false,
+        }),
+        ProofLine::NewSplit(test) => Some(TreeNode::Split {
+            test: *test,
+            fresh: true,
+        }),
+        ProofLine::Leaf(reason) => Some(TreeNode::Refuted {
+            reason: *reason,
+            fresh: false,
+        }),
+        ProofLine::NewLeaf(reason) => Some(TreeNode::Refuted {
+            reason: *reason,
+            fresh: true,
+        }),
+        ProofLine::OpenLeaf => Some(TreeNode::Open),
+        _ => None,
+    }
+}
