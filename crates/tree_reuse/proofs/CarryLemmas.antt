@@ -25,7 +25,8 @@ use Rattle.tree_reuse.specs.declared.halves.Halves.TheVariants.{Both, YesAlone, 
 use Rattle.tree_reuse.specs.declared.carry.Part.{Part}
 use Rattle.tree_reuse.specs.declared.carry.Part.TheVariants.{Dropped, Kept}
 use Rattle.tree_reuse.specs.Retargets.{halves_in, retargeted_from}
-use Rattle.tree_reuse.specs.Carrying.{literal_of, zone_of_part, way_after, nodes_to_come}
+use Rattle.tree_reuse.specs.Carrying.{way_after, nodes_to_come}
+use Rattle.tree_reuse.specs.Steps.{literal_of, zone_of_part}
 use Rattle.tree_reuse.specs.Carrying.{halves_kept}
 use Rattle.tree_reuse.specs.Carrying.{parts_after, split_kept, nodes_kept, parts_next, nodes_next}
 use Rattle.tree_reuse.specs.Carrying.{ArePartsOf, IsWalk}

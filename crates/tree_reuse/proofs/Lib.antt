@@ -1,5 +1,16 @@
--- Lemmas on lending, on lists of nodes, and on trees that are carried over.
-pub mod LendRules
+-- The arena: marks and lists of nodes, trees, weights, links, what each call does, lent leaves,
+-- rooms, lists of nodes, how an arena is made; then zones, and trees that are carried over.
+pub mod MarkLemmas
+pub mod ShapeLemmas
+pub mod WeightLemmas
+pub mod LinkLemmas
+pub mod ArenaLemmas
+pub mod FindLemmas
+pub mod RoomLemmas
+pub mod VisitLemmas
+pub mod FillLemmas
+pub mod BuildLemmas
 pub mod ListLemmas
+pub mod ZoneLemmas
 pub mod RetargetLemmas
 pub mod CarryLemmas

@@ -1,7 +1,6 @@
 -- How a tree is carried over as a list: its nodes are gone through from the root on, with the parts
 -- that are still to come on a stack.
-use Rattle.std.specs.Prelude.{◌≡◌, ℕ, ◌≤◌, Bool, true, false, IsTrue, List, [], ◌∷◌, ◌++◌, length}
-use Rattle.std.specs.Prelude.{take}
+use Rattle.std.specs.Prelude.{◌≡◌, ℕ, ◌≤◌, true, false, IsTrue, List, [], ◌∷◌, ◌++◌, length}
 use Rattle.std.specs.Prelude.{Option, Some, None}
 use Rattle.league_core.specs.declared.sheet.Sheet.{Sheet}
 use Rattle.league_core.specs.declared.question.Question.{Question}
@@ -19,16 +18,8 @@ use Rattle.tree_reuse.specs.declared.halves.Halves.{Halves}
 use Rattle.tree_reuse.specs.declared.halves.Halves.TheVariants.{Both, YesAlone, NoAlone}
 use Rattle.tree_reuse.specs.declared.carry.Part.{Part}
 use Rattle.tree_reuse.specs.declared.carry.Part.TheVariants.{Dropped, Kept}
+use Rattle.tree_reuse.specs.Steps.{literal_of, zone_of_part}
 use Rattle.tree_reuse.specs.Retargets.{halves_in, leaf_kept, retargeted_from}
-
--- the test of a literal
-abbrev pub literal_of : Test → Bool → Literal
-literal_of test holds = record { test = test; yes = holds }
-
--- the zone of a part: so many literals of the way, and one more if there is one
-abbrev pub zone_of_part : List Literal → ℕ → Option Literal → List Literal
-zone_of_part way depth None = take depth way
-zone_of_part way depth (Some literal) = take depth way ++ literal ∷ []
 
 -- the way after a part was taken up: that of its zone; a part that is dropped changes nothing
 abbrev pub way_after : List Literal → Part → List Literal

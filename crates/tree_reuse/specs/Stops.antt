@@ -2,8 +2,8 @@
 use Rattle.std.specs.Prelude.{◌≡◌, List, None}
 use Rattle.league_core.specs.declared.tree.TreeNode.{TreeNode}
 use Rattle.league_core.specs.TreeLists.{tree_of}
-use Rattle.tree_reuse.specs.declared.tree.TreeStop.{TreeStop}
-use Rattle.tree_reuse.specs.declared.tree.TreeStop.TheVariants.{NoTree, OutOfMemory}
+use Rattle.tree_reuse.specs.declared.stop.TreeStop.{TreeStop}
+use Rattle.tree_reuse.specs.declared.stop.TreeStop.TheVariants.{NoTree, OutOfMemory}
 
 -- the list comes back where it is that of no tree; nothing is said of want of memory
 abbrev pub WhyNoTree : List TreeNode → TreeStop → Type 0

@@ -2,17 +2,25 @@
 //!
 //! A tree is seen as the one of league_core's `specs/Trees.antt`. A leaf is open, lent to a worker
 //! under a number, or refuted; whatever happens to it, the leaves together leave nothing out. Read
-//! `specs/Calls.antt` first.
+//! `specs/Calls.antt` first, and `specs/Arena.antt` for how the nodes stand.
 #![tactic(auto)]
 
+mod arena;
+mod build;
 mod carry;
 mod halves;
 mod laws;
+mod list;
+mod node;
 mod retargeting;
+mod shorten;
+mod stop;
 mod tree;
 mod way;
+mod zones;
 
 pub use halves::MOST_KEPT;
 pub use laws::retargeting_keeps_what_holds;
 pub use retargeting::retarget;
-pub use tree::{MOST_NODES, Tree, TreeStop};
+pub use stop::TreeStop;
+pub use tree::{MOST_NODES, Tree};

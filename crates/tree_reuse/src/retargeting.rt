@@ -7,7 +7,8 @@ ghost use Rattle.tree_reuse.specs.Retargets.{retargeted};
 
 use crate::carry::carry;
 use crate::halves::MOST_KEPT;
-use crate::tree::{Tree, TreeStop};
+use crate::stop::TreeStop;
+use crate::tree::Tree;
 use league_core::{OutOfMemory, Question, Season, Sheet};
 use std::alloc::Global;
 

@@ -1,46 +1,35 @@
-//! The tree in boxes.
+//! The tree in an arena: one list of nodes, a stack of the open ones, and the lent ones.
 
-ghost use Rattle.std.specs.Prelude.{◌≡◌, ◌≤◌, ◌+◌, true, false, [], ◌∷◌, ◌++◌, length};
-ghost use Rattle.std.specs.Prelude.{IfOk, IfErr, OnErr};
-ghost use Rattle.league_core.specs.Trees.{open_leaf, refuted_leaf, branch, zones_from, zones_of};
-ghost use Rattle.league_core.specs.Trees.{preorder, node_count, has_open, is_refuted};
+ghost use Rattle.std.specs.Prelude.{◌≡◌, ◌≤◌, ◌+◌, true, length, IsTrue, IfOk, IfErr, OnOk, OnErr};
+ghost use Rattle.std.specs.Option.{is_some};
+ghost use Rattle.league_core.specs.TreeLists.{tree_of};
+ghost use Rattle.tree_reuse.specs.Stops.{WhyNoTree};
+ghost use Rattle.league_core.specs.Trees.{open_leaf, refuted_leaf, branch, node_count, has_open};
+ghost use Rattle.league_core.specs.Trees.{is_refuted, preorder, zones_of};
 ghost use Rattle.league_core.specs.Lending.{times_lent, lent_count, put, all_opened};
 ghost use Rattle.tree_reuse.specs.Calls.{Lending, literals_of};
-ghost use Rattle.tree_reuse.specs.Boxed.{LendsBelow, LendsHalf, SplitsNode, JoinsNode};
-ghost use Rattle.tree_reuse.specs.Stops.{WhyNoTree};
+ghost use Rattle.tree_reuse.specs.Arena.{IsWayTo};
 
-use league_core::{Listing, Literal, OutOfMemory, Reason, Test, TreeNode, Zone};
+use crate::arena::{find, way_to, write};
+use crate::build::{Build, is_tree};
+use crate::list::list_nodes;
+use crate::node::{Kind, Node};
+use crate::stop::TreeStop;
+use crate::zones::list_zones;
+use league_core::{Listing, Literal, OutOfMemory, Reason, RoomyList, Test, TreeNode, Zone};
 use std::alloc::Global;
 use std::marker::Model;
-use std::mem;
 
 /// The most nodes and lent leaves together with which a leaf can be lent.
 pub const MOST_NODES: u32 = 2_000_000_000;
 
-/// Why a list gave no tree.
-#[derive(Drop)]
-pub enum TreeStop {
-    /// No tree has this list of nodes.
-    NoTree(Vec<TreeNode>),
-    OutOfMemory,
-}
-
 /// A tree of zones. Contracts see the tree of splits and leaves, wherever its nodes stand.
-#[cycle(tree)]
 #[derive(Drop)]
 pub struct Tree {
     alloc: Global,
-    node: Node,
-}
-
-// A lent leaf keeps the two boxes that its split will need.
-#[cycle(tree)]
-#[derive(Drop)]
-enum Node {
-    Open,
-    Lent(u64, Box<Tree>, Box<Tree>),
-    Refuted(Reason, bool),
-    Split(Test, bool, Box<Tree>, Box<Tree>),
+    nodes: RoomyList<Node>,
+    waiting: RoomyList<u32>,
+    lent: RoomyList<u32>,
 }
 
 impl Model for Tree {
@@ -51,17 +40,11 @@ impl Model for Tree {
 
     ghost coded = { coded_tree };
 
-    ghost use Rattle.tree_reuse.specs.Boxed.{seen, SparesAreOpen, depth};
+    ghost use Rattle.tree_reuse.specs.Arena.{tree_below, IsRoomy};
 
-    ghost view = { λ tree. seen tree.node };
+    ghost view = { λ tree. tree_below tree.nodes.items 0 };
 
-    ghost invariant = { λ tree. SparesAreOpen tree.node };
-
-    ghost size = { depth };
-
-    ghost use Rattle.std.proofs.Common.{arith};
-
-    ghost size_decreases = { λ a h. Prim.grind arith };
+    ghost invariant = { λ tree. IsRoomy tree.nodes tree.waiting tree.lent };
 }
 
 impl Tree {
@@ -69,9 +52,22 @@ impl Tree {
     pub fn root(alloc: Global) -> Result<Tree, OutOfMemory>
         ensures { IfOk result (λ tree. tree ≡ open_leaf) }
     {
+        let mut nodes = RoomyList::new(alloc);
+        let mut waiting = RoomyList::new(alloc);
+        nodes.reserve(1)?;
+        waiting.reserve(1)?;
+        nodes.push(Node {
+            kind: Kind::Open,
+            parent: 0,
+            yes: true,
+        });
+        waiting.push(0);
+        let lent = RoomyList::new(alloc);
         Ok(Tree {
             alloc,
-            node: Node::Open,
+            nodes,
+            waiting,
+            lent,
         })
     }
 
@@ -79,93 +75,139 @@ impl Tree {
     pub fn has_open(&self) -> bool
         ensures { result ≡ has_open self.now }
     {
-        match &self.node {
-            Node::Open => true,
-            Node::Lent(..) | Node::Refuted(..) => false,
-            Node::Split(_, _, yes_half, no_half) => yes_half.has_open() || no_half.has_open(),
-        }
+        self.waiting.len() > 0
     }
 
     /// Each leaf is refuted.
     pub fn is_refuted(&self) -> bool
         ensures { result ≡ is_refuted self.now }
     {
-        match &self.node {
-            Node::Open | Node::Lent(..) => false,
-            Node::Refuted(..) => true,
-            Node::Split(_, _, yes_half, no_half) => yes_half.is_refuted() && no_half.is_refuted(),
-        }
+        self.waiting.len() == 0 && self.lent.len() == 0
     }
 
     /// Lends an open leaf under a number that is not lent, and answers its zone; `None` where no
-    /// leaf is open. It takes the room that a split of this leaf needs.
+    /// leaf is open. It takes the room that a split of this leaf needs. The leaf is the last one
+    /// that was opened, of two halves the yes half.
     pub fn lend(&mut self, number: u64) -> Result<Option<Zone>, OutOfMemory>
         requires free { times_lent number self.old ≡ 0 }
         requires few { node_count self.old + lent_count self.old ≤ MOST_NODES }
         ensures ok { IfOk result (Lending number self.old self.new) }
         ensures err { OnErr result (self.new ≡ self.old) }
     {
-        let mut way = Vec::new(self.alloc);
-        if self.lend_below(number, &mut way)? {
-            let literals = Listing::from_vec(way);
-            return Ok(Some(Zone { literals }));
+        if !self.has_open() {
+            return Ok(None);
         }
-        Ok(None)
-    }
-
-    #[cycle(lend)]
-    #[tactic(auto, using(crate::proofs::LendRules::lends))]
-    fn lend_below(&mut self, number: u64, way: &mut Vec<Literal>) -> Result<bool, OutOfMemory>
-        requires { times_lent number self.old ≡ 0 }
-        ensures ok { IfOk result (LendsBelow number self.old self.new way.old.items way.new.items) }
-        ensures err { OnErr result (self.new ≡ self.old) }
-    {
-        match &mut self.node {
-            Node::Lent(..) | Node::Refuted(..) => Ok(false),
-            Node::Open => {
-                let yes_half = Box::new(self.alloc, Tree::leaf(self.alloc))?;
-                let no_half = Box::new(self.alloc, Tree::leaf(self.alloc))?;
-                self.node = Node::Lent(number, yes_half, no_half);
-                Ok(true)
+        self.lend_last(number)?;
+        match self.way(number) {
+            Ok(way) => {
+                let literals = Listing::from_vec(way);
+                Ok(Some(Zone { literals }))
             }
-            Node::Split(test, _, yes_half, no_half) => {
-                let test = *test;
-                if yes_half.lend_half(number, way, Literal { test, yes: true })? {
-                    return Ok(true);
-                }
-                no_half.lend_half(number, way, Literal { test, yes: false })
+            Err(_) => {
+                self.reopen(number);
+                Err(OutOfMemory)
             }
         }
     }
 
-    // Looks in the half where the literal is true, and leaves the way as it was if nothing is open.
-    #[cycle(lend)]
-    fn lend_half(
-        &mut self,
-        number: u64,
-        way: &mut Vec<Literal>,
-        literal: Literal,
-    ) -> Result<bool, OutOfMemory>
-        requires { times_lent number self.old ≡ 0 }
-        ensures ok { IfOk result
-            (LendsHalf number self.old self.new way.old.items literal way.new.items) }
+    // Lends the leaf on top of the open ones.
+    fn lend_last(&mut self, number: u64) -> Result<(), OutOfMemory>
+        requires free { times_lent number self.old ≡ 0 }
+        requires few { node_count self.old + lent_count self.old ≤ MOST_NODES }
+        requires some { has_open self.old ≡ true }
+        ensures ok { OnOk result (put number open_leaf self.new ≡ self.old) }
+        ensures once { OnOk result (times_lent number self.new ≡ 1) }
         ensures err { OnErr result (self.new ≡ self.old) }
     {
-        way.push(literal)?;
-        if self.lend_below(number, way)? {
-            return Ok(true);
-        }
-        way.pop();
-        Ok(false)
+        let _ = &self.nodes;
+        let more = 2 * (self.lent.len() + 1);
+        self.lent.reserve(1)?;
+        self.nodes.reserve(more)?;
+        self.waiting.reserve(more)?;
+        let leaf = self.waiting.pop();
+        write(&mut self.nodes, leaf, Kind::Lent(number));
+        self.lent.push(leaf);
+        Ok(())
     }
 
-    fn leaf(alloc: Global) -> Tree
-        ensures { result ≡ open_leaf }
+    // The zone of the leaf that is lent under the number.
+    fn way(&self, number: u64) -> Result<Vec<Literal>, OutOfMemory>
+        requires { times_lent number self.now ≡ 1 }
+        ensures { IfOk result (λ way. IsWayTo number self.now way.items) }
     {
-        Tree {
-            alloc,
-            node: Node::Open,
+        way_to(
+            self.alloc,
+            self.nodes.as_slice(),
+            self.lent.as_slice(),
+            number,
+        )
+    }
+
+    /// The leaf that is lent under the number is open again.
+    pub fn reopen(&mut self, number: u64)
+        requires { times_lent number self.old ≡ 1 }
+        ensures { self.new ≡ put number open_leaf self.old }
+    {
+        let place = find(self.nodes.as_slice(), self.lent.as_slice(), number);
+        let leaf = self.lent.remove(place);
+        write(&mut self.nodes, leaf, Kind::Open);
+        self.waiting.push(leaf);
+    }
+
+    /// The leaf that is lent under the number is refuted, and new.
+    pub fn refute(&mut self, number: u64, reason: Reason)
+        requires { times_lent number self.old ≡ 1 }
+        ensures { self.new ≡ put number (refuted_leaf reason true) self.old }
+    {
+        let place = find(self.nodes.as_slice(), self.lent.as_slice(), number);
+        let leaf = self.lent.remove(place);
+        write(&mut self.nodes, leaf, Kind::Refuted(reason, true));
+    }
+
+    /// The leaf that is lent under the number is a new split with two open leaves. It takes no
+    /// memory.
+    pub fn split(&mut self, number: u64, test: Test)
+        requires { times_lent number self.old ≡ 1 }
+        ensures { self.new ≡ put number (branch test true open_leaf open_leaf) self.old }
+    {
+        let place = find(self.nodes.as_slice(), self.lent.as_slice(), number);
+        let leaf = self.lent.remove(place);
+        let size = self.nodes.len() as u32;
+        write(
+            &mut self.nodes,
+            leaf,
+            Kind::Split(test, true, size - leaf - 1),
+        );
+        self.nodes.push(Node {
+            kind: Kind::Open,
+            parent: leaf,
+            yes: true,
+        });
+        self.nodes.push(Node {
+            kind: Kind::Open,
+            parent: leaf,
+            yes: false,
+        });
+        self.waiting.push(size + 1);
+        self.waiting.push(size);
+    }
+
+    /// Each lent leaf is open again.
+    pub fn reopen_all(&mut self)
+        ensures { self.new ≡ all_opened self.old }
+    {
+        while self.lent.len() > 0 {
+            let leaf = self.lent.pop();
+            write(&mut self.nodes, leaf, Kind::Open);
+            self.waiting.push(leaf);
         }
+    }
+
+    /// The nodes from the root on, the half where a test is true first.
+    pub fn nodes(&self) -> Result<Vec<TreeNode>, OutOfMemory>
+        ensures { IfOk result (λ nodes. nodes.items ≡ preorder self.now) }
+    {
+        list_nodes(self.alloc, self.nodes.as_slice())
     }
 
     /// The tree whose nodes are this list; `NoTree` hands the list back exactly where no tree has
@@ -175,213 +217,46 @@ impl Tree {
         ensures ok { IfOk result (λ tree. preorder tree ≡ nodes.items) }
         ensures err { IfErr result (WhyNoTree nodes.items) }
     {
-        let mut trees = Vec::new(alloc);
-        let mut at = nodes.len();
-        while at > 0 {
-            at -= 1;
-            match join_node(alloc, &mut trees, nodes[at]) {
-                Ok(true) => {}
-                Ok(false) => return Err(TreeStop::NoTree(nodes)),
-                Err(_) => return Err(TreeStop::OutOfMemory),
-            }
-        }
-        let Some(tree) = trees.pop() else {
+        if !is_tree(nodes.as_slice()) {
             return Err(TreeStop::NoTree(nodes));
-        };
-        if trees.is_empty() {
-            Ok(tree)
-        } else {
-            Err(TreeStop::NoTree(nodes))
+        }
+        match Tree::of_list(alloc, nodes.as_slice()) {
+            Ok(tree) => Ok(tree),
+            Err(_) => Err(TreeStop::OutOfMemory),
         }
     }
 
-    /// The leaf that is lent under the number is open again.
-    pub fn reopen(&mut self, number: u64)
-        requires { times_lent number self.old ≡ 1 }
-        ensures { self.new ≡ put number open_leaf self.old }
+    fn of_list(alloc: Global, list: &[TreeNode]) -> Result<Tree, OutOfMemory>
+        requires few { length list.now ≤ MOST_NODES }
+        requires some { IsTrue (is_some (tree_of list.now)) }
+        ensures { IfOk result (λ tree. preorder tree ≡ list.now) }
     {
-        self.open_lent(number)
-    }
-
-    /// The leaf that is lent under the number is refuted, and new.
-    pub fn refute(&mut self, number: u64, reason: Reason)
-        requires { times_lent number self.old ≡ 1 }
-        ensures { self.new ≡ put number (refuted_leaf reason true) self.old }
-    {
-        self.refute_lent(number, reason)
-    }
-
-    /// The leaf that is lent under the number is a new split with two open leaves. It takes no
-    /// memory.
-    pub fn split(&mut self, number: u64, test: Test)
-        requires { times_lent number self.old ≡ 1 }
-        ensures { self.new ≡ put number (branch test true open_leaf open_leaf) self.old }
-    {
-        self.split_lent(number, test)
-    }
-
-    /// Each lent leaf is open again.
-    pub fn reopen_all(&mut self)
-        ensures { self.new ≡ all_opened self.old }
-    {
-        match &mut self.node {
-            Node::Open | Node::Refuted(..) => {}
-            Node::Lent(..) => self.node = Node::Open,
-            Node::Split(_, _, yes_half, no_half) => {
-                yes_half.reopen_all();
-                no_half.reopen_all();
-            }
+        let mut build = Build::start(alloc)?;
+        for node in list {
+            build.take(*node)?;
         }
+        let more = 2 * build.lent.len();
+        build.nodes.reserve(more)?;
+        build.waiting.reserve(more)?;
+        let Build {
+            nodes,
+            places: _,
+            waiting,
+            lent,
+        } = build;
+        Ok(Tree {
+            alloc,
+            nodes,
+            waiting,
+            lent,
+        })
     }
 
     /// The zones of all leaves, the half where a test is true first.
     pub fn leaves(&self) -> Result<Vec<Zone>, OutOfMemory>
         ensures { IfOk result (λ zones. literals_of zones.items ≡ zones_of self.now) }
     {
-        let mut found = Vec::new(self.alloc);
-        let mut zone = Vec::new(self.alloc);
-        self.push_leaves(&mut zone, &mut found)?;
-        Ok(found)
+        let nodes = self.nodes()?;
+        list_zones(self.alloc, nodes.as_slice())
     }
-
-    fn push_leaves(&self, zone: &mut Vec<Literal>, found: &mut Vec<Zone>) -> Result<(), OutOfMemory>
-        ensures zone { IfOk result (λ _. zone.new.items ≡ zone.old.items) }
-        ensures found { IfOk result (λ _. literals_of found.new.items
-            ≡ literals_of found.old.items ++ zones_from zone.old.items self.now) }
-    {
-        match &self.node {
-            Node::Open | Node::Lent(..) | Node::Refuted(..) => {
-                let literals = Listing::from_vec(Vec::from_slice(self.alloc, zone.as_slice())?);
-                found.push(Zone { literals })?;
-            }
-            Node::Split(test, _, yes_half, no_half) => {
-                let test = *test;
-                zone.push(Literal { test, yes: true })?;
-                yes_half.push_leaves(zone, found)?;
-                zone.pop();
-                zone.push(Literal { test, yes: false })?;
-                no_half.push_leaves(zone, found)?;
-                zone.pop();
-            }
-        }
-        Ok(())
-    }
-
-    /// The nodes from the root on, the half where a test is true first.
-    pub fn nodes(&self) -> Result<Vec<TreeNode>, OutOfMemory>
-        ensures { IfOk result (λ nodes. nodes.items ≡ preorder self.now) }
-    {
-        let mut found = Vec::new(self.alloc);
-        self.push_nodes(&mut found)?;
-        Ok(found)
-    }
-
-    fn push_nodes(&self, found: &mut Vec<TreeNode>) -> Result<(), OutOfMemory>
-        ensures { IfOk result (λ _. found.new.items ≡ found.old.items ++ preorder self.now) }
-    {
-        match &self.node {
-            Node::Open => found.push(TreeNode::Open)?,
-            Node::Lent(number, _, _) => found.push(TreeNode::Lent(*number))?,
-            Node::Refuted(reason, fresh) => found.push(TreeNode::Refuted {
-                reason: *reason,
-                fresh: *fresh,
-            })?,
-            Node::Split(test, fresh, yes_half, no_half) => {
-                found.push(TreeNode::Split {
-                    test: *test,
-                    fresh: *fresh,
-                })?;
-                yes_half.push_nodes(found)?;
-                no_half.push_nodes(found)?;
-            }
-        }
-        Ok(())
-    }
-
-    fn open_lent(&mut self, number: u64)
-        ensures { self.new ≡ put number open_leaf self.old }
-    {
-        match &mut self.node {
-            Node::Open | Node::Refuted(..) => {}
-            Node::Lent(other, _, _) => {
-                if *other == number {
-                    self.node = Node::Open;
-                }
-            }
-            Node::Split(_, _, yes_half, no_half) => {
-                yes_half.open_lent(number);
-                no_half.open_lent(number);
-            }
-        }
-    }
-
-    fn refute_lent(&mut self, number: u64, reason: Reason)
-        ensures { self.new ≡ put number (refuted_leaf reason true) self.old }
-    {
-        match &mut self.node {
-            Node::Open | Node::Refuted(..) => {}
-            Node::Lent(other, _, _) => {
-                if *other == number {
-                    self.node = Node::Refuted(reason, true);
-                }
-            }
-            Node::Split(_, _, yes_half, no_half) => {
-                yes_half.refute_lent(number, reason);
-                no_half.refute_lent(number, reason);
-            }
-        }
-    }
-
-    fn split_lent(&mut self, number: u64, test: Test)
-        ensures { self.new ≡ put number (branch test true open_leaf open_leaf) self.old }
-    {
-        match &mut self.node {
-            Node::Open | Node::Refuted(..) => {}
-            Node::Lent(other, _, _) => {
-                if *other == number {
-                    take_split(&mut self.node, test);
-                }
-            }
-            Node::Split(_, _, yes_half, no_half) => {
-                yes_half.split_lent(number, test);
-                no_half.split_lent(number, test);
-            }
-        }
-    }
-}
-
-// A lent leaf becomes a new split over its two boxes.
-fn take_split(node: &mut Node, test: Test)
-    ensures { SplitsNode node.old test node.new }
-{
-    *node = match mem::replace(node, Node::Open) {
-        Node::Lent(_, yes_half, no_half) => Node::Split(test, true, yes_half, no_half),
-        other => other,
-    };
-}
-
-// Puts the tree that begins with a node on top of those behind it; false where a split has fewer
-// than two behind it.
-fn join_node(alloc: Global, trees: &mut Vec<Tree>, node: TreeNode) -> Result<bool, OutOfMemory>
-    ensures { IfOk result (JoinsNode trees.old.items node trees.new.items) }
-{
-    let node = match node {
-        TreeNode::Open => Node::Open,
-        TreeNode::Refuted { reason, fresh } => Node::Refuted(reason, fresh),
-        TreeNode::Lent(number) => {
-            let yes_half = Box::new(alloc, Tree::leaf(alloc))?;
-            let no_half = Box::new(alloc, Tree::leaf(alloc))?;
-            Node::Lent(number, yes_half, no_half)
-        }
-        TreeNode::Split { test, fresh } => {
-            let (Some(yes_half), Some(no_half)) = (trees.pop(), trees.pop()) else {
-                return Ok(false);
-            };
-            let first = Box::new(alloc, yes_half)?;
-            let second = Box::new(alloc, no_half)?;
-            Node::Split(test, fresh, first, second)
-        }
-    };
-    trees.push(Tree { alloc, node })?;
-    Ok(true)
 }

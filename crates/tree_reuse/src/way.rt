@@ -6,6 +6,7 @@ ghost use Rattle.league_core.specs.Zones.{is_test_of};
 ghost use Rattle.league_core.specs.Options.{has_finish};
 ghost use Rattle.league_core.specs.Reasons.{has_reason};
 
+use crate::shorten::shorten;
 use league_core::{Listing, Literal, OutOfMemory, Question, Reason, Season, Sheet, Zone};
 use score_box::ZoneBox;
 use std::alloc::Global;
@@ -93,14 +94,5 @@ impl<'a> Way<'a> {
     {
         let zone_box = ZoneBox::of(self.alloc, self.sheet, self.season, &self.zone)?;
         Ok(tie_bound::holds(&zone_box, question, reason))
-    }
-}
-
-fn shorten(literals: &mut Listing<Literal>, depth: usize)
-    requires { depth ≤ length literals.old }
-    ensures { literals.new ≡ take depth literals.old }
-{
-    while literals.len() > depth {
-        literals.pop();
     }
 }

@@ -1,5 +1,5 @@
 use Rattle.std.proofs.Common.{◌≡◌, ◌≤◌, length, take}
-use Rattle.tree_reuse.proofs.way.shorten.Given as goal
+use Rattle.tree_reuse.proofs.shorten.shorten.Given as goal
 
 abbrev pub invariant-loop-literals : goal.invariant-loop-literals
 invariant-loop-literals l =

@@ -1,0 +1,475 @@
+-- The calls on a tree, said of its three lists and their rooms.
+use Rattle.std.proofs.Common.{◌≡◌, ℕ, zero, suc, ◌+◌, ◌*◌, ◌-◌, ◌<◌, ◌≤◌, Bool, true, false, List}
+use Rattle.std.proofs.Common.{[]}
+use Rattle.std.proofs.Common.{◌∷◌, ◌++◌, length, get_or, set, refl, sym, ap, ◌∙◌, subst}
+use Rattle.std.proofs.Common.{arith}
+use Rattle.std.proofs.Common.{length-append, append_assoc, add-one}
+use Rattle.std.specs.List.{remove}
+use Rattle.std.proofs.lemmas.Bool.{ltb-true}
+use Rattle.std.proofs.lemmas.List.{length-set}
+use Rattle.std.proofs.lemmas.List.Edits.{length-remove}
+use Rattle.league_core.specs.Rooms.{Roomy}
+use Rattle.league_core.specs.declared.zone.Test.{Test}
+use Rattle.league_core.specs.declared.zone.Reason.{Reason}
+use Rattle.league_core.specs.Trees.{Tree, open_leaf, lent_leaf, refuted_leaf, branch, has_open}
+use Rattle.league_core.specs.Trees.{node_count}
+use Rattle.league_core.specs.Lending.{put, times_lent, lent_count, all_opened}
+use Rattle.tree_reuse.specs.declared.tree.TheConstants.{MOST_NODES}
+use Rattle.tree_reuse.specs.declared.node.Kind.{Kind}
+use Rattle.tree_reuse.specs.declared.node.Kind.TheVariants.{Open, Lent, Refuted, Split}
+use Rattle.tree_reuse.specs.declared.node.Node.{Node}
+use Rattle.tree_reuse.specs.Arena.{tree_below, total, marks, number_mark, with_kind, IsArena}
+use Rattle.tree_reuse.specs.Arena.{IsLeafAt}
+use Rattle.tree_reuse.specs.Arena.{IsRoomy, shapes, weights, times_in, IsListed, IsLeafKind}
+use Rattle.tree_reuse.specs.Arena.{open_mark, lent_mark}
+use Rattle.tree_reuse.proofs.MarkLemmas.{one_if-other, one_if-same, times_in-push, listed_within}
+use Rattle.tree_reuse.proofs.MarkLemmas.{listed_added, listed_taken, taken_last}
+use Rattle.tree_reuse.proofs.ShapeLemmas.{shapes-set_opened, get_or-mapped}
+use Rattle.tree_reuse.proofs.ArenaLemmas.{marked_at, length-marks, arena_leaf}
+use Rattle.tree_reuse.proofs.ArenaLemmas.{arena-nodes, arena-lent, arena-number, arena-has_open}
+use Rattle.tree_reuse.proofs.ArenaLemmas.{top_is_open, lent_step, lent_once_step, lent_tree}
+use Rattle.tree_reuse.proofs.ArenaLemmas.{reopened_step, refuted_step, leaf_tree, nodes_split}
+use Rattle.tree_reuse.proofs.ArenaLemmas.{split_step, split_tree}
+
+-- some node, for what stands past a list
+abbrev pub any_node : Node
+any_node = record { kind = Open; parent = 0; yes = false }
+
+-- where a leaf is open the stack has it
+pub some_waiting : (nodes : Roomy Node) (waiting lent : Roomy ℕ) (tree : Tree)
+    → IsRoomy nodes waiting lent → tree_below nodes.items 0 ≡ tree → has_open tree ≡ true
+    → 0 < length waiting.items
+some_waiting nodes waiting lent tree roomy is some =
+    ltb-true 0 (length waiting.items)
+    (sym (arena-has_open nodes.items waiting.items lent.items roomy.arena)
+    ∙ ap has_open is ∙ some)
+
+-- what a write and two moves between the lists make of a tree
+pub record LendsLast (number : ℕ) (tree : Tree) (nodes : Roomy Node) (waiting lent : Roomy ℕ)
+    : Type 0 where
+  pub roomy : IsRoomy nodes waiting lent
+  pub back : put number open_leaf (tree_below nodes.items 0) ≡ tree
+  pub once : times_lent number (tree_below nodes.items 0) ≡ 1
+
+-- the leaf that was on top
+pub last_within : (nodes more : Roomy Node) (waiting taken lent last : Roomy ℕ) (leaf : ℕ)
+    → IsRoomy nodes waiting lent → more.items ≡ nodes.items → taken.items ≡ waiting.items
+    → taken.items ≡ last.items ++ leaf ∷ [] → leaf < length more.items
+last_within nodes more waiting taken lent last leaf roomy same same_waiting popped =
+    let arena = subst (λ (ws : List ℕ). IsArena nodes.items ws lent.items)
+    (sym same_waiting ∙ popped) roomy.arena in
+    let top = top_is_open nodes.items last.items lent.items leaf any_node arena in
+    subst (λ (ns : List Node). leaf < length ns) (sym same) top.in_nodes
+
+pub lends_last : (number : ℕ) (tree : Tree) (nodes more done : Roomy Node)
+    (waiting taken last lent longer lents : Roomy ℕ) (leaf room : ℕ)
+    → IsRoomy nodes waiting lent → tree_below nodes.items 0 ≡ tree
+    → times_lent number tree ≡ 0 → node_count tree + lent_count tree ≤ MOST_NODES
+    → more.items ≡ nodes.items → taken.items ≡ waiting.items → longer.items ≡ lent.items
+    → room ≡ 2 * (length lent.items + 1) → room ≤ more.room → room ≤ taken.room
+    → taken.items ≡ last.items ++ leaf ∷ [] → last.room ≡ taken.room + 1
+    → done.room ≡ more.room
+    → ((default : Node) → done.items
+    ≡ set more.items leaf (with_kind (Lent number) (get_or more.items leaf default)))
+    → lents.items ≡ longer.items ++ leaf ∷ []
+    → LendsLast number tree done last lents
+lends_last number tree nodes more done waiting taken last lent longer lents leaf room roomy is none
+    few same same_waiting same_lent room_is node_room wait_room popped last_room done_room written
+    pushed =
+    let arena = subst (λ (ws : List ℕ). IsArena nodes.items ws lent.items)
+    (sym same_waiting ∙ popped) roomy.arena in
+    let free : times_lent number (tree_below nodes.items 0) ≡ 0 = ap (times_lent number) is ∙ none
+    in
+    let done_is : done.items ≡ set nodes.items leaf
+    (with_kind (Lent number) (get_or nodes.items leaf any_node)) =
+    written any_node
+    ∙ ap (λ ns. set ns leaf (with_kind (Lent number) (get_or ns leaf any_node))) same in
+    let lents_are : lents.items ≡ lent.items ++ leaf ∷ [] =
+    pushed ∙ ap (λ list. list ++ leaf ∷ []) same_lent in
+    let step = lent_step nodes.items last.items lent.items leaf number any_node arena in
+    let now = subst (λ (ns : List Node). IsArena ns last.items lents.items) (sym done_is)
+    (subst (λ (ls : List ℕ). IsArena
+    (set nodes.items leaf (with_kind (Lent number) (get_or nodes.items leaf any_node)))
+    last.items ls) (sym lents_are) step) in
+    let size = ap length done_is ∙ length-set nodes.items leaf
+    (with_kind (Lent number) (get_or nodes.items leaf any_node)) in
+    let count = ap length lents_are ∙ length-append lent.items (leaf ∷ []) in
+    let nodes_counted = arena-nodes nodes.items waiting.items lent.items roomy.arena in
+    let lent_counted = arena-lent nodes.items waiting.items lent.items roomy.arena in
+    let few_nodes = ap node_count is in
+    let few_lent = ap lent_count is in
+    record {
+      roomy = record {
+        arena = now;
+        few = omega arith;
+        node_room = omega arith;
+        open_room = omega arith;
+      };
+      back = ap (λ ns. put number open_leaf (tree_below ns 0)) done_is
+          ∙ lent_tree nodes.items last.items lent.items leaf number any_node arena free ∙ is;
+      once = ap (λ ns. times_lent number (tree_below ns 0)) done_is
+          ∙ lent_once_step nodes.items last.items lent.items leaf number any_node arena free;
+    }
+
+-- the leaf of a number is marked once
+pub marked_once : (number : ℕ) (tree : Tree) (nodes : Roomy Node) (waiting lent : Roomy ℕ)
+    (list : List Node) → IsRoomy nodes waiting lent → tree_below nodes.items 0 ≡ tree
+    → times_lent number tree ≡ 1 → list ≡ nodes.items
+    → total (marks (number_mark number) list) ≡ 1
+marked_once number tree nodes waiting lent list roomy is once same =
+    ap (λ ns. total (marks (number_mark number) ns)) same
+    ∙ sym (arena-number number nodes.items waiting.items lent.items roomy.arena)
+    ∙ ap (times_lent number) is ∙ once
+
+-- what the return of a lent leaf makes of a tree
+pub record Returns (tree : Tree) (nodes : Roomy Node) (waiting lent : Roomy ℕ) : Type 0 where
+  pub roomy : IsRoomy nodes waiting lent
+  pub tree_is : tree_below nodes.items 0 ≡ tree
+
+-- the leaf was taken off the list of lent ones
+leaf_removed : (number : ℕ) (nodes : Roomy Node) (lent less : Roomy ℕ) (list : List Node)
+    (slice : List ℕ) (place leaf : ℕ) → list ≡ nodes.items → slice ≡ lent.items
+    → IsLeafAt number list slice place (get_or slice place 0)
+    → leaf ≡ get_or lent.items place leaf → less.items ≡ remove lent.items place
+    → IsLeafAt number nodes.items lent.items place leaf
+leaf_removed number nodes lent less list slice place leaf same same_lent at taken removed =
+    let there = subst (λ (ls : List ℕ). IsLeafAt number nodes.items ls place (get_or ls place 0))
+    same_lent (subst (λ (ns : List Node). IsLeafAt number ns slice place (get_or slice place 0))
+    same at) in
+    let is : get_or lent.items place 0 ≡ leaf =
+    in_range lent.items place leaf there.in_list ∙ sym taken in
+    subst (λ (n : ℕ). IsLeafAt number nodes.items lent.items place n) is there
+  where
+    in_range : (xs : List ℕ) (i other : ℕ) → i < length xs → get_or xs i 0 ≡ get_or xs i other
+    in_range [] i other within = absurd (omega arith)
+    in_range (x ∷ xs) zero other within = refl
+    in_range (x ∷ xs) (suc i) other within = in_range xs i other (omega arith)
+
+-- so it stands among the nodes
+pub removed_within : (number : ℕ) (nodes : Roomy Node) (lent less : Roomy ℕ) (list : List Node)
+    (slice : List ℕ) (place leaf : ℕ) → list ≡ nodes.items → slice ≡ lent.items
+    → IsLeafAt number list slice place (get_or slice place 0)
+    → leaf ≡ get_or lent.items place leaf → less.items ≡ remove lent.items place
+    → leaf < length nodes.items
+removed_within number nodes lent less list slice place leaf same same_lent at taken removed =
+    let there = leaf_removed number nodes lent less list slice place leaf same same_lent at taken
+    removed in
+    there.in_nodes
+
+pub reopens : (number : ℕ) (tree : Tree) (nodes done : Roomy Node)
+    (waiting lent less longer : Roomy ℕ) (list : List Node) (slice : List ℕ) (place leaf : ℕ)
+    → IsRoomy nodes waiting lent → tree_below nodes.items 0 ≡ tree → times_lent number tree ≡ 1
+    → list ≡ nodes.items → slice ≡ lent.items
+    → IsLeafAt number list slice place (get_or slice place 0)
+    → leaf ≡ get_or lent.items place leaf → less.items ≡ remove lent.items place
+    → done.room ≡ nodes.room
+    → ((default : Node) → done.items
+    ≡ set nodes.items leaf (with_kind Open (get_or nodes.items leaf default)))
+    → longer.items ≡ waiting.items ++ leaf ∷ [] → longer.room + 1 ≡ waiting.room
+    → Returns (put number open_leaf tree) done longer less
+reopens number tree nodes done waiting lent less longer list slice place leaf roomy is once same
+    same_lent at taken removed done_room written pushed wait_room =
+    let there = leaf_removed number nodes lent less list slice place leaf same same_lent at taken
+    removed in
+    let step = reopened_step nodes.items waiting.items lent.items place leaf number any_node
+    roomy.arena there in
+    let count = length-remove lent.items place there.in_list in
+    let shorter = ap length removed in
+    let size = ap length (written any_node) ∙ length-set nodes.items leaf
+    (with_kind Open (get_or nodes.items leaf any_node)) in
+    let few = roomy.few in
+    let node_room = roomy.node_room in
+    let open_room = roomy.open_room in
+    record {
+      roomy = record {
+        arena = rw (written any_node, pushed, removed) step;
+        few = omega arith;
+        node_room = omega arith;
+        open_room = omega arith;
+      };
+      tree_is = ap (λ ns. tree_below ns 0) (written any_node)
+          ∙ leaf_tree nodes.items waiting.items lent.items place leaf number open_leaf Open any_node
+          roomy.arena there (ap (times_lent number) is ∙ once) refl
+          ∙ ap (put number open_leaf) is;
+    }
+
+pub refutes : (number : ℕ) (tree : Tree) (nodes done : Roomy Node) (waiting lent less : Roomy ℕ)
+    (list : List Node) (slice : List ℕ) (place leaf : ℕ) (reason : Reason) (fresh : Bool)
+    → IsRoomy nodes waiting lent → tree_below nodes.items 0 ≡ tree → times_lent number tree ≡ 1
+    → list ≡ nodes.items → slice ≡ lent.items
+    → IsLeafAt number list slice place (get_or slice place 0)
+    → leaf ≡ get_or lent.items place leaf → less.items ≡ remove lent.items place
+    → done.room ≡ nodes.room
+    → ((default : Node) → done.items
+    ≡ set nodes.items leaf (with_kind (Refuted reason fresh) (get_or nodes.items leaf default)))
+    → Returns (put number (refuted_leaf reason fresh) tree) done waiting less
+refutes number tree nodes done waiting lent less list slice place leaf reason fresh roomy is once
+    same same_lent at taken removed done_room written =
+    let there = leaf_removed number nodes lent less list slice place leaf same same_lent at taken
+    removed in
+    let step = refuted_step nodes.items waiting.items lent.items place leaf number reason fresh
+    any_node roomy.arena there in
+    let count = length-remove lent.items place there.in_list in
+    let shorter = ap length removed in
+    let size = ap length (written any_node) ∙ length-set nodes.items leaf
+    (with_kind (Refuted reason fresh) (get_or nodes.items leaf any_node)) in
+    let few = roomy.few in
+    let node_room = roomy.node_room in
+    let open_room = roomy.open_room in
+    record {
+      roomy = record {
+        arena = rw (written any_node, removed) step;
+        few = omega arith;
+        node_room = omega arith;
+        open_room = omega arith;
+      };
+      tree_is = ap (λ ns. tree_below ns 0) (written any_node)
+          ∙ leaf_tree nodes.items waiting.items lent.items place leaf number
+          (refuted_leaf reason fresh) (Refuted reason fresh) any_node roomy.arena there
+          (ap (times_lent number) is ∙ once) refl
+          ∙ ap (put number (refuted_leaf reason fresh)) is;
+    }
+
+pub splits : (number : ℕ) (tree : Tree) (nodes done : Roomy Node) (waiting lent less longer : Roomy
+    ℕ)
+    (list : List Node) (slice : List ℕ) (place leaf half : ℕ) (test : Test)
+    → IsRoomy nodes waiting lent → tree_below nodes.items 0 ≡ tree → times_lent number tree ≡ 1
+    → list ≡ nodes.items → slice ≡ lent.items
+    → IsLeafAt number list slice place (get_or slice place 0)
+    → leaf ≡ get_or lent.items place leaf → less.items ≡ remove lent.items place
+    → half ≡ length nodes.items - leaf - 1
+    → done.items ≡ nodes_split nodes.items leaf test half any_node → done.room + 2 ≡ nodes.room
+    → longer.items
+    ≡ (waiting.items ++ suc (length nodes.items) ∷ []) ++ length nodes.items ∷ []
+    → longer.room + 2 ≡ waiting.room
+    → Returns (put number (branch test true open_leaf open_leaf) tree) done longer less
+splits number tree nodes done waiting lent less longer list slice place leaf half test roomy is once
+    same same_lent at taken removed half_is written done_room pushed wait_room =
+    let there = leaf_removed number nodes lent less list slice place leaf same same_lent at taken
+    removed in
+    let within = there.in_nodes in
+    let far : half + suc leaf ≡ length nodes.items = omega arith in
+    let step = split_step nodes.items waiting.items lent.items place leaf number test half any_node
+    roomy.arena there far in
+    let count = length-remove lent.items place there.in_list in
+    let shorter = ap length removed in
+    let set_size = length-set nodes.items leaf
+    (with_kind (Split test true half) (get_or nodes.items leaf any_node)) in
+    let size = ap length written
+    ∙ length-append (set nodes.items leaf
+    (with_kind (Split test true half) (get_or nodes.items leaf any_node)))
+    (record { kind = Open; parent = leaf; yes = true }
+    ∷ record { kind = Open; parent = leaf; yes = false } ∷ []) in
+    let few = roomy.few in
+    let node_room = roomy.node_room in
+    let open_room = roomy.open_room in
+    record {
+      roomy = record {
+        arena = rw (written, pushed, removed) step;
+        few = omega arith;
+        node_room = omega arith;
+        open_room = omega arith;
+      };
+      tree_is = ap (λ ns. tree_below ns 0) written
+          ∙ split_tree nodes.items waiting.items lent.items place leaf number test half any_node
+          roomy.arena there (ap (times_lent number) is ∙ once) far
+          ∙ ap (put number (branch test true open_leaf open_leaf)) is;
+    }
+
+-- the same of the two nodes and the two numbers as they are pushed
+pub splits_pushed : (number : ℕ) (tree : Tree) (nodes written one two : Roomy Node)
+    (waiting lent less second first : Roomy ℕ) (list : List Node) (slice : List ℕ)
+    (place leaf size : ℕ) (test : Test)
+    → IsRoomy nodes waiting lent → tree_below nodes.items 0 ≡ tree → times_lent number tree ≡ 1
+    → list ≡ nodes.items → slice ≡ lent.items
+    → IsLeafAt number list slice place (get_or slice place 0)
+    → leaf ≡ get_or lent.items place leaf → less.items ≡ remove lent.items place
+    → size ≡ length nodes.items → written.room ≡ nodes.room
+    → ((default : Node) → written.items ≡ set nodes.items leaf
+    (with_kind (Split test true (size - leaf - 1)) (get_or nodes.items leaf default)))
+    → one.items ≡ written.items ++ record { kind = Open; parent = leaf; yes = true } ∷ []
+    → one.room + 1 ≡ written.room
+    → two.items ≡ one.items ++ record { kind = Open; parent = leaf; yes = false } ∷ []
+    → two.room + 1 ≡ one.room
+    → second.items ≡ waiting.items ++ (size + 1) ∷ [] → second.room + 1 ≡ waiting.room
+    → first.items ≡ second.items ++ size ∷ [] → first.room + 1 ≡ second.room
+    → Returns (put number (branch test true open_leaf open_leaf) tree) two first less
+splits_pushed number tree nodes written one two waiting lent less second first list slice place leaf
+    size test roomy is once same same_lent at taken removed size_is write_room write_is one_is
+    one_room two_is two_room second_is second_room first_is first_room =
+    let there = leaf_removed number nodes lent less list slice place leaf same same_lent at taken
+    removed in
+    let half = size - leaf - 1 in
+    let node = with_kind (Split test true half) (get_or nodes.items leaf any_node) in
+    splits number tree nodes two waiting lent less first list slice place leaf half test roomy is
+    once same same_lent at taken removed (ap (λ n. n - leaf - 1) size_is)
+    (two_is
+    ∙ ap (λ ns. ns ++ record { kind = Open; parent = leaf; yes = false } ∷ [])
+    (one_is ∙ ap (λ ns. ns ++ record { kind = Open; parent = leaf; yes = true } ∷ [])
+    (write_is any_node))
+    ∙ append_assoc (set nodes.items leaf node)
+    (record { kind = Open; parent = leaf; yes = true } ∷ [])
+    (record { kind = Open; parent = leaf; yes = false } ∷ []))
+    (omega arith)
+    (first_is ∙ ap (λ ns. ns ++ size ∷ []) second_is
+    ∙ ap (λ n. (waiting.items ++ n ∷ []) ++ size ∷ []) (add-one size)
+    ∙ ap (λ n. (waiting.items ++ suc n ∷ []) ++ n ∷ []) size_is)
+    (omega arith)
+
+-- one node is the whole tree
+root_whole : (owns : List ℕ) → length owns ≡ 1
+    → get_or (weights owns (record { kind = Open; parent = 0; yes = true } ∷ [])) 0 0
+    ≡ total owns
+root_whole [] long = absurd (omega arith)
+root_whole (own ∷ []) long = omega arith
+root_whole (own ∷ other ∷ owns) long = absurd (omega arith)
+
+-- it is listed as open
+open_each : (number : ℕ) → times_in number (0 ∷ []) ≡ get_or (1 ∷ []) number 0
+open_each zero = refl
+open_each (suc number) =
+    let none = one_if-other (suc number) 0 (λ is. omega arith) in omega arith
+
+-- and not as lent
+lent_each : (number : ℕ) → times_in number [] ≡ get_or (0 ∷ []) number 0
+lent_each zero = refl
+lent_each (suc number) = refl
+
+-- one open leaf
+pub root_arena : IsArena (record { kind = Open; parent = 0; yes = true } ∷ []) (0 ∷ []) []
+root_arena = record {
+  some = omega arith;
+  whole = root_whole;
+  within = (tt, tt);
+  linked = λ at default later within. absurd (omega arith);
+  open_listed = record { each = open_each; many = refl };
+  lent_listed = record { each = lent_each; many = refl };
+}
+
+-- one open leaf is an arena
+root_roomy : (nodes : Roomy Node) (waiting lent : Roomy ℕ)
+    → nodes.items ≡ record { kind = Open; parent = 0; yes = true } ∷ [] → waiting.items ≡ 0 ∷ []
+    → lent.items ≡ [] → IsRoomy nodes waiting lent
+root_roomy nodes waiting lent nodes_are waiting_are none =
+    let root : Node = record { kind = Open; parent = 0; yes = true } in
+    let lent_size = ap length none in
+    let node_size = ap length nodes_are in
+    record {
+      arena = rw (nodes_are, waiting_are, none) root_arena;
+      few = omega arith;
+      node_room = omega arith;
+      open_room = omega arith;
+    }
+
+-- one open leaf is an arena, as it is pushed on empty lists
+pub root_pushed : (nodes begun : Roomy Node) (waiting started lent : Roomy ℕ)
+    (none : List Node) (empty : List ℕ)
+    → nodes.items ≡ begun.items ++ record { kind = Open; parent = 0; yes = true } ∷ []
+    → begun.items ≡ none → none ≡ [] → waiting.items ≡ started.items ++ 0 ∷ []
+    → started.items ≡ empty → empty ≡ [] → lent.items ≡ [] → IsRoomy nodes waiting lent
+root_pushed nodes begun waiting started lent none empty pushed begun_is none_is waits started_is
+    empty_is no_lent =
+    root_roomy nodes waiting lent
+    (pushed ∙ ap (λ list. list ++ record { kind = Open; parent = 0; yes = true } ∷ [])
+    (begun_is ∙ none_is))
+    (waits ∙ ap (λ list. list ++ 0 ∷ []) (started_is ∙ empty_is)) no_lent
+
+-- a leaf that goes off the end of the list of lent ones is open
+pub record OpensLast (opened : Tree) (nodes : Roomy Node) (waiting lent : Roomy ℕ) : Type 0 where
+  pub roomy : IsRoomy nodes waiting lent
+  pub same : all_opened (tree_below nodes.items 0) ≡ opened
+
+lent_kind : (kind : Kind) → 1 ≤ lent_mark kind → IsLeafKind kind
+lent_kind Open marked = tt
+lent_kind (Lent number) marked = tt
+lent_kind (Refuted reason fresh) marked = tt
+lent_kind (Split test fresh half) marked = absurd (omega arith)
+
+lent_marks : (kind : Kind) → 1 ≤ lent_mark kind → (lent_mark kind ≡ 1) × (open_mark kind ≡ 0)
+lent_marks Open marked = absurd (omega arith)
+lent_marks (Lent number) marked = (refl, refl)
+lent_marks (Refuted reason fresh) marked = absurd (omega arith)
+lent_marks (Split test fresh half) marked = absurd (omega arith)
+
+-- it stands among the nodes, and is lent
+pub last_lent : (nodes : Roomy Node) (waiting lent less : Roomy ℕ) (leaf : ℕ)
+    → IsRoomy nodes waiting lent → lent.items ≡ less.items ++ leaf ∷ []
+    → (leaf < length nodes.items) × (1 ≤ lent_mark (get_or nodes.items leaf any_node).kind)
+last_lent nodes waiting lent less leaf roomy popped =
+    let listed = subst (λ (ls : List ℕ). IsListed (marks lent_mark nodes.items) ls) popped
+    roomy.arena.lent_listed in
+    let count = times_in-push leaf leaf less.items in
+    let once = one_if-same leaf in
+    let marked = listed_within (marks lent_mark nodes.items) (less.items ++ leaf ∷ []) leaf listed
+    (omega arith) in
+    let long = length-marks lent_mark nodes.items in
+    let at_mark = marked.0 in
+    let within : leaf < length nodes.items = omega arith in
+    let mark = marked_at lent_mark nodes.items leaf any_node within in
+    let some = marked.1 in
+    (within, omega arith)
+
+pub opens_last : (opened : Tree) (nodes done : Roomy Node) (waiting lent less longer : Roomy ℕ)
+    (leaf : ℕ) → IsRoomy nodes waiting lent → all_opened (tree_below nodes.items 0) ≡ opened
+    → lent.items ≡ less.items ++ leaf ∷ [] → done.room ≡ nodes.room
+    → ((default : Node) → done.items
+    ≡ set nodes.items leaf (with_kind Open (get_or nodes.items leaf default)))
+    → longer.items ≡ waiting.items ++ leaf ∷ [] → longer.room + 1 ≡ waiting.room
+    → OpensLast opened done longer less
+opens_last opened nodes done waiting lent less longer leaf roomy same popped done_room written
+    pushed wait_room =
+    let last = last_lent nodes waiting lent less leaf roomy popped in
+    let within = last.0 in
+    let marks_are = lent_marks (get_or nodes.items leaf any_node).kind last.1 in
+    let node = with_kind Open (get_or nodes.items leaf any_node) in
+    let lent_long = length-marks lent_mark nodes.items in
+    let open_long = length-marks open_mark nodes.items in
+    let was_lent = marked_at lent_mark nodes.items leaf any_node within ∙ marks_are.0 in
+    let was_open = marked_at open_mark nodes.items leaf any_node within ∙ marks_are.1 in
+    let arena = roomy.arena in
+    let step = arena_leaf nodes.items waiting.items lent.items (waiting.items ++ leaf ∷ [])
+    less.items leaf Open any_node arena within
+    (lent_kind (get_or nodes.items leaf any_node).kind last.1) tt
+    (listed_added (marks open_mark nodes.items) waiting.items leaf arena.open_listed
+    (omega arith) was_open)
+    (listed_taken (marks lent_mark nodes.items) lent.items less.items leaf arena.lent_listed
+    (omega arith) was_lent
+    (λ other. taken_last less.items leaf other ∙ ap (times_in other) (sym popped))
+    (let long = length-append less.items (leaf ∷ []) in let size = ap length popped in
+    omega arith)) in
+    let size = ap length (written any_node) ∙ length-set nodes.items leaf node in
+    let shorter = ap length popped ∙ length-append less.items (leaf ∷ []) in
+    let few = roomy.few in
+    let node_room = roomy.node_room in
+    let open_room = roomy.open_room in
+    record {
+      roomy = record {
+        arena = rw (written any_node, pushed) step;
+        few = omega arith;
+        node_room = omega arith;
+        open_room = omega arith;
+      };
+      same = ap (λ ns. all_opened (tree_below ns 0)) (written any_node)
+          ∙ sym (get_or-mapped all_opened refl (shapes (set nodes.items leaf node)) 0)
+          ∙ ap (λ trees. get_or trees 0 open_leaf)
+          (shapes-set_opened node nodes.items leaf any_node within marks_are.0 refl)
+          ∙ get_or-mapped all_opened refl (shapes nodes.items) 0 ∙ same;
+    }
+
+-- where nothing is lent all leaves that could be are open
+all_opened-none : (tree : Tree) → lent_count tree ≡ 0 → all_opened tree ≡ tree
+all_opened-none open_leaf none = refl
+all_opened-none (lent_leaf number) none = absurd (omega arith)
+all_opened-none (refuted_leaf reason fresh) none = refl
+all_opened-none (branch test fresh yes_half no_half) none =
+    ap (λ half. branch test fresh half (all_opened no_half))
+    (all_opened-none yes_half (omega arith))
+    ∙ ap (λ half. branch test fresh yes_half half) (all_opened-none no_half (omega arith))
+
+pub opens_all : (opened : Tree) (nodes : Roomy Node) (waiting lent : Roomy ℕ)
+    → OpensLast opened nodes waiting lent → length lent.items ≡ 0
+    → tree_below nodes.items 0 ≡ opened
+opens_all opened nodes waiting lent opens none =
+    sym (all_opened-none (tree_below nodes.items 0)
+    (arena-lent nodes.items waiting.items lent.items opens.roomy.arena ∙ none))
+    ∙ opens.same

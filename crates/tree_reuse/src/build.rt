@@ -1,0 +1,129 @@
+//! An arena that is made from the list of a tree's nodes.
+
+ghost use Rattle.std.specs.Prelude.{◌≡◌, ◌<◌, ◌≤◌, ◌+◌, ◌++◌, ◌∷◌, [], ℕ, List, length, IfOk};
+ghost use Rattle.std.specs.Option.{is_some};
+ghost use Rattle.league_core.specs.TreeLists.{tree_of};
+ghost use Rattle.tree_reuse.specs.Arena.{kind_over, halves_under, is_split_node};
+ghost use Rattle.tree_reuse.specs.Builds.{Starts, TakesNode};
+
+use crate::arena::write;
+use crate::node::{Kind, MOST_NUMBERS, Node};
+use league_core::{OutOfMemory, RoomyList, TreeNode};
+use std::alloc::Global;
+
+/// Whether a list is that of one tree.
+pub fn is_tree(nodes: &[TreeNode]) -> bool
+    ensures { result ≡ is_some (tree_of nodes.now) }
+{
+    let mut trees = 0usize;
+    let mut at = nodes.len();
+    while at > 0 {
+        at -= 1;
+        let splits = is_split(nodes[at]);
+        if splits && trees < 2 {
+            return false;
+        }
+        trees = if splits { trees - 1 } else { trees + 1 };
+    }
+    trees == 1
+}
+
+fn is_split(node: TreeNode) -> bool
+    ensures { result ≡ is_split_node node }
+{
+    match node {
+        TreeNode::Split { .. } => true,
+        TreeNode::Open | TreeNode::Lent(_) | TreeNode::Refuted { .. } => false,
+    }
+}
+
+/// The nodes so far, the places that wait for nodes of the list, the next one last, and the open
+/// and the lent leaves.
+#[derive(Drop)]
+pub struct Build {
+    pub nodes: RoomyList<Node>,
+    pub places: RoomyList<u32>,
+    pub waiting: RoomyList<u32>,
+    pub lent: RoomyList<u32>,
+}
+
+impl Build {
+    /// One place, and nothing else.
+    pub fn start(alloc: Global) -> Result<Build, OutOfMemory>
+        ensures { IfOk result Starts }
+    {
+        let mut nodes = RoomyList::new(alloc);
+        nodes.reserve(1)?;
+        nodes.push(Node {
+            kind: Kind::Open,
+            parent: 0,
+            yes: true,
+        });
+        let mut places = RoomyList::new(alloc);
+        places.reserve(1)?;
+        places.push(0);
+        let waiting = RoomyList::new(alloc);
+        let lent = RoomyList::new(alloc);
+        Ok(Build {
+            nodes,
+            places,
+            waiting,
+            lent,
+        })
+    }
+
+    /// The next node of the list comes to the next place.
+    pub fn take(&mut self, node: TreeNode) -> Result<(), OutOfMemory>
+        requires some { 0 < length self.old.places.items }
+        requires within { (rest : List ℕ) (at : ℕ) → self.old.places.items ≡ rest ++ at ∷ []
+            → at < length self.old.nodes.items }
+        requires few { length self.old.nodes.items + 2 ≤ MOST_NUMBERS }
+        ensures { IfOk result (λ _. TakesNode node self.old self.new) }
+    {
+        let size = self.nodes.len() as u32;
+        let place = self.places.pop();
+        write(&mut self.nodes, place, kind(node, size - place - 1));
+        match node {
+            TreeNode::Open => {
+                self.waiting.reserve(1)?;
+                self.waiting.push(place);
+            }
+            TreeNode::Lent(_) => {
+                self.lent.reserve(1)?;
+                self.lent.push(place);
+            }
+            TreeNode::Refuted { .. } => {}
+            TreeNode::Split { .. } => {
+                push_halves(&mut self.nodes, place)?;
+                self.places.reserve(2)?;
+                self.places.push(size + 1);
+                self.places.push(size);
+            }
+        }
+        Ok(())
+    }
+}
+
+fn kind(node: TreeNode, half: u32) -> Kind
+    ensures { result ≡ kind_over node half }
+{
+    match node {
+        TreeNode::Open => Kind::Open,
+        TreeNode::Lent(number) => Kind::Lent(number),
+        TreeNode::Refuted { reason, fresh } => Kind::Refuted(reason, fresh),
+        TreeNode::Split { test, fresh } => Kind::Split(test, fresh, half),
+    }
+}
+
+fn push_halves(nodes: &mut RoomyList<Node>, parent: u32) -> Result<(), OutOfMemory>
+    ensures { IfOk result (λ _. nodes.new.items
+        ≡ nodes.old.items ++ halves_under parent) }
+{
+    nodes.reserve(2)?;
+    let kind = Kind::Open;
+    let yes = true;
+    nodes.push(Node { kind, parent, yes });
+    let yes = false;
+    nodes.push(Node { kind, parent, yes });
+    Ok(())
+}
