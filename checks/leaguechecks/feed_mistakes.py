@@ -80,5 +80,4 @@ SILENT = (
     Mistake("a deduction meant on top of another", in_feed("deduct,Anchor,3\ndeduct,Anchor,2"), "",
             ("in all", "not 5")),
     Mistake("a correction that changes nothing", in_feed("fix,1,2,1"), "", ("changes nothing",)),
-    Mistake("an ask that is too wide", SHEET + "ask\n", "", ("more than 10,000 ways",)),
 )

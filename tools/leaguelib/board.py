@@ -33,8 +33,6 @@ class Board:
     earlier: dict[tuple[int, str], str] = field(default_factory=dict)
     last_event: str = ""
     has_proofs: bool = False
-    is_too_wide: bool = False
-    was_too_wide: bool = False
     days: dict[int, str] = field(default_factory=dict)
 
     def has_changed(self, verdict: Verdict) -> bool:
@@ -67,12 +65,10 @@ def board_of(path: str, data: bytes, league: Input, position: int) -> Board:
     season = league.season_at(position)
     table = report_of(run_program(path, ["table"], front + ASK)).answers[-1].table
     board = Board(league.sheet, season, table, days=days_of(data, league.sheet))
-    board.is_too_wide = _is_too_wide(path, front)
-    if not board.is_too_wide:
-        told = own_report(path, front + ASK, read_input(front + ASK))
-        board.has_proofs = told.is_checked
-        board.verdicts = _by_place(told.report.answers[-1].verdicts)
-        _add_earlier(board, path, front, league, ask_line)
+    told = own_report(path, front + ASK, read_input(front + ASK))
+    board.has_proofs = told.is_checked
+    board.verdicts = _by_place(told.report.answers[-1].verdicts)
+    _add_earlier(board, path, front, league, ask_line)
     return board
 
 
@@ -84,18 +80,9 @@ def _add_earlier(board: Board, path: str, front: bytes, league: Input, ask_line:
     last = events[-1]
     board.last_event = event_text(league.sheet, last)
     before = front_of(front, last.line)
-    board.was_too_wide = _is_too_wide(path, before)
-    if not board.was_too_wide:
-        answer = report_of(run_program(path, ["verdicts"], before + ASK)).answers[-1]
-        words = _by_place(answer.verdicts)
-        board.earlier = {place: verdict.word for place, verdict in words.items()}
-
-
-def _is_too_wide(path: str, front: bytes) -> bool:
-    """Whether the program refuses an ask here, since too many finishes are open."""
-    done = run_program(path, ["verdicts"], front + ASK)
-    rows = done.output.splitlines()
-    return done.status == 3 and bool(rows) and rows[-1].endswith(b",too_wide")
+    answer = report_of(run_program(path, ["verdicts"], before + ASK)).answers[-1]
+    words = _by_place(answer.verdicts)
+    board.earlier = {place: verdict.word for place, verdict in words.items()}
 
 
 def _without_asks(front: bytes, league: Input) -> bytes:

@@ -7,7 +7,7 @@ from dataclasses import dataclass
 from typing import Iterator
 
 from .names import plain_form, shown, tidy
-from .texts import MOST_FINISHES, Entry, Season, Sheet
+from .texts import Entry, Season, Sheet
 
 MANY_GOALS = 15
 
@@ -127,9 +127,8 @@ def some_pairs(pairs: list[tuple[str, str]]) -> str:
     return some([f"{home} - {away}" for home, away in pairs])
 
 
-def feed_doubts(sheet: Sheet, entries: list[Entry],
-                is_for_table: bool = False) -> Iterator[Doubt]:
-    """What looks wrong in a feed; for the table alone no ask is too wide."""
+def feed_doubts(sheet: Sheet, entries: list[Entry]) -> Iterator[Doubt]:
+    """What looks wrong in a feed."""
     asks = [entry for entry in entries if entry.kind == "ask"]
     if not asks:
         yield Doubt(0, "the feed has no `ask`, so the program answers nothing. Write `ask` as the "
@@ -139,23 +138,9 @@ def feed_doubts(sheet: Sheet, entries: list[Entry],
                                       "`ask` once more at the end")
     yield from _goal_doubts(sheet, entries)
     season = Season()
-    is_wide_told = is_for_table
     for entry in entries:
         yield from _event_doubts(season, entry)
-        if entry.kind == "ask" and sheet.lines and not is_wide_told:
-            if season.has_too_many_finishes(sheet):
-                is_wide_told = True
-                yield Doubt(entry.line, _wide_message(sheet, season), is_minor=True)
         season.apply(entry)
-
-
-def _wide_message(sheet: Sheet, season: Season) -> str:
-    """On an ask with more finishes than the program looks through."""
-    return (f"at this `ask` {len(season.open_fixtures(sheet))} matches are open. With goal limit "
-            f"{sheet.goal_limit} they can end in more than {MOST_FINISHES:,} ways, and a program "
-            f"that "
-            "looks at each of them refuses the mode `verdicts` here (too_wide); `table` is "
-            "answered")
 
 
 def _goal_doubts(sheet: Sheet, entries: list[Entry]) -> Iterator[Doubt]:

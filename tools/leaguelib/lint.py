@@ -81,7 +81,7 @@ def look(data: bytes, is_sheet_only: bool = False, is_for_table: bool = False) -
     if reader.sheet is not None:
         outcome.doubts.extend(sheet_doubts(reader.sheet, is_for_table))
         if reader.feed_reader is not None and not is_sheet_only:
-            outcome.doubts.extend(feed_doubts(reader.sheet, entries, is_for_table))
+            outcome.doubts.extend(feed_doubts(reader.sheet, entries))
     return outcome
 
 

@@ -74,9 +74,6 @@ def _state(board: Board) -> list[str]:
         items = [f"<li>{safe(match_text(fixture))}{_day(board, fixture.number)}</li>"
                  for fixture in open_fixtures]
         parts += ["<details><summary>Open matches</summary>", "<ul>", *items, "</ul>", "</details>"]
-    if board.is_too_wide:
-        parts.append("<p><strong>No marks yet:</strong> the open matches can end in more than "
-                     "10,000 ways, and the program answers when there are fewer.</p>")
     return parts
 
 
@@ -151,12 +148,9 @@ def _legend(board: Board) -> list[str]:
 
 def _news(board: Board) -> list[str]:
     """What the last event changed."""
-    if not board.last_event or board.is_too_wide:
+    if not board.last_event:
         return []
     parts = ["<h2>What the last event changed</h2>", f"<p>{safe(board.last_event)}</p>"]
-    if board.was_too_wide:
-        return [*parts, "<p>Before it more finishes were open than the program looks through, so "
-                        "there is nothing to compare with.</p>"]
     changed = [verdict for verdict in board.verdicts.values() if board.has_changed(verdict)]
     if not changed:
         return [*parts, "<p>No mark.</p>"]

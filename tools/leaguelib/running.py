@@ -55,10 +55,6 @@ def read_league(data: bytes, takes_proofs: bool = False) -> Input:
 
 def refusal_text(line: int, code: str) -> str:
     """What a `fault` row means, and where to look for help."""
-    if code == "too_wide":
-        return (f"line {line} asks while the open matches can end in more ways than the program "
-                "looks through (10,000). Ask later, when fewer matches are open, or put a smaller "
-                "goal limit in the third field of the `league` record.")
     return f"line {line} is refused as `{code}`; `league lint` says what to write instead."
 
 
@@ -81,8 +77,6 @@ def report_of(run: Run) -> Report:
                              common.NO_PROGRAM) from fault
     if report.fault is not None:
         line, code = report.fault
-        if code == "too_wide":
-            raise common.Trouble(refusal_text(line, code))
         raise common.Trouble(f"futmax refuses line {line} as `{code}`, and these tools do not: it "
                              "may be an older program. Build it anew.", common.NO_PROGRAM)
     if run.status != 0:

@@ -22,7 +22,6 @@ USUAL_BUDGET = 2_000
 MOST_GOALS = 99
 MOST_DEDUCTION = 99
 MOST_EVENTS = 100_000
-MOST_FINISHES = 10_000
 SHEET_WIDTHS = {"league": (3, 4, 5), "club": (3,), "match": (3,), "line": (2,), "season": (1,)}
 FEED_WIDTHS = {"result": 4, "fix": 4, "deduct": 3, "void": 2, "ask": 1, "proofs": 1}
 
@@ -111,11 +110,6 @@ class Season:
     def open_fixtures(self, sheet: Sheet) -> list[Fixture]:
         """The fixtures without a score, in order."""
         return [fixture for fixture in sheet.fixtures if fixture.number not in self.scores]
-
-    def has_too_many_finishes(self, sheet: Sheet) -> bool:
-        """Whether the open matches can end in more ways than the program looks through."""
-        ways = (sheet.goal_limit + 1) ** 2
-        return ways ** len(self.open_fixtures(sheet)) > MOST_FINISHES
 
 
 class SheetReader:

@@ -12,63 +12,63 @@ use Rattle.clap.specs.Words.{is_simple_and_free, matches_of}
 use Rattle.clap.specs.declared.error.Error.{Error}
 use Rattle.clap.specs.declared.error.kind.ErrorKind.TheVariants as kind
 use Rattle.clap.proofs.OnLiterals.{clap_on_literals}
-use Rattle.futmax_main.specs.Commands.{command, unless_fault, rows_taken, is_numeral}
-use Rattle.futmax_main.specs.Commands.{is_number_within, mode_in, mode_of}
+use Rattle.futmax_main.specs.Commands.{app, unless_fault, rows_taken, is_numeral}
+use Rattle.futmax_main.specs.Commands.{is_number_within, command_in, command_of}
 
 -- ---- clap
 
--- the command is one of which clap says what it takes
-command_is_simple : is_simple command ≡ true
-unfolding clap_on_literals command
-command_is_simple = refl
+-- the words are ones of which clap says what it takes
+app_is_simple : is_simple app ≡ true
+unfolding clap_on_literals app
+app_is_simple = refl
 
-command_is_free : is_simple_and_free command ≡ true
-unfolding clap_on_literals command
-command_is_free = refl
+app_is_free : is_simple_and_free app ≡ true
+unfolding clap_on_literals app
+app_is_free = refl
 
 -- nothing is a fault, so the rows are taken
-taken-fine : (words : List Text) (rows : List Row) → rows ≡ matches_of command words
-    → fault_of command words ≡ [] → Some rows ≡ rows_taken words
+taken-fine : (words : List Text) (rows : List Row) → rows ≡ matches_of app words
+    → fault_of app words ≡ [] → Some rows ≡ rows_taken words
 unfolding rows_taken
 taken-fine words rows are fine =
-    ap Some are ∙ ap (λ faults. unless_fault faults (matches_of command words)) (sym fine)
+    ap Some are ∙ ap (λ faults. unless_fault faults (matches_of app words)) (sym fine)
 
 -- a fault is there, so none are
 taken-fault : (words : List Text) (faults : Kinds) (e : Error) → IsAmong (kind_of e) faults
-    → fault_of command words ≡ faults → None ≡ rows_taken words
+    → fault_of app words ≡ faults → None ≡ rows_taken words
 unfolding rows_taken
 taken-fault words [] e among is = absurd among
 taken-fault words (fault ∷ faults) e among is =
-    ap (λ faults. unless_fault faults (matches_of command words)) (sym is)
+    ap (λ faults. unless_fault faults (matches_of app words)) (sym is)
 
 -- the rows of a parse that succeeds
-pub parsed-rows : {X : Type 0} (app : App) (words : List Text) (rows : List Row) → app ≡ command
-    → (is_simple app ≡ true → (rows ≡ matches_of app words) × X)
-    → (is_simple_and_free app ≡ true → fault_of app words ≡ []) → Some rows ≡ rows_taken words
-parsed-rows {X} app words rows is matches fails =
+pub parsed-rows : {X : Type 0} (made : App) (words : List Text) (rows : List Row) → made ≡ app
+    → (is_simple made ≡ true → (rows ≡ matches_of made words) × X)
+    → (is_simple_and_free made ≡ true → fault_of made words ≡ []) → Some rows ≡ rows_taken words
+parsed-rows {X} made words rows is matches fails =
     taken-fine words rows
-    ((matches (ap is_simple is ∙ command_is_simple)).0 ∙ ap (λ a. matches_of a words) is)
-    (sym (ap (λ a. fault_of a words) is) ∙ fails (ap is_simple_and_free is ∙ command_is_free))
+    ((matches (ap is_simple is ∙ app_is_simple)).0 ∙ ap (λ a. matches_of a words) is)
+    (sym (ap (λ a. fault_of a words) is) ∙ fails (ap is_simple_and_free is ∙ app_is_free))
 
 refused_by : (words : List Text) (e : Error) → (kind_of e ≡ kind.OutOfMemory → ⊥)
-    → HasKind (fault_of command words) e → None ≡ rows_taken words
+    → HasKind (fault_of app words) e → None ≡ rows_taken words
 refused_by words e not_memory (inl memory) = absurd (not_memory memory)
-refused_by words e not_memory (inr among) = taken-fault words (fault_of command words) e among refl
+refused_by words e not_memory (inr among) = taken-fault words (fault_of app words) e among refl
 
 -- one that fails, and not for want of memory, has none
-pub refused-rows : (app : App) (words : List Text) (e : Error) → app ≡ command
+pub refused-rows : (made : App) (words : List Text) (e : Error) → made ≡ app
     → (kind_of e ≡ kind.OutOfMemory → ⊥)
-    → (is_simple_and_free app ≡ true → HasKind (fault_of app words) e) → None ≡ rows_taken words
-refused-rows app words e is not_memory fails =
+    → (is_simple_and_free made ≡ true → HasKind (fault_of made words) e) → None ≡ rows_taken words
+refused-rows made words e is not_memory fails =
     let P : App → Type 0 = λ a. HasKind (fault_of a words) e in
     refused_by words e not_memory
-    (subst P is (fails (ap is_simple_and_free is ∙ command_is_free)))
+    (subst P is (fails (ap is_simple_and_free is ∙ app_is_free)))
 
--- the mode is that of the rows taken
-pub mode_of-taken : (words : List Text) (rows : Option (List Row)) → rows ≡ rows_taken words
-    → mode_of words ≡ option_and_then mode_in rows
-unfolding mode_of
-mode_of-taken words rows are = ap (option_and_then mode_in) (sym are)
+-- the command is that of the rows taken
+pub command_of-taken : (words : List Text) (rows : Option (List Row)) → rows ≡ rows_taken words
+    → command_of words ≡ option_and_then command_in rows
+unfolding command_of
+command_of-taken words rows are = ap (option_and_then command_in) (sym are)
 
 -- ---- numbers
 

@@ -1,7 +1,7 @@
 -- How a session ends: at a fault of its input, or while an answer is written.
 use Rattle.std.proofs.Common.{◌≡◌, ℕ, Bool, List, ◌++◌, Option, Some, Result, refl, ap}
 use Rattle.std.proofs.Common.{◌∙◌}
-use Rattle.std.proofs.Common.{subst}
+use Rattle.std.proofs.Common.{subst, inl, inr}
 use Rattle.std.specs.Io.KnownBytes.{append_known}
 use Rattle.port_core.specs.declared.answers.ReadStop.{ReadStop}
 use Rattle.port_core.specs.Ports.{IsFront}
@@ -11,7 +11,7 @@ use Rattle.futmax_main.specs.declared.status.Status.{Status}
 use Rattle.futmax_main.specs.declared.status.Status.TheVariants.{Done, BadWords, BadSheet, BadFeed}
 use Rattle.futmax_main.specs.declared.status.Status.TheVariants.{ReadFault, WriteFault, OutOfMemory}
 use Rattle.futmax_main.specs.declared.status.Status.TheVariants.{NotProved, TooLong}
-use Rattle.futmax_main.specs.declared.session.Mode.{Mode}
+use Rattle.futmax_main.specs.declared.session.Command.{Command}
 use Rattle.futmax_main.specs.declared.session.Session.{Session}
 use Rattle.futmax_main.specs.declared.session.Asked.{Asked}
 use Rattle.futmax_main.specs.declared.session.Cause.{Cause}
@@ -20,7 +20,7 @@ use Rattle.futmax_main.specs.declared.session.Fault.{Fault}
 use Rattle.futmax_main.specs.declared.session.Step.TheVariants.{Asks, Stops}
 use Rattle.futmax_main.specs.Session.{first_session, step_of, status_of_cause}
 use Rattle.futmax_main.specs.Rows.{fault_row}
-use Rattle.futmax_main.specs.Path.{status_at_end, row_at_end, IsTextOf, IsFrontOf, LeadsTo}
+use Rattle.futmax_main.specs.Path.{status_at_end, row_at_end, IsTextOf, IsFrontOf, LeadsOn}
 use Rattle.futmax_main.specs.Top.{session_status, IsText, IsTextFront, IsWholeText, Serves}
 use Rattle.futmax_main.specs.Turns.{FaultEnds, AskEnds}
 use Rattle.futmax_main.proofs.PathLemmas.{status_stops, text_stops, front_stops, front_asks}
@@ -30,7 +30,6 @@ use Rattle.futmax_main.proofs.PathLemmas.{front_written}
 not_done : (cause : Cause) → status_of_cause cause ≡ Done → ⊥
 not_done (cause.Sheet fault) is = cc
 not_done (cause.Feed fault) is = cc
-not_done cause.TooWide is = cc
 not_done cause.LineTooLong is = cc
 not_done cause.InputTooLong is = cc
 
@@ -38,7 +37,6 @@ not_done cause.InputTooLong is = cc
 not_read : (cause : Cause) → status_of_cause cause ≡ ReadFault → ⊥
 not_read (cause.Sheet fault) is = cc
 not_read (cause.Feed fault) is = cc
-not_read cause.TooWide is = cc
 not_read cause.LineTooLong is = cc
 not_read cause.InputTooLong is = cc
 
@@ -51,117 +49,130 @@ written-more old now later written part first second =
     ∙ append_known-append_known old written part
 
 -- what is known of a fault that ends a session: its status, its text, and the fronts of that text
-pub record Stopped (mode : Mode) (input : List ℕ) (written : List ℕ) (fault : Fault) : Type 0 where
-  pub status : session_status mode input ≡ status_of_cause fault.cause
-  pub text : IsText mode input (written ++ fault_row fault)
-  pub front : (part : List ℕ) → IsFront part (fault_row fault)
-      → IsTextFront mode input (written ++ part)
-  pub so_far : IsTextFront mode input written
+pub record Stopped (command : Command) (input : List ℕ) (written : List ℕ) (fault : Fault) : Type 0
+  where
+    pub status : session_status command input ≡ status_of_cause fault.cause
+    pub text : IsText command input (written ++ fault_row fault)
+    pub front : (part : List ℕ) → IsFront part (fault_row fault)
+        → IsTextFront command input (written ++ part)
+    pub so_far : IsTextFront command input written
 
 -- its whole text
-whole : (mode : Mode) (input written : List ℕ) (fault : Fault) (status : Status)
-    → Stopped mode input written fault → status_of_cause fault.cause ≡ status
-    → IsWholeText mode input status (written ++ fault_row fault)
-whole mode input written fault status stopped is = (stopped.status ∙ is, stopped.text)
+whole : (command : Command) (input written : List ℕ) (fault : Fault) (status : Status)
+    → Stopped command input written fault → status_of_cause fault.cause ≡ status
+    → IsWholeText command input status (written ++ fault_row fault)
+whole command input written fault status stopped is = (stopped.status ∙ is, stopped.text)
 
 -- a fault of the input serves
-pub fault-serves : (mode : Mode) (input written : List ℕ) (left : Option (List ℕ)) (told' : Bool)
+pub fault-serves : (command : Command) (input written : List ℕ) (left : Option (List ℕ))
+    (told' : Bool)
     (old now0 now1 : Option (List ℕ))
-    (fault : Fault) (status : Status) → Stopped mode input written fault
+    (fault : Fault) (status : Status) → Stopped command input written fault
     → now0 ≡ append_known old written → FaultEnds fault now0 now1 status
-    → Serves (Some mode) (Some input) left told' old now1 status
-fault-serves mode input written left told' old now0 now1 fault Done stopped before ends =
+    → Serves (Some command) (Some input) left told' old now1 status
+fault-serves command input written left told' old now0 now1 fault Done stopped before ends =
     absurd (not_done fault.cause ends.0)
-fault-serves mode input written left told' old now0 now1 fault BadWords stopped before ends = (
+fault-serves command input written left told' old now0 now1 fault BadWords stopped before ends = (
   written ++ fault_row fault,
   written-more old now0 now1 written (fault_row fault) before ends.1,
-  whole mode input written fault BadWords stopped ends.0,
+  whole command input written fault BadWords stopped ends.0,
 )
-fault-serves mode input written left told' old now0 now1 fault BadSheet stopped before ends = (
+fault-serves command input written left told' old now0 now1 fault BadSheet stopped before ends = (
   written ++ fault_row fault,
   written-more old now0 now1 written (fault_row fault) before ends.1,
-  whole mode input written fault BadSheet stopped ends.0,
+  whole command input written fault BadSheet stopped ends.0,
 )
-fault-serves mode input written left told' old now0 now1 fault BadFeed stopped before ends = (
+fault-serves command input written left told' old now0 now1 fault BadFeed stopped before ends = (
   written ++ fault_row fault,
   written-more old now0 now1 written (fault_row fault) before ends.1,
-  whole mode input written fault BadFeed stopped ends.0,
+  whole command input written fault BadFeed stopped ends.0,
 )
-fault-serves mode input written left told' old now0 now1 fault ReadFault stopped before ends =
+fault-serves command input written left told' old now0 now1 fault ReadFault stopped before ends =
     absurd (not_read fault.cause ends.0)
-fault-serves mode input written left told' old now0 now1 fault WriteFault stopped before ends = (
+fault-serves command input written left told' old now0 now1 fault WriteFault stopped before ends = (
   written ++ ends.0,
   written-more old now0 now1 written ends.0 before ends.2,
   stopped.front ends.0 ends.1,
 )
-fault-serves mode input written left told' old now0 now1 fault OutOfMemory stopped before ends =
+fault-serves command input written left told' old now0 now1 fault OutOfMemory stopped before ends =
     (written, ends ∙ before, stopped.so_far)
-fault-serves mode input written left told' old now0 now1 fault NotProved stopped before ends = (
+fault-serves command input written left told' old now0 now1 fault NotProved stopped before ends = (
   written ++ fault_row fault,
   written-more old now0 now1 written (fault_row fault) before ends.1,
-  whole mode input written fault NotProved stopped ends.0,
+  whole command input written fault NotProved stopped ends.0,
 )
-fault-serves mode input written left told' old now0 now1 fault TooLong stopped before ends = (
+fault-serves command input written left told' old now0 now1 fault TooLong stopped before ends = (
   written ++ fault_row fault,
   written-more old now0 now1 written (fault_row fault) before ends.1,
-  whole mode input written fault TooLong stopped ends.0,
+  whole command input written fault TooLong stopped ends.0,
 )
 
 -- an ask that ends the run serves
-pub ask-serves : (mode : Mode) (input : List ℕ) (taken : List (ℕ × List ℕ)) (number : ℕ)
+pub ask-serves : (command : Command) (input : List ℕ) (taken : List (ℕ × List ℕ)) (number : ℕ)
     (text : List ℕ) (rest : Contents) (written : List ℕ) (session : Session) (asked : Asked)
     (left : Option (List ℕ)) (told' : Bool) (old now0 now1 : Option (List ℕ)) (status : Status)
-    → LeadsTo (first_session mode) (contents_of input) taken (with_line number text rest) written
+    → LeadsOn (first_session command) (contents_of input) taken (with_line number text rest) written
     session
     → step_of number session text ≡ Asks asked
     → now0 ≡ append_known old written → AskEnds asked now0 now1 status
-    → Serves (Some mode) (Some input) left told' old now1 status
-ask-serves mode input taken number text rest written session asked left told' old now0 now1 Done way
-    asks before ends = absurd ends
-ask-serves mode input taken number text rest written session asked left told' old now0 now1
-    BadWords way
-    asks before ends = absurd ends
-ask-serves mode input taken number text rest written session asked left told' old now0 now1
-    BadSheet way
-    asks before ends = absurd ends
-ask-serves mode input taken number text rest written session asked left told' old now0 now1 BadFeed
+    → Serves (Some command) (Some input) left told' old now1 status
+ask-serves command input taken number text rest written session asked left told' old now0 now1 Done
     way
     asks before ends = absurd ends
-ask-serves mode input taken number text rest written session asked left told' old now0 now1
+ask-serves command input taken number text rest written session asked left told' old now0 now1
+    BadWords way
+    asks before ends = absurd ends
+ask-serves command input taken number text rest written session asked left told' old now0 now1
+    BadSheet way
+    asks before ends = absurd ends
+ask-serves command input taken number text rest written session asked left told' old now0 now1
+    BadFeed
+    way
+    asks before ends = absurd ends
+ask-serves command input taken number text rest written session asked left told' old now0 now1
     ReadFault way
     asks before ends = absurd ends
-ask-serves mode input taken number text rest written session asked left told' old now0 now1
+ask-serves command input taken number text rest written session asked left told' old now0 now1
     WriteFault way
     asks before ends =
     let front = ends.2 in (
       written ++ front.0,
       written-more old now0 now1 written front.0 before front.2,
-      front_asks (first_session mode) (contents_of input) taken number text rest written front.0
+      front_asks (first_session command) (contents_of input) taken number text rest written front.0
           ends.0 session asked way asks ends.1 front.1,
     )
-ask-serves mode input taken number text rest written session asked left told' old now0 now1
+ask-serves command input taken number text rest written session asked left told' old now0 now1
     OutOfMemory way
-    asks before ends = (
-      written,
-      ends ∙ before,
-      front_written (first_session mode) (contents_of input) taken
-          (with_line number text rest) written session way,
-    )
-ask-serves mode input taken number text rest written session asked left told' old now0 now1
+    asks before ends = elim ends [
+      | inl same ↦ (
+        written,
+        same ∙ before,
+        front_written (first_session command) (contents_of input) taken
+            (with_line number text rest) written session way,
+      )
+      | inr more ↦ let front = more.2 in (
+        written ++ front.0,
+        written-more old now0 now1 written front.0 before front.2,
+        front_asks (first_session command) (contents_of input) taken number text rest written
+            front.0 more.0 session asked way asks more.1 front.1,
+      )
+    ]
+ask-serves command input taken number text rest written session asked left told' old now0 now1
     NotProved way
     asks before ends = absurd ends
-ask-serves mode input taken number text rest written session asked left told' old now0 now1 TooLong
+ask-serves command input taken number text rest written session asked left told' old now0 now1
+    TooLong
     way
     asks before ends = absurd ends
 
 -- a line that is refused stops the session
-pub line-stops : (mode : Mode) (input : List ℕ) (taken : List (ℕ × List ℕ)) (number : ℕ)
+pub line-stops : (command : Command) (input : List ℕ) (taken : List (ℕ × List ℕ)) (number : ℕ)
     (text : List ℕ) (rest : Contents) (written : List ℕ) (session : Session) (fault : Fault)
-    → LeadsTo (first_session mode) (contents_of input) taken (with_line number text rest) written
+    → LeadsOn (first_session command) (contents_of input) taken (with_line number text rest) written
     session
-    → step_of number session text ≡ Stops fault → Stopped mode input written fault
-line-stops mode input taken number text rest written session fault way stops =
-    let first = first_session mode in
+    → step_of number session text ≡ Stops fault → Stopped command input written fault
+line-stops command input taken number text rest written session fault way stops =
+    let first = first_session command in
     let all = contents_of input in
     record {
       status = status_stops first all taken number text rest written session fault way stops;
@@ -172,15 +183,16 @@ line-stops mode input taken number text rest written session fault way stops =
     }
 
 -- a fault at the end of the contents stops the session
-pub end-stops : (mode : Mode) (input : List ℕ) (taken : List (ℕ × List ℕ)) (rest : Contents)
+pub end-stops : (command : Command) (input : List ℕ) (taken : List (ℕ × List ℕ)) (rest : Contents)
     (end : Result ℕ ReadStop) (written : List ℕ) (session : Session) (fault : Fault)
-    → LeadsTo (first_session mode) (contents_of input) taken rest written session → rest ≡ ended end
+    → LeadsOn (first_session command) (contents_of input) taken rest written session
+    → rest ≡ ended end
     → status_at_end end session ≡ status_of_cause fault.cause
-    → row_at_end end session ≡ fault_row fault → Stopped mode input written fault
-end-stops mode input taken rest end written session fault way is status row =
-    let first = first_session mode in
+    → row_at_end end session ≡ fault_row fault → Stopped command input written fault
+end-stops command input taken rest end written session fault way is status row =
+    let first = first_session command in
     let all = contents_of input in
-    let P : Contents → Type 0 = λ contents. LeadsTo first all taken contents written session in
+    let P : Contents → Type 0 = λ contents. LeadsOn first all taken contents written session in
     let there = subst P is way in
     let Q : List ℕ → Type 0 = λ t. IsTextOf all first (written ++ t) in
     let R : List ℕ → Type 0 =

@@ -1,10 +1,9 @@
 pub mod CommandLemmas
 pub mod PathLemmas
-pub mod PlayedLemmas
 pub mod AnswerLemmas
-pub mod ExampleLemmas
 pub mod TableLemmas
 pub mod OutputLemmas
+pub mod VerdictLemmas
 pub mod EndLemmas
 pub mod TurnLemmas
 pub mod RunLemmas

@@ -14,10 +14,10 @@ use Rattle.futmax_main.specs.Session.{step_of, session_behind, status_of_cause}
 use Rattle.futmax_main.specs.Rows.{fault_row}
 use Rattle.futmax_main.specs.Answers.{IsAnswerTo}
 use Rattle.futmax_main.specs.Path.{row_at_end, status_by, status_of, text_by, IsTextOf, front_by}
-use Rattle.futmax_main.specs.Path.{IsFrontFrom, IsFrontOf, answers_by, AreAnswersFrom, LeadsTo}
+use Rattle.futmax_main.specs.Path.{IsFrontFrom, IsFrontOf, answers_by, AreAnswersFrom, LeadsOn}
 
 -- before the first line
-pub leads_start : (first : Session) (all : Contents) → LeadsTo first all [] all [] first
+pub leads_start : (first : Session) (all : Contents) → LeadsOn first all [] all [] first
 leads_start first all = record {
   status = refl;
   text = λ more text. text;
@@ -28,9 +28,9 @@ leads_start first all = record {
 -- a line on which the session goes on
 pub leads_goes : (first : Session) (all : Contents) (taken : List (ℕ × List ℕ)) (number : ℕ)
     (text : List ℕ) (left : Contents) (written : List ℕ) (session next : Session)
-    → LeadsTo first all taken (with_line number text left) written session
+    → LeadsOn first all taken (with_line number text left) written session
     → step_of number session text ≡ Goes next
-    → LeadsTo first all (taken ++ (number, text) ∷ []) left written next
+    → LeadsOn first all (taken ++ (number, text) ∷ []) left written next
 leads_goes first all taken number text left written session next way goes =
     record {
       status = way.status ∙ ap (λ step. status_by step (λ s. status_of left s)) goes;
@@ -50,9 +50,9 @@ leads_goes first all taken number text left written session next way goes =
 -- a line that is an ask, and its answer
 pub leads_asks : (first : Session) (all : Contents) (taken : List (ℕ × List ℕ)) (number : ℕ)
     (text : List ℕ) (left : Contents) (written answer : List ℕ) (session : Session)
-    (asked : Asked) → LeadsTo first all taken (with_line number text left) written session
+    (asked : Asked) → LeadsOn first all taken (with_line number text left) written session
     → step_of number session text ≡ Asks asked → IsAnswerTo asked answer
-    → LeadsTo first all (taken ++ (number, text) ∷ []) left (written ++ answer)
+    → LeadsOn first all (taken ++ (number, text) ∷ []) left (written ++ answer)
     (session_behind asked)
 leads_asks first all taken number text left written answer session asked way asks answers_it =
     record {
@@ -84,14 +84,14 @@ leads_asks first all taken number text left written answer session asked way ask
 -- a line that is refused ends the session with its status, and its row ends the text
 pub status_stops : (first : Session) (all : Contents) (taken : List (ℕ × List ℕ)) (number : ℕ)
     (text : List ℕ) (left : Contents) (written : List ℕ) (session : Session) (fault : Fault)
-    → LeadsTo first all taken (with_line number text left) written session
+    → LeadsOn first all taken (with_line number text left) written session
     → step_of number session text ≡ Stops fault → status_of all first ≡ status_of_cause fault.cause
 status_stops first all taken number text left written session fault way stops =
     way.status ∙ ap (λ step. status_by step (λ s. status_of left s)) stops
 
 pub text_stops : (first : Session) (all : Contents) (taken : List (ℕ × List ℕ)) (number : ℕ)
     (text : List ℕ) (left : Contents) (written : List ℕ) (session : Session) (fault : Fault)
-    → LeadsTo first all taken (with_line number text left) written session
+    → LeadsOn first all taken (with_line number text left) written session
     → step_of number session text ≡ Stops fault → IsTextOf all first (written ++ fault_row fault)
 text_stops first all taken number text left written session fault way stops =
     let P : Step → Type 0 = λ step. text_by step (λ s. IsTextOf left s) (fault_row fault) in
@@ -99,7 +99,7 @@ text_stops first all taken number text left written session fault way stops =
 
 pub front_stops : (first : Session) (all : Contents) (taken : List (ℕ × List ℕ)) (number : ℕ)
     (text : List ℕ) (left : Contents) (written part : List ℕ) (session : Session) (fault : Fault)
-    → LeadsTo first all taken (with_line number text left) written session
+    → LeadsOn first all taken (with_line number text left) written session
     → step_of number session text ≡ Stops fault → IsFront part (fault_row fault)
     → IsFrontOf all first (written ++ part)
 front_stops first all taken number text left written part session fault way stops front =
@@ -109,7 +109,7 @@ front_stops first all taken number text left written part session fault way stop
 -- a front of an answer that was not written to its end
 pub front_asks : (first : Session) (all : Contents) (taken : List (ℕ × List ℕ)) (number : ℕ)
     (text : List ℕ) (left : Contents) (written part answer : List ℕ) (session : Session)
-    (asked : Asked) → LeadsTo first all taken (with_line number text left) written session
+    (asked : Asked) → LeadsOn first all taken (with_line number text left) written session
     → step_of number session text ≡ Asks asked → IsAnswerTo asked answer → IsFront part answer
     → IsFrontOf all first (written ++ part)
 front_asks first all taken number text left written part answer session asked way asks answers_it
@@ -134,7 +134,7 @@ front_nothing (line ∷ lines) end session =
 
 -- what was written so far is a front
 pub front_written : (first : Session) (all : Contents) (taken : List (ℕ × List ℕ)) (left : Contents)
-    (written : List ℕ) (session : Session) → LeadsTo first all taken left written session
+    (written : List ℕ) (session : Session) → LeadsOn first all taken left written session
     → IsFrontOf all first written
 front_written first all taken left written session way =
     let P : List ℕ → Type 0 = λ t. IsFrontOf all first t in
@@ -143,7 +143,7 @@ front_written first all taken left written session way =
 -- what was written so far answers the asks in the lines taken
 pub answers_written : (first : Session) (all : Contents) (taken : List (ℕ × List ℕ))
     (left : Contents) (written : List ℕ) (session : Session)
-    → LeadsTo first all taken left written session → AreAnswersFrom taken first written
+    → LeadsOn first all taken left written session → AreAnswersFrom taken first written
 answers_written first all taken left written session way =
     let P : List ℕ → Type 0 = λ t. AreAnswersFrom taken first t in
     let Q : List (ℕ × List ℕ) → Type 0 = λ ls. AreAnswersFrom ls first (written ++ []) in

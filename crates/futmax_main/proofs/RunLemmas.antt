@@ -1,62 +1,57 @@
 -- Where a run begins, and what its status says where no byte is told.
-use Rattle.std.proofs.Common.{◌≡◌, ℕ, Bool, List, [], Option, Some, None, refl, ap, sym, subst}
-use Rattle.std.specs.Io.KnownBytes.{append_known, prepend_known}
-use Rattle.std.proofs.lemmas.List.{append-nil}
+use Rattle.std.proofs.Common.{◌≡◌, ℕ, Bool, List, [], Option, Some, None, refl, sym, subst}
+use Rattle.std.specs.Io.KnownBytes.{prepend_known}
 use Rattle.port_core.specs.Contents.{start, contents_of}
 use Rattle.port_core.specs.Readers.{Reader, stream_of}
 use Rattle.port_core.proofs.PassingLemmas.{passes-none}
 use Rattle.futmax_main.specs.declared.status.Status.TheVariants.{OutOfMemory}
-use Rattle.futmax_main.specs.declared.session.Mode.{Mode}
+use Rattle.futmax_main.specs.declared.session.Command.{Command}
 use Rattle.futmax_main.specs.declared.session.Session.{Session}
 use Rattle.futmax_main.specs.Session.{first_session}
 use Rattle.futmax_main.specs.Path.{Path}
 use Rattle.futmax_main.specs.Top.{Serves}
 use Rattle.futmax_main.specs.Sound.{IsSound}
+use Rattle.futmax_main.proofs.OutputLemmas.{append_known-nothing}
 use Rattle.futmax_main.proofs.PathLemmas.{leads_start, front_written}
 
--- nothing written leaves the sink's bytes
-append_known-nothing : (old : Option (List ℕ)) → old ≡ append_known old []
-append_known-nothing None = refl
-append_known-nothing (Some bytes) = ap Some (sym (append-nil bytes))
-
 -- before the first turn
-path-start : (mode : Mode) (input : Option (List ℕ)) (told : Bool) (old : Option (List ℕ))
-    → Path mode input told (prepend_known [] input) told start (first_session mode) old old
-path-start mode None told old = tt
-path-start mode (Some input) told old = (
+path-start : (command : Command) (input : Option (List ℕ)) (told : Bool) (old : Option (List ℕ))
+    → Path command input told (prepend_known [] input) told start (first_session command) old old
+path-start command None told old = tt
+path-start command (Some input) told old = (
   [],
   [],
   append_known-nothing old,
   passes-none start (Some input) (Some input) told told refl (λ unsaid. unsaid),
-  leads_start (first_session mode) (contents_of input),
+  leads_start (first_session command) (contents_of input),
 )
 
 -- a run that found no memory before its first turn
-pub serves-nothing : (mode : Mode) (input left : Option (List ℕ)) (told : Bool)
-    (old : Option (List ℕ)) → Serves (Some mode) input left told old old OutOfMemory
-serves-nothing mode None left told old = tt
-serves-nothing mode (Some input) left told old = (
+pub serves-nothing : (command : Command) (input left : Option (List ℕ)) (told : Bool)
+    (old : Option (List ℕ)) → Serves (Some command) input left told old old OutOfMemory
+serves-nothing command None left told old = tt
+serves-nothing command (Some input) left told old = (
   [],
   append_known-nothing old,
-  front_written (first_session mode) (contents_of input) [] (contents_of input) []
-      (first_session mode) (leads_start (first_session mode) (contents_of input)),
+  front_written (first_session command) (contents_of input) [] (contents_of input) []
+      (first_session command) (leads_start (first_session command) (contents_of input)),
 )
 
 -- nothing was written, since the words wanted memory
-pub serves-no_memory : (mode : Option Mode) (input left : Option (List ℕ)) (told : Bool)
-    (old : Option (List ℕ)) → Serves mode input left told old old OutOfMemory
+pub serves-no_memory : (command : Option Command) (input left : Option (List ℕ)) (told : Bool)
+    (old : Option (List ℕ)) → Serves command input left told old old OutOfMemory
 serves-no_memory None input left told old = ([], append_known-nothing old, refl)
-serves-no_memory (Some mode) input left told old = serves-nothing mode input left told old
+serves-no_memory (Some command) input left told old = serves-nothing command input left told old
 
 -- a reader that has given nothing, and a session before its first line, are where the way starts
-pub run-start : (mode : Mode) (input : Option (List ℕ)) (told : Bool) (old : Option (List ℕ))
+pub run-start : (command : Command) (input : Option (List ℕ)) (told : Bool) (old : Option (List ℕ))
     (reader : Reader) (session : Session)
-    → reader ≡ record { held = []; text = []; position = start } → session ≡ first_session mode
+    → reader ≡ record { held = []; text = []; position = start } → session ≡ first_session command
     → IsSound session
-    × Path mode input told (stream_of reader input) told reader.position session old old
-run-start mode input told old reader session reader_is session_is =
+    × Path command input told (stream_of reader input) told reader.position session old old
+run-start command input told old reader session reader_is session_is =
     let P : Reader → Type 0 = λ r. IsSound session
-    × Path mode input told (stream_of r input) told r.position session old old in
+    × Path command input told (stream_of r input) told r.position session old old in
     let Q : Session → Type 0 = λ s. IsSound s
-    × Path mode input told (prepend_known [] input) told start s old old in
-    subst P (sym reader_is) (subst Q (sym session_is) (tt, path-start mode input told old))
+    × Path command input told (prepend_known [] input) told start s old old in
+    subst P (sym reader_is) (subst Q (sym session_is) (tt, path-start command input told old))

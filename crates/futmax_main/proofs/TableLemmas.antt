@@ -19,7 +19,6 @@ use Rattle.final_rank.specs.declared.span.Span.{Span}
 use Rattle.final_rank.specs.Spans.{span_of, spans_of}
 use Rattle.final_rank.proofs.PlaceLemmas.{best_is, worst_is}
 use Rattle.final_rank.proofs.TierLemmas.{below_clubs}
-use Rattle.futmax_main.specs.declared.session.Played.{Played}
 use Rattle.futmax_main.specs.declared.table_row.TableRow.{TableRow}
 use Rattle.futmax_main.specs.Rows.{ask_row}
 use Rattle.futmax_main.specs.Parts.{IsMadeOf}
@@ -144,15 +143,14 @@ row-is sheet season club span played points difference scored rest others row is
     })
 
 -- the rows of a table behind the row of the ask
-pub table-is : (played : Played) (order old row text : List ℕ)
-    → IsTable played.sheet played.season (clubs_of played.sheet) order → old ≡ []
-    → row ≡ old ++ ask_row played.epoch
-    → Adds row text (IsMadeOf (IsPlaceRow played.sheet played.season) order)
-    → IsTableText played text
-table-is played order old row text ranked none row_is more = (
+pub table-is : (sheet : Sheet) (season : Results) (epoch : ℕ) (order row text : List ℕ)
+    → IsTable sheet season (clubs_of sheet) order → row ≡ ask_row epoch
+    → Adds row text (IsMadeOf (IsPlaceRow sheet season) order)
+    → IsTableText sheet season epoch text
+table-is sheet season epoch order row text ranked row_is more = (
   order,
   more.0,
   ranked,
-  more.1 ∙ ap (λ t. t ++ more.0) (row_is ∙ ap (λ t. t ++ ask_row played.epoch) none),
+  more.1 ∙ ap (λ t. t ++ more.0) row_is,
   more.2,
 )

@@ -3,10 +3,10 @@
 -- behind it.
 pub mod Statuses
 pub mod Commands
+pub mod Plays
 pub mod Session
 pub mod Rows
 pub mod Parts
-pub mod Examples
 pub mod Verdicts
 pub mod Tables
 pub mod Answers
@@ -14,5 +14,6 @@ pub mod Path
 pub mod Top
 pub mod Sound
 pub mod Items
+pub mod Outputs
 pub mod Turns
 pub mod Pieces

@@ -12,7 +12,7 @@ use Rattle.port_core.specs.Contents.{Position, start, Contents, contents_from, c
 use Rattle.port_core.specs.Readers.{Passes}
 use Rattle.futmax_main.specs.declared.status.Status.{Status}
 use Rattle.futmax_main.specs.declared.status.Status.TheVariants.{Done, ReadFault}
-use Rattle.futmax_main.specs.declared.session.Mode.{Mode}
+use Rattle.futmax_main.specs.declared.session.Command.{Command}
 use Rattle.futmax_main.specs.declared.session.Session.{Session}
 use Rattle.futmax_main.specs.declared.session.Asked.{Asked}
 use Rattle.futmax_main.specs.declared.session.Cause.TheVariants.{LineTooLong, InputTooLong}
@@ -134,7 +134,7 @@ IsFrontOf contents session text = IsFrontFrom contents.lines contents.ending ses
 
 -- lines already taken led from a first session here, and wrote this much: what holds from here on
 -- over what is left holds of all from the first session on, with what was written in front
-pub record LeadsTo (first : Session) (all : Contents) (taken : List (ℕ × List ℕ)) (left : Contents)
+pub record LeadsOn (first : Session) (all : Contents) (taken : List (ℕ × List ℕ)) (left : Contents)
     (written : List ℕ) (session : Session) : Type 0 where
   pub status : status_of all first ≡ status_of left session
   pub text : (more : List ℕ) → IsTextOf left session more → IsTextOf all first (written ++ more)
@@ -145,12 +145,12 @@ pub record LeadsTo (first : Session) (all : Contents) (taken : List (ℕ × List
 -- the way from the whole input to a position in it and what stands from there on, with the sink's
 -- bytes before and now, and whether the source has told its end, before and now; nothing is said
 -- where the source does not tell its bytes
-abbrev pub Path : Mode → Option (List ℕ) → Bool → Option (List ℕ) → Bool → Position → Session
+abbrev pub Path : Command → Option (List ℕ) → Bool → Option (List ℕ) → Bool → Position → Session
     → Option (List ℕ) → Option (List ℕ) → Type 0
-Path mode None ended left ended' position session old now = Unit {0}
-Path mode (Some input) ended None ended' position session old now = ⊥
-Path mode (Some input) ended (Some left) ended' position session old now =
+Path command None ended left ended' position session old now = Unit {0}
+Path command (Some input) ended None ended' position session old now = ⊥
+Path command (Some input) ended (Some left) ended' position session old now =
     (taken : List (ℕ × List ℕ)) × (written : List ℕ) × (now ≡ append_known old written)
     × Passes start input ended position left ended' taken
-    × LeadsTo (first_session mode) (contents_of input) taken
+    × LeadsOn (first_session command) (contents_of input) taken
     (contents_from position (lines_of left)) written session

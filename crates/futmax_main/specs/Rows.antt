@@ -1,17 +1,14 @@
 -- The rows of the output. A row of fields is written as csv writes a record, with quotes where they
--- are needed; a row that shows a part of an example is a proof line. Each ends with LF.
+-- are needed; a row that shows a part of an example or a tree is a proof line. Each ends with LF.
 use Rattle.std.specs.Prelude.{ℕ, List, [], ◌∷◌, ◌++◌, codes, decimal}
 use Rattle.std.specs.Fmt.{signed_decimal}
-use Rattle.league_core.specs.declared.question.Claim.{Claim}
-use Rattle.league_core.specs.declared.season.Score.{Score}
 use Rattle.cert_text.specs.declared.proof_line.ProofLine.{ProofLine}
-use Rattle.cert_text.specs.declared.proof_line.ProofLine.TheVariants as line
 use Rattle.cert_text.specs.Rows.{text_of_row}
 use Rattle.cert_text.specs.Lines.{text_of_proof_line}
 use Rattle.fixture_sheet.specs.Faults.{sheet_code_of}
 use Rattle.result_log.specs.Faults.{feed_code_of}
-use Rattle.finish_walk.specs.declared.verdict.Verdict.{Verdict}
-use Rattle.finish_walk.specs.declared.verdict.Verdict.TheVariants.{Clinched, Lost, Possible}
+use Rattle.verdict_run.specs.declared.word.Word.{Word}
+use Rattle.verdict_run.specs.declared.word.Word.TheVariants.{Clinched, Lost, Possible, Unsettled}
 use Rattle.futmax_main.specs.declared.table_row.TableRow.{TableRow}
 use Rattle.futmax_main.specs.declared.session.Cause.{Cause}
 use Rattle.futmax_main.specs.declared.session.Cause.TheVariants as cause
@@ -30,7 +27,6 @@ usage_row =
 abbrev pub cause_text : Cause → List ℕ
 cause_text (cause.Sheet fault) = sheet_code_of fault
 cause_text (cause.Feed fault) = feed_code_of fault
-cause_text cause.TooWide = codes "too_wide"
 cause_text cause.LineTooLong = codes "line_too_long"
 cause_text cause.InputTooLong = codes "input_too_long"
 
@@ -48,16 +44,17 @@ last_row (Refused fault) = fault_row fault
 abbrev pub ask_row : ℕ → List ℕ
 ask_row epoch = text_of_row (codes "ask" ∷ decimal epoch ∷ [])
 
--- the word of a verdict
-abbrev pub verdict_text : Verdict → List ℕ
-verdict_text Clinched = codes "clinched"
-verdict_text Lost = codes "lost"
-verdict_text Possible = codes "possible"
+-- how a word is written
+abbrev pub word_text : Word → List ℕ
+word_text Clinched = codes "clinched"
+word_text Lost = codes "lost"
+word_text Possible = codes "possible"
+word_text Unsettled = codes "unsettled"
 
 -- `verdict,K,CLUB,WORD`
-abbrev pub verdict_row : ℕ → List ℕ → Verdict → List ℕ
-verdict_row line name verdict =
-    text_of_row (codes "verdict" ∷ decimal line ∷ name ∷ verdict_text verdict ∷ [])
+abbrev pub verdict_row : ℕ → List ℕ → Word → List ℕ
+verdict_row line name word =
+    text_of_row (codes "verdict" ∷ decimal line ∷ name ∷ word_text word ∷ [])
 
 -- `place,BEST,WORST,CLUB,PLAYED,POINTS,DIFF,SCORED`
 abbrev pub place_row : List ℕ → TableRow → List ℕ
@@ -66,20 +63,8 @@ place_row name row =
     ∷ decimal row.played ∷ signed_decimal row.points
     ∷ signed_decimal row.difference ∷ signed_decimal row.scored ∷ [])
 
--- ---- rows of examples
+-- ---- rows that show a verdict
 
 -- a proof line alone on its row
 abbrev pub line_row : ProofLine → List ℕ
 line_row shown = text_of_proof_line shown ++ 10 ∷ []
-
--- `["finish",CLAIM]`
-abbrev pub finish_row : Claim → List ℕ
-finish_row claim = line_row (line.Finish claim)
-
--- `["score",F,H,A]`; the fixture counts from 0 here, from 1 in the row
-abbrev pub score_row : ℕ → Score → List ℕ
-score_row fixture score = line_row (line.Score fixture score)
-
--- `["lots",[..]]`, with the clubs from first to last; they count from 0 here, from 1 in the row
-abbrev pub lots_row : List ℕ → List ℕ
-lots_row lots = line_row (line.Lots (record { list = lots }))

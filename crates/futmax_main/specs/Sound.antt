@@ -1,47 +1,39 @@
 -- What a session keeps from line to line, so that its sheet and its season are ones that the
 -- ranking may be asked of. That a sheet so far is within the limits, its own type keeps.
-use Rattle.std.specs.Prelude.{◌≤◌, IsTrue}
+use Rattle.std.specs.Prelude.{◌≡◌, ◌≤◌, IsTrue}
 use Rattle.league_core.specs.Limits.{most_events}
 use Rattle.league_core.specs.Seasons.{IsLeague}
 use Rattle.league_core.specs.Results.{are_results}
-use Rattle.finish_walk.specs.Walks.{HasFewFinishes}
 use Rattle.futmax_main.specs.declared.session.Mode.{Mode}
-use Rattle.futmax_main.specs.declared.session.Mode.TheVariants.{Verdicts, Table}
-use Rattle.futmax_main.specs.declared.session.Played.{Played}
 use Rattle.futmax_main.specs.declared.session.Stage.{Stage}
 use Rattle.futmax_main.specs.declared.session.Stage.TheVariants.{InSheet, InFeed}
 use Rattle.futmax_main.specs.declared.session.Session.{Session}
 use Rattle.futmax_main.specs.declared.session.Asked.{Asked}
 use Rattle.futmax_main.specs.declared.session.Step.{Step}
 use Rattle.futmax_main.specs.declared.session.Step.TheVariants.{Goes, Asks, Stops}
+use Rattle.futmax_main.specs.Plays.{Played}
+use Rattle.futmax_main.specs.Session.{questions_for}
 
--- a whole sheet within the limits, a season of it, and no more events than may be
-pub record IsSoundPlayed (played : Played) : Type 0 where
+-- a whole sheet within the limits, a season of it, no more events than may be, and the questions of
+-- the mode
+pub record IsSoundPlayed (mode : Mode) (played : Played) : Type 0 where
   pub league : IsLeague played.sheet played.season
   pub results : IsTrue (are_results played.season)
   pub events : played.epoch ≤ most_events
-
--- the season has no more finishes than are walked
-abbrev pub IsNarrow : Played → Type 0
-IsNarrow played = HasFewFinishes played.sheet played.season
+  pub questions : played.questions ≡ questions_for mode played.sheet
 
 -- what holds at a stage
-abbrev pub IsSoundAt : Stage → Type 0
-IsSoundAt (InSheet draft) = Unit {0}
-IsSoundAt (InFeed played) = IsSoundPlayed played
+abbrev pub IsSoundAt : Mode → Stage → Type 0
+IsSoundAt mode (InSheet draft) = Unit {0}
+IsSoundAt mode (InFeed played) = IsSoundPlayed mode played
 
 -- what holds of a session
 abbrev pub IsSound : Session → Type 0
-IsSound session = IsSoundAt session.stage
-
--- an answer of the mode may be made from this
-abbrev pub MayAnswer : Mode → Played → Type 0
-MayAnswer Verdicts played = IsSoundPlayed played × IsNarrow played
-MayAnswer Table played = IsSoundPlayed played
+IsSound session = IsSoundAt session.command.mode session.stage
 
 -- the ask may be answered
 abbrev pub IsAsked : Asked → Type 0
-IsAsked asked = MayAnswer asked.mode asked.played
+IsAsked asked = IsSoundPlayed asked.command.mode asked.played
 
 -- what a line leaves
 abbrev pub IsSoundStep : Step → Type 0

@@ -11,7 +11,6 @@ use Rattle.league_core.specs.Sums.{points_of, sum_of, goal_difference, goals}
 use Rattle.league_core.specs.Ranking.{IsTable}
 use Rattle.final_rank.specs.Places.{IsBestPlace, IsWorstPlace}
 use Rattle.futmax_main.specs.declared.table_row.TableRow.{TableRow}
-use Rattle.futmax_main.specs.declared.session.Played.{Played}
 use Rattle.futmax_main.specs.Rows.{ask_row, place_row}
 use Rattle.futmax_main.specs.Parts.{IsMadeOf, club_name}
 
@@ -48,9 +47,9 @@ IsPlaceRow sheet season club text =
     × (text ≡ place_row (club_name sheet club) row)
 
 -- the row of the ask, then the clubs' rows in the order of the table
-abbrev pub IsTableText : Played → List ℕ → Type 0
-IsTableText played text =
+abbrev pub IsTableText : Sheet → Results → ℕ → List ℕ → Type 0
+IsTableText sheet season epoch text =
     (order : List ℕ) × (rows : List ℕ)
-    × IsTable played.sheet played.season (clubs_of played.sheet) order
-    × (text ≡ ask_row played.epoch ++ rows)
-    × IsMadeOf (IsPlaceRow played.sheet played.season) order rows
+    × IsTable sheet season (clubs_of sheet) order
+    × (text ≡ ask_row epoch ++ rows)
+    × IsMadeOf (IsPlaceRow sheet season) order rows

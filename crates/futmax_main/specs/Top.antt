@@ -10,56 +10,57 @@ use Rattle.futmax_main.specs.declared.status.Status.{Status}
 use Rattle.futmax_main.specs.declared.status.Status.TheVariants.{Done, BadWords, BadSheet, BadFeed}
 use Rattle.futmax_main.specs.declared.status.Status.TheVariants.{ReadFault, WriteFault, OutOfMemory}
 use Rattle.futmax_main.specs.declared.status.Status.TheVariants.{NotProved, TooLong}
-use Rattle.futmax_main.specs.declared.session.Mode.{Mode}
+use Rattle.futmax_main.specs.declared.session.Command.{Command}
 use Rattle.futmax_main.specs.Rows.{usage_row}
 use Rattle.futmax_main.specs.Session.{first_session}
 use Rattle.futmax_main.specs.Path.{status_of, IsTextOf, IsFrontOf, AreAnswersFrom}
 
 -- the status of the session of an input
-abbrev pub session_status : Mode → List ℕ → Status
-session_status mode input = status_of (contents_of input) (first_session mode)
+abbrev pub session_status : Command → List ℕ → Status
+session_status command input = status_of (contents_of input) (first_session command)
 
 -- the text is one of the session of an input
-abbrev pub IsText : Mode → List ℕ → List ℕ → Type 0
-IsText mode input text = IsTextOf (contents_of input) (first_session mode) text
+abbrev pub IsText : Command → List ℕ → List ℕ → Type 0
+IsText command input text = IsTextOf (contents_of input) (first_session command) text
 
 -- whole answers of the session's first asks, and a front of its next answer or row
-abbrev pub IsTextFront : Mode → List ℕ → List ℕ → Type 0
-IsTextFront mode input text = IsFrontOf (contents_of input) (first_session mode) text
+abbrev pub IsTextFront : Command → List ℕ → List ℕ → Type 0
+IsTextFront command input text = IsFrontOf (contents_of input) (first_session command) text
 
 -- the whole text of the session, which has this status
-abbrev pub IsWholeText : Mode → List ℕ → Status → List ℕ → Type 0
-IsWholeText mode input status text = (session_status mode input ≡ status) × IsText mode input text
+abbrev pub IsWholeText : Command → List ℕ → Status → List ℕ → Type 0
+IsWholeText command input status text =
+    (session_status command input ≡ status) × IsText command input text
 
 -- the text is the answers of all asks in these first lines of an input, of which none is too long
 -- and none has the input's first byte too many
-abbrev pub AreAnswersIn : Mode → List (List ℕ) → List ℕ → Type 0
-AreAnswersIn mode lines text =
+abbrev pub AreAnswersIn : Command → List (List ℕ) → List ℕ → Type 0
+AreAnswersIn command lines text =
     let contents = contents_from start lines in
     (number : ℕ) × (contents.ending ≡ Ok number)
-    × AreAnswersFrom contents.lines (first_session mode) text
+    × AreAnswersFrom contents.lines (first_session command) text
 
 -- the answers of the asks in the whole lines that were taken: what was taken behind them has no LF,
 -- and each of them ended with its LF, unless the source told its end, which ends a line too
-abbrev pub AnswersTaken : Mode → List ℕ → Option (List ℕ) → Bool → List ℕ → Type 0
-AnswersTaken mode input None ended text = ⊥
-AnswersTaken mode input (Some left) ended text =
+abbrev pub AnswersTaken : Command → List ℕ → Option (List ℕ) → Bool → List ℕ → Type 0
+AnswersTaken command input None ended text = ⊥
+AnswersTaken command input (Some left) ended text =
     (taken : List (List ℕ)) × (held : List ℕ) × HasNoLineFeed held
     × (lines_of input ≡ taken ++ lines_of (held ++ left)) × (ended ≡ false → AreEndedLines taken)
-    × AreAnswersIn mode taken text
+    × AreAnswersIn command taken text
 
 -- what was written where a run over this input ends with this status, by what the source has left
 -- then and by whether it has told its end
-abbrev pub Ends : Mode → List ℕ → Option (List ℕ) → Bool → Status → List ℕ → Type 0
-Ends mode input left ended Done text = IsWholeText mode input Done text × (left ≡ Some [])
-Ends mode input left ended BadWords text = IsWholeText mode input BadWords text
-Ends mode input left ended BadSheet text = IsWholeText mode input BadSheet text
-Ends mode input left ended BadFeed text = IsWholeText mode input BadFeed text
-Ends mode input left ended ReadFault text = AnswersTaken mode input left ended text
-Ends mode input left ended WriteFault text = IsTextFront mode input text
-Ends mode input left ended OutOfMemory text = IsTextFront mode input text
-Ends mode input left ended NotProved text = IsWholeText mode input NotProved text
-Ends mode input left ended TooLong text = IsWholeText mode input TooLong text
+abbrev pub Ends : Command → List ℕ → Option (List ℕ) → Bool → Status → List ℕ → Type 0
+Ends command input left ended Done text = IsWholeText command input Done text × (left ≡ Some [])
+Ends command input left ended BadWords text = IsWholeText command input BadWords text
+Ends command input left ended BadSheet text = IsWholeText command input BadSheet text
+Ends command input left ended BadFeed text = IsWholeText command input BadFeed text
+Ends command input left ended ReadFault text = AnswersTaken command input left ended text
+Ends command input left ended WriteFault text = IsTextFront command input text
+Ends command input left ended OutOfMemory text = IsTextFront command input text
+Ends command input left ended NotProved text = IsWholeText command input NotProved text
+Ends command input left ended TooLong text = IsWholeText command input TooLong text
 
 -- what was written where the words fit no mode: the usage row, a front of it where the sink failed,
 -- or nothing where there was no memory for it
@@ -71,13 +72,13 @@ EndsUnread _ text = ⊥
 
 -- the sink's bytes before and after a run, by the mode of its words, by what the source had left
 -- before and has left after, and by whether it has told its end
-abbrev pub Serves : Option Mode → Option (List ℕ) → Option (List ℕ) → Bool → Option (List ℕ)
+abbrev pub Serves : Option Command → Option (List ℕ) → Option (List ℕ) → Bool → Option (List ℕ)
     → Option (List ℕ) → Status → Type 0
 Serves None input left ended old new status =
     (text : List ℕ) × (new ≡ append_known old text) × EndsUnread status text
-Serves (Some mode) None left ended old new status = Unit {0}
-Serves (Some mode) (Some input) left ended old new status =
-    (text : List ℕ) × (new ≡ append_known old text) × Ends mode input left ended status text
+Serves (Some command) None left ended old new status = Unit {0}
+Serves (Some command) (Some input) left ended old new status =
+    (text : List ℕ) × (new ≡ append_known old text) × Ends command input left ended status text
 
 -- ---- the status alone, whether or not the devices tell their bytes
 
@@ -89,13 +90,13 @@ Counts reads reads' writes writes' WriteFault = (reads' ≡ reads) × Rose write
 Counts reads reads' writes writes' status = (reads' ≡ reads) × (writes' ≡ writes)
 
 -- the status is that of the session of some input
-abbrev pub IsEarned : Mode → Status → Type 0
-IsEarned mode status = (input : List ℕ) × (session_status mode input ≡ status)
+abbrev pub IsEarned : Command → Status → Type 0
+IsEarned command status = (input : List ℕ) × (session_status command input ≡ status)
 
 -- the status of a run in which no device failed: that of the session, which is that of some input
 -- where the source tells none, or that the words fit no mode; or want of memory
-abbrev pub IsSettled : Option Mode → Option (List ℕ) → Status → Type 0
+abbrev pub IsSettled : Option Command → Option (List ℕ) → Status → Type 0
 IsSettled None input status = (status ≡ BadWords) ⊎ (status ≡ OutOfMemory)
-IsSettled (Some mode) None status = IsEarned mode status ⊎ (status ≡ OutOfMemory)
-IsSettled (Some mode) (Some input) status =
-    (status ≡ session_status mode input) ⊎ (status ≡ OutOfMemory)
+IsSettled (Some command) None status = IsEarned command status ⊎ (status ≡ OutOfMemory)
+IsSettled (Some command) (Some input) status =
+    (status ≡ session_status command input) ⊎ (status ≡ OutOfMemory)

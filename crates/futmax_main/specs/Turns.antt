@@ -1,13 +1,13 @@
 -- What one turn of a run does: what a line, an ask, a fault and the end leave of the sink's bytes,
 -- and how the way goes on.
-use Rattle.std.specs.Prelude.{◌≡◌, ◌<◌, ◌≤◌, ℕ, Bool, List, Option, Some}
+use Rattle.std.specs.Prelude.{◌≡◌, ◌<◌, ◌≤◌, ◌⊎◌, ℕ, Bool, List, Option, Some}
 use Rattle.std.specs.Io.KnownBytes.{append_known}
 use Rattle.port_core.specs.Ports.{AppendsFront, Rose}
 use Rattle.port_core.specs.Contents.{Position, input_limit}
 use Rattle.futmax_main.specs.declared.status.Status.{Status}
 use Rattle.futmax_main.specs.declared.status.Status.TheVariants.{Done, BadWords, ReadFault}
 use Rattle.futmax_main.specs.declared.status.Status.TheVariants.{WriteFault, OutOfMemory, NotProved}
-use Rattle.futmax_main.specs.declared.session.Mode.{Mode}
+use Rattle.futmax_main.specs.declared.session.Command.{Command}
 use Rattle.futmax_main.specs.declared.session.Asked.{Asked}
 use Rattle.futmax_main.specs.declared.session.Fault.{Fault}
 use Rattle.futmax_main.specs.declared.session.Step.{Step}
@@ -19,6 +19,7 @@ use Rattle.futmax_main.specs.declared.turn.Turn.TheVariants.{GoesOn, Ends}
 use Rattle.futmax_main.specs.Session.{session_behind, status_of_cause}
 use Rattle.futmax_main.specs.Rows.{fault_row}
 use Rattle.futmax_main.specs.Answers.{IsAnswerTo}
+use Rattle.futmax_main.specs.Outputs.{PutsFront}
 use Rattle.futmax_main.specs.Path.{Path}
 use Rattle.futmax_main.specs.Top.{Counts, Serves}
 use Rattle.futmax_main.specs.Sound.{IsSound}
@@ -38,9 +39,8 @@ EndEnds (Refused fault) old now status = FaultEnds fault old now status
 
 -- how an ask ends it, where it does
 abbrev pub AskEnds : Asked → Option (List ℕ) → Option (List ℕ) → Status → Type 0
-AskEnds asked old now OutOfMemory = now ≡ old
-AskEnds asked old now WriteFault =
-    (answer : List ℕ) × IsAnswerTo asked answer × AppendsFront old now answer
+AskEnds asked old now OutOfMemory = (now ≡ old) ⊎ PutsFront (IsAnswerTo asked) old now
+AskEnds asked old now WriteFault = PutsFront (IsAnswerTo asked) old now
 AskEnds asked old now status = ⊥
 
 -- a turn on an ask: its answer is written, or the run ends
@@ -60,12 +60,12 @@ LineTurns (Stops fault) old now (Ends status) = FaultEnds fault old now status
 
 -- a turn: the way goes on, or the run has served; `ended` says whether the source had told its end
 -- when the run began, and `ended'` whether it has now
-abbrev pub TurnGives : Mode → Option (List ℕ) → Bool → Option (List ℕ) → Bool → Position
+abbrev pub TurnGives : Command → Option (List ℕ) → Bool → Option (List ℕ) → Bool → Position
     → Option (List ℕ) → Option (List ℕ) → Option (List ℕ) → Turn → Type 0
-TurnGives mode input ended stream ended' position left old now (GoesOn next) =
-    Path mode input ended stream ended' position next old now
-TurnGives mode input ended stream ended' position left old now (Ends status) =
-    Serves (Some mode) input left ended' old now status
+TurnGives command input ended stream ended' position left old now (GoesOn next) =
+    Path command input ended stream ended' position next old now
+TurnGives command input ended stream ended' position left old now (Ends status) =
+    Serves (Some command) input left ended' old now status
 
 -- a session that goes on is sound
 abbrev pub TurnIsSound : Turn → Type 0

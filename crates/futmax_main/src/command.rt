@@ -1,36 +1,37 @@
 //! The words of the command.
 
-ghost use Rattle.std.specs.Prelude.{◌≡◌, IfOk, map, option_map, string_bytes};
+ghost use Rattle.std.specs.Prelude.{◌≡◌, ◌≤◌, ◌&&◌, nat_le, IfOk, IfSome, if◌then◌else◌, map};
+ghost use Rattle.std.specs.Prelude.{option_map, string_bytes};
 ghost use Rattle.std.specs.List.{list_all};
 ghost use Rattle.std.specs.Char.{is_ascii_digit};
 ghost use Rattle.clap.specs.Words.{app_of, first_of, found_of, rows_of};
-ghost use Rattle.futmax_main.specs.Commands.{command, is_numeral, is_number_within, mode_in};
-ghost use Rattle.futmax_main.specs.Commands.{mode_named, mode_of, option_fits, options_fit};
+ghost use Rattle.futmax_main.specs.Commands.{app, command_in, command_of, has_proofs, is_numeral};
+ghost use Rattle.futmax_main.specs.Commands.{mode_in, mode_named, numeral_within, option_number};
 ghost use Rattle.futmax_main.specs.Commands.{rows_taken};
 
-use crate::session::Mode;
+use crate::session::{Command, Mode};
 use clap::error::ErrorKind;
-use clap::{Arg, ArgMatches, Command};
+use clap::{Arg, ArgAction, ArgMatches};
 use league_core::OutOfMemory;
 use std::alloc::Global;
 
-/// The mode that the words name, where they fit. The first is the program's own name.
-pub fn mode_of(alloc: Global, words: &[String]) -> Result<Option<Mode>, OutOfMemory>
-    ensures { IfOk result (λ mode. mode ≡ mode_of (map string_bytes words.now)) }
+/// The command of the words, where they fit. The first is the program's own name.
+pub fn command_of(alloc: Global, words: &[String]) -> Result<Option<Command>, OutOfMemory>
+    ensures { IfOk result (λ command. command ≡ command_of (map string_bytes words.now)) }
 {
     match matched(alloc, words)? {
-        Some(matches) => Ok(mode_in(&matches)),
+        Some(matches) => Ok(command_in(&matches)),
         None => Ok(None),
     }
 }
 
-// The matches of the words, where the command takes them.
+// The matches of the words, where clap takes them.
 fn matched<'a>(alloc: Global, words: &'a [String]) -> Result<Option<ArgMatches<'a>>, OutOfMemory>
     ensures { IfOk result (λ found. option_map (λ matches. rows_of (found_of matches)) found
         ≡ rows_taken (map string_bytes words.entry.now)) }
 {
-    let command = command(alloc)?;
-    match command.try_get_matches_from(words) {
+    let app = app(alloc)?;
+    match app.try_get_matches_from(words) {
         Ok(matches) => Ok(Some(matches)),
         Err(error) => {
             if error.kind() == ErrorKind::OutOfMemory {
@@ -42,29 +43,41 @@ fn matched<'a>(alloc: Global, words: &'a [String]) -> Result<Option<ArgMatches<'
     }
 }
 
-fn command<'a>(alloc: Global) -> Result<Command<'a>, OutOfMemory>
-    ensures { IfOk result (λ made. app_of made ≡ command) }
+fn app<'a>(alloc: Global) -> Result<clap::Command<'a>, OutOfMemory>
+    ensures { IfOk result (λ made. app_of made ≡ app) }
 {
     let mode = Arg::new(alloc, "mode").required(true);
     let workers = Arg::new(alloc, "workers").long("workers");
+    let proofs = Arg::new(alloc, "proofs")
+        .long("proofs")
+        .action(ArgAction::SetTrue);
     let seed = Arg::new(alloc, "seed").long("seed");
-    let whole = Command::new(alloc, "futmax")
+    let whole = clap::Command::new(alloc, "futmax")
         .arg(mode)?
         .arg(workers)?
+        .arg(proofs)?
         .arg(seed)?;
     Ok(whole)
+}
+
+fn command_in(matches: &ArgMatches<'_>) -> Option<Command>
+    ensures { result ≡ command_in (rows_of (found_of matches.now)) }
+{
+    let mode = mode_in(matches)?;
+    let workers = option_number(matches, "workers", 4, 1, 8)?;
+    let seed = option_number(matches, "seed", 1, 0, u64::MAX)?;
+    Some(Command {
+        mode,
+        proofs: has_proofs(matches),
+        workers: workers as u8,
+        seed,
+    })
 }
 
 fn mode_in(matches: &ArgMatches<'_>) -> Option<Mode>
     ensures { result ≡ mode_in (rows_of (found_of matches.now)) }
 {
-    if !options_fit(matches) {
-        return None;
-    }
-    match text_of(matches, "mode") {
-        Some(word) => mode_named(word),
-        None => None,
-    }
+    mode_named(text_of(matches, "mode")?)
 }
 
 fn mode_named(word: &str) -> Option<Mode>
@@ -79,18 +92,31 @@ fn mode_named(word: &str) -> Option<Mode>
     }
 }
 
-fn options_fit(matches: &ArgMatches<'_>) -> bool
-    ensures { result ≡ options_fit (rows_of (found_of matches.now)) }
+fn has_proofs(matches: &ArgMatches<'_>) -> bool
+    ensures { result ≡ has_proofs (rows_of (found_of matches.now)) }
 {
-    option_fits(matches, "workers", 1, 8) && option_fits(matches, "seed", 0, u64::MAX)
+    match text_of(matches, "proofs") {
+        Some(text) => text == "true",
+        None => false,
+    }
 }
 
-fn option_fits(matches: &ArgMatches<'_>, id: &str, least: u64, most: u64) -> bool
-    ensures { result ≡ option_fits least most (first_of id.now (rows_of (found_of matches.now))) }
+// The number of an option, `absent` where it is not given.
+fn option_number(
+    matches: &ArgMatches<'_>,
+    id: &str,
+    absent: u64,
+    least: u64,
+    most: u64,
+) -> Option<u64>
+    requires { absent ≤ most }
+    ensures value { result
+        ≡ option_number absent least most (first_of id.now (rows_of (found_of matches.now))) }
+    ensures within { IfSome result (λ number. number ≤ most) }
 {
     match text_of(matches, id) {
-        Some(text) => is_number_within(text, least, most),
-        None => true,
+        Some(text) => numeral_within(text, least, most),
+        None => Some(absent),
     }
 }
 
@@ -101,15 +127,29 @@ fn text_of<'a>(matches: &ArgMatches<'a>, id: &str) -> Option<&'a str>
     matches.get_str(id)
 }
 
-fn is_number_within(text: &str, least: u64, most: u64) -> bool
-    ensures { result ≡ is_number_within least most text.now }
+fn numeral_within(text: &str, least: u64, most: u64) -> Option<u64>
+    ensures value { result ≡ numeral_within least most text.now }
+    ensures within { IfSome result (λ number. number ≤ most) }
 {
     if !is_numeral(text.as_bytes()) {
-        return false;
+        return None;
     }
     match text.parse::<u64>() {
-        Ok(number) => least <= number && number <= most,
-        Err(_) => false,
+        Ok(number) => number_if(number, least, most),
+        Err(_) => None,
+    }
+}
+
+// A number that is in range.
+fn number_if(number: u64, least: u64, most: u64) -> Option<u64>
+    ensures value { result
+        ≡ (if nat_le least number && nat_le number most then Some number else None) }
+    ensures within { IfSome result (λ number. number ≤ most) }
+{
+    if least <= number && number <= most {
+        Some(number)
+    } else {
+        None
     }
 }
 

@@ -7,10 +7,9 @@
 
 mod answer;
 mod command;
-mod example;
+mod live_league;
 mod names;
 mod output;
-mod played;
 mod rows;
 mod run;
 mod session;
@@ -22,8 +21,9 @@ mod top;
 mod turn;
 mod verdicts;
 
-pub use finish_walk::Verdict;
-pub use session::{Asked, Cause, Fault, Mode, Outcome, Played, Session, Stage, Step};
+pub use live_league::LiveLeague;
+pub use output::OutputStop;
+pub use session::{Asked, Cause, Command, Fault, Mode, Outcome, Session, Stage, Step};
 pub use status::Status;
 pub use table_row::TableRow;
 pub use top::futmax;

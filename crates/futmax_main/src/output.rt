@@ -5,9 +5,28 @@ ghost use Rattle.std.specs.Prelude.{slice_index, take};
 ghost use Rattle.std.specs.Io.KnownBytes.{append_known};
 ghost use Rattle.port_core.specs.Lines.{HasNoLineFeed, line_feed};
 ghost use Rattle.port_core.specs.Ports.{AppendsFront, Rose};
+ghost use Rattle.futmax_main.specs.Outputs.{CountsPut, Puts};
 ghost use Rattle.futmax_main.specs.Pieces.{IsRowBetween};
 
 use port_core::{Sink, WriteFault, put_line};
+
+/// Why an answer is not written to its end.
+#[derive(Clone, Copy, Debug, PartialEq, Eq)]
+pub enum OutputStop {
+    WriteFault,
+    OutOfMemory,
+}
+
+/// Writes rows, as `put_rows` does.
+pub fn put_text<K: Sink>(sink: &mut K, rows: &[u8]) -> Result<(), OutputStop>
+    ensures text { Puts rows.now (K.holds sink.old) (K.holds sink.new) result }
+    ensures counts { CountsPut (K.faults sink.old) (K.faults sink.new) result }
+{
+    match put_rows(sink, rows) {
+        Ok(()) => Ok(()),
+        Err(_) => Err(OutputStop::WriteFault),
+    }
+}
 
 /// Writes rows, each ended by LF. After a fault a front of them went out, and nothing more is
 /// offered.

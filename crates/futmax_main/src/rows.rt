@@ -1,4 +1,4 @@
-//! Rows of the output, each added whole to a text.
+//! Rows of the output.
 
 ghost use Rattle.std.specs.Prelude.{◌≡◌, ◌<◌, ◌∷◌, [], ◌++◌, IfOk, OnOk, IsTrue, codes, decimal};
 ghost use Rattle.std.specs.Prelude.{length, map, string_bytes};
@@ -7,41 +7,34 @@ ghost use Rattle.league_core.specs.Results.{is_score};
 ghost use Rattle.cert_text.specs.Rows.{text_of_row};
 ghost use Rattle.cert_text.specs.Ranges.{is_in_range};
 ghost use Rattle.futmax_main.specs.Rows.{ask_row, verdict_row, place_row, fault_row, usage_row};
-ghost use Rattle.futmax_main.specs.Rows.{line_row, verdict_text, cause_text};
+ghost use Rattle.futmax_main.specs.Rows.{line_row, cause_text, word_text};
 
 use crate::session::{Cause, Fault};
 use crate::table_row::TableRow;
 use cert_text::{ProofLine, write_line, write_row};
-use finish_walk::Verdict;
 use league_core::OutOfMemory;
 use std::alloc::Global;
+use verdict_run::Word;
 
-/// `ask,E`.
-pub fn push_ask(alloc: Global, text: &mut Vec<u8>, epoch: u64) -> Result<(), OutOfMemory>
-    ensures { OnOk result (text.new.items ≡ text.old.items ++ ask_row epoch) }
+/// `ask,E`, alone.
+pub fn ask_row(alloc: Global, epoch: u64) -> Result<Vec<u8>, OutOfMemory>
+    ensures { IfOk result (λ row. row.items ≡ ask_row epoch) }
 {
     let fields = [copy_of(alloc, "ask")?, number(alloc, epoch)?];
-    push_row(alloc, text, &fields)
+    write_row(alloc, &fields)
 }
 
-/// `verdict,K,CLUB,WORD`.
-pub fn push_verdict(
-    alloc: Global,
-    text: &mut Vec<u8>,
-    line: u8,
-    name: &str,
-    verdict: Verdict,
-) -> Result<(), OutOfMemory>
-    ensures { OnOk result
-        (text.new.items ≡ text.old.items ++ verdict_row line name.now verdict) }
+/// `verdict,K,CLUB,WORD`, alone.
+pub fn verdict_row(alloc: Global, line: u8, name: &str, word: Word) -> Result<Vec<u8>, OutOfMemory>
+    ensures { IfOk result (λ row. row.items ≡ verdict_row line name.now word) }
 {
     let fields = [
         copy_of(alloc, "verdict")?,
         number(alloc, u64::from(line))?,
         copy_of(alloc, name)?,
-        copy_of(alloc, verdict_text(verdict))?,
+        copy_of(alloc, word_text(word))?,
     ];
-    push_row(alloc, text, &fields)
+    write_row(alloc, &fields)
 }
 
 /// `place,BEST,WORST,CLUB,PLAYED,POINTS,DIFF,SCORED`.
@@ -91,14 +84,13 @@ pub fn usage_row(alloc: Global) -> Result<Vec<u8>, OutOfMemory>
 }
 
 /// A proof line alone on its row.
-pub fn push_line(alloc: Global, text: &mut Vec<u8>, line: &ProofLine) -> Result<(), OutOfMemory>
+pub fn line_row(alloc: Global, line: &ProofLine) -> Result<Vec<u8>, OutOfMemory>
     requires { IsTrue (is_in_range line.now) }
-    ensures { OnOk result (text.new.items ≡ text.old.items ++ line_row line.now) }
+    ensures { IfOk result (λ row. row.items ≡ line_row line.now) }
 {
-    let row = write_line(alloc, line)?;
-    text.extend_from_slice(row.as_slice())?;
-    text.push(b'\n')?;
-    Ok(())
+    let mut row = write_line(alloc, line)?;
+    row.push(b'\n')?;
+    Ok(row)
 }
 
 // A row of these fields, added whole.
@@ -133,13 +125,14 @@ fn signed(alloc: Global, number: i32) -> Result<Vec<u8>, OutOfMemory>
     copy_of(alloc, text.as_str())
 }
 
-fn verdict_text(verdict: Verdict) -> &'static str
-    ensures { result.now ≡ verdict_text verdict }
+fn word_text(word: Word) -> &'static str
+    ensures { result.now ≡ word_text word }
 {
-    match verdict {
-        Verdict::Clinched => "clinched",
-        Verdict::Lost => "lost",
-        Verdict::Possible => "possible",
+    match word {
+        Word::Clinched => "clinched",
+        Word::Lost => "lost",
+        Word::Possible => "possible",
+        Word::Unsettled => "unsettled",
     }
 }
 
@@ -149,7 +142,6 @@ fn cause_text(cause: Cause) -> &'static str
     match cause {
         Cause::Sheet(fault) => fault.code(),
         Cause::Feed(fault) => fault.code(),
-        Cause::TooWide => "too_wide",
         Cause::LineTooLong => "line_too_long",
         Cause::InputTooLong => "input_too_long",
     }

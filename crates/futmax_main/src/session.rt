@@ -1,7 +1,7 @@
 //! Where a session stands between two lines of its input.
 
+use crate::live_league::LiveLeague;
 use fixture_sheet::{Draft, SheetFault};
-use league_core::{Season, Sheet};
 use result_log::FeedFault;
 
 /// What the program was started for.
@@ -13,12 +13,16 @@ pub enum Mode {
     Table,
 }
 
-/// A whole sheet, what was played so far, and how many events told so.
-#[derive(Drop)]
-pub struct Played {
-    pub sheet: Sheet,
-    pub season: Season,
-    pub epoch: u64,
+/// What the words of a command say.
+#[derive(Clone, Copy, Debug, PartialEq, Eq)]
+pub struct Command {
+    pub mode: Mode,
+    /// Whether refutations are written behind the verdicts that they show.
+    pub proofs: bool,
+    /// From 1 to 8. No mode of today uses it.
+    pub workers: u8,
+    /// No mode of today uses it.
+    pub seed: u64,
 }
 
 /// How far the input has come.
@@ -27,20 +31,20 @@ pub enum Stage {
     /// The sheet so far; none before its first record.
     InSheet(Option<Draft>),
     /// The sheet is whole, and events and asks come.
-    InFeed(Played),
+    InFeed(LiveLeague),
 }
 
 #[derive(Drop)]
 pub struct Session {
-    pub mode: Mode,
+    pub command: Command,
     pub stage: Stage,
 }
 
 /// What an ask is answered from.
 #[derive(Drop)]
 pub struct Asked {
-    pub mode: Mode,
-    pub played: Played,
+    pub command: Command,
+    pub played: LiveLeague,
 }
 
 /// Why a line is refused.
@@ -50,8 +54,6 @@ pub enum Cause {
     Sheet(SheetFault),
     /// The line is none of a feed here.
     Feed(FeedFault),
-    /// Verdicts are asked for, and the season has more finishes than are walked.
-    TooWide,
     /// The line has more bytes than a line may have.
     LineTooLong,
     /// The input has more bytes than an input may have, and the first one too many stands in the

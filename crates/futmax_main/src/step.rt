@@ -3,13 +3,12 @@
 ghost use Rattle.std.specs.Prelude.{◌≡◌, IfOk, false};
 ghost use Rattle.fixture_sheet.specs.Records.{content_taken};
 ghost use Rattle.result_log.specs.Records.{IsEntryAt};
-ghost use Rattle.futmax_main.specs.Session.{ask_step, ending, entry_at, entry_step, feed_step};
-ghost use Rattle.futmax_main.specs.Session.{first_session, is_refused, is_too_wide, sheet_step};
-ghost use Rattle.futmax_main.specs.Session.{step_of};
+ghost use Rattle.futmax_main.specs.Session.{ending, entry_at, entry_step, feed_step};
+ghost use Rattle.futmax_main.specs.Session.{first_session, sheet_step, step_of};
 ghost use Rattle.futmax_main.specs.Sound.{IsSoundPlayed, IsSound, IsSoundStep};
 
-use crate::session::{Asked, Cause, Fault, Mode, Outcome, Played, Session, Stage, Step};
-use finish_walk::finish_count;
+use crate::live_league::LiveLeague;
+use crate::session::{Asked, Cause, Command, Fault, Outcome, Session, Stage, Step};
 use fixture_sheet::{Draft, Progress, RecordStop, fault_at_end, take_content};
 use league_core::OutOfMemory;
 use result_log::{ContentStop, Entry, read_content};
@@ -17,11 +16,11 @@ use std::alloc::Global;
 
 impl Session {
     /// Before the first line.
-    pub fn first(mode: Mode) -> Session
-        ensures { result ≡ first_session mode }
+    pub fn first(command: Command) -> Session
+        ensures { result ≡ first_session command }
     {
         Session {
-            mode,
+            command,
             stage: Stage::InSheet(None),
         }
     }
@@ -32,10 +31,10 @@ impl Session {
         ensures step { IfOk result (λ step. step ≡ step_of number self text.now) }
         ensures sound { IfOk result IsSoundStep }
     {
-        let Session { mode, stage } = self;
+        let Session { command, stage } = self;
         match stage {
-            Stage::InSheet(draft) => sheet_step(alloc, mode, number, draft, text),
-            Stage::InFeed(played) => feed_step(alloc, mode, number, played, text),
+            Stage::InSheet(draft) => sheet_step(alloc, command, number, draft, text),
+            Stage::InFeed(played) => feed_step(alloc, command, number, played, text),
         }
     }
 
@@ -56,23 +55,23 @@ impl Session {
 // A line of the sheet.
 fn sheet_step(
     alloc: Global,
-    mode: Mode,
+    command: Command,
     number: u64,
     draft: Option<Draft>,
     text: &[u8],
 ) -> Result<Step, OutOfMemory>
     ensures step { IfOk result
-        (λ step. step ≡ sheet_step mode number (content_taken draft text.now)) }
+        (λ step. step ≡ sheet_step command number (content_taken draft text.now)) }
     ensures sound { IfOk result IsSoundStep }
 {
     match take_content(alloc, draft, text) {
         Ok(Progress::SoFar(next)) => {
             let stage = Stage::InSheet(next);
-            Ok(Step::Goes(Session { mode, stage }))
+            Ok(Step::Goes(Session { command, stage }))
         }
         Ok(Progress::Whole(sheet)) => {
-            let stage = Stage::InFeed(Played::begin(alloc, sheet)?);
-            Ok(Step::Goes(Session { mode, stage }))
+            let stage = Stage::InFeed(LiveLeague::begin(alloc, command.mode, sheet)?);
+            Ok(Step::Goes(Session { command, stage }))
         }
         Err(RecordStop::Fault(fault)) => {
             let cause = Cause::Sheet(fault);
@@ -85,28 +84,28 @@ fn sheet_step(
 // A line of the feed.
 fn feed_step(
     alloc: Global,
-    mode: Mode,
+    command: Command,
     number: u64,
-    played: Played,
+    played: LiveLeague,
     text: &[u8],
 ) -> Result<Step, OutOfMemory>
-    requires { IsSoundPlayed played }
+    requires { IsSoundPlayed command.mode played }
     ensures step { IfOk result
-        (λ step. step ≡ feed_step mode number played (entry_at played text.now)) }
+        (λ step. step ≡ feed_step command number played (entry_at played text.now)) }
     ensures sound { IfOk result IsSoundStep }
 {
     match read_content(
         alloc,
-        &played.sheet,
-        &played.season,
-        played.epoch,
+        played.sheet(),
+        played.season(),
+        played.epoch(),
         false,
         text,
     ) {
-        Ok(Some(entry)) => Ok(entry_step(mode, number, played, entry)),
+        Ok(Some(entry)) => entry_step(command, played, entry),
         Ok(None) => {
             let stage = Stage::InFeed(played);
-            Ok(Step::Goes(Session { mode, stage }))
+            Ok(Step::Goes(Session { command, stage }))
         }
         Err(ContentStop::Fault(fault)) => {
             let cause = Cause::Feed(fault);
@@ -116,44 +115,21 @@ fn feed_step(
     }
 }
 
-fn entry_step(mode: Mode, number: u64, played: Played, entry: Entry) -> Step
-    requires sound { IsSoundPlayed played }
+fn entry_step(command: Command, played: LiveLeague, entry: Entry) -> Result<Step, OutOfMemory>
+    requires sound { IsSoundPlayed command.mode played }
     requires told { IsEntryAt played.season played.epoch false entry }
-    ensures step { result ≡ entry_step mode number played entry }
-    ensures sound { IsSoundStep result }
+    ensures step { IfOk result (λ step. step ≡ entry_step command played entry) }
+    ensures sound { IfOk result IsSoundStep }
 {
-    let stage = match entry {
-        Entry::Change(event) => Stage::InFeed(played.with_event(&event)),
-        Entry::Ask => return ask_step(mode, number, played),
-        Entry::Proofs | Entry::End => Stage::InFeed(played),
-    };
-    Step::Goes(Session { mode, stage })
-}
-
-fn ask_step(mode: Mode, number: u64, played: Played) -> Step
-    requires { IsSoundPlayed played }
-    ensures step { result ≡ ask_step mode number played }
-    ensures sound { IsSoundStep result }
-{
-    if is_refused(mode, &played) {
-        let cause = Cause::TooWide;
-        return Step::Stops(Fault { number, cause });
+    match entry {
+        Entry::Change(event) => {
+            let stage = Stage::InFeed(played.with_event(event)?);
+            Ok(Step::Goes(Session { command, stage }))
+        }
+        Entry::Ask => Ok(Step::Asks(Asked { command, played })),
+        Entry::Proofs | Entry::End => {
+            let stage = Stage::InFeed(played);
+            Ok(Step::Goes(Session { command, stage }))
+        }
     }
-    Step::Asks(Asked { mode, played })
-}
-
-fn is_refused(mode: Mode, played: &Played) -> bool
-    ensures { result ≡ is_refused mode played.now }
-{
-    match mode {
-        Mode::Verdicts => is_too_wide(played),
-        Mode::Table => false,
-    }
-}
-
-// The season has more finishes than are walked.
-fn is_too_wide(played: &Played) -> bool
-    ensures { result ≡ is_too_wide played.now }
-{
-    finish_count(&played.sheet, &played.season).is_none()
 }

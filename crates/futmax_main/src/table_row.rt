@@ -2,11 +2,10 @@
 
 ghost use Rattle.std.specs.Prelude.{◌≡◌, ◌<◌, ◌≤◌, length};
 ghost use Rattle.league_core.specs.Limits.{most_fixtures};
+ghost use Rattle.league_core.specs.Seasons.{IsLeague};
 ghost use Rattle.final_rank.specs.Spans.{span_of};
-ghost use Rattle.futmax_main.specs.Sound.{IsSoundPlayed};
 ghost use Rattle.futmax_main.specs.Tables.{IsTableRow, count_if_played, count_played, plays_in};
 
-use crate::session::Played;
 use final_rank::Span;
 use league_core::{Fixture, Score, Season, Sheet};
 use tie_criteria::{Tail, points_of, tail_of};
@@ -25,18 +24,18 @@ pub struct TableRow {
 }
 
 /// The row of a club, by its number from 0; `span` is the places that the season leaves it.
-pub fn row_of(played: &Played, span: Span, club: u8) -> TableRow
-    requires sound { IsSoundPlayed played.now }
-    requires in_range { club < length played.now.sheet.clubs }
-    requires span { span ≡ span_of played.now.sheet played.now.season club }
-    ensures { IsTableRow played.now.sheet played.now.season club result }
+pub fn row_of(sheet: &Sheet, season: &Season, span: Span, club: u8) -> TableRow
+    requires league { IsLeague sheet.now season.now }
+    requires in_range { club < length sheet.now.clubs }
+    requires span { span ≡ span_of sheet.now season.now club }
+    ensures { IsTableRow sheet.now season.now club result }
 {
-    let count = count_played(&played.sheet, &played.season, club);
+    let count = count_played(sheet, season, club);
     joined(
         span,
         count,
-        points_of(&played.sheet, &played.season, club),
-        tail_of(&played.sheet, &played.season, club),
+        points_of(sheet, season, club),
+        tail_of(sheet, season, club),
     )
 }
 

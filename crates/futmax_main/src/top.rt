@@ -1,11 +1,11 @@
 //! The top call.
 
 ghost use Rattle.std.specs.Prelude.{◌≡◌, ◌≢◌, None, false, map, string_bytes};
-ghost use Rattle.futmax_main.specs.Commands.{mode_of};
+ghost use Rattle.futmax_main.specs.Commands.{command_of};
 ghost use Rattle.futmax_main.specs.Top.{Counts, IsSettled, Serves};
 ghost use Rattle.futmax_main.specs.Turns.{CountsWords};
 
-use crate::command::mode_of;
+use crate::command::command_of;
 use crate::output::put_rows;
 use crate::rows::usage_row;
 use crate::run::run;
@@ -25,7 +25,7 @@ pub fn futmax<S: Source, K: Sink>(
     sink: &mut K,
 ) -> Status
     // What was written, and what is left of the input, by the status.
-    ensures serves { Serves (mode_of (map string_bytes words.items)) (S.left source.old)
+    ensures serves { Serves (command_of (map string_bytes words.items)) (S.left source.old)
         (S.left source.new) (S.ended source.new) (K.holds sink.old) (K.holds sink.new) result }
 
     // A fault of a device is answered only where its count rose, and else the counts stay.
@@ -35,15 +35,16 @@ pub fn futmax<S: Source, K: Sink>(
     // Where no device failed, the status is the session's, or memory was wanting; no mode of today
     // checks a report.
     ensures settled { result ≢ Status.ReadFault → result ≢ Status.WriteFault
-        → IsSettled (mode_of (map string_bytes words.items)) (S.left source.old) result }
+        → IsSettled (command_of (map string_bytes words.items)) (S.left source.old) result }
     ensures unproved { result ≢ Status.NotProved }
 
     // Words are refused only where they fit no mode, and then nothing is read.
-    ensures words_cause { result ≡ Status.BadWords → mode_of (map string_bytes words.items) ≡ None }
-    ensures unread { mode_of (map string_bytes words.items) ≡ None → source.new ≡ source.old }
+    ensures words_cause { result ≡ Status.BadWords
+        → command_of (map string_bytes words.items) ≡ None }
+    ensures unread { command_of (map string_bytes words.items) ≡ None → source.new ≡ source.old }
 {
-    match mode_of(alloc, words.as_slice()) {
-        Ok(Some(mode)) => run(alloc, mode, source, sink),
+    match command_of(alloc, words.as_slice()) {
+        Ok(Some(command)) => run(alloc, command, source, sink),
         Ok(None) => refuse_words(alloc, sink),
         Err(_) => Status::OutOfMemory,
     }

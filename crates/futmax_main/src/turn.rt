@@ -2,7 +2,7 @@
 
 ghost use Rattle.std.specs.Prelude.{◌≡◌, ℕ, Bool, List, Option};
 ghost use Rattle.port_core.specs.Readers.{stream_of};
-ghost use Rattle.futmax_main.specs.declared.session.Mode.{Mode};
+ghost use Rattle.futmax_main.specs.declared.session.Command.{Command};
 ghost use Rattle.futmax_main.specs.Path.{Path, input_fault, line_fault};
 ghost use Rattle.futmax_main.specs.Session.{ending, status_of_cause, step_of};
 ghost use Rattle.futmax_main.specs.Sound.{IsAsked, IsSound};
@@ -10,8 +10,8 @@ ghost use Rattle.futmax_main.specs.Turns.{AskGives, CountsEnd, CountsTurn, EndEn
 ghost use Rattle.futmax_main.specs.Turns.{LineTurns, TurnCounts, TurnGives, TurnIsSound};
 ghost use Rattle.futmax_main.specs.Turns.{TurnMovesOn};
 
-use crate::answer::answer;
-use crate::output::put_rows;
+use crate::answer::put_answer;
+use crate::output::{OutputStop, put_rows};
 use crate::rows::fault_row;
 use crate::session::{Asked, Cause, Fault, Outcome, Session, Stage, Step};
 use crate::status::Status;
@@ -35,10 +35,11 @@ pub fn take_turn<S: Source, K: Sink>(
     sink: &mut K,
 ) -> Turn
     requires { IsSound session }
-    ensures way { (mode : Mode) (input : Option (List ℕ)) (ended : Bool) (old : Option (List ℕ))
-        → Path mode input ended (stream_of reader.old (S.left source.old)) (S.ended source.old)
+    ensures way { (command : Command) (input : Option (List ℕ)) (ended : Bool)
+        (old : Option (List ℕ))
+        → Path command input ended (stream_of reader.old (S.left source.old)) (S.ended source.old)
         reader.old.position session old (K.holds sink.old)
-        → TurnGives mode input ended (stream_of reader.new (S.left source.new))
+        → TurnGives command input ended (stream_of reader.new (S.left source.new))
         (S.ended source.new) reader.new.position (S.left source.new) old (K.holds sink.new)
         result }
     ensures sound { TurnIsSound result }
@@ -82,15 +83,14 @@ fn take_ask<K: Sink>(alloc: Global, asked: Asked, sink: &mut K) -> Turn
     ensures answer { AskGives asked (K.holds sink.old) (K.holds sink.new) result }
     ensures counts { CountsTurn (K.faults sink.old) (K.faults sink.new) result }
 {
-    let Ok(rows) = answer(alloc, &asked) else {
-        return Turn::Ends(Status::OutOfMemory);
-    };
-    match put_rows(sink, rows.as_slice()) {
-        Ok(()) => Turn::GoesOn(Session {
-            mode: asked.mode,
-            stage: Stage::InFeed(asked.played),
+    let Asked { command, played } = asked;
+    match put_answer(alloc, command, played, sink) {
+        Ok(played) => Turn::GoesOn(Session {
+            command,
+            stage: Stage::InFeed(played),
         }),
-        Err(_) => Turn::Ends(Status::WriteFault),
+        Err(OutputStop::WriteFault) => Turn::Ends(Status::WriteFault),
+        Err(OutputStop::OutOfMemory) => Turn::Ends(Status::OutOfMemory),
     }
 }
 
@@ -141,7 +141,7 @@ fn status_of_cause(cause: Cause) -> Status
 {
     match cause {
         Cause::Sheet(_) => Status::BadSheet,
-        Cause::Feed(_) | Cause::TooWide => Status::BadFeed,
+        Cause::Feed(_) => Status::BadFeed,
         Cause::LineTooLong | Cause::InputTooLong => Status::TooLong,
     }
 }

@@ -1,103 +1,157 @@
-//! The answer of the mode `verdicts`: the verdict of every club for every line, with two examples
-//! where both sides are possible.
-//!
-//! One walk over the finishes of the season serves all clubs and all lines.
+//! The answer of the mode `verdicts`, row by row: the word for every club and every line, and
+//! behind it what shows it.
 
-ghost use Rattle.std.specs.Prelude.{◌≡◌, ◌<◌, ◌++◌, IfOk, OnOk, length};
-ghost use Rattle.finish_walk.specs.Reaches.{AreReaches, IsReachOf};
-ghost use Rattle.futmax_main.specs.Verdicts.{AreItemsOf, AreVerdicts, IsItem};
-ghost use Rattle.futmax_main.specs.Sound.{IsSoundPlayed, IsNarrow};
-ghost use Rattle.futmax_main.specs.Items.{Adds, shown_with};
+ghost use Rattle.std.specs.Prelude.{◌≡◌, ◌<◌, All, IsTrue, length};
+ghost use Rattle.cert_text.specs.Ranges.{is_in_range};
+ghost use Rattle.cert_text.specs.ExampleLines.{text_of_proof_lines};
+ghost use Rattle.verdict_run.specs.Items.{AreInRange, IsInRange, lines_shown};
+ghost use Rattle.futmax_main.specs.Outputs.{CountsPut, Puts};
+ghost use Rattle.futmax_main.specs.Rows.{ask_row, line_row, verdict_row};
+ghost use Rattle.futmax_main.specs.Parts.{club_name};
+ghost use Rattle.futmax_main.specs.Verdicts.{item_text, text_of_items, text_of_verdicts};
 
-use crate::example::push_example;
+use crate::live_league::LiveLeague;
 use crate::names::club_name;
-use crate::rows::{push_ask, push_verdict};
-use crate::session::Played;
-use finish_walk::{Reach, Verdict, reaches};
-use league_core::{Claim, OutOfMemory};
+use crate::output::{OutputStop, put_text};
+use crate::rows::{ask_row, line_row, verdict_row};
+use cert_text::ProofLine;
+use league_core::Sheet;
+use port_core::Sink;
 use std::alloc::Global;
+use verdict_run::{Verdict, Word};
 
-/// The verdicts of a season that has not too many finishes, whole in memory.
-pub fn verdicts(alloc: Global, played: &Played) -> Result<Vec<u8>, OutOfMemory>
-    requires sound { IsSoundPlayed played.now }
-    requires narrow { IsNarrow played.now }
-    ensures { IfOk result (λ text. AreVerdicts played.now text.items) }
+/// Writes the row of an ask and the items of its verdicts, with refutations where proofs are asked
+/// for.
+pub fn put_verdicts<K: Sink>(
+    alloc: Global,
+    proofs: bool,
+    played: &LiveLeague,
+    verdicts: &[Verdict],
+    sink: &mut K,
+) -> Result<(), OutputStop>
+    requires { AreInRange played.now.sheet verdicts.now }
+    ensures text { Puts (text_of_verdicts proofs played.now verdicts.now)
+        (K.holds sink.old) (K.holds sink.new) result }
+    ensures counts { CountsPut (K.faults sink.old) (K.faults sink.new) result }
 {
-    let reaches = reaches(alloc, &played.sheet, &played.season)?;
-    let mut text = Vec::new(alloc);
-    push_ask(alloc, &mut text, played.epoch)?;
-    for line in played.sheet.lines.as_slice() {
-        push_items(alloc, &mut text, played, *line, reaches.as_slice())?;
+    match put_ask(alloc, played.epoch(), sink) {
+        Ok(()) => put_items(alloc, proofs, played.sheet(), verdicts, sink),
+        Err(stop) => Err(stop),
     }
-    Ok(text)
 }
 
-// The items of one line, club by club.
-fn push_items(
-    alloc: Global,
-    text: &mut Vec<u8>,
-    played: &Played,
-    line: u8,
-    reaches: &[Reach],
-) -> Result<(), OutOfMemory>
-    requires sound { IsSoundPlayed played.now }
-    requires reaches { AreReaches played.now.sheet played.now.season reaches.now }
-    ensures { OnOk result (Adds text.old.items text.new.items
-        (AreItemsOf played.now.sheet played.now.season line)) }
+fn put_ask<K: Sink>(alloc: Global, epoch: u64, sink: &mut K) -> Result<(), OutputStop>
+    ensures text { Puts (ask_row epoch) (K.holds sink.old) (K.holds sink.new) result }
+    ensures counts { CountsPut (K.faults sink.old) (K.faults sink.new) result }
 {
-    let clubs = played.sheet.clubs.len() as u8;
-    for club in 0..clubs {
-        push_item(alloc, text, played, line, club, &reaches[club as usize])?;
+    match ask_row(alloc, epoch) {
+        Ok(row) => put_text(sink, row.as_slice()),
+        Err(_) => Err(OutputStop::OutOfMemory),
+    }
+}
+
+fn put_items<K: Sink>(
+    alloc: Global,
+    proofs: bool,
+    sheet: &Sheet,
+    verdicts: &[Verdict],
+    sink: &mut K,
+) -> Result<(), OutputStop>
+    requires { AreInRange sheet.now verdicts.now }
+    ensures text { Puts (text_of_items proofs sheet.now verdicts.now)
+        (K.holds sink.old) (K.holds sink.new) result }
+    ensures counts { CountsPut (K.faults sink.old) (K.faults sink.new) result }
+{
+    for verdict in verdicts {
+        match put_item(alloc, proofs, sheet, verdict, sink) {
+            Ok(()) => {}
+            Err(stop) => return Err(stop),
+        }
     }
     Ok(())
 }
 
-fn push_item(
+fn put_item<K: Sink>(
     alloc: Global,
-    text: &mut Vec<u8>,
-    played: &Played,
-    line: u8,
-    club: u8,
-    reach: &Reach,
-) -> Result<(), OutOfMemory>
-    requires sound { IsSoundPlayed played.now }
-    requires in_range { club < length played.now.sheet.clubs }
-    requires reach { IsReachOf played.now.sheet played.now.season club reach.now }
-    ensures { OnOk result (Adds text.old.items text.new.items
-        (IsItem played.now.sheet played.now.season line club)) }
+    proofs: bool,
+    sheet: &Sheet,
+    verdict: &Verdict,
+    sink: &mut K,
+) -> Result<(), OutputStop>
+    requires { IsInRange sheet.now verdict.now }
+    ensures text { Puts (item_text proofs sheet.now verdict.now)
+        (K.holds sink.old) (K.holds sink.new) result }
+    ensures counts { CountsPut (K.faults sink.old) (K.faults sink.new) result }
 {
-    let verdict = reach.verdict(line);
-    push_verdict(alloc, text, line, club_name(&played.sheet, club), verdict)?;
-    push_shown(alloc, text, played, club, reach, verdict)
+    let name = club_name(sheet, verdict.club);
+    match put_verdict(alloc, verdict.line, name, verdict.word, sink) {
+        Ok(()) => put_shown(alloc, proofs, verdict, sink),
+        Err(stop) => Err(stop),
+    }
 }
 
-// What stands behind the row of a verdict: an example of each claim where both are possible.
-fn push_shown(
+fn put_verdict<K: Sink>(
     alloc: Global,
-    text: &mut Vec<u8>,
-    played: &Played,
-    club: u8,
-    reach: &Reach,
-    verdict: Verdict,
-) -> Result<(), OutOfMemory>
-    requires sound { IsSoundPlayed played.now }
-    requires in_range { club < length played.now.sheet.clubs }
-    requires reach { IsReachOf played.now.sheet played.now.season club reach.now }
-    ensures { OnOk result (text.new.items
-        ≡ text.old.items ++ shown_with played.now club reach.now verdict) }
+    line: u8,
+    name: &str,
+    word: Word,
+    sink: &mut K,
+) -> Result<(), OutputStop>
+    ensures text { Puts (verdict_row line name.now word) (K.holds sink.old) (K.holds sink.new)
+        result }
+    ensures counts { CountsPut (K.faults sink.old) (K.faults sink.new) result }
 {
-    match verdict {
-        Verdict::Clinched | Verdict::Lost => Ok(()),
-        Verdict::Possible => {
-            push_example(alloc, text, played, club, Claim::Inside, &reach.best_finish)?;
-            push_example(
-                alloc,
-                text,
-                played,
-                club,
-                Claim::Outside,
-                &reach.worst_finish,
-            )
+    match verdict_row(alloc, line, name, word) {
+        Ok(row) => put_text(sink, row.as_slice()),
+        Err(_) => Err(OutputStop::OutOfMemory),
+    }
+}
+
+// What shows the word: examples and trees on which the budget was spent always, a refutation where
+// proofs are asked for.
+fn put_shown<K: Sink>(
+    alloc: Global,
+    proofs: bool,
+    verdict: &Verdict,
+    sink: &mut K,
+) -> Result<(), OutputStop>
+    requires { All (λ line. IsTrue (is_in_range line)) verdict.now.proof.items }
+    ensures text { Puts
+        (text_of_proof_lines (lines_shown proofs verdict.now.word verdict.now.proof.items))
+        (K.holds sink.old) (K.holds sink.new) result }
+    ensures counts { CountsPut (K.faults sink.old) (K.faults sink.new) result }
+{
+    if proofs {
+        return put_lines(alloc, verdict.proof.as_slice(), sink);
+    }
+    match verdict.word {
+        Word::Clinched | Word::Lost => Ok(()),
+        Word::Possible | Word::Unsettled => put_lines(alloc, verdict.proof.as_slice(), sink),
+    }
+}
+
+fn put_lines<K: Sink>(alloc: Global, lines: &[ProofLine], sink: &mut K) -> Result<(), OutputStop>
+    requires { All (λ line. IsTrue (is_in_range line)) lines.now }
+    ensures text { Puts (text_of_proof_lines lines.now) (K.holds sink.old) (K.holds sink.new)
+        result }
+    ensures counts { CountsPut (K.faults sink.old) (K.faults sink.new) result }
+{
+    for line in lines {
+        match put_proof_line(alloc, line, sink) {
+            Ok(()) => {}
+            Err(stop) => return Err(stop),
         }
+    }
+    Ok(())
+}
+
+fn put_proof_line<K: Sink>(alloc: Global, line: &ProofLine, sink: &mut K) -> Result<(), OutputStop>
+    requires { IsTrue (is_in_range line.now) }
+    ensures text { Puts (line_row line.now) (K.holds sink.old) (K.holds sink.new) result }
+    ensures counts { CountsPut (K.faults sink.old) (K.faults sink.new) result }
+{
+    match line_row(alloc, line) {
+        Ok(row) => put_text(sink, row.as_slice()),
+        Err(_) => Err(OutputStop::OutOfMemory),
     }
 }

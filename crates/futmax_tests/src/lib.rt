@@ -8,4 +8,6 @@ mod limits;
 #[cfg(test)]
 mod order;
 #[cfg(test)]
+mod refuted;
+#[cfg(test)]
 mod words;

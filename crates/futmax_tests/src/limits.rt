@@ -59,7 +59,7 @@ fn check_run(
         letters,
     };
     let mut sink = MemSink::new(rt.alloc(), 100, 100, Vec::new(rt.alloc()))?;
-    let words = words_of(rt.alloc())?;
+    let words = words_of(rt.alloc(), &["futmax", "verdicts"])?;
     let status = futmax(rt.alloc(), words, &mut source, &mut sink);
     assert_eq!(rt; status, wanted);
     assert_eq!(rt; sink.bytes(), row.as_bytes());

@@ -72,7 +72,7 @@ fn an_answer_comes_before_the_next_line(rt: HostRuntime) -> Result<(), Fail> {
         notes: [0; 8],
         pieces: 0,
     };
-    let words = words_of(rt.alloc())?;
+    let words = words_of(rt.alloc(), &["futmax", "verdicts"])?;
     let status = futmax(rt.alloc(), words, &mut source, &mut sink);
     let end = CORRECTED.len() as u64;
     let first = end - 14;

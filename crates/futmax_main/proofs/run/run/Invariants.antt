@@ -9,7 +9,7 @@ use Rattle.futmax_main.proofs.run.run.Given as goal
 abbrev pub invariant-lines : goal.invariant-lines
 invariant-lines g l =
     IsSound l.session
-    × Path l.fn.mode (g.S.Source.left l.fn.source) (g.S.Source.ended l.fn.source)
+    × Path l.fn.command (g.S.Source.left l.fn.source) (g.S.Source.ended l.fn.source)
     (stream_of l.reader (g.S.Source.left l.source)) (g.S.Source.ended l.source)
     l.reader.position l.session (g.K.Sink.holds l.fn.sink) (g.K.Sink.holds l.sink)
     × (g.S.Source.faults l.source ≡ g.S.Source.faults l.fn.source)

@@ -6,7 +6,7 @@ use Rattle.futmax_main.proofs.table_row.row_of.Goals as goal
 pub returns : goal.returns
 returns c =
     let fits : FitsSigned w32 c.points_of.result = search rules in
-    row-is c.args.played.now.sheet c.args.played.now.season c.args.club c.args.span _ _ _ _ _ _
+    row-is c.args.sheet.now c.args.season.now c.args.club c.args.span _ _ _ _ _ _
     c.joined.result c.joined.ensures c.requires.in_range c.requires.span
     c.count_played-count.ensures
     (to_z-of_z w32 c.points_of.result fits ∙ c.points_of.ensures) c.tail_of.ensures
