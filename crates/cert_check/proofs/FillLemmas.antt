@@ -30,7 +30,7 @@ use Rattle.cert_check.specs.Dues.{Basis, Due, ask_row, verdict_row, tree_head, s
 use Rattle.cert_check.specs.Dues.{finish_head, both_parts, one_part, nodes, score, lots}
 use Rattle.cert_check.specs.Dues.{ask_fields, verdict_fields, name_of_club, finish_with}
 use Rattle.cert_check.specs.Dues.{is_tally_whole}
-use Rattle.cert_check.specs.Grammar.{IsPartFor, AreParts, TreesFit, AreNodes}
+use Rattle.cert_check.specs.Grammar.{IsPartFor, AreParts, TreesFit, AreTrees}
 use Rattle.cert_check.specs.Grammar.{lines_of_trees, no_tally}
 use Rattle.cert_check.specs.Grammar.{IsExampleFrom, IsRefutationPart, IsSpentPart}
 use Rattle.cert_check.specs.Grammar.{IsExamplePart, tally_behind}
@@ -59,7 +59,7 @@ leaves_fit basis kind question (zone ∷ zones) = (
 
 -- some nodes for zones
 some_nodes : (basis : Basis) (kind : TreeKind) (question : Question) (zones : List (List Literal))
-    (tally : Tally) → (tokens : List Token) × AreNodes false basis kind question zones tally tokens
+    (tally : Tally) → (tokens : List Token) × AreTrees false basis kind question zones tally tokens
 some_nodes basis kind question zones tally = (
   lines_of_trees kind (leaves_for zones),
   (

@@ -28,7 +28,7 @@ use Rattle.cert_check.specs.Dues.{after_node_if, is_reason_for}
 use Rattle.cert_text.specs.TreeLines.{is_test_for}
 use Rattle.cert_check.specs.Grammar.{NodeFits, TreesFit, line_of_node}
 use Rattle.cert_check.specs.Grammar.{lines_of_tree, lines_of_trees}
-use Rattle.cert_check.specs.Grammar.{with_tree, tally_behind, AreNodes, AreParts}
+use Rattle.cert_check.specs.Grammar.{with_tree, tally_behind, AreTrees, AreParts}
 use Rattle.cert_check.proofs.NextLemmas.{go-same, bad-go, go-if, if-go, only_part, as_only_part}
 use Rattle.cert_check.proofs.NextLemmas.{Parted, OnTrue-weaker}
 
@@ -86,7 +86,7 @@ join_split : (proved : Bool) (basis : Basis) (kind : TreeKind) (question : Quest
     (holds : Bool) (more : List Due) (tokens : List Token)
     → after_node basis kind question zone zones tally (node.Split test fresh) ≡ go holds more
     → AreParts proved basis more tokens
-    → AreNodes proved basis kind question (zone ∷ zones) tally
+    → AreTrees proved basis kind question (zone ∷ zones) tally
     (Proof (line_of_node kind (node.Split test fresh)) ∷ tokens)
 join_split proved basis kind question zone zones tally test fresh holds more tokens goes parts =
     let fits = go-if (is_test_for basis.sheet question test) _ holds more goes in
@@ -103,7 +103,7 @@ join_split proved basis kind question zone zones tally test fresh holds more tok
         → OnTrue proved (IsTrue (is_tally_whole basis.sheet.budget kind
         (tally_behind (with_fresh fresh tally) trees)))
         → tokens ≡ lines_of_trees kind trees
-        → AreNodes proved basis kind question (zone ∷ zones) tally
+        → AreTrees proved basis kind question (zone ∷ zones) tally
         (Proof (line_of_node kind (node.Split test fresh)) ∷ tokens)
     joined [] fits trees_fit whole lines = absurd trees_fit
     joined (yes_half ∷ []) fits trees_fit whole lines = absurd trees_fit.1
@@ -126,7 +126,7 @@ join_leaf : (proved : Bool) (basis : Basis) (kind : TreeKind) (question : Questi
     → with_tree tally leaf ≡ behind → lines_of_tree kind leaf ≡ Proof shown ∷ []
     → behind_leaf basis kind question zones behind says ≡ go holds more
     → (proved ≡ true → holds ≡ true) → AreParts proved basis more tokens
-    → AreNodes proved basis kind question (zone ∷ zones) tally (Proof shown ∷ tokens)
+    → AreTrees proved basis kind question (zone ∷ zones) tally (Proof shown ∷ tokens)
 join_leaf proved basis kind question zone [] tally behind leaf shown says holds more tokens fits
     counted lines goes so parts =
     let same = go-same (says && is_tally_whole basis.sheet.budget kind behind) holds [] more goes in
@@ -184,22 +184,22 @@ pub join_nodes : (proved : Bool) (basis : Basis) (kind : TreeKind) (question : Q
     (holds : Bool) (more : List Due) (tokens : List Token)
     → after_node_if basis kind question zone zones tally (node_in kind shown) ≡ go holds more
     → (proved ≡ true → holds ≡ true) → AreParts proved basis more tokens
-    → AreNodes proved basis kind question (zone ∷ zones) tally (Proof shown ∷ tokens)
+    → AreTrees proved basis kind question (zone ∷ zones) tally (Proof shown ∷ tokens)
 join_nodes proved basis kind question zone zones tally shown holds more tokens goes so parts =
     by_node (node_in kind shown) refl goes
   where
     written : (it : TreeNode) → node_in kind shown ≡ Some it
-        → AreNodes proved basis kind question (zone ∷ zones) tally
+        → AreTrees proved basis kind question (zone ∷ zones) tally
         (Proof (line_of_node kind it) ∷ tokens)
-        → AreNodes proved basis kind question (zone ∷ zones) tally (Proof shown ∷ tokens)
+        → AreTrees proved basis kind question (zone ∷ zones) tally (Proof shown ∷ tokens)
     written it is joined =
-        let P : ProofLine → Type 0 = λ written_line. AreNodes proved basis kind question
+        let P : ProofLine → Type 0 = λ written_line. AreTrees proved basis kind question
         (zone ∷ zones) tally (Proof written_line ∷ tokens) in
         subst P (sym (node_line kind shown it is)) joined
 
     by_node : (found : Option TreeNode) → node_in kind shown ≡ found
         → after_node_if basis kind question zone zones tally found ≡ go holds more
-        → AreNodes proved basis kind question (zone ∷ zones) tally (Proof shown ∷ tokens)
+        → AreTrees proved basis kind question (zone ∷ zones) tally (Proof shown ∷ tokens)
     by_node None is goes = absurd (bad-go holds more goes)
     by_node (Some (node.Split test fresh)) is goes =
         written (node.Split test fresh) is
@@ -291,7 +291,7 @@ open_line proved basis Spent question zone fits = refl
 -- the first line of trees leaves due what the other lines are
 pub part_nodes : (proved : Bool) (basis : Basis) (kind : TreeKind) (question : Question)
     (zone : List Literal) (zones : List (List Literal)) (tally : Tally) (tokens : List Token)
-    → AreNodes proved basis kind question (zone ∷ zones) tally tokens
+    → AreTrees proved basis kind question (zone ∷ zones) tally tokens
     → Parted proved basis (nodes kind question zone zones tally) tokens
 part_nodes proved basis kind question zone zones tally tokens are =
     by_tree are.0 are.1 are.2 are.3

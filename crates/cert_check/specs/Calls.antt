@@ -124,14 +124,14 @@ GoesByWord judged from line club (Err stop) = HaltsAt judged from (verdict_row l
 
 -- the halves that are still due behind the end of a way, its last literal first: one for each yes
 -- on it
-abbrev pub pending : List Literal → List (List Literal)
-pending [] = []
-pending (literal ∷ up) =
-    if literal.yes then with_test (reverse up) literal.test false ∷ pending up else pending up
+abbrev pub to_come : List Literal → List (List Literal)
+to_come [] = []
+to_come (literal ∷ up) =
+    if literal.yes then with_test (reverse up) literal.test false ∷ to_come up else to_come up
 
 -- the same for a way from the root on
 abbrev pub pending_of : List Literal → List (List Literal)
-pending_of path = pending (reverse path)
+pending_of path = to_come (reverse path)
 
 -- what is due where the reading of a tree stands so
 abbrev pub nodes_due : Wanted → Walk → Due

@@ -83,9 +83,9 @@ tally_behind tally (tree ∷ trees) = tally_behind (with_tree tally tree) trees
 
 -- the lines are trees for these zones; proved, the tally with which they end is that of a whole
 -- tree
-abbrev pub AreNodes : Bool → Basis → TreeKind → Question → List (List Literal) → Tally → List Token
+abbrev pub AreTrees : Bool → Basis → TreeKind → Question → List (List Literal) → Tally → List Token
     → Type 0
-AreNodes proved basis kind question zones tally tokens =
+AreTrees proved basis kind question zones tally tokens =
     (trees : List Tree) × TreesFit proved basis kind question zones trees
     × OnTrue proved
     (IsTrue (is_tally_whole basis.sheet.budget kind (tally_behind tally trees)))
@@ -98,7 +98,7 @@ no_tally = record { news = 0; some_open = false }
 -- one tree from its root on
 abbrev pub IsTreeOf : Bool → Basis → TreeKind → Question → List Token → Type 0
 IsTreeOf proved basis kind question tokens =
-    AreNodes proved basis kind question ([] ∷ []) no_tally tokens
+    AreTrees proved basis kind question ([] ∷ []) no_tally tokens
 
 -- ---- examples
 
@@ -194,7 +194,7 @@ IsPartFor proved basis (both_parts line club) tokens =
     tokens
 IsPartFor proved basis (one_part question) tokens = IsOnePart proved basis question tokens
 IsPartFor proved basis (nodes kind question zone zones tally) tokens =
-    AreNodes proved basis kind question (zone ∷ zones) tally tokens
+    AreTrees proved basis kind question (zone ∷ zones) tally tokens
 IsPartFor proved basis (score question ended left) tokens =
     IsExampleFrom proved basis question ended (None ∷ left) tokens
 IsPartFor proved basis (lots question ended) tokens = AreLotsOf proved basis question ended tokens

@@ -32,7 +32,7 @@ use Rattle.branch_pool.specs.States.{PoolState, loan_at, out_count}
 use Rattle.branch_pool.specs.States.{present_epoch}
 use Rattle.branch_pool.specs.Goodness.{IsSoundPool, IsGoodSeat, zones_due}
 use Rattle.verdict_run.specs.NewTrees.{is_all_new}
-use Rattle.verdict_run.specs.Working.{is_settled, AreSettled, is_decided, AreAllNew}
+use Rattle.verdict_run.specs.Working.{is_settled, AreSettled, is_known, AreAllNew}
 
 -- where no number is out, none is under any number
 none_out : (loans : List (Option Loan)) (number : ℕ) → out_count loans ≡ 0
@@ -86,7 +86,7 @@ spent_by example refuted units budget unknown settled =
 
 -- such a tree has as many new nodes as the budget, and an open leaf
 pub seat_spent : (sheet : Sheet) (season : Results) (seat : Seat) → IsGoodSeat sheet season seat
-    → is_decided seat ≡ false → is_settled sheet seat ≡ true
+    → is_known seat ≡ false → is_settled sheet seat ≡ true
     → is_spent sheet.budget seat.tree ≡ true
 seat_spent sheet season seat good unknown settled =
     let used = spent_by seat.example (is_refuted seat.tree) seat.units sheet.budget unknown settled

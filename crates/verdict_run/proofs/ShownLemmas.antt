@@ -31,7 +31,7 @@ use Rattle.branch_pool.specs.Goodness.{IsSoundPool, IsGoodSeat, IsGoodNode, IsEx
 use Rattle.branch_pool.specs.Steps.{seat_lent, seat_given, leaf_given}
 use Rattle.branch_pool.proofs.RunLemmas.{no_work_answers}
 use Rattle.branch_pool.specs.Runs.{WorksNext}
-use Rattle.verdict_run.specs.Working.{WorksTo, no_turn, one_turn_more, is_settled, is_decided}
+use Rattle.verdict_run.specs.Working.{WorksTo, no_turn, one_turn_more, is_settled, is_known}
 use Rattle.verdict_run.specs.Working.{AreSettled, AreAllNew, AreDecided, IsEnough}
 use Rattle.verdict_run.specs.NewTrees.{is_all_new}
 use Rattle.verdict_run.proofs.NewTreeLemmas.{is_all_new-put, is_all_new-lend, given_new}
@@ -82,7 +82,7 @@ refutation_is_true sheet season question tree club_in shown =
 
 -- a tree on which the budget is used up was spent fairly
 pub spends_seat : (sheet : Sheet) (season : Results) (seat : Seat) → IsLeague sheet season
-    → are_results season ≡ true → IsGoodSeat sheet season seat → is_decided seat ≡ false
+    → are_results season ≡ true → IsGoodSeat sheet season seat → is_known seat ≡ false
     → is_settled sheet seat ≡ true
     → IsFairSpentTree sheet season seat.question sheet.budget seat.tree
 spends_seat sheet season seat league results good unknown settled = record {
@@ -101,9 +101,9 @@ spends_seat sheet season seat league results good unknown settled = record {
 -- no question spends it
 pub seat_decided : (sheet : Sheet) (season : Results) (seat : Seat) → IsSeasonOf sheet season
     → seat.question.club < length sheet.clubs → IsEnough sheet season
-    → IsGoodSeat sheet season seat → is_settled sheet seat ≡ true → is_decided seat ≡ true
+    → IsGoodSeat sheet season seat → is_settled sheet seat ≡ true → is_known seat ≡ true
 seat_decided sheet season seat is_season club_in enough good settled =
-    elim (cases_Bool (is_decided seat)) as (λ _. is_decided seat ≡ true) [
+    elim (cases_Bool (is_known seat)) as (λ _. is_known seat ≡ true) [
       | inl known ↦ known
       | inr unknown ↦
           let spent = seat_spent sheet season seat good unknown settled in
@@ -237,7 +237,7 @@ pub only_spent : (pool : PoolState) (question : Question) (seat : Seat) → IsSo
 only_spent pool question seat sound only none refuted =
     let Q : Question → Type 0 =
     λ q. IsFairSpentTree pool.sheet pool.season q pool.sheet.budget seat.tree in
-    let unknown : is_decided seat ≡ false =
+    let unknown : is_known seat ≡ false =
     or_from (is_some seat.example) (is_refuted seat.tree) (ap is_some none) refuted in (
       subst Q only.asks (spends_seat pool.sheet pool.season seat (pool_league pool sound)
           (pool_results pool sound) only.good unknown only.settled),

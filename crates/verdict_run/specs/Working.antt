@@ -39,12 +39,12 @@ is_settled sheet seat =
     is_some seat.example || is_refuted seat.tree || (seat.units == sheet.budget)
 
 -- it is known whether the question has an example
-abbrev pub is_decided : Seat → Bool
-is_decided seat = is_some seat.example || is_refuted seat.tree
+abbrev pub is_known : Seat → Bool
+is_known seat = is_some seat.example || is_refuted seat.tree
 
 -- this is known of each question
 abbrev pub AreDecided : PoolState → Type 0
-AreDecided pool = All (λ (seat : Seat). IsTrue (is_decided seat)) pool.seats
+AreDecided pool = All (λ (seat : Seat). IsTrue (is_known seat)) pool.seats
 
 -- each split and each refuted leaf of each question's tree is marked new
 abbrev pub AreAllNew : PoolState → Type 0
