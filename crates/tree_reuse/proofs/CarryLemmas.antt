@@ -1,11 +1,9 @@
 -- The walk over the list of a tree's nodes: each node takes it on, and at its end everything that
 -- was wanted is found.
-use Rattle.std.proofs.Common.{◌≡◌, ℕ, zero, suc, ◌+◌, ◌≤◌, ◌<◌, Bool, true, false, List, [], ◌∷◌}
+use Rattle.std.proofs.Common.{◌≡◌, ℕ, suc, ◌+◌, ◌≤◌, ◌<◌, Bool, true, false, List, [], ◌∷◌}
 use Rattle.std.proofs.Common.{◌++◌, length, take, drop, get_or, reverse, add-one, drop-cons}
 use Rattle.std.proofs.Common.{Option, Some, None, IsTrue, refl, sym, ap, ◌∙◌, subst, append_assoc}
 use Rattle.std.proofs.Common.{append-nil, arith, length-append, length-drop}
-use Rattle.std.specs.List.{list_all}
-use Rattle.std.proofs.lemmas.Bool.{and_parts, and_from}
 use Rattle.std.proofs.lemmas.Option.{none-some, same_Some}
 use Rattle.std.proofs.lemmas.List.{take-append-le, take-take, length-take-le, take_all}
 use Rattle.std.proofs.lemmas.List.{reverse-append}
@@ -453,12 +451,3 @@ pub walk_part : (question : Question) (way : Setting) (nodes : List TreeNode) (p
 walk_part question way nodes Dropped parts found wanted walk = tt
 walk_part question way nodes (Kept depth literal) parts found wanted walk =
     let are = walk.parts_of in (are.0, are.1, tt)
-
--- the front of a zone of the sheet is one
-pub list_all-take : (p : Literal → Bool) (n : ℕ) (zone : List Literal) → list_all p zone ≡ true
-    → list_all p (take n zone) ≡ true
-list_all-take p zero zone all = refl
-list_all-take p (suc n) [] all = refl
-list_all-take p (suc n) (literal ∷ zone) all =
-    let parts = and_parts (p literal) (list_all p zone) all in
-    and_from (p literal) (list_all p (take n zone)) parts.0 (list_all-take p n zone parts.1)

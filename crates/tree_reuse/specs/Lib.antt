@@ -8,5 +8,4 @@ pub mod RetargetLaws
 pub mod Arena
 pub mod Builds
 pub mod Steps
-pub mod Ways
 pub mod Carrying

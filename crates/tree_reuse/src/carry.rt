@@ -19,9 +19,11 @@ ghost use Rattle.tree_reuse.specs.Calls.{AreTestsOf};
 
 use crate::halves::Halves;
 use crate::tree::Tree;
-use crate::way::Way;
+use crate::way::{back_to, root_box};
 use league_core::{Literal, OutOfMemory, Question, Reason, Season, Sheet, Test, TreeNode};
+use score_box::ZoneBox;
 use std::alloc::Global;
+use tie_bound::holds;
 
 /// A part of the tree that is still to come, next on the list of nodes.
 #[derive(Clone, Copy, Debug, PartialEq, Eq)]
@@ -36,7 +38,7 @@ pub enum Part {
 }
 
 // Which halves a split keeps here.
-fn halves(way: &mut Way, test: Test) -> Result<Halves, OutOfMemory>
+fn halves(way: &mut ZoneBox, test: Test) -> Result<Halves, OutOfMemory>
     requires { IsTrue (is_test_of way.old.sheet test) }
     ensures { IfOk result (λ halves.
         (way.new ≡ way.old) × (halves ≡ halves_in way.old.sheet way.old.season way.old.zone test)) }
@@ -53,15 +55,14 @@ fn halves(way: &mut Way, test: Test) -> Result<Halves, OutOfMemory>
     })
 }
 
-fn has_half(way: &mut Way, literal: Literal) -> Result<bool, OutOfMemory>
+fn has_half(way: &mut ZoneBox, literal: Literal) -> Result<bool, OutOfMemory>
     requires { IsTrue (is_test_of way.old.sheet literal.test) }
     ensures { IfOk result (λ has. (way.new ≡ way.old)
         × (has ≡ has_finish way.old.sheet way.old.season (way.old.zone ++ literal ∷ []))) }
 {
-    let depth = way.depth();
     way.cut(literal)?;
-    let has = way.has_finish()?;
-    way.back_to(depth);
+    let has = way.has_finish();
+    way.uncut();
     Ok(has)
 }
 
@@ -107,7 +108,7 @@ fn drop_node(node: TreeNode, parts: &mut Vec<Part>) -> Result<(), OutOfMemory>
 }
 
 fn keep_split(
-    way: &mut Way,
+    way: &mut ZoneBox,
     test: Test,
     parts: &mut Vec<Part>,
     found: &mut Vec<TreeNode>,
@@ -121,7 +122,7 @@ fn keep_split(
         ++ split_kept (halves_in way.old.sheet way.old.season way.old.zone test) test) }
 {
     let halves = halves(way, test)?;
-    push_halves(parts, halves, way.depth(), test)?;
+    push_halves(parts, halves, way.zone().len(), test)?;
     if let Halves::Both = halves {
         found.push(TreeNode::Split { test, fresh: false })?;
     }
@@ -129,7 +130,7 @@ fn keep_split(
 }
 
 fn keep_leaf(
-    way: &Way,
+    way: &ZoneBox,
     question: &Question,
     reason: Reason,
     found: &mut Vec<TreeNode>,
@@ -139,7 +140,7 @@ fn keep_leaf(
         ++ preorder (leaf_kept
         (has_reason way.now.sheet way.now.season question.now way.now.zone reason) reason)) }
 {
-    let node = if way.holds(question, &reason)? {
+    let node = if holds(way, question, &reason) {
         TreeNode::Refuted {
             reason,
             fresh: false,
@@ -152,7 +153,7 @@ fn keep_leaf(
 }
 
 fn keep_node(
-    way: &mut Way,
+    way: &mut ZoneBox,
     question: &Question,
     node: TreeNode,
     parts: &mut Vec<Part>,
@@ -176,13 +177,13 @@ fn keep_node(
     }
 }
 
-fn go_to(way: &mut Way, depth: usize, literal: Option<Literal>) -> Result<(), OutOfMemory>
+fn go_to(way: &mut ZoneBox, depth: usize, literal: Option<Literal>) -> Result<(), OutOfMemory>
     requires depth { depth ≤ length way.old.zone }
     requires literal { IsLiteralOf way.old.sheet literal }
     ensures { IfOk result
         (λ _. way.new ≡ record way.old { zone = zone_of_part way.old.zone depth literal }) }
 {
-    way.back_to(depth);
+    back_to(way, depth);
     if let Some(literal) = literal {
         way.cut(literal)?;
     }
@@ -190,7 +191,7 @@ fn go_to(way: &mut Way, depth: usize, literal: Option<Literal>) -> Result<(), Ou
 }
 
 fn take_part(
-    way: &mut Way,
+    way: &mut ZoneBox,
     question: &Question,
     part: Part,
     node: TreeNode,
@@ -233,7 +234,7 @@ pub fn carry(
         ≡ preorder (retargeted_from sheet.now season.now question.now [] tree.now)) }
 {
     let nodes = tree.nodes()?;
-    let mut way = Way::start(alloc, sheet, season);
+    let mut way = root_box(alloc, sheet, season)?;
     let mut parts = Vec::new(alloc);
     let literal = None;
     parts.push(Part::Kept { depth: 0, literal })?;

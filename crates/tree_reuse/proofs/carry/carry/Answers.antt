@@ -5,14 +5,14 @@ use Rattle.tree_reuse.proofs.carry.carry.Goals as goal
 
 pub loop-part-init : goal.loop-part-init
 loop-part-init c =
-    let way = c.start-way.ensures in
+    let way = c.in_ok-way.ensures in
     record {
       within = omega arith;
       sheet_is = cc (ap (λ setting. setting.sheet) way);
       season_is = cc (ap (λ setting. setting.season) way);
       of_sheet = rw c.in_ok-nodes.ensures c.requires.tests;
       walk = walk_started c.args.question.now c.args.sheet.now c.args.season.now c.args.tree.now
-          c.start-way.result c.in_ok-nodes.nodes.items (reverse c.push.new.self.items)
+          c.in_ok-way.way c.in_ok-nodes.nodes.items (reverse c.push.new.self.items)
           c.new-found.result.items way c.in_ok-nodes.ensures
           (rw (c.in_ok-push.ensures.items, c.new-parts.ensures.items) refl)
           c.new-found.ensures.items;
