@@ -1,0 +1,4 @@
+mod PrefixLemmas
+mod PackLemmas
+mod ViewLemmas
+mod MoveLemmas
