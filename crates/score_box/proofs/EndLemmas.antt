@@ -152,7 +152,7 @@ spans_small fixtures options lows highs few are club = at (cases_lt club 24)
 
 -- ---- one match, by its two sides
 
-alone_sides : (club : ℕ) (match : Fixture) (score : Score) → match.home ≢ match.away
+pub alone_sides : (club : ℕ) (match : Fixture) (score : Score) → match.home ≢ match.away
     → points_together (club ∷ []) match score
     ≡ points_of_sides (eqb match.home club) (eqb match.away club) score
 alone_sides club match score apart =

@@ -5,3 +5,5 @@ pub mod BoxLemmas
 pub mod PathLemmas
 pub mod PointLemmas
 pub mod EndLemmas
+pub mod TotalLemmas
+pub mod SplitLemmas

@@ -36,6 +36,7 @@ use Rattle.score_box.specs.Boxes.{AreCellsOf, IsSetOf}
 use Rattle.score_box.specs.declared.ends.Ends.{Ends}
 use Rattle.score_box.specs.Ends.{AreEnds}
 use Rattle.score_box.specs.Stages.{IsBoxOf}
+use Rattle.score_box.specs.declared.totals.Totals.{Totals}
 use Rattle.score_box.proofs.EndLemmas.{set_is}
 use Rattle.score_box.proofs.BoxLemmas.{options_at, options_at-with, meets-other}
 use Rattle.score_box.proofs.BoxLemmas.{marked_before-push, marked_after-push}
@@ -75,9 +76,9 @@ zone_without sheet zone literal all =
 -- a box with one literal more
 pub box_with : (sheet : Sheet) (season : Results) (zone : List Literal) (literal : Literal)
     (unplayed : List ℕ) (old new : List Cell) (before after before_new after_new : ClubSet)
-    (ends ends_new : Ends)
+    (ends ends_new : Ends) (clubs pairs : List Totals)
     → IsBoxOf (record { sheet = sheet; season = season; zone = zone }) unplayed old before after
-    ends → is_test_of sheet literal.test ≡ true
+    ends clubs pairs → is_test_of sheet literal.test ≡ true
     → AreCellsOf new (options_in sheet season (zone ++ literal ∷ []))
     → AreEnds sheet.fixtures (options_in sheet season (zone ++ literal ∷ [])) ends_new
     → IsSetOf before_new (λ club. has_club (clubs_in before) club
@@ -85,9 +86,9 @@ pub box_with : (sheet : Sheet) (season : Results) (zone : List Literal) (literal
     → IsSetOf after_new (λ club. has_club (clubs_in after) club
     || (is_of_rival club literal.test && not literal.yes))
     → IsBoxOf (record { sheet = sheet; season = season; zone = zone ++ literal ∷ [] }) unplayed new
-    before_new after_new ends_new
+    before_new after_new ends_new clubs pairs
 box_with sheet season zone literal unplayed old new before after before_new after_new ends ends_new
-    is here cells ends_are marks_before marks_after = record {
+    clubs pairs is here cells ends_are marks_before marks_after = record {
       league = is.league;
       open_fixtures = is.open_fixtures;
       of_zone = zone_with sheet zone literal is.of_zone here;
@@ -101,20 +102,21 @@ box_with sheet season zone literal unplayed old new before after before_new afte
           ∙ ap (λ b. b || (is_of_rival club literal.test && not literal.yes)) (is.marks_after club)
           ∙ sym (marked_after-push zone literal club);
       ends_are = ends_are;
+      tables = is.tables;
     }
 
 -- and without its last
 pub box_without : (sheet : Sheet) (season : Results) (zone : List Literal) (last : Literal)
     (unplayed : List ℕ) (old new : List Cell) (before after before_new after_new : ClubSet)
-    (ends ends_new : Ends)
+    (ends ends_new : Ends) (clubs pairs : List Totals)
     → IsBoxOf (record { sheet = sheet; season = season; zone = zone ++ last ∷ [] }) unplayed old
-    before after ends → AreCellsOf new (options_in sheet season zone)
+    before after ends clubs pairs → AreCellsOf new (options_in sheet season zone)
     → AreEnds sheet.fixtures (options_in sheet season zone) ends_new
     → IsSetOf before_new (marked_before zone) → IsSetOf after_new (marked_after zone)
     → IsBoxOf (record { sheet = sheet; season = season; zone = zone }) unplayed new before_new
-    after_new ends_new
+    after_new ends_new clubs pairs
 box_without sheet season zone last unplayed old new before after before_new after_new ends ends_new
-    is cells ends_are marks_before marks_after = record {
+    clubs pairs is cells ends_are marks_before marks_after = record {
       league = is.league;
       open_fixtures = is.open_fixtures;
       of_zone = (zone_without sheet zone last is.of_zone).0;
@@ -122,6 +124,7 @@ box_without sheet season zone last unplayed old new before after before_new afte
       marks_before = marks_before;
       marks_after = marks_after;
       ends_are = ends_are;
+      tables = is.tables;
     }
 
 -- a test of a score marks no rival

@@ -5,5 +5,6 @@ pub mod Cells
 pub mod Unplayed
 pub mod Boxes
 pub mod Ends
+pub mod Totals
 pub mod Stages
 pub mod Points

@@ -15,23 +15,28 @@ use Rattle.score_box.specs.Settings.{Setting}
 use Rattle.score_box.specs.Unplayed.{unplayed_in}
 use Rattle.score_box.specs.Boxes.{AreCellsOf, IsSetOf}
 use Rattle.score_box.specs.Ends.{AreEnds}
+use Rattle.score_box.specs.declared.totals.Totals.{Totals}
+use Rattle.score_box.specs.Totals.{AreTables}
 
 -- a sheet and a season of it
 pub record Stage : Type 0 where
   pub sheet : Sheet
   pub season : Results
 
--- what the tables of a stage keep: the cells before any literal, what is not played, and the ends
-pub record ArePlayed (stage : Stage) (cells : List Cell) (unplayed : List ℕ) (ends : Ends) : Type 0
-  where
-    pub league : IsLeague stage.sheet stage.season
-    pub options : AreCellsOf cells (options_in stage.sheet stage.season [])
-    pub open_fixtures : unplayed ≡ unplayed_in stage.season.scores
-    pub ends_are : AreEnds stage.sheet.fixtures (options_in stage.sheet stage.season []) ends
+-- what the tables of a stage keep: the cells before any literal, what is not played, the ends, and
+-- the rows of what was played
+pub record ArePlayed (stage : Stage) (cells : List Cell) (unplayed : List ℕ) (ends : Ends)
+    (clubs pairs : List Totals) : Type 0 where
+  pub league : IsLeague stage.sheet stage.season
+  pub options : AreCellsOf cells (options_in stage.sheet stage.season [])
+  pub open_fixtures : unplayed ≡ unplayed_in stage.season.scores
+  pub ends_are : AreEnds stage.sheet.fixtures (options_in stage.sheet stage.season []) ends
+  pub tables : AreTables stage.sheet.fixtures stage.season.scores clubs pairs
 
--- what a box keeps: the zone's options as cells, its marks as sets, and the ends
+-- what a box keeps: the zone's options as cells, its marks as sets, the ends, and the rows of what
+-- was played
 pub record IsBoxOf (setting : Setting) (unplayed : List ℕ) (cells : List Cell)
-    (before after : ClubSet) (ends : Ends) : Type 0 where
+    (before after : ClubSet) (ends : Ends) (clubs pairs : List Totals) : Type 0 where
   pub league : IsLeague setting.sheet setting.season
   pub open_fixtures : unplayed ≡ unplayed_in setting.season.scores
   pub of_zone : IsTrue (is_zone_of setting.sheet setting.zone)
@@ -40,6 +45,7 @@ pub record IsBoxOf (setting : Setting) (unplayed : List ℕ) (cells : List Cell)
   pub marks_after : IsSetOf after (marked_after setting.zone)
   pub ends_are : AreEnds setting.sheet.fixtures
       (options_in setting.sheet setting.season setting.zone) ends
+  pub tables : AreTables setting.sheet.fixtures setting.season.scores clubs pairs
 
 -- cells and ends of a zone become those of the zone with one literal more
 abbrev pub TakesOneMore : List Fixture → List Cell → List Cell → Ends → Ends → Literal → Type 0

@@ -12,11 +12,12 @@ mod ends;
 mod marks;
 mod played;
 mod points;
-#[cfg(test)]
-mod tests;
+mod tables;
+mod totals;
 mod zone_box;
 
 pub use cell::{Cell, Goals};
 pub use played::Played;
 pub use points::{MatchPoints, PointRange};
+pub use totals::Totals;
 pub use zone_box::ZoneBox;

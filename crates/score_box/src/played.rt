@@ -1,17 +1,22 @@
 //! What was played in a season, worked out once for many boxes.
 
-ghost use Rattle.std.specs.Prelude.{◌≡◌, ◌≤◌, ◌++◌, ◌↔◌, IsTrue, IfOk, [], ◌∷◌, length};
+ghost use Rattle.std.specs.Prelude.{◌≡◌, ◌<◌, ◌≤◌, ◌++◌, ◌↔◌, IsTrue, IfOk, [], ◌∷◌, length};
 ghost use Rattle.std.specs.Prelude.{if◌then◌else◌};
 ghost use Rattle.league_core.specs.Limits.{most_fixtures};
 ghost use Rattle.league_core.specs.Options.{options_in};
+ghost use Rattle.league_core.specs.Sums.{sum_of, points_of};
+ghost use Rattle.league_core.specs.PairSums.{sum_against};
 ghost use Rattle.league_core.specs.Seasons.{IsLeague, IsSeasonOf};
 ghost use Rattle.league_core.specs.Sheets.{IsWithinLimits};
 ghost use Rattle.score_box.specs.Boxes.{AreCellsOf};
 ghost use Rattle.score_box.specs.Ends.{AreEnds};
+ghost use Rattle.score_box.specs.Totals.{AreTables, AreTotals, AreTotalsNear};
 ghost use Rattle.score_box.specs.Unplayed.{is_unplayed, unplayed_in};
 
 use crate::cell::Cell;
 use crate::ends::Ends;
+use crate::tables::Tables;
+use crate::totals::Totals;
 use crate::zone_box::season_cells;
 use league_core::{OutOfMemory, Score, Season, Sheet};
 use std::alloc::Global;
@@ -25,6 +30,7 @@ pub struct Played<'a> {
     cells: Vec<Cell>,
     unplayed: Vec<u16>,
     ends: Ends,
+    tables: Tables,
 }
 
 impl<'a> Model for Played<'a> {
@@ -37,7 +43,7 @@ impl<'a> Model for Played<'a> {
     ghost view = { λ p. record { sheet = p.sheet.now; season = p.season.now } };
 
     ghost invariant = { λ p. ArePlayed (record { sheet = p.sheet.now; season = p.season.now })
-        p.cells.items p.unplayed.items p.ends };
+        p.cells.items p.unplayed.items p.ends p.tables.clubs.items p.tables.pairs.items };
 }
 
 impl<'a> Played<'a> {
@@ -53,12 +59,14 @@ impl<'a> Played<'a> {
         let cells = season_cells(alloc, season.scores(), sheet.goal_limit)?;
         let unplayed = unplayed_fixtures(alloc, season.scores())?;
         let ends = Ends::of(sheet.fixtures.as_slice(), &cells);
+        let tables = Tables::of(alloc, sheet.fixtures.as_slice(), season.scores())?;
         Ok(Played {
             sheet,
             season,
             cells,
             unplayed,
             ends,
+            tables,
         })
     }
 
@@ -88,6 +96,43 @@ impl<'a> Played<'a> {
         ensures { AreCellsOf result.now (options_in self.now.sheet self.now.season []) }
     {
         self.cells.as_slice()
+    }
+
+    /// What a club's played matches add up to.
+    pub fn totals(&self, club: u8) -> Totals
+        requires in_range { club < length self.now.sheet.clubs }
+        ensures sums { AreTotals
+            (λ worth. sum_of worth self.now.sheet self.now.season club) result }
+        ensures near { AreTotalsNear 153000 result }
+    {
+        self.tables.of_club(club)
+    }
+
+    /// A club's points from its played matches, less what is taken off.
+    pub fn points_so_far(&self, club: u8) -> i32
+        requires in_range { club < length self.now.sheet.clubs }
+        ensures { result ≡ points_of self.now.sheet self.now.season club }
+    {
+        self.totals(club).points - i32::from(self.season.deducted(club))
+    }
+
+    /// What its played matches against one rival add up to.
+    pub fn totals_against(&self, club: u8, rival: u8) -> Totals
+        requires club { club < length self.now.sheet.clubs }
+        requires rival { rival < length self.now.sheet.clubs }
+        ensures sums { AreTotals
+            (λ worth. sum_against worth self.now.sheet self.now.season club rival) result }
+        ensures near { AreTotalsNear 153000 result }
+    {
+        self.tables.of_pair(club, rival)
+    }
+
+    /// The tables of what was played.
+    pub(crate) fn tables(&self) -> &Tables
+        ensures { AreTables self.now.sheet.fixtures self.now.season.scores result.now.clubs.items
+            result.now.pairs.items }
+    {
+        &self.tables
     }
 
     /// The ends of these cells.

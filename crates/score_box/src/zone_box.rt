@@ -24,6 +24,7 @@ use crate::ends::Ends;
 use crate::marks::Marks;
 use crate::played::Played;
 use crate::points::{self, PointRange};
+use crate::tables::Tables;
 pub use build::season_cells;
 use league_core::{ClubSet, Literal, OutOfMemory, Score, Season, Sheet, Zone};
 use std::alloc::Global;
@@ -40,6 +41,7 @@ pub struct ZoneBox<'a> {
     cells: Vec<Cell>,
     marks: Marks,
     ends: Ends,
+    tables: Tables,
 }
 
 impl<'a> Model for ZoneBox<'a> {
@@ -57,7 +59,8 @@ impl<'a> Model for ZoneBox<'a> {
 
     ghost invariant = { λ b. IsBoxOf
         (record { sheet = b.sheet.now; season = b.season.now; zone = b.zone.items })
-        b.unplayed.items b.cells.items b.marks.before b.marks.after b.ends };
+        b.unplayed.items b.cells.items b.marks.before b.marks.after b.ends
+        b.tables.clubs.items b.tables.pairs.items };
 }
 
 impl<'a> ZoneBox<'a> {
@@ -111,6 +114,7 @@ impl<'a> ZoneBox<'a> {
         let season = played.season();
         let cells = Vec::from_slice(alloc, played.cells())?;
         let unplayed = Vec::from_slice(alloc, played.unplayed())?;
+        let tables = played.tables().copy(alloc)?;
         Ok(ZoneBox {
             sheet,
             season,
@@ -119,6 +123,7 @@ impl<'a> ZoneBox<'a> {
             cells,
             marks: Marks::none(),
             ends: played.ends(),
+            tables,
         })
     }
 

@@ -1,16 +1,21 @@
 //! What a box says of one club, and of the outcomes that are left.
 
-ghost use Rattle.std.specs.Prelude.{◌≡◌, ◌<◌, ◌≤ℤ◌, neg_ℤ, [], ◌∷◌, length};
+ghost use Rattle.std.specs.Prelude.{◌≡◌, ◌<◌, ◌≤ℤ◌, ℕ, neg_ℤ, true, [], ◌∷◌, length};
 ghost use Rattle.league_core.specs.Limits.{most_points};
 ghost use Rattle.league_core.specs.Options.{options_in};
 ghost use Rattle.league_core.specs.PointRanges.{least_points_of, most_points_of};
+ghost use Rattle.league_core.specs.ClubSets.{clubs_in};
+ghost use Rattle.league_core.specs.Sums.{has_club, sum_among, sum_of, points_of};
+ghost use Rattle.league_core.specs.PairSums.{sum_against};
+ghost use Rattle.score_box.specs.Totals.{AreTotals, AreTotalsNear};
 ghost use Rattle.score_box.specs.Boxes.{open_outcomes_in};
 ghost use Rattle.score_box.specs.Points.{most_taken_off};
 ghost use Rattle.score_box.specs.Settings.{HasFinish};
 ghost use Rattle.score_box.specs.Unplayed.{unplayed_in};
 
 use super::ZoneBox;
-use league_core::Literal;
+use crate::totals::Totals;
+use league_core::{ClubSet, Literal};
 
 impl<'a> ZoneBox<'a> {
     /// The least points of a club.
@@ -35,6 +40,47 @@ impl<'a> ZoneBox<'a> {
     {
         let off = i32::from(self.season.deducted(club));
         self.ends.highs[club as usize] - off
+    }
+
+    /// What a club's played matches add up to; what the zone says does not count.
+    pub fn totals(&self, club: u8) -> Totals
+        requires in_range { club < length self.now.sheet.clubs }
+        ensures sums { AreTotals
+            (λ worth. sum_of worth self.now.sheet self.now.season club) result }
+        ensures near { AreTotalsNear 153000 result }
+    {
+        self.tables.of_club(club)
+    }
+
+    /// A club's points from its played matches, less what is taken off.
+    pub fn points_so_far(&self, club: u8) -> i32
+        requires in_range { club < length self.now.sheet.clubs }
+        ensures { result ≡ points_of self.now.sheet self.now.season club }
+    {
+        self.totals(club).points - i32::from(self.season.deducted(club))
+    }
+
+    /// What its played matches against one rival add up to.
+    pub fn totals_against(&self, club: u8, rival: u8) -> Totals
+        requires club { club < length self.now.sheet.clubs }
+        requires rival { rival < length self.now.sheet.clubs }
+        ensures sums { AreTotals
+            (λ worth. sum_against worth self.now.sheet self.now.season club rival) result }
+        ensures near { AreTotalsNear 153000 result }
+    {
+        self.tables.of_pair(club, rival)
+    }
+
+    /// What the played matches of a club add up to within a group of which it is one.
+    pub fn totals_among(&self, group: ClubSet, club: u8) -> Totals
+        requires group { (member : ℕ) → has_club (clubs_in group) member ≡ true
+            → member < length self.now.sheet.clubs }
+        requires club { has_club (clubs_in group) club ≡ true }
+        ensures sums { AreTotals
+            (λ worth. sum_among (clubs_in group) worth self.now.sheet self.now.season club) result }
+        ensures near { AreTotalsNear 5000000 result }
+    {
+        self.tables.of_group(group, club)
     }
 
     /// How many fixtures have options of several outcomes.

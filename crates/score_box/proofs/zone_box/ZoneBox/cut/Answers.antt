@@ -85,15 +85,17 @@ invariant_of-self-2 c =
       sheet = box.sheet.now;
       season = box.season.now;
       zone = c.push.new.self.items;
-    }) box.unplayed.items cells before after ends in
+    }) box.unplayed.items cells before after ends
+    box.tables.clubs.items box.tables.pairs.items in
     let With_zone : List Literal → Type 0 = λ zone. IsBoxOf (record {
       sheet = box.sheet.now;
       season = box.season.now;
       zone = zone;
-    }) box.unplayed.items new before after ends in
+    }) box.unplayed.items new before after ends
+    box.tables.clubs.items box.tables.pairs.items in
     subst With_cells (sym all)
     (subst With_zone (sym c.in_ok-push.ensures.items)
     (box_with box.sheet.now box.season.now box.zone.items literal box.unplayed.items
     box.cells.items new box.marks.before box.marks.after before after box.ends ends
-    c.self.invariant is more.0 more.1 c.with-self-inside.ensures.before
-    c.with-self-inside.ensures.after))
+    box.tables.clubs.items box.tables.pairs.items c.self.invariant is more.0 more.1
+    c.with-self-inside.ensures.before c.with-self-inside.ensures.after))
