@@ -1,0 +1,30 @@
+use Rattle.std.proofs.Common.{◌≡◌, ◌-◌}
+use Rattle.port_core.specs.Contents.{input_limit}
+use Rattle.branch_pool.specs.States.{out_count}
+use Rattle.worker_gate.specs.Rounds.{IsUnderWay}
+use Rattle.worker_gate.proofs.plain.feed_pool.Given as goal
+
+-- the lines so far told the events that the log has more than before
+abbrev pub invariant-entries : goal.invariant-entries
+invariant-entries g l = record {
+  sheet : l.pool.sheet ≡ l.fn.pool.sheet;
+  questions : l.pool.questions ≡ l.fn.pool.questions;
+  home : out_count l.pool.loans ≡ out_count l.fn.pool.loans;
+  goes : IsUnderWay l.fn.pool.sheet l.fn.pool.log l.pool.log
+      (record {
+        reader = l.fn.reader;
+        left = g.S.Source.left l.fn.source;
+        ended = g.S.Source.ended l.fn.source;
+        faults = g.S.Source.faults l.fn.source;
+      })
+      (record {
+        reader = l.reader;
+        left = g.S.Source.left l.source;
+        ended = g.S.Source.ended l.source;
+        faults = g.S.Source.faults l.source;
+      });
+}
+
+-- the bytes that may still be passed
+abbrev pub decreases-entries : goal.decreases-entries
+decreases-entries g l = input_limit - l.reader.position.bytes

@@ -1,0 +1,16 @@
+//! Rounds of a live feed: results come in while a pool is worked on, up to the next ask.
+//!
+//!     source  ── entries ──>  pool  ── ask, end or stop ──>  the pool and how the round ended
+//!
+//! What a round passes and tells stands in `specs/Rounds.antt`; read it first.
+#![tactic(auto)]
+
+mod gate;
+mod laws;
+mod plain;
+mod round;
+
+pub use gate::{Gate, OpenGate, Point};
+pub use laws::a_round_is_read_as_its_lines;
+pub use plain::read_round;
+pub use round::{Round, RoundEnd, run_round};

@@ -1,0 +1,167 @@
+//! A round on one thread, without workers.
+
+ghost use Rattle.std.specs.Prelude.{◌≡◌, IfOk, OnErr, OnOk, ◌++◌, ◌∷◌, [], ◌<◌, false, length};
+ghost use Rattle.league_core.specs.Seasons.{IsEventOf, season_after};
+ghost use Rattle.league_core.specs.Limits.{most_events};
+ghost use Rattle.result_log.specs.Records.{IsEntryAt};
+ghost use Rattle.branch_pool.specs.States.{out_count};
+ghost use Rattle.worker_gate.specs.Rounds.{BreaksOff, EndsRound, IsNextEntry, close_of, live_entry};
+
+use crate::round::{Round, RoundEnd};
+use branch_pool::Pool;
+use league_core::{Event, OutOfMemory};
+use port_core::{LineReader, Source};
+use result_log::{Entry, FeedStop, next_entry};
+use std::alloc::Global;
+
+/// Reads the feed on to the next ask, its end or a stop, and tells the pool each event as it comes.
+/// Nothing is worked on.
+///
+/// The events are read behind those of the pool's log. Where there is no memory to tell an event,
+/// the pool is gone.
+pub fn read_round<S: Source>(
+    alloc: Global,
+    pool: Pool,
+    reader: &mut LineReader,
+    source: &mut S,
+) -> Result<Round, OutOfMemory>
+    ensures sheet { IfOk result (λ round. round.pool.sheet ≡ pool.sheet) }
+    ensures questions { IfOk result (λ round. round.pool.questions ≡ pool.questions) }
+    ensures season { IfOk result (λ round.
+        round.pool.season ≡ season_after round.pool.sheet round.pool.log) }
+    ensures home { IfOk result (λ round. out_count round.pool.loans ≡ out_count pool.loans) }
+
+    // The log afterwards is the log before and the events that the lines passed tell.
+    ensures ends { IfOk result (λ round. EndsRound pool.sheet pool.log round.pool.log
+        (record {
+          reader = reader.old;
+          left = S.left source.old;
+          ended = S.ended source.old;
+          faults = S.faults source.old;
+        })
+        (record {
+          reader = reader.new;
+          left = S.left source.new;
+          ended = S.ended source.new;
+          faults = S.faults source.new;
+        }) (close_of round.end)) }
+    ensures err { OnErr result (BreaksOff pool.sheet pool.log
+        (record {
+          reader = reader.old;
+          left = S.left source.old;
+          ended = S.ended source.old;
+          faults = S.faults source.old;
+        })
+        (record {
+          reader = reader.new;
+          left = S.left source.new;
+          ended = S.ended source.new;
+          faults = S.faults source.new;
+        })) }
+{
+    let mut pool = pool;
+    let end = feed_pool(alloc, &mut pool, reader, source)?;
+    let _log = pool.log();
+    Ok(Round { pool, end })
+}
+
+// Tells the pool each event up to what ends the round.
+fn feed_pool<S: Source>(
+    alloc: Global,
+    pool: &mut Pool,
+    reader: &mut LineReader,
+    source: &mut S,
+) -> Result<RoundEnd, OutOfMemory>
+    ensures sheet { pool.new.sheet ≡ pool.old.sheet }
+    ensures questions { pool.new.questions ≡ pool.old.questions }
+    ensures home { out_count pool.new.loans ≡ out_count pool.old.loans }
+    ensures ends { IfOk result (λ end. EndsRound pool.old.sheet pool.old.log pool.new.log
+        (record {
+          reader = reader.old;
+          left = S.left source.old;
+          ended = S.ended source.old;
+          faults = S.faults source.old;
+        })
+        (record {
+          reader = reader.new;
+          left = S.left source.new;
+          ended = S.ended source.new;
+          faults = S.faults source.new;
+        }) (close_of end)) }
+    ensures err { OnErr result (BreaksOff pool.old.sheet pool.old.log
+        (record {
+          reader = reader.old;
+          left = S.left source.old;
+          ended = S.ended source.old;
+          faults = S.faults source.old;
+        })
+        (record {
+          reader = reader.new;
+          left = S.left source.new;
+          ended = S.ended source.new;
+          faults = S.faults source.new;
+        })) }
+{
+    'entries: loop {
+        match next_of(alloc, pool, reader, source) {
+            Ok(Entry::Change(event)) => {
+                if tell(pool, event).is_err() {
+                    return Err(OutOfMemory);
+                }
+            }
+            Ok(Entry::Ask) => return Ok(RoundEnd::Ask),
+            Ok(Entry::End) => return Ok(RoundEnd::End),
+            Ok(Entry::Proofs) => unreachable!(),
+            Err(stop) => return Ok(RoundEnd::Stop(stop)),
+        }
+    }
+}
+
+// The next entry behind the events of the pool.
+fn next_of<S: Source>(
+    alloc: Global,
+    pool: &Pool,
+    reader: &mut LineReader,
+    source: &mut S,
+) -> Result<Entry, FeedStop>
+    ensures told { IfOk result (λ entry.
+        IsEntryAt pool.now.season (length pool.now.log) false entry) }
+    ensures next { IsNextEntry (live_entry pool.now.sheet pool.now.log)
+        (record {
+          reader = reader.old;
+          left = S.left source.old;
+          ended = S.ended source.old;
+          faults = S.faults source.old;
+        })
+        (record {
+          reader = reader.new;
+          left = S.left source.new;
+          ended = S.ended source.new;
+          faults = S.faults source.new;
+        }) result }
+{
+    let events = pool.log().len() as u64;
+    next_entry(
+        alloc,
+        pool.sheet(),
+        pool.season(),
+        events,
+        false,
+        reader,
+        source,
+    )
+}
+
+fn tell(pool: &mut Pool, event: Event) -> Result<(), OutOfMemory>
+    requires may_be { IsEventOf pool.old.season event }
+    requires room { length pool.old.log < most_events }
+    ensures log { OnOk result (pool.new.log ≡ pool.old.log ++ event ∷ []) }
+    ensures sheet { pool.new.sheet ≡ pool.old.sheet }
+    ensures questions { pool.new.questions ≡ pool.old.questions }
+    ensures home { pool.new.loans ≡ pool.old.loans }
+{
+    match pool.change(event) {
+        Ok(_) => Ok(()),
+        Err(_) => Err(OutOfMemory),
+    }
+}
