@@ -10,10 +10,10 @@ from .counting import Counter, league, said, sound_end
 from .mistake import SHEET
 
 STAND_IN = '''#!{python}
-"""Stands in for futmax: a table of noughts, one death, and one ask that it does not answer."""
+"""Stands in for futmax: a table of noughts, one death, and one ask at which it always dies."""
 import os, sys
 events, died = 0, os.path.exists({mark!r})
-for number, line in enumerate(sys.stdin, 1):
+for line in sys.stdin:
     events += line.startswith(("result", "fix", "void", "deduct"))
     if not line.startswith("ask"):
         continue
@@ -21,8 +21,7 @@ for number, line in enumerate(sys.stdin, 1):
         open({mark!r}, "w").close()
         os.abort()
     if events == 2:
-        print(f"fault,{{number}},too_wide", flush=True)
-        sys.exit(3)
+        os.abort()
     print(f"ask,{{events}}")
     for club in ("Anchor", "Köln", "Dock United"):
         print(f"place,1,3,{{club}},0,0,0,0")
@@ -31,7 +30,7 @@ for number, line in enumerate(sys.stdin, 1):
 
 
 def check_live(counter: Counter) -> None:
-    """A session with a program that dies once, and refuses one ask."""
+    """A session with a program that dies once, and at one ask each time."""
     with tempfile.TemporaryDirectory() as work:
         stand_in, sheet, log = (Path(work) / name for name in ("stand_in", "sheet.csv", "log.csv"))
         stand_in.write_text(STAND_IN.format(python=sys.executable, mark=work + "/mark"), "utf-8")
@@ -42,7 +41,8 @@ def check_live(counter: Counter) -> None:
         run = league(*words, data=lines.encode("utf-8"))
         text = run.stdout.decode("utf-8") + run.stderr.decode("utf-8")
         wanted = ["ask,1\n", "# end of answer 1, after 1 event\n", "refused, not sent: no club",
-                  "too_wide", "ask,3\n", "# end of answer 3, after 3 events\n", "started again"]
+                  "this ask has no answer", "ask,3\n",
+                  "# end of answer 3, after 3 events\n", "started again"]
         faults = [f"not said: {part}" for part in wanted if part not in text]
         counter.check("live: a session", sound_end(run) + faults + ([text] if faults else []))
         kept = "result,1,2,1\nask\nresult,2,0,0\nresult,3,1,1\nask\n"

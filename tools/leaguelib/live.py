@@ -19,8 +19,6 @@ from .bookkeeper import Bookkeeper, Unclear
 from .records import records_of
 from .session import Ended, Session
 
-UNANSWERABLE = ("too_wide", "too_open")
-
 
 def add_arguments(parser: argparse.ArgumentParser) -> None:
     """The words of `league live`."""
@@ -142,11 +140,9 @@ class Live:
             except Ended as ended:
                 self.session.start()
                 self._tell_restart(ended.reason)
-                if ended.fault and ended.fault[-1] not in UNANSWERABLE:
+                if ended.fault:
                     raise common.Trouble("futmax refuses what this tool takes: is it an older "
                                          f"version? {ended.reason}", common.NO_PROGRAM) from ended
-                if ended.fault:
-                    break
                 continue
             _keep(self.log, "ask")
             self._write(b"".join(lines))

@@ -9,11 +9,6 @@ from typing import Callable
 from . import common
 from .answer_end import AnswerEnd
 
-UNANSWERED = {
-    "too_wide": "the open matches can end in more ways than it looks through in this mode",
-    "too_open": "more matches are open than it takes in this mode",
-}
-
 
 @dataclass
 class Ended(Exception):
@@ -28,9 +23,7 @@ class Ended(Exception):
         """Why it ended, for people."""
         if not self.fault:
             return f"futmax ended with status {self.status}"
-        row = ",".join(self.fault)
-        words = UNANSWERED.get(self.fault[-1])
-        return f"futmax says `{row}`" + (f": {words}" if words else "")
+        return f"futmax says `{','.join(self.fault)}`"
 
 
 class Session:

@@ -9,8 +9,6 @@
 mod club_number;
 mod draft;
 mod fault;
-#[cfg(test)]
-mod field_tests;
 mod fields;
 mod laws;
 mod name;
@@ -18,12 +16,6 @@ mod name_index;
 mod number;
 mod reader;
 mod record;
-#[cfg(test)]
-mod refusal_tests;
-#[cfg(test)]
-mod sheet_tests;
-#[cfg(test)]
-mod telling;
 
 pub use club_number::club_named;
 pub use draft::Draft;

@@ -123,20 +123,3 @@ impl ClubSet {
         self.bits.count_ones() as u8
     }
 }
-
-#[cfg(test)]
-mod tests {
-    use super::*;
-    use std::test::Fail;
-
-    #[test]
-    fn sets_are_joined_cut_and_counted(rt: HostRuntime) -> Result<(), Fail> {
-        let some = ClubSet::single(2).union(ClubSet::single(31));
-        assert_eq!(rt; some.len(), 2);
-        assert_eq!(rt; some.first_club(), 2);
-        assert!(rt; some.intersection(ClubSet::first(24)) == ClubSet::single(2));
-        assert!(rt; some.others(3) == ClubSet::first(2));
-        assert_eq!(rt; ClubSet::first(32).len(), 32);
-        Ok(())
-    }
-}

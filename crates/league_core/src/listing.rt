@@ -122,28 +122,3 @@ impl Name {
         Ok(Name { text })
     }
 }
-
-#[cfg(test)]
-mod tests {
-    use super::*;
-    use std::test::Fail;
-
-    #[test]
-    fn a_copy_of_a_list_goes_its_own_way(rt: HostRuntime) -> Result<(), Fail> {
-        let mut list = Listing::new(rt.alloc());
-        list.push(7).ok().ok_or("room")?;
-        let copy = list.copy(rt.alloc()).ok().ok_or("room")?;
-        assert_eq!(rt; list.pop(), Some(7));
-        assert_eq!(rt; list.pop(), None);
-        assert!(rt; list.is_empty() && copy.as_slice() == [7].as_slice());
-        Ok(())
-    }
-
-    #[test]
-    fn a_name_is_copied(rt: HostRuntime) -> Result<(), Fail> {
-        let name = Name::new(String::from_str(rt.alloc(), "Alder")?);
-        let copy = name.copy(rt.alloc()).ok().ok_or("room")?;
-        assert!(rt; copy.as_str() == "Alder");
-        Ok(())
-    }
-}

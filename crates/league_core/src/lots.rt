@@ -61,20 +61,3 @@ fn names_all(order: &[u8]) -> bool
 {
     (0..order.len()).all(|club| names(order, club))
 }
-
-#[cfg(test)]
-mod tests {
-    use super::*;
-    use std::test::Fail;
-
-    #[test]
-    fn lots_name_each_club_once(rt: HostRuntime) -> Result<(), Fail> {
-        let lots = Lots::new([2, 0, 1].to_vec(rt.alloc())?)
-            .ok()
-            .ok_or("an order")?;
-        assert!(rt; lots.order() == [2, 0, 1].as_slice());
-        assert!(rt; Lots::new([0, 0, 1].to_vec(rt.alloc())?).is_err());
-        assert!(rt; Lots::new([0, 1, 3].to_vec(rt.alloc())?).is_err());
-        Ok(())
-    }
-}

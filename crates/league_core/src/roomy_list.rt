@@ -121,25 +121,3 @@ impl<T> RoomyList<T> {
         mem::replace(&mut self.items[index], item)
     }
 }
-
-#[cfg(test)]
-mod tests {
-    use super::*;
-    use std::test::Fail;
-
-    #[test]
-    fn what_has_room_goes_in(rt: HostRuntime) -> Result<(), Fail> {
-        let mut list = RoomyList::new(rt.alloc());
-        list.reserve(3).ok().ok_or("room")?;
-        assert!(rt; list.room() >= 3);
-        list.push('a');
-        list.push('c');
-        list.insert(1, 'b');
-        assert!(rt; list.as_slice() == ['a', 'b', 'c'].as_slice());
-        assert_eq!(rt; list.replace(0, 'd'), 'a');
-        assert_eq!(rt; list.remove(1), 'b');
-        assert_eq!(rt; list.pop(), 'c');
-        assert!(rt; list.len() == 1 && list.room() >= 2);
-        Ok(())
-    }
-}

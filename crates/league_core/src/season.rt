@@ -176,35 +176,3 @@ fn same_points(points: &[u8], others: &[u8]) -> bool
 {
     points == others
 }
-
-#[cfg(test)]
-mod tests {
-    use super::*;
-    use std::test::Fail;
-
-    #[test]
-    fn a_season_is_told_corrected_and_annulled(rt: HostRuntime) -> Result<(), Fail> {
-        let mut season = Season::unplayed(rt.alloc(), 2, 1).ok().ok_or("room")?;
-        assert_eq!(rt; season.scores().len(), 1);
-        let before = season.copy(rt.alloc()).ok().ok_or("room")?;
-        let score = Score { home: 2, away: 1 };
-        season.apply(&Event::Set { fixture: 0, score });
-        assert_eq!(rt; season.score(0), Some(score));
-        assert!(rt; !season.equals(&before));
-        season.apply(&Event::Clear { fixture: 0 });
-        assert!(rt; season.equals(&before));
-        Ok(())
-    }
-
-    #[test]
-    fn a_later_deduction_replaces_an_earlier_one(rt: HostRuntime) -> Result<(), Fail> {
-        let mut season = Season::unplayed(rt.alloc(), 2, 1).ok().ok_or("room")?;
-        season.apply(&Event::Deduct { club: 1, points: 9 });
-        season.apply(&Event::Deduct { club: 1, points: 2 });
-        assert_eq!(rt; season.deducted(1), 2);
-        assert_eq!(rt; season.deducted(0), 0);
-        season.apply(&Event::Deduct { club: 1, points: 0 });
-        assert_eq!(rt; season.deducted(1), 0);
-        Ok(())
-    }
-}

@@ -88,33 +88,3 @@ fn copy_clubs(alloc: Global, clubs: &[Club]) -> Result<Listing<Club>, OutOfMemor
     }
     Ok(copies)
 }
-
-#[cfg(test)]
-mod tests {
-    use super::*;
-    use std::test::Fail;
-
-    #[test]
-    fn a_sheet_is_copied_with_its_names(rt: HostRuntime) -> Result<(), Fail> {
-        let mut sheet = Sheet {
-            name: Name::new(String::from_str(rt.alloc(), "Cup")?),
-            clubs: Listing::new(rt.alloc()),
-            fixtures: Listing::from_vec([Fixture { home: 0, away: 1 }].to_vec(rt.alloc())?),
-            lines: Listing::from_vec([1].to_vec(rt.alloc())?),
-            goal_limit: 5,
-            budget: 100,
-            order: Order::OverallFirst,
-        };
-        for name in ["Alder", "Birch"] {
-            let name = Name::new(String::from_str(rt.alloc(), name)?);
-            let club = Club { name, rank: 3 };
-            sheet.clubs.push(club).ok().ok_or("room")?;
-        }
-        let copy = sheet.copy(rt.alloc()).ok().ok_or("room")?;
-        assert!(rt; copy.name.as_str() == "Cup" && copy.clubs.len() == 2);
-        assert!(rt; copy.clubs.as_slice()[1].name.as_str() == "Birch");
-        assert!(rt; copy.fixtures.as_slice() == sheet.fixtures.as_slice());
-        assert!(rt; copy.lines.len() == 1 && copy.order == Order::OverallFirst);
-        Ok(())
-    }
-}

@@ -17,8 +17,6 @@ mod mem_source;
 mod pieces;
 mod ports;
 mod std_ports;
-#[cfg(test)]
-mod tests;
 mod writing;
 
 pub use answers::{INPUT_LIMIT, LINE_LIMIT, Line, ReadStop, WriteFault};

@@ -9,18 +9,10 @@
 mod content;
 mod entry;
 mod fault;
-#[cfg(test)]
-mod feed_tests;
 mod kind;
 mod laws;
-#[cfg(test)]
-mod limit_tests;
 mod reader;
 mod record;
-#[cfg(test)]
-mod record_tests;
-#[cfg(test)]
-mod telling;
 
 pub use content::read_content;
 pub use entry::Entry;

@@ -1,13 +1,12 @@
 //! Records behind as many events as a feed may have, in a league of two matches of which the
 //! first has ended 2:1.
 
-use crate::entry::Entry;
-use crate::record::read_event;
-use crate::telling::{is_of, tell_event};
+use crate::feed_telling::{is_of, tell_event};
 use fixture_sheet::{fields_of, read_sheet};
 use league_core::limits::MOST_EVENTS;
 use league_core::{Season, Sheet};
 use port_core::{LineReader, MemSource};
+use result_log::{Entry, read_event};
 use std::alloc::Global;
 use std::io::Write;
 use std::test::Fail;

@@ -1,11 +1,10 @@
 //! Fields of lines. What is wanted is what the csv crate for Rust reads, with the empty fields at
 //! the end left out: each field with `|` behind it, `-` for no field, `^` for a CR.
 
-use crate::fault::{FieldsStop, SheetFault};
-use crate::fields::{Fields, fields_of};
-use crate::name::name_of;
-use crate::number::{number_within, number_written};
-use crate::record::{Progress, take_content};
+use fixture_sheet::{
+    Fields, FieldsStop, Progress, SheetFault, fields_of, name_of, number_within, number_written,
+    take_content,
+};
 use std::alloc::Global;
 use std::test::Fail;
 

@@ -1,7 +1,7 @@
 //! Which lines come, in which pieces, and after which faults.
 
-use super::{answers, memory};
-use crate::{LineReader, StdSource};
+use crate::line_telling::{answers, memory};
+use port_core::{LineReader, StdSource};
 use std::test::Fail;
 
 #[test]

@@ -3,18 +3,14 @@
 //! as `!`, a line that is too long as `>` and its number, an input that is too long as `>>` and the
 //! number.
 
-mod limits;
-mod lines;
-mod rows;
-
 ghost use Rattle.std.specs.Prelude.{◌<◌};
 
-use crate::{Line, LineReader, MemSource, ReadStop, Source};
+use port_core::{Line, LineReader, MemSource, ReadStop, Source};
 use std::alloc::Global;
 use std::io::Write;
 use std::test::Fail;
 
-fn memory(alloc: Global, input: &[u8], piece: usize, fail: &[u64]) -> Result<MemSource, Fail>
+pub fn memory(alloc: Global, input: &[u8], piece: usize, fail: &[u64]) -> Result<MemSource, Fail>
     requires { 0 < piece }
 {
     let bytes = Vec::from_slice(alloc, input)?;
@@ -22,8 +18,8 @@ fn memory(alloc: Global, input: &[u8], piece: usize, fail: &[u64]) -> Result<Mem
     Ok(MemSource::new(bytes, piece, fail))
 }
 
-// All that a reader answers, up to and with the second answer that nothing more comes.
-fn answers<S: Source>(alloc: Global, source: &mut S) -> Result<Vec<u8>, Fail> {
+/// All that a reader answers, up to and with the second answer that nothing more comes.
+pub fn answers<S: Source>(alloc: Global, source: &mut S) -> Result<Vec<u8>, Fail> {
     let mut reader = LineReader::new(alloc)?;
     let mut out = Vec::new(alloc);
     let mut ends = 0;

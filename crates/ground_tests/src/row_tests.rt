@@ -1,6 +1,6 @@
 //! Rows that go out over devices in pieces and with faults.
 
-use crate::{MemSink, StdSink, WriteFault, put_line};
+use port_core::{MemSink, StdSink, WriteFault, put_line};
 use std::io;
 use std::io::Write;
 use std::test::Fail;

@@ -1,6 +1,6 @@
 //! Sheets that are read, in pieces of any size and with faults of the source.
 
-use crate::telling::told;
+use crate::sheet_telling::told;
 use std::test::Fail;
 
 // Two clubs, one match, one line, as a league's first day.

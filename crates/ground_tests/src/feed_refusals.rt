@@ -1,7 +1,7 @@
 //! Refused records, each with the code that the order of the tests gives, in a league of two
 //! matches of which the first has ended 2:1.
 
-use crate::telling::told;
+use crate::feed_telling::told;
 use std::alloc::Global;
 use std::test::Fail;
 

@@ -1,6 +1,6 @@
 //! Refused inputs, each with the line and the code that the order of the tests gives.
 
-use crate::telling::told;
+use crate::sheet_telling::told;
 use std::alloc::Global;
 use std::io::Write;
 use std::test::Fail;

@@ -7,12 +7,10 @@
 ghost use Rattle.std.specs.Prelude.{◌<◌, ◌≤◌, IsTrue, length};
 ghost use Rattle.league_core.specs.Seasons.{IsSeasonOf};
 
-use crate::entry::Entry;
-use crate::fault::FeedStop;
-use crate::reader::next_entry;
 use fixture_sheet::read_sheet;
 use league_core::{Event, Season, Sheet};
 use port_core::{LineReader, MemSource, ReadStop};
+use result_log::{Entry, FeedStop, next_entry};
 use std::alloc::Global;
 use std::io::Write;
 use std::test::Fail;

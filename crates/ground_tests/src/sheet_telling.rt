@@ -4,8 +4,7 @@
 
 ghost use Rattle.std.specs.Prelude.{◌<◌};
 
-use crate::fault::SheetStop;
-use crate::reader::read_sheet;
+use fixture_sheet::{SheetStop, read_sheet};
 use league_core::{Order, Sheet};
 use port_core::{Line, LineReader, MemSource, ReadStop, Source};
 use std::alloc::Global;

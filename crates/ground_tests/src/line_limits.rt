@@ -1,6 +1,6 @@
 //! Lines that are too long.
 
-use super::{answers, memory};
+use crate::line_telling::{answers, memory};
 use std::test::Fail;
 
 // The bytes of a comment, of the byte order mark and of a CR count.

@@ -3,7 +3,7 @@
 
 ghost use Rattle.std.specs.Prelude.{◌<◌};
 
-use crate::telling::told;
+use crate::feed_telling::told;
 use std::alloc::Global;
 use std::test::Fail;
 
