@@ -1,0 +1,30 @@
+-- Events that a pool may be told, by the sheet alone.
+use Rattle.std.proofs.Common.{◌≡◌, IsTrue, List, subst, sym}
+use Rattle.league_core.specs.declared.sheet.Sheet.{Sheet}
+use Rattle.league_core.specs.declared.season.Event.{Event}
+use Rattle.league_core.specs.Seasons.{IsEventOf, IsSeasonOf, season_after}
+use Rattle.league_core.specs.Codes.{has_code}
+use Rattle.league_core.proofs.LogLemmas.{IsEventOf-same, has_code-told, season_after_of}
+use Rattle.branch_pool.specs.States.{PoolState}
+use Rattle.branch_pool.specs.Goodness.{IsSoundPool}
+
+-- the pool's season is one of its sheet
+season_is_of_sheet : (pool : PoolState) → IsSoundPool pool → IsSeasonOf pool.sheet pool.season
+season_is_of_sheet pool sound =
+    subst (IsSeasonOf pool.sheet) (sym sound.season) (season_after_of pool.sheet pool.log)
+
+-- what the season after some events of the sheet may be told, the pool may be told
+pub IsEventOf-pool : (pool : PoolState) (sheet : Sheet) (events : List Event) (event : Event)
+    → IsSoundPool pool → pool.sheet ≡ sheet → IsEventOf (season_after sheet events) event
+    → IsEventOf pool.season event
+IsEventOf-pool pool sheet events event sound same may_be =
+    IsEventOf-same sheet (season_after sheet events) pool.season event
+    (season_after_of sheet events)
+    (subst (λ of. IsSeasonOf of pool.season) same (season_is_of_sheet pool sound)) may_be
+
+-- what the pool may be told has a code
+pub has_code-pool : (pool : PoolState) (event : Event) → IsSoundPool pool
+    → IsEventOf pool.season event → IsTrue (has_code event)
+has_code-pool pool event sound may_be =
+    has_code-told pool.sheet pool.season event
+    (record { limits = sound.limits; of_sheet = season_is_of_sheet pool sound }) may_be

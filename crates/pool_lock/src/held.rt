@@ -1,0 +1,170 @@
+//! What lies under the lock.
+
+ghost use Rattle.std.specs.Prelude.{◌≡◌, ◌↔◌, ◌++◌, ◌∷◌, [], length, Err, IfOk, OnOk, OnErr};
+ghost use mathlib.Core.List.{IsPrefix};
+ghost use Rattle.league_core.specs.Limits.{most_events};
+ghost use Rattle.league_core.specs.Seasons.{IsEventOf, season_after};
+ghost use Rattle.reason_core.specs.Dones.{IsFor, IsTrueDone};
+ghost use Rattle.branch_pool.specs.Calls.{Taking};
+ghost use Rattle.branch_pool.specs.Steps.{Gives, Changes, pool_opened, pool_shut, pool_recalled};
+ghost use Rattle.epoch_cancel.specs.Seats.{seat_of};
+ghost use Rattle.pool_lock.specs.Lends.{TakesWorkAfter, IsToldAfter};
+
+use crate::front::Front;
+use crate::job::Job;
+use crate::work_badge::WorkBadge;
+use branch_pool::{ChangeStop, Gave, Pool, Ticket, Took};
+use epoch_cancel::{EpochWord, Owner, seen, tell};
+use league_core::Event;
+use reason_core::Done;
+use std::marker::Model;
+use std::sync::ledger::{Blank, Book};
+
+// The pool, beside the seat that announces its changes and the book that counts them. Contracts see
+// it as the pool.
+#[derive(Drop)]
+pub struct Held<J: Job> {
+    pool: Pool,
+    owner: Owner,
+    changes: Book<J>,
+}
+
+impl<J: Job> Model for Held<J> {
+    ghost use Rattle.std.specs.Prelude.{◌≡◌, length};
+    ghost use Rattle.branch_pool.specs.States.{PoolState};
+    ghost use Rattle.branch_pool.specs.contracts.seat.Seat as seat;
+    ghost use Rattle.branch_pool.specs.contracts.seat.Loan as loan;
+    ghost use Rattle.std.specs.Coded.{codes};
+
+    ghost Value = { PoolState };
+
+    ghost coded = { Prim.hlevel (codes, seat.the_row.coded, loan.the_row.coded) };
+
+    ghost view = { λ held. held.pool };
+
+    ghost invariant = { λ held.
+        (held.owner.table ≡ J.table) × (held.owner.list ≡ held.pool.log)
+        × (held.changes.total ≡ length held.pool.log)
+        × (held.pool.sheet ≡ J.sheet) × (held.pool.questions ≡ J.questions) };
+}
+
+impl<J: Job> Held<J> {
+    // A pool whose feed is opened, with the seat that announces its changes, and the front of the
+    // one who reports them.
+    pub fn new(
+        blank: Blank,
+        owner: Owner,
+        front: epoch_cancel::Front,
+        pool: Pool,
+    ) -> (Held<J>, Front<J>)
+        requires ledger { blank.name ≡ J.name }
+        requires parts { blank.parts ≡ J.parts }
+        requires one_part { blank.parts ≡ 1 }
+        requires owner { owner ≡ seat_of J.table pool.log }
+        requires front { front ≡ seat_of J.table pool.log }
+        requires sheet { pool.sheet ≡ J.sheet }
+        requires questions { pool.questions ≡ J.questions }
+        ensures opened { result.0 ≡ pool_opened pool }
+        ensures front { result.1 ≡ pool.log }
+    {
+        let (mut changes, mut share) = blank.open::<J>();
+        changes.add(&mut share, pool.epoch());
+        let mut pool = pool;
+        pool.start();
+        let held = Held {
+            pool,
+            owner,
+            changes,
+        };
+        (
+            held,
+            Front {
+                inner: front,
+                share,
+            },
+        )
+    }
+
+    // Takes from the pool, and shows the worker all that the pool has been told.
+    pub fn take(&mut self, word: &EpochWord, badge: &mut WorkBadge<J>) -> Took
+        requires word { word.now ≡ J.table }
+        ensures taking { Taking self.old result self.new }
+        ensures work { TakesWorkAfter J.sheet badge.new.list result }
+        ensures begins { IsPrefix badge.old.list badge.new.list }
+        ensures seen { badge.new ≡ record badge.old { list = self.new.log } }
+    {
+        let took = self.pool.take();
+        self.pool.is_sound();
+        seen(word, &mut self.owner, &mut badge.eye);
+        took
+    }
+
+    // Gives back to the pool, and shows the worker all that the pool has been told.
+    pub fn give(
+        &mut self,
+        word: &EpochWord,
+        badge: &mut WorkBadge<J>,
+        ticket: Ticket,
+        done: Done,
+    ) -> Gave
+        requires word { word.now ≡ J.table }
+        requires is_for { IsFor done ticket.piece }
+        requires sound { IsTrueDone J.sheet done }
+        ensures gives { Gives self.old ticket done result self.new }
+        ensures told { IsToldAfter badge.new.list ticket result }
+        ensures begins { IsPrefix badge.old.list badge.new.list }
+        ensures seen { badge.new ≡ record badge.old { list = self.new.log } }
+    {
+        let gave = self.pool.give(ticket, done);
+        seen(word, &mut self.owner, &mut badge.eye);
+        gave
+    }
+
+    // Reports an event to the pool, announces it, and counts it. After a refusal all is as before.
+    pub fn change(
+        &mut self,
+        word: &EpochWord,
+        front: &mut Front<J>,
+        event: Event,
+    ) -> Result<u64, ChangeStop>
+        requires word { word.now ≡ J.table }
+        requires may_be { IsEventOf (season_after J.sheet front.old) event }
+        ensures ok { OnOk result (Changes self.old event self.new) }
+        ensures front { OnOk result (front.new ≡ front.old ++ event ∷ []) }
+        ensures same { OnOk result (front.new ≡ self.new.log) }
+        ensures epoch { IfOk result (λ epoch. epoch ≡ length front.new) }
+        ensures full { (result ≡ Err ChangeStop.LogFull) ↔ (length front.old ≡ most_events) }
+        ensures err { OnErr result (self.new ≡ self.old) }
+        ensures kept { OnErr result (front.new ≡ front.old) }
+    {
+        self.changes.audit(&mut front.share);
+        self.pool.is_sound();
+        let epoch = self.pool.change(event)?;
+        tell(word, &mut self.owner, &mut front.inner, &event);
+        self.changes.add(&mut front.share, 1);
+        Ok(epoch)
+    }
+
+    // No event will come.
+    pub fn shut(&mut self)
+        ensures { self.new ≡ pool_shut self.old }
+    {
+        self.pool.shut();
+    }
+
+    // The pool, with all that was out at home again. Its log is what the front reported.
+    pub fn finish(self, word: EpochWord, front: Front<J>) -> Pool
+        requires word { word ≡ J.table }
+        ensures recalled { result ≡ pool_recalled self }
+        ensures log { result.log ≡ front }
+        ensures sheet { result.sheet ≡ J.sheet }
+        ensures questions { result.questions ≡ J.questions }
+    {
+        let mut held = self;
+        let mut front = front;
+        held.changes.audit(&mut front.share);
+        word.close(held.owner, front.inner);
+        held.pool.recall();
+        held.pool
+    }
+}

@@ -1,0 +1,10 @@
+//! What a worker is handed by the lock.
+
+use branch_pool::Ticket;
+
+/// What there is for a worker. A ticket cannot be let go: `PoolLock::back` spends it.
+pub enum LentOut {
+    Work(Ticket),
+    /// There is nothing to work on, nothing is out, and no event will come.
+    Over,
+}

@@ -1,0 +1,176 @@
+//! The lock.
+
+ghost use Rattle.std.specs.Prelude.{◌≡◌, ◌↔◌, ◌++◌, ◌∷◌, [], length, All, Err, IfOk, OnOk, OnErr};
+ghost use mathlib.Core.List.{IsPrefix};
+ghost use Rattle.league_core.specs.declared.sheet.Sheet.{Sheet};
+ghost use Rattle.league_core.specs.Limits.{most_events};
+ghost use Rattle.league_core.specs.Seasons.{IsEventOf, season_after};
+ghost use Rattle.reason_core.specs.Dones.{IsFor, IsTrueDone};
+ghost use Rattle.branch_pool.specs.States.{out_count};
+ghost use Rattle.epoch_cancel.specs.Seats.{IsCancelled, Looks, seat_of};
+ghost use Rattle.pool_lock.specs.Lends.{LendsWorkAfter, IsToldAfter, IsEyeAfter};
+
+use crate::front::Front;
+use crate::held::Held;
+use crate::job::Job;
+use crate::lent_out::LentOut;
+use crate::work_badge::{WorkBadge, badges_of};
+use branch_pool::{ChangeStop, Gave, Pool, Ticket, Took};
+use epoch_cancel::{EpochWord, Eye, Owner, cancelled};
+use league_core::{Event, OutOfMemory};
+use reason_core::{Done, Piece};
+use std::alloc::Global;
+use std::sync::ledger::Blank;
+use std::sync::{Condvar, Mutex, Wait};
+
+/// A pool that several threads work on while one reports what changes.
+///
+/// Workers take and give back by badges, the one who reports has the front, and all of them are of
+/// the lock's job.
+#[derive(Drop)]
+pub struct PoolLock<J: Job> {
+    word: EpochWord,
+    held: Mutex<Held<J>>,
+    // something has changed that a worker may wait for
+    moved: Condvar,
+    ghost named: { word ≡ J.table },
+}
+
+impl<J: Job> PoolLock<J> {
+    /// A lock round a pool, whose feed is opened, with the front and a badge for each eye.
+    ///
+    /// All of them begin with the pool's log. On want of memory the pool is gone.
+    pub fn new(
+        alloc: Global,
+        blank: Blank,
+        word: EpochWord,
+        owner: Owner,
+        front: epoch_cancel::Front,
+        eyes: Vec<Eye>,
+        pool: Pool,
+    ) -> Result<(PoolLock<J>, Front<J>, Vec<WorkBadge<J>>), OutOfMemory>
+        requires ledger { blank.name ≡ J.name }
+        requires parts { blank.parts ≡ J.parts }
+        requires one_part { blank.parts ≡ 1 }
+        requires word { word ≡ J.table }
+        requires owner { owner ≡ seat_of word pool.log }
+        requires front { front ≡ seat_of word pool.log }
+        requires eyes { All (IsEyeAfter word pool.log) eyes.items }
+        requires sheet { pool.sheet ≡ J.sheet }
+        requires questions { pool.questions ≡ J.questions }
+        requires home { out_count pool.loans ≡ 0 }
+        ensures front { IfOk result (λ made. made.1 ≡ pool.log) }
+        ensures badges { IfOk result (λ made. made.2.items ≡ eyes.items) }
+    {
+        let badges = badges_of(alloc, eyes)?;
+        let (held, front) = Held::new(blank, owner, front, pool);
+        let lock = PoolLock {
+            word,
+            held: Mutex::new(held),
+            moved: Condvar::new(),
+        };
+        Ok((lock, front, badges))
+    }
+
+    #[tactic(auto, using(crate::proofs::PrefixLemmas::prefix_onward))]
+    /// Takes from the pool as soon as there is work, or all is over. The badge has then seen all
+    /// that the pool was told, and the ticket is work in the season after that.
+    pub fn lend<R: Wait>(&self, rt: &R, badge: &mut WorkBadge<J>) -> Result<LentOut, OutOfMemory>
+        ensures work { IfOk result (LendsWorkAfter J.sheet badge.new.list) }
+        ensures begins { IsPrefix badge.old.list badge.new.list }
+        ensures seen { badge.new ≡ record badge.old { list = badge.new.list } }
+    {
+        let mut held = self.held.lock(rt);
+        for _ in rt.forever() {
+            match held.take(&self.word, badge) {
+                Took::Lent(ticket) => return Ok(LentOut::Work(ticket)),
+                Took::Over => return Ok(LentOut::Over),
+                Took::OutOfMemory => return Err(OutOfMemory),
+                Took::Rest => held = self.moved.wait(rt, held),
+            }
+        }
+        unreachable!()
+    }
+
+    /// Gives a ticket back with what was done; where that is about another piece than the ticket's,
+    /// it counts as nothing done. What is kept is of the epoch of all events that the badge has
+    /// then seen, and what is stale is told that epoch.
+    pub fn back<R: Wait>(
+        &self,
+        rt: &R,
+        badge: &mut WorkBadge<J>,
+        ticket: Ticket,
+        done: Done,
+    ) -> Gave
+        requires sound { IsTrueDone J.sheet done }
+        ensures told { IsToldAfter badge.new.list ticket result }
+        ensures begins { IsPrefix badge.old.list badge.new.list }
+        ensures seen { badge.new ≡ record badge.old { list = badge.new.list } }
+    {
+        let done = fitting(done, &ticket.piece);
+        let gave = self.held.lock(rt).give(&self.word, badge, ticket, done);
+        self.moved.notify_all();
+        gave
+    }
+
+    /// Looks at the word once, without the lock: where an event came after this epoch, the answer
+    /// is the epoch by now.
+    pub fn cancelled(&self, badge: &mut WorkBadge<J>, epoch: u64) -> Option<u64>
+        ensures moves { Looks badge.old badge.new }
+        ensures answer { IsCancelled result epoch badge.new.newest }
+    {
+        cancelled(&self.word, &mut badge.eye, epoch)
+    }
+
+    /// Reports an event, and answers the new epoch. After a refusal pool, word and front are as
+    /// before.
+    pub fn report<R: Wait>(
+        &self,
+        rt: &R,
+        front: &mut Front<J>,
+        event: Event,
+    ) -> Result<u64, ChangeStop>
+        requires may_be { IsEventOf (season_after J.sheet front.old) event }
+        ensures ok { OnOk result (front.new ≡ front.old ++ event ∷ []) }
+        ensures epoch { IfOk result (λ epoch. epoch ≡ length front.new) }
+        ensures full { (result ≡ Err ChangeStop.LogFull) ↔ (length front.old ≡ most_events) }
+        ensures err { OnErr result (front.new ≡ front.old) }
+    {
+        let told = self.held.lock(rt).change(&self.word, front, event);
+        self.moved.notify_all();
+        told
+    }
+
+    /// No event will come.
+    pub fn shut<R: Wait>(&self, rt: &R, front: &mut Front<J>)
+        ensures { front.new ≡ front.old }
+    {
+        self.held.lock(rt).shut();
+        self.moved.notify_all();
+    }
+
+    /// The pool, with each number at home. Its log is what the front has reported.
+    pub fn close(self, front: Front<J>) -> Pool
+        ensures log { result.log ≡ front }
+        ensures home { out_count result.loans ≡ 0 }
+        ensures sheet { result.sheet ≡ J.sheet }
+        ensures questions { result.questions ≡ J.questions }
+    {
+        let held = self.held.into_inner();
+        held.finish(self.word, front)
+    }
+}
+
+// What was done, where it is about the piece, or else nothing.
+fn fitting(done: Done, piece: &Piece) -> Done
+    ensures is_for { IsFor result piece.now }
+    ensures sound { (sheet : Sheet) → IsTrueDone sheet done → IsTrueDone sheet result }
+    ensures done { IsFor done piece.now → result ≡ done }
+    ensures undone { (IsFor done piece.now → ⊥) → result ≡ Done.Undone }
+{
+    if done.is_for(piece) {
+        done
+    } else {
+        Done::Undone
+    }
+}
