@@ -42,3 +42,14 @@ loop-part-preserved c =
           c.take_part.new.found.items _ before.walk taken within c.index.ensures of_sheet
           done.way done.parts done.found;
     }
+
+pub take_part-requires-clause-node : goal.take_part-requires-clause-node
+take_part-requires-clause-node c =
+    let before = c.loop-part.invariant in
+    let nodes = c.in_ok-nodes.nodes.items in
+    let within : c.loop-part.at < length nodes =
+    walk_within c.args.question.now c.loop-part.way nodes c.loop-part.at
+    c.loop-part.parts.items c.pop.new.self.items c.in-Some.part c.loop-part.found.items _
+    before.walk c.in-Some.ensures.items in
+    rw (before.sheet_is, c.index.ensures)
+    (before.of_sheet c.loop-part.at c.index.result.now within)
