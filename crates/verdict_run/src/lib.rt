@@ -18,6 +18,7 @@ mod word;
 pub use answer::verdicts;
 pub use asked::{full_question, questions};
 pub use fresh::{Solved, solve_fresh};
+pub use lines::window_lines;
 pub use sample::make_sample;
 pub use turns::finish;
 pub use word::{Verdict, Word, items_need_no_proofs};

@@ -1,12 +1,12 @@
 //! Trees and examples as proof lines.
 
 ghost use Rattle.std.specs.Prelude.{◌≡◌, ◌<◌, ◌++◌, IfOk, OnOk, length, map};
-ghost use Rattle.cert_text.specs.TreeLines.{plain_line, marked_line, plain_lines};
-ghost use Rattle.cert_text.specs.TreeLines.{with_tree_head, with_spent_head};
+ghost use Rattle.cert_text.specs.TreeLines.{plain_line, marked_line, plain_lines, marked_lines};
+ghost use Rattle.cert_text.specs.TreeLines.{with_tree_head, with_spent_head, with_window_head};
 ghost use Rattle.cert_text.specs.ExampleLines.{score_line_if, score_lines, example_lines};
 
 use cert_text::{ClubList, ProofLine};
-use league_core::{Claim, Finish, Listing, Lots, OutOfMemory, Score, Season, TreeNode};
+use league_core::{Claim, Finish, Listing, Lots, OutOfMemory, Question, Score, Season, TreeNode};
 use std::alloc::Global;
 use tree_reuse::Tree;
 
@@ -51,6 +51,29 @@ pub(crate) fn spent_lines(
     let mut lines = Vec::new(alloc);
     lines.push(ProofLine::Spent(claim))?;
     for node in nodes {
+        lines.push(marked_line(*node))?;
+    }
+    Ok(lines)
+}
+
+/// A tree on which the budget for a question was spent, under its head, which names the question's
+/// window.
+pub fn window_lines(
+    alloc: Global,
+    question: &Question,
+    tree: &Tree,
+) -> Result<Vec<ProofLine>, OutOfMemory>
+    ensures { IfOk result (λ lines. lines.items
+        ≡ with_window_head question.now (marked_lines tree.now)) }
+{
+    let nodes = tree.nodes()?;
+    let mut lines = Vec::new(alloc);
+    lines.push(ProofLine::SpentWindow {
+        claim: question.claim,
+        low: question.low,
+        high: question.high,
+    })?;
+    for node in nodes.as_slice() {
         lines.push(marked_line(*node))?;
     }
     Ok(lines)
