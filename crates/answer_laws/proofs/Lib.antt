@@ -1,0 +1,4 @@
+-- Splits that are due, questions that are decided, and answers.
+pub mod DueLemmas
+pub mod DecidedLemmas
+pub mod AnswerLemmas

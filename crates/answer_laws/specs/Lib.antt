@@ -1,0 +1,3 @@
+-- Reading order: what is known of each question, and then of each season.
+pub mod Completeness
+pub mod SeasonAnswers
