@@ -1,0 +1,97 @@
+-- The numbers so far, as an answer is put together.
+use Rattle.std.proofs.Common.{◌≡◌, ℕ, ◌+◌, ◌<◌, List, [], ◌∷◌, ◌++◌, length, map, take, get_or}
+use Rattle.std.proofs.Common.{refl}
+use Rattle.std.proofs.Common.{true, sym, ap, ◌∙◌, subst, arith, append_assoc, append-nil}
+use Rattle.std.proofs.Common.{nat_lt, nat_le}
+use Rattle.std.specs.List.{flat_map}
+use Rattle.std.proofs.lemmas.Bool.{and_parts, ltb-true, leb-true}
+use Rattle.std.proofs.lemmas.List.{flat_map_more, map-append, take_more}
+use Rattle.std.proofs.lemmas.List.Elements.{All-nil, All-cons, All-append}
+use Rattle.std.proofs.lemmas.List.FromFn.{map-range_with_len_more}
+use Rattle.league_core.specs.declared.sheet.Sheet.{Sheet}
+use Rattle.league_core.specs.declared.question.Claim.{Claim}
+use Rattle.league_core.specs.Results.{Results}
+use Rattle.league_core.specs.Sheets.{is_line}
+use Rattle.league_core.specs.Questions.{IsQuestionOf, full_question}
+use Rattle.verdict_run.specs.Items.{AnswerRow, answer_rows_of}
+use Rattle.qual_scores.specs.declared.bound.Score2.{Score2}
+use Rattle.qual_scores.specs.declared.bound.ClubScores.{ClubScores}
+use Rattle.qual_scores.specs.Bounds.{AreRightScores}
+use Rattle.qual_scores.specs.AllScores.{scores_row, AreRightOf, AreScoresFor, AddsClubs, AddsLine}
+use Rattle.qual_scores.specs.AllScores.{AreScoresOfLines}
+
+-- numbers for some rows and then for others
+pub scores_joined : (sheet : Sheet) (season : Results) (rows others : List AnswerRow)
+    (scores more : List ClubScores) → AreScoresFor sheet season rows scores
+    → AreScoresFor sheet season others more
+    → AreScoresFor sheet season (rows ++ others) (scores ++ more)
+scores_joined sheet season rows others scores more first second = record {
+  about = map-append scores_row scores more ∙ ap (λ xs. xs ++ map scores_row more) first.about
+      ∙ ap (λ xs. rows ++ xs) second.about;
+  each = All-append (AreRightOf sheet season) scores more first.each second.each;
+}
+
+pub no_scores : (sheet : Sheet) (season : Results) → AreScoresFor sheet season [] []
+no_scores sheet season = record { about = refl; each = All-nil (AreRightOf sheet season) }
+
+-- nothing is added yet
+pub adds_none : (sheet : Sheet) (season : Results) (line : ℕ) (old : List ClubScores)
+    → AddsClubs sheet season line 0 old old
+adds_none sheet season line old =
+    record { more = []; after = sym (append-nil old); right = no_scores sheet season }
+
+-- one club more
+pub adds_one : (sheet : Sheet) (season : Results) (line club : ℕ) (scores : Score2)
+    (old between new : List ClubScores) → AddsClubs sheet season line club old between
+    → club < length sheet.clubs → AreRightScores sheet season club line scores
+    → new ≡ between ++ record { line = line; club = club; scores = scores } ∷ []
+    → AddsClubs sheet season line (club + 1) old new
+adds_one sheet season line club scores old between new adds within right after =
+    let found : ClubScores = record { line = line; club = club; scores = scores } in
+    let one : AreScoresFor sheet season (record { line = line; club = club } ∷ []) (found ∷ []) =
+    record {
+      about = refl;
+      each = All-cons (AreRightOf sheet season) found []
+          (record { club = within; right = right }) (All-nil (AreRightOf sheet season));
+    } in
+    record {
+      more = adds.more ++ found ∷ [];
+      after = after ∙ ap (λ xs. xs ++ found ∷ []) adds.after
+          ∙ append_assoc old adds.more (found ∷ []);
+      right = subst (λ (rows : List AnswerRow).
+          AreScoresFor sheet season rows (adds.more ++ found ∷ []))
+          (sym (map-range_with_len_more (λ c. record { line = line; club = c }) 0 club club
+          (omega arith)))
+          (scores_joined sheet season (answer_rows_of club line)
+          (record { line = line; club = club } ∷ []) adds.more (found ∷ []) adds.right one);
+    }
+
+-- one line more
+pub adds_line : (sheet : Sheet) (season : Results) (i : ℕ) (old new : List ClubScores)
+    → i < length sheet.lines → AreScoresOfLines sheet season (take i sheet.lines) old
+    → AddsLine sheet season (get_or sheet.lines i 0) old new
+    → AreScoresOfLines sheet season (take (i + 1) sheet.lines) new
+adds_line sheet season i old new within so_far adds =
+    let line = get_or sheet.lines i 0 in
+    let rows = answer_rows_of (length sheet.clubs) in
+    let joined = scores_joined sheet season (flat_map rows (take i sheet.lines)) (rows line) old
+    adds.more so_far adds.right in
+    let more : flat_map rows (take i sheet.lines) ++ rows line
+    ≡ flat_map rows (take (i + 1) sheet.lines) =
+    flat_map_more rows [] (take i sheet.lines) line
+    ∙ ap (flat_map rows) (sym (take_more sheet.lines i 0 within)) in
+    subst (λ (scores : List ClubScores).
+    AreScoresOfLines sheet season (take (i + 1) sheet.lines) scores) (sym adds.after)
+    (subst (λ (rs : List AnswerRow). AreScoresFor sheet season rs (old ++ adds.more)) more joined)
+
+-- a question about a club of the sheet and a line that may be is one of the sheet
+pub row_is_asked : (sheet : Sheet) (line club : ℕ) (claim : Claim) → club < length sheet.clubs
+    → is_line (length sheet.clubs) line ≡ true
+    → IsQuestionOf sheet (full_question club line claim)
+row_is_asked sheet line club claim within may =
+    let parts = and_parts (nat_le 1 line) (nat_lt line (length sheet.clubs)) may in
+    record {
+      club = within;
+      least_line = leb-true 1 line parts.0;
+      most_line = ltb-true line (length sheet.clubs) parts.1;
+    }

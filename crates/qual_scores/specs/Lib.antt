@@ -1,0 +1,7 @@
+-- Reading order: the two numbers of a club and a line, the ranges on the way to them, what an
+-- answer says of them, for one row and for all, and a search while it runs.
+pub mod Scores
+pub mod Ways
+pub mod Bounds
+pub mod AllScores
+pub mod Searching

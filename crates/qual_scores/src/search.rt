@@ -1,0 +1,112 @@
+//! The search for the two numbers.
+
+ghost use Rattle.std.specs.Prelude.{◌≡◌, IfOk};
+ghost use Rattle.league_core.specs.declared.question.Claim.TheVariants.{Inside, Outside};
+ghost use Rattle.league_core.specs.Seasons.{IsLeague};
+ghost use Rattle.league_core.specs.Questions.{IsQuestionOf, full_question};
+ghost use Rattle.qual_scores.specs.Bounds.{AreRightScores, IsRightBound};
+ghost use Rattle.qual_scores.specs.Searching.{IsNarrowed, IsFirstReach};
+
+use crate::bound::{Bound, Score2};
+use crate::reach::reach_of;
+use crate::span::PointSpan;
+use crate::window::{Said, Sought, ask_window};
+use cert_text::ProofLine;
+use league_core::{Claim, OutOfMemory, Season, Sheet};
+use std::alloc::Global;
+
+/// The possible and the guaranteed qualification score of a club and a line. Each window question
+/// has the whole budget of the sheet.
+pub fn scores(
+    alloc: Global,
+    sheet: &Sheet,
+    season: &Season,
+    club: u8,
+    line: u8,
+) -> Result<Score2, OutOfMemory>
+    requires league { IsLeague sheet.now season.now }
+    requires of_sheet { IsQuestionOf sheet.now (full_question club line Inside) }
+    ensures { IfOk result (AreRightScores sheet.now season.now club line) }
+{
+    let reach = reach_of(alloc, sheet, season, club)?;
+    let pqs = possible_score(alloc, sheet, season, club, line, reach)?;
+    let gqs = guaranteed_score(alloc, sheet, season, club, line, reach)?;
+    Ok(Score2 { pqs, gqs })
+}
+
+// The window at the upper end comes first, which says whether there is a number at all.
+fn possible_score(
+    alloc: Global,
+    sheet: &Sheet,
+    season: &Season,
+    club: u8,
+    line: u8,
+    reach: PointSpan,
+) -> Result<Bound, OutOfMemory>
+    requires league { IsLeague sheet.now season.now }
+    requires of_sheet { IsQuestionOf sheet.now (full_question club line Inside) }
+    requires reach { IsFirstReach sheet.now season.now club reach }
+    ensures { IfOk result (IsRightBound sheet.now season.now club line Inside) }
+{
+    let claim = Claim::Inside;
+    let sought = Sought { club, line, claim };
+    match ask_window(alloc, sheet, season, sought, reach.high)? {
+        Said::NotAbove => halved(alloc, sheet, season, sought, reach),
+        Said::Above => Ok(Bound::None),
+        Said::Spent(spent) => Ok(between(reach, spent)),
+    }
+}
+
+// Nobody has more points than it can reach, so the upper end needs no window.
+fn guaranteed_score(
+    alloc: Global,
+    sheet: &Sheet,
+    season: &Season,
+    club: u8,
+    line: u8,
+    reach: PointSpan,
+) -> Result<Bound, OutOfMemory>
+    requires league { IsLeague sheet.now season.now }
+    requires of_sheet { IsQuestionOf sheet.now (full_question club line Inside) }
+    requires reach { IsFirstReach sheet.now season.now club reach }
+    ensures { IfOk result (IsRightBound sheet.now season.now club line Outside) }
+{
+    let claim = Claim::Outside;
+    let sought = Sought { club, line, claim };
+    let high = (reach.high + 1).max(0);
+    halved(alloc, sheet, season, sought, PointSpan { low: 0, high })
+}
+
+// Halves the range until one number is left, or the budget of a window question is spent.
+fn halved(
+    alloc: Global,
+    sheet: &Sheet,
+    season: &Season,
+    sought: Sought,
+    first: PointSpan,
+) -> Result<Bound, OutOfMemory>
+    requires league { IsLeague sheet.now season.now }
+    requires of_sheet { IsQuestionOf sheet.now
+        (full_question sought.club sought.line sought.claim) }
+    requires narrowed { IsNarrowed sheet.now season.now sought first }
+    ensures { IfOk result
+        (IsRightBound sheet.now season.now sought.club sought.line sought.claim) }
+{
+    let mut span = first;
+    while span.low < span.high {
+        let middle = span.middle();
+        match ask_window(alloc, sheet, season, sought, middle)? {
+            Said::NotAbove => span.high = middle,
+            Said::Above => span.low = middle + 1,
+            Said::Spent(spent) => return Ok(between(span, spent)),
+        }
+    }
+    Ok(Bound::Known(span.low))
+}
+
+fn between(span: PointSpan, spent: Vec<ProofLine>) -> Bound
+    ensures { result ≡ Bound.Between span.low span.high spent }
+{
+    let PointSpan { low, high } = span;
+    Bound::Between { low, high, spent }
+}

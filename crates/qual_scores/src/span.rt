@@ -1,0 +1,25 @@
+//! Ranges of points, and how they are halved.
+
+ghost use Rattle.std.specs.Prelude.{◌≤ℤ◌, ◌<ℤ◌, ◌+ℤ◌, pos};
+ghost use Rattle.league_core.specs.Limits.{least_points, most_points};
+ghost use Rattle.qual_scores.specs.Ways.{IsMiddleOf};
+
+/// Points from the one to the other, both with it.
+#[derive(Clone, Copy)]
+pub struct PointSpan {
+    pub low: i32,
+    pub high: i32,
+}
+
+impl PointSpan {
+    /// Half the sum of both ends, rounded down.
+    pub fn middle(self) -> i32
+        requires least { least_points ≤ℤ self.low }
+        requires several { self.low <ℤ self.high }
+        requires most { self.high ≤ℤ (most_points +ℤ pos 1) }
+        ensures { IsMiddleOf self result }
+    {
+        let half = (self.high - self.low) as u32 / 2;
+        self.low + half as i32
+    }
+}
