@@ -1,0 +1,5 @@
+//! Worked rows of what threads share: tests alone.
+#![tactic(auto)]
+
+#[cfg(test)]
+mod epochs;
