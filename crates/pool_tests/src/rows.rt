@@ -1,0 +1,163 @@
+//! Rows worked by hand.
+
+use crate::help::{
+    answer_at, finished, is_over, nodes_at, pool_of, taken, tell, two_taken, units_at, worked,
+};
+use branch_pool::{Answer, Gave, Pool};
+use league_core::{Event, Reason, Score, TreeNode};
+use reason_core::Done;
+use std::alloc::Global;
+use std::test::Fail;
+
+/// Two clubs and one match, at most one goal a side: four questions, each of which has an example.
+const TWO_CLUBS: &[u8] = b"league,Tiny,1\nclub,A,1\nclub,B,2\nmatch,A,B\nline,1\nseason\n";
+
+/// C has no match, and is never first; with one unit of work nobody can know.
+const IDLE: &[u8] = b"league,Idle,1,1\nclub,C,1\nclub,X,2\nclub,Y,3\nmatch,X,Y\nline,1\nseason\n";
+
+/// K01 has beaten K02 twice, and one round is open.
+const SIXTEEN: &[u8] = b"league,Sixteen,20\nclub,K01,1\nclub,K02,2\nclub,K03,3\nclub,K04,4
+club,K05,5\nclub,K06,6\nclub,K07,7\nclub,K08,8\nclub,K09,9\nclub,K10,10\nclub,K11,11\nclub,K12,12
+club,K13,13\nclub,K14,14\nclub,K15,15\nclub,K16,16\nmatch,K01,K02\nmatch,K01,K02\nmatch,K01,K02
+match,K03,K04\nmatch,K05,K06\nmatch,K07,K08\nmatch,K09,K10\nmatch,K11,K12\nmatch,K13,K14
+match,K15,K16\nline,1\nseason\n";
+
+const OUTSIDE_OF_THE_FIRST: u16 = 1;
+
+fn result(fixture: u16, home: u8, away: u8) -> Event {
+    Event::Set {
+        fixture,
+        score: Score { home, away },
+    }
+}
+
+fn all_leaves_are_open(pool: &Pool) -> Result<bool, Fail> {
+    for place in 0..4u16 {
+        if nodes_at(pool, place)?.as_slice() != [TreeNode::Open].as_slice() {
+            return Ok(false);
+        }
+    }
+    Ok(true)
+}
+
+#[test]
+fn tickets_are_worked_until_over(rt: HostRuntime) -> Result<(), Fail> {
+    let mut pool = pool_of(rt.alloc(), TWO_CLUBS)?;
+    pool.shut();
+    for _ in 0..4 {
+        let ticket = taken(&mut pool)?;
+        assert_eq!(rt; worked(rt.alloc(), &mut pool, ticket), Gave::Kept);
+    }
+    assert!(rt; is_over(&mut pool));
+    for place in 0..4u16 {
+        assert_eq!(rt; answer_at(&pool, place), Some(Answer::Won), "at {place}");
+    }
+    Ok(())
+}
+
+#[test]
+fn one_unit_is_the_whole_budget(rt: HostRuntime) -> Result<(), Fail> {
+    let mut pool = pool_of(rt.alloc(), IDLE)?;
+    let ticket = taken(&mut pool)?;
+    let place = ticket.place;
+    let gave = worked(rt.alloc(), &mut pool, ticket);
+    assert_eq!(rt; (place, gave), (0, Gave::Kept));
+    assert_eq!(rt; answer_at(&pool, 0), Some(Answer::Spent));
+    assert_eq!(rt; units_at(&pool, 0), Some(1));
+    Ok(())
+}
+
+#[test]
+fn what_is_recalled_comes_back_stale(rt: HostRuntime) -> Result<(), Fail> {
+    let mut pool = pool_of(rt.alloc(), TWO_CLUBS)?;
+    let (one, two) = two_taken(&mut pool)?;
+    let out = pool.out();
+    pool.recall();
+    let recalled = pool.out();
+    let first = pool.give(one, Done::Undone);
+    let second = pool.give(two, Done::Undone);
+    assert_eq!(rt; (out, recalled, pool.out()), (2, 0, 0));
+    assert_eq!(rt;
+        (first, second),
+        (Gave::Stale { epoch: 0 }, Gave::Stale { epoch: 0 })
+    );
+    assert!(rt; all_leaves_are_open(&pool)?);
+    Ok(())
+}
+
+#[test]
+fn what_is_out_when_a_result_comes_is_stale(rt: HostRuntime) -> Result<(), Fail> {
+    let mut pool = pool_of(rt.alloc(), TWO_CLUBS)?;
+    let (one, two) = two_taken(&mut pool)?;
+    let told = tell(&mut pool, result(0, 0, 0));
+    let first = pool.give(one, Done::Undone);
+    let second = pool.give(two, Done::Undone);
+    assert_eq!(rt; told?, 1);
+    assert_eq!(rt;
+        (first, second),
+        (Gave::Stale { epoch: 1 }, Gave::Stale { epoch: 1 })
+    );
+    assert_eq!(rt; pool.out(), 0);
+    assert!(rt; all_leaves_are_open(&pool)?);
+    Ok(())
+}
+
+/// The pool of the sixteen after two results of 1:0, with all work done.
+fn sixteen(alloc: Global) -> Result<Pool, Fail> {
+    let mut pool = pool_of(alloc, SIXTEEN)?;
+    tell(&mut pool, result(0, 1, 0))?;
+    tell(&mut pool, result(1, 1, 0))?;
+    finished(alloc, pool)
+}
+
+/// How many nodes of a tree are splits, leaves refuted by a set that ends below, leaves refuted by
+/// count, and open leaves.
+fn kinds(nodes: &[TreeNode]) -> (u32, u32, u32, u32) {
+    let mut kinds = (0u32, 0u32, 0u32, 0u32);
+    for node in nodes {
+        match node {
+            TreeNode::Split { .. } => kinds.0 = kinds.0.saturating_add(1),
+            TreeNode::Refuted {
+                reason: Reason::High(_),
+                ..
+            } => { kinds.1 = kinds.1.saturating_add(1) }
+            TreeNode::Refuted {
+                reason: Reason::Count,
+                ..
+            } => kinds.2 = kinds.2.saturating_add(1),
+            TreeNode::Open => kinds.3 = kinds.3.saturating_add(1),
+            _ => {}
+        }
+    }
+    kinds
+}
+
+#[test]
+fn a_corrected_score_without_new_points_keeps_the_tree(rt: HostRuntime) -> Result<(), Fail> {
+    let mut pool = sixteen(rt.alloc())?;
+    let before = nodes_at(&pool, OUTSIDE_OF_THE_FIRST)?;
+    assert_eq!(rt; kinds(before.as_slice()), (15, 15, 1, 0));
+    tell(&mut pool, result(0, 2, 0))?;
+    let after = nodes_at(&pool, OUTSIDE_OF_THE_FIRST)?;
+    assert_eq!(rt; kinds(after.as_slice()), (15, 15, 1, 0));
+    assert_eq!(rt;
+        answer_at(&pool, OUTSIDE_OF_THE_FIRST),
+        Some(Answer::Refuted)
+    );
+    assert_eq!(rt; units_at(&pool, OUTSIDE_OF_THE_FIRST), Some(0));
+    Ok(())
+}
+
+#[test]
+fn a_corrected_score_opens_what_no_longer_holds(rt: HostRuntime) -> Result<(), Fail> {
+    let mut pool = sixteen(rt.alloc())?;
+    tell(&mut pool, result(0, 0, 1))?;
+    let after = nodes_at(&pool, OUTSIDE_OF_THE_FIRST)?;
+    assert_eq!(rt; kinds(after.as_slice()), (15, 0, 1, 15));
+    assert_eq!(rt;
+        answer_at(&pool, OUTSIDE_OF_THE_FIRST),
+        Some(Answer::NotYet)
+    );
+    assert_eq!(rt; units_at(&pool, OUTSIDE_OF_THE_FIRST), Some(0));
+    Ok(())
+}
