@@ -1,9 +1,14 @@
 //! Comparisons of boxes and bounds with a plain slow program: tests alone.
 //!
 //! `plain` tries every score of every fixture; `tests` compares it with boxes along drawn paths of
-//! literals, with boxes made anew, and with the cuts.
+//! literals, with boxes made anew, and with the cuts. `listed` and `boxes` do the same on a sheet
+//! of three clubs, where a played score passes the goal limit.
 #![tactic(auto)]
 
+#[cfg(test)]
+mod boxes;
+#[cfg(test)]
+mod listed;
 #[cfg(test)]
 mod plain;
 #[cfg(test)]
