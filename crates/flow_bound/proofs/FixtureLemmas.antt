@@ -6,7 +6,10 @@ use Rattle.std.proofs.Common.{◌*ℤ◌, ◌≤ℤ◌, Bool, true, false, not, 
 use Rattle.std.proofs.Common.{List, [], ◌∷◌, length, get_or, drop, slice_index}
 use Rattle.std.proofs.Common.{refl, sym, ap, ◌∙◌, arith, add-one}
 use Rattle.std.proofs.lemmas.Int.{ints}
-use Rattle.std.proofs.lemmas.Bool.{false≢true, and_parts, ltb-true, eqb-false}
+use Rattle.std.specs.List.{list_all}
+use Rattle.std.proofs.lemmas.Bool.{false≢true, and_parts, and_from, ltb-true, eqb-false, ne_eqb}
+use Rattle.std.proofs.lemmas.Bool.{false_from_ne_true}
+use Rattle.std.proofs.lemmas.List.{get_or_past}
 use Rattle.std.proofs.lemmas.List.Sums.{AllPass-from_list_all}
 use Rattle.std.proofs.Math.IntN.{suc_ℤ-*ℤ}
 use Rattle.league_core.specs.declared.sheet.Sheet.{Sheet}
@@ -19,44 +22,37 @@ use Rattle.league_core.specs.Sheets.{IsWithinLimits, is_fixture}
 use Rattle.league_core.specs.Sums.{has_club}
 use Rattle.league_core.specs.ClubSets.{clubs_below, clubs_in}
 use Rattle.league_core.specs.Options.{options_in, has_finish, has_option}
-use Rattle.league_core.specs.PointRanges.{Range, one_value, added, range_of, range_from, total_of}
+use Rattle.league_core.specs.PointRanges.{Range, one_value, added, widened, range_of, total_of}
+use Rattle.league_core.specs.PointRanges.{range_from}
 use Rattle.league_core.specs.PointRanges.{points_of_sides, points_together, deducted_from}
 use Rattle.league_core.specs.Reasons.{times}
 use Rattle.league_core.proofs.OptionLemmas.{has_score-first}
 use Rattle.league_core.proofs.ClubSetLemmas.{clubs_below-none}
-use Rattle.league_core.proofs.PointRangeLemmas.{range_from-more, range_from-all, range_of-same}
-use Rattle.league_core.proofs.PointRangeLemmas.{points_together-sides, total_of-next, total_of-sum}
+use Rattle.league_core.proofs.OptionLemmas.{length-options_from}
+use Rattle.league_core.proofs.PointRangeLemmas.{range_of-same, total_of-next, total_of-same}
+use Rattle.league_core.proofs.PointRangeLemmas.{total_of-sum}
 use Rattle.score_box.specs.declared.cell.Cell.{Cell}
 use Rattle.score_box.specs.Cells.{IsCellOf, IsEmptyCell}
 use Rattle.flow_bound.specs.declared.cut.Cut.{Cut}
 use Rattle.flow_bound.specs.declared.cut.Cut.TheVariants.{Floor, Ceiling}
 use Rattle.flow_bound.specs.declared.tally.Pair.{Pair}
 use Rattle.flow_bound.specs.declared.worth.Worth.{Worth}
-use Rattle.flow_bound.specs.Parts.{sum_below, entry, sum_of_side, sum_of_pairs, has_both, excess_in}
+use Rattle.flow_bound.specs.Parts.{sum_below, entry, sum_of_side, sum_of_pairs, has_both}
+use Rattle.flow_bound.specs.Parts.{excess_in, IsPartOf}
 use Rattle.flow_bound.specs.Parts.{side_of}
-use Rattle.flow_bound.specs.Fixtures.{counted, end_of, worth_of_sides, excess_over}
-use Rattle.flow_bound.proofs.PartLemmas.{credited, sum_below-same, sum_of_side-credited}
+use Rattle.score_box.specs.Unplayed.{unplayed_in}
+use Rattle.score_box.specs.Ends.{alone_over}
+use Rattle.score_box.proofs.SplitLemmas.{IsEnd, set_split, keeps_played, beyond_at}
+use Rattle.score_box.proofs.SplitLemmas.{beyond_of_sides, no_match, unplayed_in_range, total_take}
+use Rattle.std.proofs.Common.{Option, take}
+use Rattle.flow_bound.specs.Fixtures.{end_of, own_end, beyond_in, beyond_over, excess_over}
+use Rattle.flow_bound.specs.Fixtures.{IsWorthOf}
+use Rattle.flow_bound.proofs.PartLemmas.{sum_below-same, cond_pos}
 
--- what a fixture adds to both entries and to the pairs it adds to the excess
-pub fixture_added : (table middle new : List ℤ) (pairs new_pairs : List Pair) (pair : Pair)
-    (worth : Worth) (home away : ℤ) (side : ℕ → Bool) → length table ≡ 32 → length middle ≡ 32
-    → pair.home < 32 → pair.away < 32 → pair.surplus ≡ worth.surplus → home ≡ worth.home
-    → away ≡ worth.away → middle ≡ credited table pair.home home
-    → new ≡ credited middle pair.away away
-    → sum_of_pairs (has_both side) new_pairs ≡ sum_of_pairs (has_both side) pairs
-    + cond (has_both side pair) pair.surplus 0
-    → excess_in new new_pairs side
-    ≡ excess_in table pairs side +ℤ worth_of_sides worth (side pair.home) (side pair.away)
-fixture_added table middle new pairs new_pairs pair worth home away side long middle_long home_low
-    away_low surplus_is home_is away_is middle_is new_is met =
-    let first = ap (λ (t : List ℤ). sum_of_side t side) middle_is
-    ∙ sum_of_side-credited table pair.home home side long home_low in
-    let second = ap (λ (t : List ℤ). sum_of_side t side) new_is
-    ∙ sum_of_side-credited middle pair.away away side middle_long away_low in
-    let at_home = ap (λ n. cond (side pair.home) n (pos 0)) home_is in
-    let on_tour = ap (λ n. cond (side pair.away) n (pos 0)) away_is in
-    let both = ap (λ n. cond (side pair.home && side pair.away) n 0) surplus_is in
-    omega (arith, ints)
+-- points count for a floor cut, and against a ceiling cut
+abbrev pub counted : Cut → ℤ → ℤ
+counted Floor points = points
+counted Ceiling points = pos 0 -ℤ points
 
 -- ends of ranges that are added
 pub end_of-added : (cut : Cut) (range other : Range)
@@ -64,33 +60,19 @@ pub end_of-added : (cut : Cut) (range other : Range)
 end_of-added Floor range other = refl
 end_of-added Ceiling range other = omega (arith, ints)
 
+pub is_end : (cut : Cut) → IsEnd (end_of cut)
+is_end cut = record { none = none cut; adds = end_of-added cut }
+  where
+    none : (cut : Cut) → end_of cut (one_value (pos 0)) ≡ pos 0
+    none Floor = refl
+    none Ceiling = refl
+
 -- a fixture that has options has a cell that is not empty
 pub cell_of_option : (cell : Cell) (options : List Score) → IsCellOf cell options
     → has_option options ≡ true → ¬ IsEmptyCell cell
 cell_of_option cell [] is some none = false≢true some
 cell_of_option cell (score ∷ options) is some none =
     false≢true (sym (none score) ∙ is score ∙ has_score-first score options)
-
--- the next fixture adds what its sides do, and the rest is left
-pub range_next : (cut : Cut) (matches : List Fixture) (options : List (List Score)) (i : ℕ)
-    (d : Fixture) (set : ClubSet) → i < length matches → i < length options
-    → (get_or matches i d).home ≢ (get_or matches i d).away
-    → end_of cut (range_from (points_together (clubs_in set)) (drop i matches) (drop i options))
-    ≡ end_of cut (range_of (points_of_sides (side_of set (get_or matches i d).home)
-    (side_of set (get_or matches i d).away)) (get_or options i []))
-    +ℤ end_of cut (range_from (points_together (clubs_in set)) (drop (i + 1) matches)
-    (drop (i + 1) options))
-range_next cut matches options i d set in_matches in_options apart =
-    let match = get_or matches i d in
-    let rest = range_from (points_together (clubs_in set)) (drop (i + 1) matches) (drop (i + 1)
-    options) in
-    ap (end_of cut) (range_from-more (points_together (clubs_in set)) matches options i d
-    in_matches in_options)
-    ∙ end_of-added cut (range_of (points_together (clubs_in set) match) (get_or options i [])) rest
-    ∙ ap (λ r. end_of cut r +ℤ end_of cut rest)
-    (range_of-same (points_together (clubs_in set) match)
-    (points_of_sides (side_of set match.home) (side_of set match.away)) (get_or options i [])
-    (λ score. points_together-sides set.bits match score apart))
 
 -- the values of a set's clubs, as those of a side
 side_total : (value : ℕ → ℤ) (count bits : ℕ) → count ≤ 32
@@ -126,29 +108,6 @@ end_of-one : (cut : Cut) (n : ℤ) → end_of cut (one_value (pos 0 -ℤ n)) ≡
 end_of-one Floor n = refl
 end_of-one Ceiling n = refl
 
--- the entries that stand for a level, less what is taken off, are the excess of no fixture
-pub level_is : (cut : Cut) (table : List ℤ) (season : Results) (level : ℤ) (set : ClubSet)
-    → ((club : ℕ) → club < 32
-    → entry table club ≡ level -ℤ counted cut (pos (slice_index season.deductions club)))
-    → sum_of_side table (side_of set)
-    ≡ times (clubs_in set) level -ℤ counted cut (deducted_from season (clubs_in set))
-level_is cut table season level set is =
-    let off = λ (club : ℕ). pos (slice_index season.deductions club) in
-    let value = λ (club : ℕ). level +ℤ (pos 0 -ℤ counted cut (off club)) in
-    let entries = sum_below-same 32 (λ x. cond (side_of set x) (entry table x) (pos 0))
-    (λ x. cond (side_of set x) (value x) (pos 0))
-    (λ x below. ap (λ n. cond (side_of set x) n (pos 0)) (is x below ∙ less level (counted cut (off
-    x)))) in
-    let total = side_total value 32 set.bits (omega arith) in
-    let parts = total_of-sum (λ club. level) (λ club. pos 0 -ℤ counted cut (off club)) (clubs_in
-    set) in
-    let levels = times-is (clubs_in set) level in
-    let taken = counted-total cut off (clubs_in set) in
-    omega (arith, ints)
-  where
-    less : (m n : ℤ) → m -ℤ n ≡ m +ℤ (pos 0 -ℤ n)
-    less m n = omega (arith, ints)
-
 -- the excess over a level is that of all fixtures, with the level and what is taken off
 pub excess_over-is : (cut : Cut) (sheet : Sheet) (season : Results) (zone : List Literal) (level :
     ℤ)
@@ -161,41 +120,6 @@ excess_over-is cut sheet season zone level clubs =
     let sum = end_of-added cut range (one_value (pos 0 -ℤ off)) in
     let last = end_of-one cut off in
     omega (arith, ints)
-
--- no fixture is left
-pub range_end : (cut : Cut) (matches : List Fixture) (options : List (List Score)) (i : ℕ)
-    (set : ClubSet) → length matches ≤ i
-    → end_of cut (range_from (points_together (clubs_in set)) (drop i matches) (drop i options)) ≡
-    pos 0
-range_end cut matches options i set all =
-    ap (end_of cut) (range_from-all (points_together (clubs_in set)) matches options i all)
-    ∙ end_of-one cut (pos 0)
-    ∙ none cut
-  where
-    none : (cut : Cut) → pos 0 -ℤ counted cut (pos 0) ≡ pos 0
-    none Floor = refl
-    none Ceiling = refl
-
--- the points that are taken off a club, as a cut counts them
-pub counted_bounds : (cut : Cut) (off : ℕ) → off < 256
-    → (neg_ℤ (pos 255) ≤ℤ counted cut (pos off)) × (counted cut (pos off) ≤ℤ pos 255)
-counted_bounds Floor off low = (omega (arith, ints), omega (arith, ints))
-counted_bounds Ceiling off low = (omega (arith, ints), omega (arith, ints))
-
--- where nothing is taken off the level stays
-pub level_kept : (cut : Cut) (level : ℤ) (off : ℕ) → off ≡ 0
-    → level ≡ level -ℤ counted cut (pos off)
-level_kept Floor level off none = omega (arith, ints)
-level_kept Ceiling level off none = omega (arith, ints)
-
--- the next club's entry, as its type keeps it
-pub level_written : (cut : Cut) (level taken : ℤ) (off : ℕ) → neg_ℤ (pos 8160) ≤ℤ level
-    → level ≤ℤ pos 2147483648 → off < 256 → taken ≡ counted cut (pos off)
-    → to_z w64 (of_z w64 (to_z w64 (of_z w64 level) -ℤ to_z w64 (of_z w64 taken)))
-    ≡ to_z w64 (of_z w64 level) -ℤ counted cut (pos off)
-level_written cut level taken off least most low is =
-    let bounds = counted_bounds cut off low in
-    omega (arith, ints, bounds.0, bounds.1)
 
 -- a fixture of a sheet has two different clubs of it
 pub fixture_of_sheet : (sheet : Sheet) (i : ℕ) (d : Fixture) → IsWithinLimits sheet
@@ -227,3 +151,184 @@ pub option_at : (sheet : Sheet) (season : Results) (zone : List Literal) (i : �
 unfolding has_finish
 option_at sheet season zone i finish within =
     AllPass-from_list_all has_option (options_in sheet season zone) finish i [] within
+
+-- a club's own end is that of its matches, less what is taken off
+own_end-is : (cut : Cut) (sheet : Sheet) (season : Results) (zone : List Literal) (club : ℕ)
+    → own_end cut sheet season zone club
+    ≡ end_of cut (alone_over sheet.fixtures (options_in sheet season zone) club)
+    +ℤ (pos 0 -ℤ counted cut (pos (slice_index season.deductions club)))
+own_end-is cut sheet season zone club =
+    let range = alone_over sheet.fixtures (options_in sheet season zone) club in
+    let off : deducted_from season (club ∷ []) ≡ pos (slice_index season.deductions club) =
+    omega (arith, ints) in
+    end_of-added cut range (one_value (pos 0 -ℤ deducted_from season (club ∷ [])))
+    ∙ ap (λ n. end_of cut range +ℤ n) (end_of-one cut (deducted_from season (club ∷ []))
+    ∙ ap (λ n. pos 0 -ℤ counted cut n) off)
+
+-- a club that plays no match and has nothing taken off comes to nothing
+no_worth : (club : ℕ) (match : Fixture) (score : Score) → match.home ≢ club → match.away ≢ club
+    → points_together (club ∷ []) match score ≡ pos 0
+no_worth club match score home away =
+    rw (ne_eqb match.home club home, ne_eqb match.away club away) (omega (arith, ints))
+
+nothing_of : (options : List Score) → range_of (λ score. pos 0) options ≡ one_value (pos 0)
+nothing_of [] = refl
+nothing_of (score ∷ []) = refl
+nothing_of (score ∷ other ∷ options) =
+    ap (λ (r : Range). widened (pos 0) r) (nothing_of (other ∷ options))
+
+alone_past : (cut : Cut) (clubs club : ℕ) (matches : List Fixture) (options : List (List Score))
+    → list_all (is_fixture clubs) matches ≡ true → clubs ≤ club
+    → end_of cut (alone_over matches options club) ≡ pos 0
+alone_past cut clubs club [] options all past = (is_end cut).none
+alone_past cut clubs club (match ∷ matches) [] all past = (is_end cut).none
+alone_past cut clubs club (match ∷ matches) (scores ∷ options) all past =
+    let parts = and_parts (is_fixture clubs match) (list_all (is_fixture clubs) matches) all in
+    let both = and_parts (nat_lt match.home clubs && nat_lt match.away clubs)
+    (not (match.home == match.away)) parts.0 in
+    let low = and_parts (nat_lt match.home clubs) (nat_lt match.away clubs) both.0 in
+    let home = ltb-true match.home clubs low.0 in
+    let away = ltb-true match.away clubs low.1 in
+    let rest = alone_past cut clubs club matches options parts.1 past in
+    let first : end_of cut (range_of (points_together (club ∷ []) match) scores) ≡ pos 0 =
+    ap (end_of cut) (range_of-same (points_together (club ∷ []) match) (λ score. pos 0) scores
+    (λ score. no_worth club match score (λ e. omega arith) (λ e. omega arith))
+    ∙ nothing_of scores) ∙ (is_end cut).none in
+    let sum = end_of-added cut (range_of (points_together (club ∷ []) match) scores)
+    (alone_over matches options club) in
+    omega (arith, ints, rest, first, sum)
+
+pub own_end-past : (cut : Cut) (sheet : Sheet) (season : Results) (zone : List Literal) (club : ℕ)
+    → IsWithinLimits sheet → length season.deductions ≡ length sheet.clubs
+    → length sheet.clubs ≤ club → own_end cut sheet season zone club ≡ pos 0
+own_end-past cut sheet season zone club limits many past =
+    let none : slice_index season.deductions club ≡ 0 =
+    get_or_past season.deductions club 0 (omega (arith, many)) in
+    let off : counted cut (pos (slice_index season.deductions club)) ≡ pos 0 =
+    ap (λ (n : ℕ). counted cut (pos n)) none ∙ zero_counted cut in
+    let alone = alone_past cut (length sheet.clubs) club sheet.fixtures
+    (options_in sheet season zone) limits.fixtures past in
+    own_end-is cut sheet season zone club ∙ omega (arith, ints, off, alone)
+  where
+    zero_counted : (cut : Cut) → counted cut (pos 0) ≡ pos 0
+    zero_counted Floor = refl
+    zero_counted Ceiling = refl
+
+-- entries of a level and the clubs' own ends
+levels_are : (table : List ℤ) (level : ℤ) (value : ℕ → ℤ) (set : ClubSet)
+    → ((club : ℕ) → club < 32 → entry table club ≡ level +ℤ value club)
+    → sum_of_side table (side_of set)
+    ≡ times (clubs_in set) level +ℤ total_of value (clubs_in set)
+levels_are table level value set is =
+    let entries = sum_below-same 32 (λ x. cond (side_of set x) (entry table x) (pos 0))
+    (λ x. cond (side_of set x) (level +ℤ value x) (pos 0))
+    (λ x below. ap (λ n. cond (side_of set x) n (pos 0)) (is x below)) in
+    let total = side_total (λ x. level +ℤ value x) 32 set.bits (omega arith) in
+    let parts = total_of-sum (λ club. level) value (clubs_in set) in
+    let levels = times-is (clubs_in set) level in
+    omega (arith, ints)
+
+-- with the pairs they are the excess over the level
+pub tally_is : (cut : Cut) (sheet : Sheet) (season : Results) (zone : List Literal) (level : ℤ)
+    (table : List ℤ) (pairs : List Pair) (set : ClubSet)
+    → ((club : ℕ) → club < 32
+    → entry table club ≡ level +ℤ own_end cut sheet season zone club)
+    → pos (sum_of_pairs (has_both (side_of set)) pairs)
+    ≡ beyond_over cut sheet season zone (clubs_in set)
+    → excess_in table pairs (side_of set)
+    ≡ excess_over cut sheet season zone level (clubs_in set)
+tally_is cut sheet season zone level table pairs set entries surplus =
+    let clubs = clubs_in set in
+    let own = λ (club : ℕ). own_end cut sheet season zone club in
+    let alone = λ (club : ℕ). end_of cut (alone_over sheet.fixtures (options_in sheet season zone)
+    club) in
+    let off = λ (club : ℕ). pos (slice_index season.deductions club) in
+    let sides = levels_are table level own set entries in
+    let ends = total_of-same own (λ club. alone club +ℤ (pos 0 -ℤ counted cut (off club))) clubs
+    (λ club. own_end-is cut sheet season zone club)
+    ∙ total_of-sum alone (λ club. pos 0 -ℤ counted cut (off club)) clubs in
+    let taken = counted-total cut off clubs in
+    let whole = excess_over-is cut sheet season zone level clubs in
+    omega (arith, ints, sides, ends, taken, whole, surplus)
+
+-- what the fixtures that are not played add beyond, of which each is a pair
+pub beyond_over-is : (cut : Cut) (sheet : Sheet) (season : Results) (zone : List Literal)
+    (clubs : List ℕ) → length season.scores ≡ length sheet.fixtures
+    → has_finish sheet season zone ≡ true
+    → beyond_over cut sheet season zone clubs
+    ≡ total_of (beyond_at (end_of cut) clubs sheet.fixtures (options_in sheet season zone))
+    (unplayed_in season.scores)
+beyond_over-is cut sheet season zone clubs many finish =
+    let split = set_split (end_of cut) (is_end cut) clubs sheet.fixtures season.scores
+    (options_in sheet season zone) many
+    (length-options_from sheet.goal_limit zone 0 season.scores ∙ many)
+    (keeps_played sheet season zone finish) in
+    omega (arith, ints, split)
+
+-- the surplus of a match in which both clubs count
+pub surplus_is : (cut : Cut) (cell : Cell) (options : List Score) (worth : Worth) (set : ClubSet)
+    (match : Fixture) → match.home ≢ match.away → IsWorthOf cut cell worth
+    → IsCellOf cell options
+    → beyond_in cut (clubs_in set) match options
+    ≡ pos (cond (side_of set match.home && side_of set match.away) worth.surplus 0)
+surplus_is cut cell options worth set match apart is of_cell =
+    beyond_of_sides (end_of cut) set.bits match options worth.home worth.away (pos worth.surplus)
+    apart (λ h a. is.value options of_cell h a
+    ∙ ap (λ n. cond h worth.home (pos 0) +ℤ cond a worth.away (pos 0) +ℤ n)
+    (sym (cond_pos (h && a) worth.surplus)))
+    ∙ cond_pos (side_of set match.home && side_of set match.away) worth.surplus
+
+-- where a set has not both clubs, nothing is added
+pub surplus_none : (cut : Cut) (options : List Score) (set : ClubSet) (match : Fixture)
+    → match.home ≢ match.away → (side_of set match.home && side_of set match.away) ≡ false
+    → beyond_in cut (clubs_in set) match options ≡ pos 0
+surplus_none cut options set match apart none =
+    let home = at true false in
+    let away = at false true in
+    beyond_of_sides (end_of cut) set.bits match options home away (at true true -ℤ home -ℤ away)
+    apart come
+    ∙ ap (λ b. cond b (at true true -ℤ home -ℤ away) (pos 0)) none
+  where
+    at : Bool → Bool → ℤ
+    at h a = end_of cut (range_of (points_of_sides h a) options)
+
+    come : (h a : Bool) → end_of cut (range_of (points_of_sides h a) options)
+        ≡ cond h (end_of cut (range_of (points_of_sides true false) options)) (pos 0)
+        +ℤ cond a (end_of cut (range_of (points_of_sides false true) options)) (pos 0)
+        +ℤ cond (h && a) (end_of cut (range_of (points_of_sides true true) options)
+        -ℤ end_of cut (range_of (points_of_sides true false) options)
+        -ℤ end_of cut (range_of (points_of_sides false true) options)) (pos 0)
+    come true true = omega (arith, ints)
+    come true false = omega (arith, ints)
+    come false true = omega (arith, ints)
+    come false false = ap (end_of cut) (nothing_of options) ∙ (is_end cut).none
+
+-- a part of a side has both clubs of a match only where the side has
+pub part_of_both : (part whole : ℕ → Bool) (home away : ℕ) → IsPartOf part whole
+    → (whole home && whole away) ≡ false → (part home && part away) ≡ false
+part_of_both part whole home away inside none =
+    false_from_ne_true (part home && part away) (λ both.
+    let parts = and_parts (part home) (part away) both in
+    false≢true (sym none ∙ and_from (whole home) (whole away) (inside home parts.0)
+    (inside away parts.1)))
+
+-- a number of the list of those that are not played is a fixture's
+pub open_fixture : (scores : List (Option Score)) (unplayed : List ℕ) (i d : ℕ)
+    → unplayed ≡ unplayed_in scores → i < length unplayed → get_or unplayed i d < length scores
+open_fixture scores unplayed i d are within =
+    let same = ap (λ (xs : List ℕ). get_or xs i d) are in
+    let low = unplayed_in_range scores i d (omega (arith, within, ap length are)) in
+    omega (arith, same, low)
+
+-- one match more
+pub pair_more : (cut : Cut) (set : ClubSet) (matches : List Fixture) (options : List (List Score))
+    (unplayed : List ℕ) (i : ℕ) (old new : ℤ) → i < length unplayed
+    → old ≡ total_of (beyond_at (end_of cut) (clubs_in set) matches options) (take i unplayed)
+    → new ≡ old +ℤ beyond_in cut (clubs_in set) (get_or matches (get_or unplayed i 0) no_match)
+    (get_or options (get_or unplayed i 0) [])
+    → new ≡ total_of (beyond_at (end_of cut) (clubs_in set) matches options) (take (i + 1) unplayed)
+pair_more cut set matches options unplayed i old new within so_far is =
+    let next = total_take (beyond_at (end_of cut) (clubs_in set) matches options) unplayed i 0
+    within in
+    is ∙ ap (λ n. n +ℤ beyond_at (end_of cut) (clubs_in set) matches options (get_or unplayed i 0))
+    so_far ∙ sym next

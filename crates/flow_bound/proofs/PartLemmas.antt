@@ -225,7 +225,8 @@ excess_in-empty table pairs side none =
         let pairs_none = no_pair pairs in
         omega (arith, ints)
 
-cond_pos : (b : Bool) (n : ℕ) → cond b (pos n) (pos 0) ≡ pos (cond b n 0)
+-- a number that counts or not
+pub cond_pos : (b : Bool) (n : ℕ) → cond b (pos n) (pos 0) ≡ pos (cond b n 0)
 cond_pos true n = refl
 cond_pos false n = refl
 

@@ -1,11 +1,13 @@
 -- What a fixture adds to the excess of a set, by the sides that are in the set.
 use Rattle.std.specs.Prelude.{◌≡◌, ℕ, ℤ, pos, ◌+ℤ◌, ◌-ℤ◌, ◌≤ℤ◌, neg_ℤ, ◌≤◌, Bool, ◌&&◌}
-use Rattle.std.specs.Prelude.{if◌then◌else◌, List}
+use Rattle.std.specs.Prelude.{if◌then◌else◌, List, [], ◌∷◌}
+use Rattle.league_core.specs.declared.sheet.Fixture.{Fixture}
 use Rattle.league_core.specs.declared.sheet.Sheet.{Sheet}
 use Rattle.league_core.specs.declared.season.Score.{Score}
 use Rattle.league_core.specs.declared.zone.Literal.{Literal}
 use Rattle.league_core.specs.Results.{Results}
-use Rattle.league_core.specs.PointRanges.{Range, range_of, points_of_sides, points_range}
+use Rattle.league_core.specs.PointRanges.{Range, range_of, range_from, total_of}
+use Rattle.league_core.specs.PointRanges.{points_of_sides, points_together, points_range}
 use Rattle.league_core.specs.Options.{options_in}
 use Rattle.league_core.specs.Reasons.{times}
 use Rattle.score_box.specs.declared.cell.Cell.{Cell}
@@ -14,15 +16,28 @@ use Rattle.flow_bound.specs.declared.cut.Cut.{Cut}
 use Rattle.flow_bound.specs.declared.cut.Cut.TheVariants.{Floor, Ceiling}
 use Rattle.flow_bound.specs.declared.worth.Worth.{Worth}
 
--- points count for a floor cut, and against a ceiling cut
-abbrev pub counted : Cut → ℤ → ℤ
-counted Floor points = points
-counted Ceiling points = pos 0 -ℤ points
-
 -- the end of a range that a cut looks at, counted
 abbrev pub end_of : Cut → Range → ℤ
 end_of Floor range = range.least
 end_of Ceiling range = pos 0 -ℤ range.greatest
+
+-- the end of a club's own points that the cut counts
+abbrev pub own_end : Cut → Sheet → Results → List Literal → ℕ → ℤ
+own_end cut sheet season zone club =
+    end_of cut (points_range sheet season (options_in sheet season zone) (club ∷ []))
+
+-- what the options of a match add to a set, beyond what they add to each of its clubs alone
+abbrev pub beyond_in : Cut → List ℕ → Fixture → List Score → ℤ
+beyond_in cut clubs match options =
+    end_of cut (range_of (points_together clubs match) options)
+    -ℤ total_of (λ club. end_of cut (range_of (points_together (club ∷ []) match) options)) clubs
+
+-- what all fixtures add to it beyond that
+abbrev pub beyond_over : Cut → Sheet → Results → List Literal → List ℕ → ℤ
+beyond_over cut sheet season zone clubs =
+    end_of cut (range_from (points_together clubs) sheet.fixtures (options_in sheet season zone))
+    -ℤ total_of (λ club. end_of cut (range_from (points_together (club ∷ [])) sheet.fixtures
+    (options_in sheet season zone))) clubs
 
 -- what the sides add that count: each alone, and both beyond that
 abbrev pub worth_of_sides : Worth → Bool → Bool → ℤ

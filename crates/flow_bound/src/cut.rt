@@ -11,7 +11,6 @@ ghost use Rattle.score_box.specs.Settings.{HasFinish, HasReason};
 ghost use Rattle.league_core.specs.PointRanges.{own_least, own_most};
 ghost use Rattle.league_core.specs.Reasons.{has_reason};
 ghost use Rattle.league_core.specs.Zones.{marked_after, marked_before};
-ghost use Rattle.flow_bound.specs.Fixtures.{counted};
 ghost use Rattle.flow_bound.specs.Excess.{IsChosen, ceiling_excess, floor_excess};
 
 use crate::tally::Tally;
@@ -107,16 +106,4 @@ fn own_least(zone_box: &ZoneBox, question: &Question) -> i32
     ensures within { neg_ℤ most_taken_off ≤ℤ result }
 {
     question.low.max(zone_box.low(question.club))
-}
-
-impl Cut {
-    /// Points as the cut counts them.
-    pub fn count(self, points: u8) -> i64
-        ensures { result ≡ counted self (pos points) }
-    {
-        match self {
-            Cut::Floor => i64::from(points),
-            Cut::Ceiling => -i64::from(points),
-        }
-    }
 }

@@ -10,7 +10,9 @@ use Rattle.std.proofs.lemmas.Int.{ints}
 use Rattle.std.proofs.lemmas.Bool.{false≢true, true≢false, cases_eq, cases_lt, eq-eqb, ne_eqb}
 use Rattle.std.proofs.lemmas.Bool.{eqb-true, lt-ltb, le-ltb, cases_Bool}
 use Rattle.std.proofs.lemmas.Bool.Decides.{nat_tests}
-use Rattle.std.proofs.lemmas.List.{get_or_past}
+use Rattle.std.proofs.Common.{◌++◌, ◌≤◌, take}
+use Rattle.std.proofs.lemmas.List.{get_or_past, get_or_append_left, get_or_push, length_push}
+use Rattle.std.proofs.lemmas.List.{append-nil, take_more}
 use Rattle.league_core.specs.declared.sheet.Sheet.{Sheet}
 use Rattle.league_core.specs.declared.sheet.Fixture.{Fixture}
 use Rattle.league_core.specs.declared.season.Score.{Score}
@@ -26,6 +28,8 @@ use Rattle.league_core.proofs.OptionLemmas.{length-options_from}
 use Rattle.league_core.proofs.PlainLemmas.{list_all-at}
 use Rattle.league_core.proofs.PointRangeLemmas.{range_of-same, total_of-same, total_of-sum}
 use Rattle.league_core.proofs.PointRangeLemmas.{points_together-sides, total_of-suc}
+use Rattle.league_core.proofs.PointRangeLemmas.{total_of-append}
+use Rattle.score_box.proofs.PathLemmas.{unplayed_below-zero, unplayed_below-suc}
 use Rattle.league_core.proofs.SumLemmas.{total_of-zero}
 use Rattle.score_box.specs.Unplayed.{is_unplayed, unplayed_below, unplayed_in}
 use Rattle.score_box.specs.Ends.{alone_in, alone_over}
@@ -120,6 +124,74 @@ unplayed-is : (count : ℕ) (scores : List (Option Score)) → length scores ≡
 unfolding unplayed_below
 unplayed-is count scores many =
     ap (λ n. filter (λ fixture. is_unplayed (get_or scores fixture None)) (range_with_len 0 n)) many
+
+-- each of them is a fixture
+abbrev AllBelow : List ℕ → ℕ → Type 0
+AllBelow numbers bound = (i d : ℕ) → i < length numbers → get_or numbers i d < bound
+
+below_more : (keep : Bool) (numbers : List ℕ) (count : ℕ) → AllBelow numbers count
+    → AllBelow (numbers ++ cond keep (count ∷ []) []) (count + 1)
+below_more true numbers count each i d within =
+    let long = length_push numbers count in
+    elim (cases_lt i (length numbers)) as (λ _. get_or (numbers ++ count ∷ []) i d < count + 1) [
+      | inl before ↦
+          let same = get_or_append_left numbers (count ∷ []) d i before in
+          let less = each i d before in
+          omega (arith, same, less)
+      | inr last ↦
+          let same = get_or_push numbers count d i (omega (arith, long)) in
+          omega (arith, same)
+    ]
+below_more false numbers count each i d within =
+    let same = append-nil numbers in
+    let less = each i d (omega (arith, ap (λ (l : List ℕ). length l) same)) in
+    omega (arith, ap (λ (l : List ℕ). get_or l i d) same, less)
+
+few_more : (keep : Bool) (numbers : List ℕ) (count : ℕ) → length numbers ≤ count
+    → length (numbers ++ cond keep (count ∷ []) []) ≤ count + 1
+few_more true numbers count few = omega (arith, length_push numbers count)
+few_more false numbers count few =
+    omega (arith, ap (λ (l : List ℕ). length l) (append-nil numbers))
+
+below_count : (scores : List (Option Score)) (count : ℕ)
+    → AllBelow (unplayed_below count scores) count
+below_count scores zero =
+    subst (λ numbers. AllBelow numbers 0) (sym (unplayed_below-zero scores))
+    (λ i d within. absurd (omega arith))
+below_count scores (suc count) =
+    subst (λ (n : ℕ). AllBelow (unplayed_below n scores) n) (add-one count)
+    (subst (λ numbers. AllBelow numbers (count + 1)) (sym (unplayed_below-suc count scores))
+    (below_more (is_unplayed (get_or scores count None)) (unplayed_below count scores) count
+    (below_count scores count)))
+
+few_below : (scores : List (Option Score)) (count : ℕ)
+    → length (unplayed_below count scores) ≤ count
+few_below scores zero =
+    subst (λ (numbers : List ℕ). length numbers ≤ 0) (sym (unplayed_below-zero scores))
+    (omega arith)
+few_below scores (suc count) =
+    subst (λ (n : ℕ). length (unplayed_below n scores) ≤ n) (add-one count)
+    (subst (λ (numbers : List ℕ). length numbers ≤ count + 1)
+    (sym (unplayed_below-suc count scores))
+    (few_more (is_unplayed (get_or scores count None)) (unplayed_below count scores) count
+    (few_below scores count)))
+
+pub unplayed_in_range : (scores : List (Option Score)) (i d : ℕ) → i < length (unplayed_in scores)
+    → get_or (unplayed_in scores) i d < length scores
+unplayed_in_range scores i d within = below_count scores (length scores) i d within
+
+-- and there are no more of them than fixtures
+pub unplayed_few : (scores : List (Option Score)) → length (unplayed_in scores) ≤ length scores
+unplayed_few scores = few_below scores (length scores)
+
+-- a total over the first of some numbers, and over one more
+pub total_take : (value : ℕ → ℤ) (numbers : List ℕ) (i d : ℕ) → i < length numbers
+    → total_of value (take (i + 1) numbers)
+    ≡ total_of value (take i numbers) +ℤ value (get_or numbers i d)
+total_take value numbers i d within =
+    ap (total_of value) (take_more numbers i d within)
+    ∙ total_of-append value (take i numbers) (get_or numbers i d ∷ [])
+    ∙ omega (arith, ints)
 
 nothing_open : (value : Fixture → Score → ℤ) (match : Fixture) (score : Option Score)
     → is_unplayed score ≡ true → if_played value match score ≡ pos 0
