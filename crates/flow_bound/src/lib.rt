@@ -16,8 +16,6 @@ mod peel;
 mod places;
 mod table;
 mod tally;
-#[cfg(test)]
-mod tests;
 mod worth;
 
 pub use cut::{high_cut, low_cut};

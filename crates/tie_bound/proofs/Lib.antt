@@ -7,6 +7,7 @@ pub mod SideLemmas
 pub mod BoxLemmas
 pub mod TableLemmas
 pub mod SoFarLemmas
+pub mod RowLemmas
 pub mod AnswerLemmas
 pub mod RoundLemmas
 pub mod TakenLemmas

@@ -30,7 +30,7 @@ pub record IsSoFar (matches : List Fixture) (options : List (List Score)) (value
   pub near : AreNear (255 * i) sums
 
 -- a table without a match
-no_sums-is : (measure : Measure) → range_by no_sums measure ≡ one_value (pos 0)
+pub no_sums-is : (measure : Measure) → range_by no_sums measure ≡ one_value (pos 0)
 no_sums-is Points = refl
 no_sums-is Difference = refl
 no_sums-is Goals = refl

@@ -4,5 +4,6 @@ pub mod Sums
 pub mod Sides
 pub mod Boxes
 pub mod Tables
+pub mod Rows
 pub mod Answers
 pub mod Rivals

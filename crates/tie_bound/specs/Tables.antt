@@ -21,7 +21,7 @@ pub record AreSums (value : Value) (fixtures : List Fixture) (options : List (Li
   pub each : (club : ℕ) (measure : Measure)
       → range_by (sums_at table club) measure ≡ range_from (value (worth_of measure) club) fixtures
       options
-  pub near : (club : ℕ) → AreNear 153000 (sums_at table club)
+  pub near : (club : ℕ) → AreNear 6000000 (sums_at table club)
 
 -- each club's sums grow by what the options of the match are worth to it
 abbrev pub AddsSpansOfMatch : Value → Fixture → Cell → List Sums → List Sums → Type 0

@@ -45,7 +45,7 @@ pub fn by_points(zone_box: &ZoneBox, overall: &[Sums], club: u8) -> [Sure; 24]
 
 /// The club's points: these match points, less what is taken off.
 fn points_of(season: &Season, won: Span, club: u8) -> Span
-    requires { IsSpanNear 153000 (as_range won) }
+    requires { IsSpanNear 6000000 (as_range won) }
     ensures { as_range result ≡ added (as_range won)
         (one_value (pos 0 -ℤ pos (slice_index season.now.deductions club))) }
 {

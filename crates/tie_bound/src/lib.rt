@@ -16,13 +16,12 @@ mod own;
 mod parts;
 mod rivals;
 mod rounds;
+mod rows;
 mod sides;
 mod span;
 mod sums;
 mod sure;
 mod table;
-#[cfg(test)]
-mod tests;
 mod tie;
 
 pub use given::{count_reason, high_reason, holds, low_reason, window_reason};

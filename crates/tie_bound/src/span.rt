@@ -31,8 +31,8 @@ impl Span {
 
     /// Both sums together.
     pub fn plus(self, other: Span) -> Span
-        requires near { IsSpanNear 1000000 (as_range self) }
-        requires other_near { IsSpanNear 1000000 (as_range other) }
+        requires near { IsSpanNear 10000000 (as_range self) }
+        requires other_near { IsSpanNear 10000000 (as_range other) }
         ensures { as_range result ≡ added (as_range self) (as_range other) }
     {
         Span {
@@ -43,7 +43,7 @@ impl Span {
 
     /// The sum with its sign turned round.
     pub fn negated(self) -> Span
-        requires { IsSpanNear 1000000 (as_range self) }
+        requires { IsSpanNear 10000000 (as_range self) }
         ensures { as_range result ≡ negated (as_range self) }
     {
         Span {

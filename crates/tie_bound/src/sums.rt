@@ -4,9 +4,12 @@ ghost use Rattle.std.specs.Prelude.{◌≡◌, pos};
 ghost use Rattle.league_core.specs.PointRanges.{one_value, added};
 ghost use Rattle.tie_criteria.specs.declared.measure.Measure.{Measure};
 ghost use Rattle.tie_bound.specs.Spans.{IsSpanNear};
+ghost use Rattle.score_box.specs.Totals.{total_in};
+ghost use Rattle.tie_bound.specs.Rows.{column_of};
 ghost use Rattle.tie_bound.specs.Sums.{range_by, sums_at};
 
 use crate::span::Span;
+use score_box::Totals;
 
 /// What matches can add up to for a club, by each of the six measures.
 #[derive(Clone, Copy)]
@@ -35,11 +38,26 @@ impl Sums {
         away_wins: Sums::NOTHING,
     };
 
+    /// Sums that are known: what these totals are.
+    pub fn only(totals: &Totals) -> Sums
+        ensures { (measure : Measure) → range_by result measure
+            ≡ one_value (total_in totals.now (column_of measure)) }
+    {
+        Sums {
+            points: Span::only(totals.points),
+            difference: Span::only(totals.difference),
+            goals: Span::only(totals.goals),
+            away_goals: Span::only(totals.away_goals),
+            wins: Span::only(totals.wins),
+            away_wins: Span::only(totals.away_wins),
+        }
+    }
+
     /// The sums with those of a match more.
     pub fn plus(&self, other: &Sums) -> Sums
-        requires near { (measure : Measure) → IsSpanNear 1000000 (range_by self.now measure) }
+        requires near { (measure : Measure) → IsSpanNear 10000000 (range_by self.now measure) }
         requires other_near { (measure : Measure)
-            → IsSpanNear 1000000 (range_by other.now measure) }
+            → IsSpanNear 10000000 (range_by other.now measure) }
         ensures { (measure : Measure) → range_by result measure
             ≡ added (range_by self.now measure) (range_by other.now measure) }
     {

@@ -1,29 +1,96 @@
-//! The sums of all clubs of a box, in one walk over the fixtures.
+//! The sums of all clubs of a box: rows of what was played, and a walk over the other matches.
 
-ghost use Rattle.std.specs.Prelude.{◌≡◌, ◌≢◌, ◌<◌, ◌≤◌, ◌&&◌, ℕ, IsTrue, length};
+ghost use Rattle.std.specs.Prelude.{◌≡◌, ◌≢◌, ◌<◌, ◌≤◌, ◌&&◌, ℕ, true, IsTrue, length};
 ghost use Rattle.league_core.specs.Sums.{has_club, worth_to, worth_among};
 ghost use Rattle.league_core.specs.ClubSets.{clubs_in};
 ghost use Rattle.tie_bound.specs.Sums.{no_sums, sums_at, AreNear};
 ghost use Rattle.score_box.specs.Cells.{HasOneOutcome};
+ghost use Rattle.score_box.specs.Settings.{HasFinish};
+ghost use Rattle.tie_bound.specs.Rows.{AreRows};
 ghost use Rattle.tie_bound.specs.Boxes.{options_in_box, have_one_outcome};
 ghost use Rattle.tie_bound.specs.Tables.{AreSums, AddsSpansOfMatch};
 
 use crate::fixtures::fixtures_of;
+use crate::rows::{rows_among, rows_over};
 use crate::sides::Sides;
 use crate::sums::Sums;
 use league_core::{ClubSet, Fixture};
 use score_box::{Cell, ZoneBox};
 
-/// Each club's sums over all matches, by the clubs' numbers.
+/// Each club's sums over all matches, by the clubs' numbers: what was played, and a walk over the
+/// other matches. Where no finish is left, a walk over all.
 pub fn sums_over(zone_box: &ZoneBox) -> [Sums; 24]
     requires { IsTrue (have_one_outcome zone_box.now) }
     ensures { AreSums worth_to zone_box.now.sheet.fixtures (options_in_box zone_box.now) result }
 {
-    sums_among(zone_box, ClubSet::first(zone_box.sheet().clubs.len() as u8))
+    let all = ClubSet::first(zone_box.sheet().clubs.len() as u8);
+    if zone_box.has_finish() {
+        let mut table = rows_over(zone_box);
+        add_all_open(&mut table, zone_box, all);
+        table
+    } else {
+        sums_by_all(zone_box, all)
+    }
 }
 
-/// Each club's sums over the matches with both ends in the group.
+/// Each club's sums over the matches with both ends in the group, in the same way.
 pub fn sums_among(zone_box: &ZoneBox, group: ClubSet) -> [Sums; 24]
+    requires outcomes { IsTrue (have_one_outcome zone_box.now) }
+    requires group { (member : ℕ) → has_club (clubs_in group) member ≡ true
+        → member < length zone_box.now.sheet.clubs }
+    ensures { AreSums (worth_among (clubs_in group)) zone_box.now.sheet.fixtures
+        (options_in_box zone_box.now) result }
+{
+    if zone_box.has_finish() {
+        let mut table = rows_among(zone_box, group);
+        add_open(&mut table, zone_box, group);
+        table
+    } else {
+        sums_by_all(zone_box, group)
+    }
+}
+
+/// Adds the matches of a group of all clubs that are not played.
+fn add_all_open(table: &mut [Sums], zone_box: &ZoneBox, all: ClubSet)
+    requires outcomes { IsTrue (have_one_outcome zone_box.now) }
+    requires has_finish { HasFinish zone_box.now }
+    requires clubs { length table.old ≡ 24 }
+    requires all { (club : ℕ) → club < length zone_box.now.sheet.clubs
+        → has_club (clubs_in all) club ≡ true }
+    requires rows { AreRows worth_to zone_box.now.sheet.fixtures zone_box.now.season.scores
+        table.old }
+    ensures { AreSums worth_to zone_box.now.sheet.fixtures (options_in_box zone_box.now)
+        table.new }
+{
+    let _sheet = zone_box.sheet();
+    add_open(table, zone_box, all);
+}
+
+/// Adds the matches of the group that are not played to a table that has those that are.
+fn add_open(table: &mut [Sums], zone_box: &ZoneBox, group: ClubSet)
+    requires outcomes { IsTrue (have_one_outcome zone_box.now) }
+    requires has_finish { HasFinish zone_box.now }
+    requires clubs { length table.old ≡ 24 }
+    requires rows { AreRows (worth_among (clubs_in group)) zone_box.now.sheet.fixtures
+        zone_box.now.season.scores table.old }
+    ensures { AreSums (worth_among (clubs_in group)) zone_box.now.sheet.fixtures
+        (options_in_box zone_box.now) table.new }
+{
+    let fixtures = fixtures_of(zone_box);
+    let unplayed = zone_box.unplayed();
+    for i in 0..unplayed.len() {
+        let number = unplayed[i];
+        add_if_counted(
+            table,
+            group,
+            fixtures[number as usize],
+            zone_box.cell(number),
+        );
+    }
+}
+
+/// Each club's sums over the matches with both ends in the group, by a walk over all matches.
+fn sums_by_all(zone_box: &ZoneBox, group: ClubSet) -> [Sums; 24]
     requires { IsTrue (have_one_outcome zone_box.now) }
     ensures { AreSums (worth_among (clubs_in group)) zone_box.now.sheet.fixtures
         (options_in_box zone_box.now) result }
@@ -53,7 +120,7 @@ fn add_if_counted(table: &mut [Sums], group: ClubSet, fixture: Fixture, cell: &C
     requires different { fixture.home ≢ fixture.away }
     requires home { fixture.home < length table.old }
     requires away { fixture.away < length table.old }
-    requires room { (club : ℕ) → AreNear 1000000 (sums_at table.old club) }
+    requires room { (club : ℕ) → AreNear 10000000 (sums_at table.old club) }
     ensures { AddsSpansOfMatch (worth_among (clubs_in group)) fixture cell.now table.old table.new }
 {
     if counts(group, fixture) {
@@ -74,7 +141,7 @@ fn add(table: &mut [Sums], fixture: Fixture, cell: &Cell)
     requires different { fixture.home ≢ fixture.away }
     requires home { fixture.home < length table.old }
     requires away { fixture.away < length table.old }
-    requires room { (club : ℕ) → AreNear 1000000 (sums_at table.old club) }
+    requires room { (club : ℕ) → AreNear 10000000 (sums_at table.old club) }
     ensures { AddsSpansOfMatch worth_to fixture cell.now table.old table.new }
 {
     let sides = Sides::of(cell);

@@ -1,7 +1,7 @@
 -- The next club's entry is written, and those behind it are still the level.
 use mir.Syntax.{w64}
 use mir.Val.{to_z, of_z}
-use Rattle.std.proofs.Common.{◌≡◌, ◌<◌, ◌≤◌, pos, ◌+ℤ◌, ◌≤ℤ◌, neg_ℤ, length, set, refl, sym, ap, ◌∙◌}
+use Rattle.std.proofs.Common.{◌≡◌, ◌<◌, pos, ◌+ℤ◌, ◌≤ℤ◌, neg_ℤ, length, set, refl, sym, ap, ◌∙◌}
 use Rattle.std.proofs.Common.{inl, inr, subst, arith}
 use Rattle.league_core.specs.Sheets.{IsWithinLimits}
 use Rattle.std.proofs.lemmas.Int.{ints}

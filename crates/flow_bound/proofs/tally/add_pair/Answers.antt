@@ -1,7 +1,7 @@
 -- A match adds its surplus to the sets that have both its clubs, and nothing to the others.
-use Rattle.std.proofs.Common.{pos, ◌+ℤ◌, sym, ap, ◌∙◌, arith}
+use Rattle.std.proofs.Common.{sym, ◌∙◌, arith}
 use Rattle.std.proofs.lemmas.Int.{ints}
-use Rattle.flow_bound.specs.Parts.{has_both, side_of, sum_of_pairs}
+use Rattle.flow_bound.specs.Parts.{side_of}
 use Rattle.flow_bound.proofs.FixtureLemmas.{surplus_is, surplus_none, part_of_both}
 use Rattle.flow_bound.proofs.tally.add_pair.Goals as goal
 

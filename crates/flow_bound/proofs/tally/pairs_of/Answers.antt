@@ -1,7 +1,6 @@
 -- Each match that is not played is one of the sheet, has an option, and adds its surplus.
-use Rattle.std.proofs.Common.{◌≡◌, ◌≢◌, ◌<◌, ◌≤◌, ℕ, pos, ◌+ℤ◌, List, [], length, get_or, take, sym}
+use Rattle.std.proofs.Common.{◌≡◌, ◌≢◌, ◌<◌, pos, List, [], length, get_or, sym}
 use Rattle.std.proofs.Common.{ap, subst, ◌∙◌, arith}
-use Rattle.std.proofs.lemmas.Int.{ints}
 use Rattle.std.proofs.lemmas.List.{take_all}
 use Rattle.league_core.specs.declared.sheet.Sheet.{Sheet}
 use Rattle.league_core.specs.declared.sheet.Fixture.{Fixture}

@@ -10,12 +10,12 @@ use Rattle.tie_bound.proofs.answers.by_points.Goals as goal
 
 pub points_of-own-requires : goal.points_of-own-requires
 points_of-own-requires c =
-    let P : Sums → Type 0 = λ s. IsSpanNear 153000 (as_range s.points) in
+    let P : Sums → Type 0 = λ s. IsSpanNear 6000000 (as_range s.points) in
     subst P (sym c.sums_at.ensures) (c.requires.near c.args.club Points)
 
 pub points_of-points-requires : goal.points_of-points-requires
 points_of-points-requires c =
-    let P : Sums → Type 0 = λ s. IsSpanNear 153000 (as_range s.points) in
+    let P : Sums → Type 0 = λ s. IsSpanNear 6000000 (as_range s.points) in
     subst P (sym c.sums_at-in-loop-rival.ensures) (c.requires.near c.loop-rival.rival Points)
 
 pub loop-rival-preserved : goal.loop-rival-preserved

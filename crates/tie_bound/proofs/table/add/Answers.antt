@@ -4,11 +4,11 @@ use Rattle.tie_bound.proofs.TableLemmas.{wider, side_grows, table_grows}
 use Rattle.tie_bound.proofs.table.add.Goals as goal
 
 pub plus-home-requires-clause-other_near : goal.plus-home-requires-clause-other_near
-plus-home-requires-clause-other_near c = wider 255 1000000 c.of-sides.result.home (omega arith)
+plus-home-requires-clause-other_near c = wider 255 10000000 c.of-sides.result.home (omega arith)
     c.of-sides.ensures.home.near
 
 pub plus-away-requires-clause-other_near : goal.plus-away-requires-clause-other_near
-plus-away-requires-clause-other_near c = wider 255 1000000 c.of-sides.result.away (omega arith)
+plus-away-requires-clause-other_near c = wider 255 10000000 c.of-sides.result.away (omega arith)
     c.of-sides.ensures.away.near
 
 pub returns : goal.returns

@@ -40,7 +40,7 @@ add_if_counted-requires-clause-room c = λ club.
       ap length c.fixtures_of-fixtures.ensures.fixtures,
       c.fixtures_of-fixtures.ensures.limits.most_fixtures,
     ) in
-    wider (255 * c.loop-i.i) 1000000 (sums_at c.loop-i.table club) (omega arith)
+    wider (255 * c.loop-i.i) 10000000 (sums_at c.loop-i.table club) (omega arith)
     (c.loop-i.invariant club).near
 
 pub loop-i-preserved : goal.loop-i-preserved
@@ -69,6 +69,6 @@ returns c =
           (sums_at c.loop-i.table club) measure c.loop-i-test.false (c.loop-i.invariant club)
           ∙ ap (λ matches. range_from (value (worth_of measure) club) matches options)
           c.fixtures_of-fixtures.ensures.fixtures;
-      near = λ club. wider (255 * c.loop-i.i) 153000 (sums_at c.loop-i.table club) (omega arith)
+      near = λ club. wider (255 * c.loop-i.i) 6000000 (sums_at c.loop-i.table club) (omega arith)
           (c.loop-i.invariant club).near;
     }

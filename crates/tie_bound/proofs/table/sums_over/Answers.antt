@@ -11,15 +11,15 @@ use Rattle.tie_bound.specs.Boxes.{options_in_box}
 use Rattle.tie_bound.proofs.SoFarLemmas.{among_all}
 use Rattle.tie_bound.proofs.table.sums_over.Goals as goal
 
-pub returns : goal.returns
-returns c =
+pub returns-else-has_finish : goal.returns-else-has_finish
+returns-else-has_finish c =
     let box = c.args.zone_box.now in
     let clubs = length box.sheet.clubs in
     let many : c.len.result ≡ clubs = c.len.ensures
     ∙ ap (λ (s : Sheet). length s.clubs) c.sheet.ensures.sheet in
-    let all : (x : ℕ) → x < clubs → has_club (clubs_in c.first.result) x ≡ true =
+    let all : (x : ℕ) → x < clubs → has_club (clubs_in c.first-all.result) x ≡ true =
     λ x within.
-    ap (λ xs. has_club xs x) c.first.ensures
+    ap (λ xs. has_club xs x) c.first-all.ensures
     ∙ ap (λ n. has_club (range_with_len 0 n) x) many
     ∙ has_club-range clubs x
     ∙ lt-ltb x clubs within in
@@ -28,8 +28,17 @@ returns c =
     c.sheet.ensures.limits.fixtures in
     record {
       each = λ club measure.
-          c.sums_among.ensures.each club measure
-          ∙ among_all (clubs_in c.first.result) clubs (worth_of measure) club box.sheet.fixtures
+          c.sums_by_all.ensures.each club measure
+          ∙ among_all (clubs_in c.first-all.result) clubs (worth_of measure) club box.sheet.fixtures
           (options_in_box box) all fixtures;
-      near = c.sums_among.ensures.near;
+      near = c.sums_by_all.ensures.near;
     }
+
+pub add_all_open-requires-clause-all : goal.add_all_open-requires-clause-all
+add_all_open-requires-clause-all c = λ x within.
+    let clubs = length c.args.zone_box.now.sheet.clubs in
+    ap (λ xs. has_club xs x) c.first-all.ensures
+    ∙ ap (λ n. has_club (range_with_len 0 n) x) (c.len.ensures
+    ∙ ap (λ (s : Sheet). length s.clubs) c.sheet.ensures.sheet)
+    ∙ has_club-range clubs x
+    ∙ lt-ltb x clubs within

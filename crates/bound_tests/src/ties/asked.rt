@@ -4,7 +4,7 @@
 
 use super::leagues::{Game, are_fixtures, fixtures_of, four_clubs};
 use super::zones::{is_of_sheet, zone_of};
-use crate::{holds, own_least, own_most, tie_reason};
+use tie_bound::{holds, own_least, own_most, tie_reason};
 use league_core::Order::{HeadFirst, OverallFirst};
 use league_core::{Claim, ClubSet, Order, Question, Reason, Season};
 use score_box::ZoneBox;

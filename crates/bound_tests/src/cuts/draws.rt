@@ -2,7 +2,7 @@
 
 ghost use Rattle.std.specs.Prelude.{◌<◌};
 
-use crate::tests::league::Match;
+use crate::cuts::league::Match;
 use league_core::{Claim, Literal, Question, Test};
 use std::alloc::{AllocError, Global};
 

@@ -2,7 +2,7 @@
 
 use super::leagues::{Game, are_fixtures, fixtures_of, four_clubs};
 use super::zones::{is_of_sheet, zone_of};
-use crate::{has_one_outcome, judge};
+use tie_bound::{has_one_outcome, judge};
 use league_core::{Order, Season, Sure};
 use score_box::ZoneBox;
 use std::alloc::Global;

@@ -1,5 +1,5 @@
 use Rattle.std.proofs.Common.{◌≡◌, length}
-use Rattle.tie_bound.proofs.tests.leagues.fixtures_of.Given as goal
+use Rattle.bound_tests.proofs.cuts.league.fixtures_of.Given as goal
 
 -- a fixture for each match that was passed
 abbrev pub invariant-loop-home : goal.invariant-loop-home

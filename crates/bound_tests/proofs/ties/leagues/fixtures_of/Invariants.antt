@@ -1,5 +1,5 @@
 use Rattle.std.proofs.Common.{◌≡◌, length}
-use Rattle.flow_bound.proofs.tests.league.fixtures_of.Given as goal
+use Rattle.bound_tests.proofs.ties.leagues.fixtures_of.Given as goal
 
 -- a fixture for each match that was passed
 abbrev pub invariant-loop-home : goal.invariant-loop-home

@@ -1,5 +1,5 @@
 use Rattle.std.proofs.Common.{◌≡◌, length}
-use Rattle.flow_bound.proofs.tests.league.season_of.Given as goal
+use Rattle.bound_tests.proofs.cuts.league.season_of.Given as goal
 
 -- the season has a place for each match
 abbrev pub invariant-loop-i : goal.invariant-loop-i

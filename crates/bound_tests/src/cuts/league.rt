@@ -6,7 +6,7 @@ ghost use Rattle.league_core.specs.declared.sheet.Sheet.{Sheet};
 ghost use Rattle.league_core.specs.Sheets.{IsWithinLimits, is_fixture};
 ghost use Rattle.league_core.specs.Zones.{is_zone_of, is_test_of};
 
-use crate::{high_cut, low_cut};
+use flow_bound::{high_cut, low_cut};
 use league_core::{
     Club, ClubSet, Event, Fixture, Listing, Literal, Name, Order, OutOfMemory, Question, Score,
     Season, Sheet, Test, Zone,

@@ -1,6 +1,6 @@
 //! Leagues that can be added up on paper.
 
-use crate::tests::league::{Match, cuts_of};
+use crate::cuts::league::{Match, cuts_of};
 use league_core::{Claim, ClubSet, Literal, Question, Test};
 use std::process::Abort;
 use std::test::Fail;

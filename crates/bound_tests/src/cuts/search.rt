@@ -2,7 +2,7 @@
 //! trying
 //! every score.
 
-use crate::tests::league::Match;
+use crate::cuts::league::Match;
 use league_core::{ClubSet, Literal, Question, Score, Test};
 
 fn agrees(literal: &Literal, number: u16, score: Score) -> bool {
