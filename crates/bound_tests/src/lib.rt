@@ -2,9 +2,9 @@
 //!
 //! `plain` tries every score of every fixture; `tests` compares it with boxes along drawn paths of
 //! literals, with boxes made anew, and with the cuts. `listed` and `boxes` do the same on a sheet
-//! of three clubs, where a played score passes the goal limit. `cuts` has leagues that are added up by
-//! hand and drawn zones against a search through all sets, `ties` zones worked by hand for the sure
-//! order and the reasons.
+//! of three clubs, where a played score passes the goal limit. `cuts` has leagues that are added up
+//! by hand and drawn zones against a search through all sets, `ties` zones worked by hand for the
+//! sure order and the reasons.
 #![tactic(auto)]
 
 #[cfg(test)]

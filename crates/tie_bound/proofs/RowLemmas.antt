@@ -1,8 +1,8 @@
 -- Tables that begin with what was played: rows of single values, and the matches that are not
 -- played, one after another.
-use Rattle.std.proofs.Common.{◌≡◌, ◌≢◌, ◌⊎◌, inl, inr, ℕ, ◌+◌, ◌*◌, ◌<◌, ◌≤◌, ℤ, pos, ◌+ℤ◌, ◌-ℤ◌, ◌≤ℤ◌, Bool}
-use Rattle.std.proofs.Common.{true, false, not, ◌&&◌, ◌==◌, nat_lt, cond, List, []}
-use Rattle.std.proofs.Common.{length, get_or, set, take, replicate, Option, sym, ap, refl, ◌∙◌}
+use Rattle.std.proofs.Common.{◌≡◌, ◌≢◌, ◌⊎◌, inl, inr, ℕ, ◌+◌, ◌*◌, ◌<◌, ◌≤◌, ℤ, pos, ◌+ℤ◌}
+use Rattle.std.proofs.Common.{◌-ℤ◌, ◌≤ℤ◌, Bool, true, false, not, ◌&&◌, ◌==◌, nat_lt, cond, List}
+use Rattle.std.proofs.Common.{[], length, get_or, set, take, replicate, Option, sym, ap, refl, ◌∙◌}
 use Rattle.std.proofs.Common.{subst, arith}
 use Rattle.std.specs.List.{list_all}
 use Rattle.std.proofs.lemmas.Bool.{and_parts, and_from, cases_eq, cases_lt, eq-eqb, ne_eqb}
@@ -58,7 +58,8 @@ near_one bound more n range fewer is least most =
 -- totals as a row
 pub row_of_totals : (value : Value) (fixtures : List Fixture) (scores : List (Option Score))
     (club bound : ℕ) (totals : Totals) (sums : Sums) → bound ≤ 5000000
-    → ((measure : Measure) → range_by sums measure ≡ one_value (total_in totals (column_of measure)))
+    → ((measure : Measure) → range_by sums measure
+    ≡ one_value (total_in totals (column_of measure)))
     → AreTotals (λ worth. sum_over (value worth club) fixtures scores) totals
     → AreTotalsNear bound totals → IsRow value fixtures scores club sums
 row_of_totals value fixtures scores club bound totals sums low is are near = record {

@@ -62,7 +62,8 @@ add_pair-requires-clause-some c =
     let many = length-options_from box.sheet.goal_limit box.zone 0 box.season.scores in
     cell_of_option c.cell-cell.result.now
     (get_or (options_in box.sheet box.season box.zone) number []) c.cell-cell.ensures
-    (option_at box.sheet box.season box.zone number c.requires.has_finish (omega (arith, low, many)))
+    (option_at box.sheet box.season box.zone number c.requires.has_finish
+    (omega (arith, low, many)))
 
 pub add_pair-requires-clause-room : goal.add_pair-requires-clause-room
 add_pair-requires-clause-room c = (

@@ -34,7 +34,8 @@ loop-club-preserved c =
     ) in
     record {
       done = λ other low.
-          rows_more (worth_among (clubs_in c.args.group)) box.sheet.fixtures box.season.scores table club other c.row_among.result within
+          rows_more (worth_among (clubs_in c.args.group)) box.sheet.fixtures box.season.scores
+          table club other c.row_among.result within
           c.loop-club.invariant.done c.row_among.ensures low;
       left = λ other low.
           get_or-set_other table club other c.row_among.result no_sums (λ e. omega arith)
@@ -45,14 +46,16 @@ loop-club-preserved c =
 pub returns-clause-rows : goal.returns-clause-rows
 returns-clause-rows c other =
     let box = c.args.zone_box.now in
-    let Is : Sums → Type 0 = λ s. IsRow (worth_among (clubs_in c.args.group)) box.sheet.fixtures box.season.scores other s in
+    let Is : Sums → Type 0 = λ s. IsRow (worth_among (clubs_in c.args.group)) box.sheet.fixtures
+    box.season.scores other s in
     let Are : Sheet → Type 0 = λ s. list_all (is_fixture (length s.clubs)) s.fixtures ≡ true in
     let all = subst Are c.sheet.ensures.sheet c.sheet.ensures.limits.fixtures in
     elim (cases_lt other c.loop-club.club) as (λ _. Is (sums_at c.loop-club.table other)) [
       | inl below ↦ c.loop-club.invariant.done other below
       | inr past ↦
           subst Is (sym (c.loop-club.invariant.left other past))
-          (past_among (clubs_in c.args.group) (length box.sheet.clubs) box.sheet.fixtures box.season.scores other all
+          (past_among (clubs_in c.args.group) (length box.sheet.clubs) box.sheet.fixtures
+          box.season.scores other all
           (omega (
             arith,
             past,

@@ -9,7 +9,8 @@ use Rattle.tie_bound.proofs.rows.rows_among.Given as goal
 abbrev pub invariant-loop-club : goal.invariant-loop-club
 invariant-loop-club l = record {
   done : (other : ℕ) → other < l.club
-      → IsRow (worth_among (clubs_in l.group)) l.zone_box.sheet.fixtures l.zone_box.season.scores other
+      → IsRow (worth_among (clubs_in l.group)) l.zone_box.sheet.fixtures l.zone_box.season.scores
+      other
       (sums_at l.table other);
   left : (other : ℕ) → l.club ≤ other → sums_at l.table other ≡ no_sums;
   long : length l.table ≡ 24;

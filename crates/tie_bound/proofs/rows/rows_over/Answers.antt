@@ -33,7 +33,8 @@ loop-club-preserved c =
     ) in
     record {
       done = λ other low.
-          rows_more worth_to box.sheet.fixtures box.season.scores table club other c.row_over.result within
+          rows_more worth_to box.sheet.fixtures box.season.scores table club other
+          c.row_over.result within
           c.loop-club.invariant.done c.row_over.ensures low;
       left = λ other low.
           get_or-set_other table club other c.row_over.result no_sums (λ e. omega arith)
