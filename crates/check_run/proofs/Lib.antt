@@ -1,0 +1,7 @@
+-- How a reading of a sheet and of an entry goes on whatever follows it, then feeds entry by entry,
+-- what is behind them, and reports part by part; then the text of a proof line.
+pub mod ReadingLemmas
+pub mod FeedLemmas
+pub mod InputLemmas
+pub mod ReportLemmas
+pub mod ReadBackLemmas

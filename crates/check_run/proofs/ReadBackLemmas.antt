@@ -1,0 +1,281 @@
+-- The compact JSON of a line's parts is read as what it was made of, so the text of a line is read
+-- as the line.
+use Rattle.std.proofs.Common.{◌≡◌, ◌<◌, ◌≤◌, ◌^◌, ℕ, suc, ℤ, pos, negsuc, Bool, true}
+use Rattle.std.proofs.Common.{List, [], ◌∷◌, ◌++◌, map, Some, option_map, refl, sym}
+use Rattle.std.proofs.Common.{ap, ◌∙◌, arith, append-nil, ◌&&◌, nat_lt, nat_le}
+use Rattle.std.specs.Prelude.{option_and_then, int_le}
+use Rattle.std.specs.List.{list_all}
+use Rattle.std.proofs.lemmas.Bool.{and_parts, and_from, ltb-true, lt-ltb, leb-true}
+use Rattle.std.proofs.lemmas.Int.{ints}
+use Rattle.json.specs.Json as json
+use Rattle.json.specs.Lex.{tokens}
+use Rattle.json.specs.Tree as tree
+use Rattle.json.proofs.Printed.Tokens.{tokens-print}
+use Rattle.json.proofs.Printed.Trees.{value-json_tokens, ArePrintable-json_tokens}
+use Rattle.json.proofs.Printed.Decimals.{IsNumber-decimal, IsNumber-signed_decimal}
+use Rattle.json.proofs.Printed.Utf8.{are_ascii, IsUtf8-are_ascii}
+use Rattle.serde_json.specs.Data.{Data, Items, number, array, unsigned, no_items}
+use Rattle.serde_json.specs.Data.{item}
+use Rattle.serde_json.specs.Read.{read, of_json, of_items, max_depth}
+use Rattle.serde_json.specs.Written.{outline, items_outline, compact_text}
+use Rattle.serde_json.specs.View.{items_of}
+use Rattle.serde_json.specs.Find.{of_integer}
+use Rattle.serde_json.proofs.Texts.{print-outline}
+use Rattle.serde_json.proofs.Numbers.{number_of-decimal, number_of-negative}
+use Rattle.league_core.specs.declared.season.Score.{Score}
+use Rattle.league_core.specs.Results.{is_score}
+use Rattle.league_core.specs.declared.club_set.ClubSet.{ClubSet}
+use Rattle.league_core.specs.ClubSets.{clubs_in}
+use Rattle.league_core.specs.Reasons.{has_member}
+use Rattle.league_core.specs.declared.zone.Test.{Test}
+use Rattle.league_core.specs.declared.zone.Test.TheVariants.{Home, Draw, HomeMost, AwayMost, Rival}
+use Rattle.league_core.specs.declared.zone.Reason.{Reason}
+use Rattle.league_core.specs.declared.zone.Reason.TheVariants.{Count, Window, Low, High, Tie}
+use Rattle.cert_text.specs.declared.proof_line.ProofLine.{ProofLine}
+use Rattle.cert_text.specs.declared.proof_line.ProofLine.TheVariants as line
+use Rattle.cert_text.specs.Lines.{Part, word, whole, points, clubs, number_in_text, parts_of}
+use Rattle.cert_text.specs.Lines.{test_parts, reason_parts, text_of_proof_line, is_printed}
+use Rattle.cert_text.specs.Values.{part_value, parts_value}
+use Rattle.cert_text.specs.Ranges.{is_in_range, is_fixture_number, is_club_number, is_goal_bound}
+use Rattle.cert_text.specs.Ranges.{are_points, is_test_in_range, is_set_in_range}
+use Rattle.cert_text.specs.Ranges.{is_reason_in_range}
+use Rattle.cert_text.specs.Forms.{line_in, line_of_value}
+use Rattle.cert_text.proofs.LineLemmas.{line_text}
+use Rattle.cert_text.proofs.PrintedLemmas.{line_printed}
+use Rattle.cert_text.proofs.ReadLemmas.{json_of-utf8}
+use Rattle.cert_text.proofs.FormLemmas.{line_back}
+use Rattle.cert_check.specs.declared.token.Token.TheVariants.{Proof}
+use Rattle.cert_check.specs.Tokens.{token_of, token_of_line}
+use Rattle.check_run.specs.WrittenLines.{IsWritable}
+
+-- ---- any value
+
+-- the outline of a value has numbers alone, stands for the value, and nests so deep at most
+pub record Stands (shown : Data) (most : ℕ) : Type 0 where
+  pub numbers : tree.HasNumbers (outline shown)
+  pub same : of_json (outline shown) ≡ Some shown
+  pub shallow : tree.depth (outline shown) ≤ most
+
+-- so do those of a list's items
+pub record AllStand (shown : Items) (most : ℕ) : Type 0 where
+  pub numbers : tree.ItemsHaveNumbers (items_outline shown)
+  pub same : of_items (items_outline shown) ≡ Some shown
+  pub shallow : tree.items_depth (items_outline shown) ≤ most
+
+-- none
+none_stand : (most : ℕ) → AllStand no_items most
+none_stand most = record { numbers = tt; same = refl; shallow = omega arith }
+
+-- one more in front
+more_stand : (first : Data) (rest : Items) (most : ℕ) → Stands first most → AllStand rest most
+    → AllStand (item first rest) most
+more_stand first rest most here behind =
+    let deep = here.shallow in
+    let others = behind.shallow in
+    record {
+      numbers = (here.numbers, behind.numbers);
+      same = ap (option_and_then (λ d. option_map (item d) (of_items (items_outline rest))))
+          here.same
+          ∙ ap (option_map (item first)) behind.same;
+      shallow = omega arith;
+    }
+
+-- the list
+list_stands : (shown : Items) (most : ℕ) → AllStand shown most → Stands (array shown) (suc most)
+list_stands shown most all =
+    let deep = all.shallow in
+    record { numbers = all.numbers; same = ap (option_map array) all.same; shallow = omega arith }
+
+-- what stands for a value is read back
+read-compact : (d : Data) → Stands d max_depth → read (compact_text d) ≡ Some d
+read-compact d stands =
+    let ts = tree.json_tokens (outline d) in
+    let text : tokens (compact_text d) ≡ ts ++ [] =
+    ap tokens (sym (print-outline d))
+    ∙ tokens-print ts (ArePrintable-json_tokens (outline d) stands.numbers)
+    ∙ sym (append-nil ts) in
+    ap (λ all. option_and_then of_json (option_and_then (λ p. json.if_last p.0 p.1)
+    (json.value max_depth all))) text
+    ∙ ap (λ found. option_and_then of_json (option_and_then (λ p. json.if_last p.0 p.1) found))
+    (value-json_tokens (outline d) max_depth [] stands.shallow)
+    ∙ stands.same
+
+-- ---- the parts of a line
+
+-- a number in decimal
+number_stands : (n : ℕ) → n < 2 ^ 64 → Stands (number (unsigned n)) 0
+number_stands n small = record {
+  numbers = IsNumber-decimal n small;
+  same = ap (option_map number) (number_of-decimal n small);
+  shallow = omega arith;
+}
+
+-- deeper than it has to be
+deeper : (d : Data) (least most : ℕ) → least ≤ most → Stands d least → Stands d most
+deeper d least most less stands =
+    let deep = stands.shallow in
+    record { numbers = stands.numbers; same = stands.same; shallow = omega arith }
+
+-- a part whose numbers are small
+abbrev is_narrow : Part → Bool
+is_narrow (word name) = true
+is_narrow (whole n) = nat_lt n 10000
+is_narrow (points n) = are_points n
+is_narrow (clubs list) = list_all is_club_number list
+
+points_stand : (n : ℤ) → are_points n ≡ true → Stands (number (of_integer n)) 0
+points_stand (pos n) within =
+    let ends = and_parts (int_le (negsuc 98) (pos n)) (int_le (pos n) (pos 1800)) within in
+    let below = small n ends.1 in
+    number_stands n (omega arith)
+  where
+    small : (k : ℕ) → int_le (pos k) (pos 1800) ≡ true → k < 10000
+    small k h = grind (arith, ints)
+points_stand (negsuc n) within =
+    let ends = and_parts (int_le (negsuc 98) (negsuc n)) (int_le (negsuc n) (pos 1800)) within in
+    let below = small n ends.0 in
+    record {
+      numbers = IsNumber-signed_decimal (negsuc n) (omega arith);
+      same = ap (option_map number) (number_of-negative n (omega arith));
+      shallow = omega arith;
+    }
+  where
+    small : (k : ℕ) → int_le (negsuc 98) (negsuc k) ≡ true → suc k < 10000
+    small k h = grind (arith, ints)
+
+clubs_stand : (list : List ℕ) → list_all is_club_number list ≡ true
+    → AllStand (items_of (map (λ club. number (unsigned (number_in_text club))) list)) 0
+clubs_stand [] known = none_stand 0
+clubs_stand (club ∷ list) known =
+    let parts = and_parts (is_club_number club) (list_all is_club_number list) known in
+    let below = ltb-true club 24 parts.0 in
+    more_stand _ _ 0 (number_stands (number_in_text club) (omega arith)) (clubs_stand list parts.1)
+
+part_stands : (part : Part) → is_narrow part ≡ true → Stands (part_value part) 1
+part_stands (word name) known = record { numbers = tt; same = refl; shallow = omega arith }
+part_stands (whole n) known =
+    let below = ltb-true n 10000 known in
+    deeper _ 0 1 (omega arith) (number_stands n (omega arith))
+part_stands (points n) known = deeper _ 0 1 (omega arith) (points_stand n known)
+part_stands (clubs list) known = list_stands _ 0 (clubs_stand list known)
+
+parts_stand : (parts : List Part) → list_all is_narrow parts ≡ true
+    → AllStand (items_of (map part_value parts)) 1
+parts_stand [] known = none_stand 1
+parts_stand (part ∷ parts) known =
+    let both = and_parts (is_narrow part) (list_all is_narrow parts) known in
+    more_stand _ _ 1 (part_stands part both.0) (parts_stand parts both.1)
+
+-- ---- the parts of a line in range are narrow
+
+alone : (b : Bool) → b ≡ true → (b && true) ≡ true
+alone b e = and_from b true e refl
+
+narrow_fixture : (fixture : ℕ) → is_fixture_number fixture ≡ true
+    → nat_lt (number_in_text fixture) 10000 ≡ true
+narrow_fixture fixture known =
+    let below = ltb-true fixture 600 known in
+    lt-ltb (number_in_text fixture) 10000 (omega arith)
+
+narrow_goals : (goals most : ℕ) → most < 10000 → nat_le goals most ≡ true
+    → nat_lt goals 10000 ≡ true
+narrow_goals goals most small known =
+    let within = leb-true goals most known in
+    lt-ltb goals 10000 (omega arith)
+
+narrow_bounded : (fixture most : ℕ) → (is_fixture_number fixture && is_goal_bound most) ≡ true
+    → (nat_lt (number_in_text fixture) 10000 && (nat_lt most 10000 && true)) ≡ true
+narrow_bounded fixture most known =
+    let parts = and_parts (is_fixture_number fixture) (is_goal_bound most) known in
+    and_from (nat_lt (number_in_text fixture) 10000) (nat_lt most 10000 && true)
+    (narrow_fixture fixture parts.0)
+    (alone (nat_lt most 10000) (narrow_goals most 98 (omega arith) parts.1))
+
+narrow_test : (test : Test) → is_test_in_range test ≡ true
+    → list_all is_narrow (test_parts test) ≡ true
+narrow_test (Home fixture) known =
+    alone (nat_lt (number_in_text fixture) 10000) (narrow_fixture fixture known)
+narrow_test (Draw fixture) known =
+    alone (nat_lt (number_in_text fixture) 10000) (narrow_fixture fixture known)
+narrow_test (HomeMost fixture most) known = narrow_bounded fixture most known
+narrow_test (AwayMost fixture most) known = narrow_bounded fixture most known
+narrow_test (Rival club) known =
+    let below = ltb-true club 24 known in
+    alone (nat_lt (number_in_text club) 10000) (lt-ltb (number_in_text club) 10000 (omega arith))
+
+narrow_set : (set : ClubSet) → is_set_in_range set ≡ true
+    → (list_all is_club_number (clubs_in set) && true) ≡ true
+narrow_set set known =
+    alone (list_all is_club_number (clubs_in set))
+    (and_parts (has_member (clubs_in set)) (list_all is_club_number (clubs_in set)) known).1
+
+narrow_reason : (reason : Reason) → is_reason_in_range reason ≡ true
+    → list_all is_narrow (reason_parts reason) ≡ true
+narrow_reason Count known = refl
+narrow_reason Window known = refl
+narrow_reason (Low set) known = narrow_set set known
+narrow_reason (High set) known = narrow_set set known
+narrow_reason Tie known = refl
+
+narrow_score : (fixture : ℕ) (score : Score) → (is_fixture_number fixture && is_score score) ≡ true
+    → (nat_lt (number_in_text fixture) 10000
+    && (nat_lt score.home 10000 && (nat_lt score.away 10000 && true))) ≡ true
+narrow_score fixture score known =
+    let parts = and_parts (is_fixture_number fixture) (is_score score) known in
+    let goals = and_parts (nat_le score.home 99) (nat_le score.away 99) parts.1 in
+    and_from (nat_lt (number_in_text fixture) 10000)
+    (nat_lt score.home 10000 && (nat_lt score.away 10000 && true))
+    (narrow_fixture fixture parts.0)
+    (and_from (nat_lt score.home 10000) (nat_lt score.away 10000 && true)
+    (narrow_goals score.home 99 (omega arith) goals.0)
+    (alone (nat_lt score.away 10000) (narrow_goals score.away 99 (omega arith) goals.1)))
+
+narrow_line : (x : ProofLine) → is_in_range x ≡ true → list_all is_narrow (parts_of x) ≡ true
+narrow_line (line.Tree claim) known = refl
+narrow_line (line.Spent claim) known = refl
+narrow_line (line.SpentWindow claim low high) known =
+    let ends = and_parts (are_points low) (are_points high) known in
+    and_from (are_points low) (are_points high && true) ends.0 (alone (are_points high) ends.1)
+narrow_line (line.Split test) known = narrow_test test known
+narrow_line (line.NewSplit test) known = narrow_test test known
+narrow_line (line.Leaf reason) known = narrow_reason reason known
+narrow_line (line.NewLeaf reason) known = narrow_reason reason known
+narrow_line line.OpenLeaf known = refl
+narrow_line (line.Finish claim) known = refl
+narrow_line (line.Score fixture score) known = narrow_score fixture score known
+narrow_line (line.Lots lots) known = alone (list_all is_club_number lots.list) known
+
+-- ---- the text of a line
+
+-- printed characters are ASCII
+ascii_printed : (bytes : List ℕ) → list_all is_printed bytes ≡ true → are_ascii bytes ≡ true
+ascii_printed [] known = refl
+ascii_printed (byte ∷ bytes) known =
+    let parts = and_parts (is_printed byte) (list_all is_printed bytes) known in
+    let ends = and_parts (nat_le 32 byte) (nat_lt byte 127) parts.0 in
+    let below = ltb-true byte 127 ends.1 in
+    and_from (nat_lt byte 128) (are_ascii bytes) (lt-ltb byte 128 (omega arith))
+    (ascii_printed bytes parts.1)
+
+-- the text of a line as JSON is the array of its parts
+read-line : (x : ProofLine) → is_in_range x ≡ true
+    → read (text_of_proof_line x) ≡ Some (parts_value (parts_of x))
+read-line x known =
+    let stands = list_stands (items_of (map part_value (parts_of x))) 1
+    (parts_stand (parts_of x) (narrow_line x known)) in
+    ap read (sym (line_text x))
+    ∙ read-compact (parts_value (parts_of x)) (deeper _ 2 max_depth (omega arith) stands)
+
+-- it is read as the line
+pub line_in-text : (x : ProofLine) → IsWritable x → line_in (text_of_proof_line x) ≡ Some x
+line_in-text x writable =
+    ap (option_and_then line_of_value)
+    (json_of-utf8 (text_of_proof_line x)
+    (IsUtf8-are_ascii (text_of_proof_line x)
+    (ascii_printed (text_of_proof_line x) (line_printed x writable.0)))
+    ∙ read-line x writable.0)
+    ∙ line_back x writable.0 writable.1
+
+-- a line of a report with this text is that line
+pub token_of-text : (x : ProofLine) → IsWritable x → token_of (text_of_proof_line x) ≡ Proof x
+token_of-text x writable = ap token_of_line (line_in-text x writable)

@@ -1,0 +1,18 @@
+//! Laws: functions that do nothing, each with a law as its contract.
+//!
+//! The statements are in `specs/ReportTruths.antt` and `specs/WrittenLines.antt`.
+
+ghost use Rattle.check_run.specs.ReportTruths.{AcceptedInputsTellTruly};
+ghost use Rattle.check_run.specs.WrittenLines.{WrittenLinesAreTokens, WrittenLinesReadBack};
+
+/// An input whose report is accepted has one that tells the truth: each row that says clinched,
+/// lost or possible is so in the season at its ask, for every finish and every drawing of lots.
+pub fn accepted_inputs_tell_truly()
+    ensures { AcceptedInputsTellTruly }
+{}
+
+/// The text of a proof line is read as that line, and a report has it as that line.
+pub fn written_lines_read_back()
+    ensures reads { WrittenLinesReadBack }
+    ensures tokens { WrittenLinesAreTokens }
+{}
