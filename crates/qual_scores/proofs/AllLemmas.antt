@@ -1,4 +1,7 @@
 -- The numbers so far, as an answer is put together.
+use Rattle.std.specs.Prelude.{All}
+use Rattle.std.specs.List.{list_all}
+use Rattle.qual_scores.specs.AllScores.{IsBoundInRange, IsInLineRange, AreInLineRange}
 use Rattle.std.proofs.Common.{◌≡◌, ℕ, ◌+◌, ◌<◌, List, [], ◌∷◌, ◌++◌, length, map, take, get_or}
 use Rattle.std.proofs.Common.{refl}
 use Rattle.std.proofs.Common.{true, sym, ap, ◌∙◌, subst, arith, append_assoc, append-nil}
@@ -6,17 +9,22 @@ use Rattle.std.proofs.Common.{nat_lt, nat_le}
 use Rattle.std.specs.List.{flat_map}
 use Rattle.std.proofs.lemmas.Bool.{and_parts, ltb-true, leb-true}
 use Rattle.std.proofs.lemmas.List.{flat_map_more, map-append, take_more}
-use Rattle.std.proofs.lemmas.List.Elements.{All-nil, All-cons, All-append}
+use Rattle.std.proofs.lemmas.List.Elements.{All-nil, All-cons, All-append, All-weaker}
 use Rattle.std.proofs.lemmas.List.FromFn.{map-range_with_len_more}
 use Rattle.league_core.specs.declared.sheet.Sheet.{Sheet}
 use Rattle.league_core.specs.declared.question.Claim.{Claim}
+use Rattle.league_core.specs.declared.question.Claim.TheVariants.{Inside, Outside}
 use Rattle.league_core.specs.Results.{Results}
 use Rattle.league_core.specs.Sheets.{is_line}
 use Rattle.league_core.specs.Questions.{IsQuestionOf, full_question}
+use Rattle.cert_text.specs.declared.proof_line.ProofLine.{ProofLine}
+use Rattle.cert_text.specs.Ranges.{is_in_range}
 use Rattle.verdict_run.specs.Items.{AnswerRow, answer_rows_of}
+use Rattle.qual_scores.specs.declared.bound.Bound.{Bound}
+use Rattle.qual_scores.specs.declared.bound.Bound.TheVariants.{Known, None, Between}
 use Rattle.qual_scores.specs.declared.bound.Score2.{Score2}
 use Rattle.qual_scores.specs.declared.bound.ClubScores.{ClubScores}
-use Rattle.qual_scores.specs.Bounds.{AreRightScores}
+use Rattle.qual_scores.specs.Bounds.{AreRightScores, IsRightBound}
 use Rattle.qual_scores.specs.AllScores.{scores_row, AreRightOf, AreScoresFor, AddsClubs, AddsLine}
 use Rattle.qual_scores.specs.AllScores.{AreScoresOfLines}
 
@@ -94,4 +102,38 @@ row_is_asked sheet line club claim within may =
       club = within;
       least_line = leb-true 1 line parts.0;
       most_line = ltb-true line (length sheet.clubs) parts.1;
+    }
+
+-- ---- ranges
+
+each_in_range : (lines : List ProofLine) → list_all is_in_range lines ≡ true
+    → All (λ line. is_in_range line ≡ true) lines
+each_in_range [] all = All-nil (λ line. is_in_range line ≡ true)
+each_in_range (line ∷ lines) all =
+    let parts = and_parts (is_in_range line) (list_all is_in_range lines) all in
+    All-cons (λ l. is_in_range l ≡ true) line lines parts.0 (each_in_range lines parts.1)
+
+-- the lines of a right bound are in range
+bound_in_range : (sheet : Sheet) (season : Results) (club line : ℕ) (claim : Claim)
+    (bound : Bound) → IsRightBound sheet season club line claim bound → IsBoundInRange bound
+bound_in_range sheet season club line claim (Known number) right =
+    All-nil (λ shown. is_in_range shown ≡ true)
+bound_in_range sheet season club line claim None right =
+    All-nil (λ shown. is_in_range shown ≡ true)
+bound_in_range sheet season club line claim (Between low high spent) right =
+    each_in_range spent.items right.in_range
+
+-- so are those of right numbers
+pub scores_in_range : (sheet : Sheet) (season : Results) (scores : List ClubScores)
+    → All (AreRightOf sheet season) scores → AreInLineRange sheet scores
+scores_in_range sheet season scores right =
+    All-weaker (AreRightOf sheet season) (IsInLineRange sheet) one scores right
+  where
+    one : (found : ClubScores) → AreRightOf sheet season found → IsInLineRange sheet found
+    one found is = record {
+      club = is.club;
+      possible = bound_in_range sheet season found.club found.line Inside found.scores.pqs
+          is.right.possible;
+      guaranteed = bound_in_range sheet season found.club found.line Outside found.scores.gqs
+          is.right.guaranteed;
     }

@@ -31,7 +31,7 @@ use Rattle.qual_scores.proofs.SpanLemmas.{middle_within, kept}
 -- ---- the first ranges
 
 -- nothing below the first range
-first_below : (sheet : Sheet) (season : Results) (club line : ℕ) (claim : Claim) (points : ℤ)
+pub first_below : (sheet : Sheet) (season : Results) (club line : ℕ) (claim : Claim) (points : ℤ)
     → HoldsOfPoints sheet season club line claim points
     → (first_span sheet season club claim).low ≤ℤ points
 first_below sheet season club line Inside points (finish, lots, example) =
@@ -42,7 +42,7 @@ first_below sheet season club line Inside points (finish, lots, example) =
 first_below sheet season club line Outside points (from, none) = from
 
 -- a club is inside with no more points than it can reach
-possible_most : (sheet : Sheet) (season : Results) (club line : ℕ) (points : ℤ)
+pub possible_most : (sheet : Sheet) (season : Results) (club line : ℕ) (points : ℤ)
     → CanBeInsideWith sheet season club line points
     → points ≤ℤ most_points_of sheet season [] (club ∷ [])
 possible_most sheet season club line points (finish, lots, example) =
@@ -52,7 +52,7 @@ possible_most sheet season club line points (finish, lots, example) =
     omega (arith, ints)
 
 -- with more points than it can reach it is never outside
-none_past_reach : (sheet : Sheet) (season : Results) (club line : ℕ) (high : ℤ) → pos 0 ≤ℤ high
+pub none_past_reach : (sheet : Sheet) (season : Results) (club line : ℕ) (high : ℤ) → pos 0 ≤ℤ high
     → (most_points_of sheet season [] (club ∷ []) +ℤ pos 1) ≤ℤ high
     → IsNotAbove (IsInsideFrom sheet season club line) high
 none_past_reach sheet season club line high from past = (

@@ -34,7 +34,7 @@ use Rattle.qual_scores.proofs.PointLemmas.{points_in_window, example_moved, poin
 use Rattle.qual_scores.proofs.PointLemmas.{le_from}
 
 -- a club that can be inside with at most so many points can be so with some of these
-inside_found : (sheet : Sheet) (season : Results) (club line : ℕ) (low points : ℤ)
+pub inside_found : (sheet : Sheet) (season : Results) (club line : ℕ) (low points : ℤ)
     (finish : Results) (lots : List ℕ)
     → IsExample sheet season (question_between club line Inside low points) finish lots
     → IsNotAbove (CanBeInsideWith sheet season club line) points
@@ -53,7 +53,7 @@ inside_found sheet season club line low points finish lots example =
     )
 
 -- one that cannot be inside with at most so many has no score there
-inside_none : (sheet : Sheet) (season : Results) (club line : ℕ) (points : ℤ)
+pub inside_none : (sheet : Sheet) (season : Results) (club line : ℕ) (points : ℤ)
     → IsLeague sheet season → are_results season ≡ true
     → HasNoExample sheet season (question_between club line Inside (negsuc 98) points)
     → ¬ IsNotAbove (CanBeInsideWith sheet season club line) points
@@ -70,7 +70,7 @@ inside_none sheet season club line points league results none found =
     finish lots example (record { least = full.least; most = omega (arith, ints) }))
 
 -- a club that can be outside with at least so many points is not safe with so many or fewer
-outside_found : (sheet : Sheet) (season : Results) (club line : ℕ) (points : ℤ)
+pub outside_found : (sheet : Sheet) (season : Results) (club line : ℕ) (points : ℤ)
     (finish : Results) (lots : List ℕ)
     → IsExample sheet season (question_between club line Outside points (pos 1800)) finish lots
     → ¬ IsNotAbove (IsInsideFrom sheet season club line) points
@@ -83,7 +83,7 @@ outside_found sheet season club line points finish lots example found =
     (pos 1800) finish lots example (record { least = omega (arith, ints); most = own.most }))
 
 -- one that cannot be outside with at least so many is safe with them
-outside_none : (sheet : Sheet) (season : Results) (club line : ℕ) (points : ℤ)
+pub outside_none : (sheet : Sheet) (season : Results) (club line : ℕ) (points : ℤ)
     → pos 0 ≤ℤ points
     → HasNoExample sheet season (question_between club line Outside points (pos 1800))
     → IsNotAbove (IsInsideFrom sheet season club line) points

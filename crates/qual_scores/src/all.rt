@@ -3,7 +3,7 @@
 ghost use Rattle.std.specs.Prelude.{IfOk, OnOk, IsTrue, length};
 ghost use Rattle.league_core.specs.Seasons.{IsLeague};
 ghost use Rattle.league_core.specs.Sheets.{is_line};
-ghost use Rattle.qual_scores.specs.AllScores.{AreScoresOf, AddsLine};
+ghost use Rattle.qual_scores.specs.AllScores.{AreScoresOf, AreInLineRange, AddsLine};
 
 use crate::bound::ClubScores;
 use crate::search::scores;
@@ -18,7 +18,8 @@ pub fn all_scores(
     season: &Season,
 ) -> Result<Vec<ClubScores>, OutOfMemory>
     requires { IsLeague sheet.now season.now }
-    ensures { IfOk result (λ found. AreScoresOf sheet.now season.now found.items) }
+    ensures right { IfOk result (λ found. AreScoresOf sheet.now season.now found.items) }
+    ensures in_range { IfOk result (λ found. AreInLineRange sheet.now found.items) }
 {
     let mut found = Vec::new(alloc);
     for line in sheet.lines.as_slice() {
