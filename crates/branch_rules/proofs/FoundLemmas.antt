@@ -1,5 +1,5 @@
 -- The proposed finish as an example or not, and zones that have to be split.
-use Rattle.std.proofs.Common.{◌≡◌, inl, inr, ℕ, true, false, IsTrue, List}
+use Rattle.std.proofs.Common.{◌≡◌, ◌<◌, inl, inr, ℕ, true, false, IsTrue, List}
 use Rattle.std.proofs.Common.{Result, Ok, Err, IfOk, length, take, drop, refl, sym, ap, subst, ◌∙◌}
 use Rattle.std.specs.List.{list_all}
 use Rattle.std.proofs.lemmas.Bool.{false≢true, cases_Bool, and_parts}
@@ -31,44 +31,43 @@ use Rattle.reason_core.specs.declared.finding.Finding.TheVariants.{Refuted, Spli
 use Rattle.reason_core.specs.Findings.{IsTrueFinding}
 use Rattle.reason_core.specs.Dones.{IsFor, IsTrueDone, done_of}
 use Rattle.branch_rules.specs.Found.{IsProposedInVain, IsProposedExample, IsFoundIn}
+use Rattle.branch_rules.specs.Found.{is_proposed_example}
+use Rattle.league_core.proofs.LotsLemmas.{holds_at-favoured, lots_for_claim-favoured}
+use Rattle.league_core.proofs.LotsLemmas.{lots_for_claim-are_lots}
 use Rattle.branch_rules.specs.Works.{IsWorkOf}
 
--- the proposed finish is one of the sheet
-pub proposed_league : (sheet : Sheet) (season : Results) (question : Question) (zone : List Literal)
-    (finish : Results) → IsWithinLimits sheet → IsSeasonOf sheet season
-    → has_finish sheet season zone ≡ true → finish ≡ proposed_finish sheet season question zone
-    → IsLeague sheet finish
-proposed_league sheet season question zone finish limits of_sheet some is = record {
-  limits = limits;
-  of_sheet = subst (IsSeasonOf sheet) (sym is)
-      (finish_is_of sheet season (proposed_finish sheet season question zone) of_sheet
-      (proposed_is_finish sheet season question zone of_sheet some));
-}
-
--- it is an example with lots with which the question holds there
-pub proposed_example : (sheet : Sheet) (season : Results) (question : Question) (zone : List
-    Literal)
-    (finish : Results) (lots : List ℕ) → IsSeasonOf sheet season
-    → has_finish sheet season zone ≡ true → finish ≡ proposed_finish sheet season question zone
-    → IsTrue (are_lots (length sheet.clubs) lots) → IsTrue (holds_at sheet question finish lots)
+-- where the question holds at the proposed finish with the lots that favour the claim, it is an
+-- example with these
+pub proposed_example : (sheet : Sheet) (season : Results) (question : Question)
+    (zone : List Literal) (finish : Results) (lots : List ℕ) → IsSeasonOf sheet season
+    → question.club < length sheet.clubs → has_finish sheet season zone ≡ true
+    → finish ≡ proposed_finish sheet season question zone
+    → lots ≡ lots_for_claim (length sheet.clubs) question.club question.claim
+    → is_proposed_example sheet season question zone ≡ true
     → IsProposedExample sheet season question zone finish lots
-proposed_example sheet season question zone finish lots of_sheet some is drawn holds = record {
-  proposed = is;
-  example = subst (λ f. IsExample sheet season question f lots) (sym is) (record {
-    is_finish = proposed_is_finish sheet season question zone of_sheet some;
-    is_drawn = drawn;
-    holds = subst (λ f. IsTrue (holds_at sheet question f lots)) is holds;
-  });
-}
+proposed_example sheet season question zone finish lots of_sheet below some is lots_are holds =
+    let proposed = proposed_finish sheet season question zone in
+    let best = lots_for_claim (length sheet.clubs) question.club question.claim in
+    record {
+      proposed = is;
+      example = subst (λ f. IsExample sheet season question f lots) (sym is)
+          (subst (λ drawn. IsExample sheet season question proposed drawn) (sym lots_are) (record {
+            is_finish = proposed_is_finish sheet season question zone of_sheet some;
+            is_drawn = lots_for_claim-are_lots (length sheet.clubs) question.club question.claim
+                below;
+            holds = holds;
+          }));
+    }
 
--- and none where it holds with no lots
-pub proposed_in_vain : (sheet : Sheet) (season : Results) (question : Question) (zone : List
-    Literal)
-    (finish : Results) → finish ≡ proposed_finish sheet season question zone
-    → ((lots : List ℕ) → ¬ IsTrue (holds_at sheet question finish lots))
+-- and otherwise with no lots
+pub proposed_in_vain : (sheet : Sheet) (season : Results) (question : Question)
+    (zone : List Literal) → is_proposed_example sheet season question zone ≡ false
     → IsProposedInVain sheet season question zone
-proposed_in_vain sheet season question zone finish is never lots example =
-    never lots (subst (λ f. IsTrue (holds_at sheet question f lots)) (sym is) example.holds)
+proposed_in_vain sheet season question zone never lots example =
+    false≢true (sym never
+    ∙ holds_at-favoured sheet question (proposed_finish sheet season question zone) lots
+    (lots_for_claim (length sheet.clubs) question.club question.claim)
+    (lots_for_claim-favoured (length sheet.clubs) question.club question.claim) example.holds)
 
 -- where neither this nor a reason is found, some fixture has several scores left
 pub has_several : (sheet : Sheet) (season : Results) (question : Question) (zone : List Literal)

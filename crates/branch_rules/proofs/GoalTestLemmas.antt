@@ -32,7 +32,7 @@ use Rattle.score_box.proofs.OutcomeLemmas.{all_home_wins, all_draws, all_away_wi
 use Rattle.branch_rules.specs.declared.rated.Rated.{Rated}
 use Rattle.branch_rules.specs.Choices.{IsDivided, IsGoalSplit, options_at_fixture}
 use Rattle.branch_rules.specs.GoalTests.{DividesByGoals, HasOneAtMost, AreSame}
-use Rattle.branch_rules.proofs.UnplayedLemmas.{each_fixture}
+use Rattle.example_finish.proofs.UnplayedLemmas.{each_fixture}
 use Rattle.branch_rules.proofs.SplitLemmas.{all_from, home_most_is_proper, away_most_is_proper}
 
 -- ---- what parts the scores of a cell

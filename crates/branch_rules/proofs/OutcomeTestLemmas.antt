@@ -34,7 +34,7 @@ use Rattle.score_box.proofs.BoxLemmas.{options_at}
 use Rattle.branch_rules.specs.declared.left.Outcomes.{Outcomes}
 use Rattle.branch_rules.specs.Choices.{IsOutcomeSplit, options_at_fixture}
 use Rattle.branch_rules.specs.Outcomes.{AreOutcomesOf}
-use Rattle.branch_rules.proofs.UnplayedLemmas.{each_fixture}
+use Rattle.example_finish.proofs.UnplayedLemmas.{each_fixture}
 use Rattle.branch_rules.proofs.SplitLemmas.{all_from, home_is_proper, draw_is_proper}
 
 -- ---- what is among the options

@@ -1,14 +1,15 @@
 -- What is found in a zone for a question: the proposed finish where it is an example, else the
 -- first
 -- reason that holds, else a fair split.
-use Rattle.std.specs.Prelude.{◌≡◌, ◌<◌, ℕ, false, IsTrue, List}
+use Rattle.std.specs.Prelude.{◌≡◌, ◌<◌, ℕ, Bool, false, IsTrue, List, length}
 use Rattle.league_core.specs.declared.sheet.Sheet.{Sheet}
 use Rattle.league_core.specs.declared.question.Question.{Question}
 use Rattle.league_core.specs.declared.zone.Literal.{Literal}
 use Rattle.league_core.specs.declared.zone.Reason.{Reason}
 use Rattle.league_core.specs.declared.zone.Reason.TheVariants.{Count, Window, Low, High, Tie}
 use Rattle.league_core.specs.Results.{Results}
-use Rattle.league_core.specs.Questions.{IsExample}
+use Rattle.league_core.specs.Questions.{IsExample, holds_at}
+use Rattle.league_core.specs.LotsFor.{lots_for_claim}
 use Rattle.league_core.specs.Proposals.{proposed_finish}
 use Rattle.league_core.specs.Reasons.{has_reason}
 use Rattle.league_core.specs.Splits.{IsNoExample, IsFairSplit}
@@ -29,6 +30,12 @@ pub record IsFirstReason (sheet : Sheet) (season : Results) (question : Question
   pub holds : IsTrue (has_reason sheet season question zone reason)
   pub first : (other : Reason) → turn_of other < turn_of reason
       → has_reason sheet season question zone other ≡ false
+
+-- with the lots that favour the claim the question holds at the zone's proposed finish
+abbrev pub is_proposed_example : Sheet → Results → Question → List Literal → Bool
+is_proposed_example sheet season question zone =
+    holds_at sheet question (proposed_finish sheet season question zone)
+    (lots_for_claim (length sheet.clubs) question.club question.claim)
 
 -- with none of the lots is the zone's proposed finish an example
 abbrev pub IsProposedInVain : Sheet → Results → Question → List Literal → Type 0

@@ -1,51 +1,48 @@
 //! What is found in the zone of a box.
 
-ghost use Rattle.std.specs.Prelude.{IfNone, IfOk, IfSome};
+ghost use Rattle.std.specs.Prelude.{IfOk, IsTrue};
 ghost use Rattle.league_core.specs.Questions.{IsQuestionOf};
 ghost use Rattle.score_box.specs.Settings.{HasFinish};
-ghost use Rattle.branch_rules.specs.Found.{IsFoundIn, IsProposedInVain};
+ghost use Rattle.branch_rules.specs.Found.{IsFoundIn, IsProposedInVain, is_proposed_example};
 
 use crate::choice::choose;
 use crate::reasons::first_reason;
-use example_finish::{propose, try_example};
+use example_finish::{is_example, propose};
+use final_rank::lots_for;
 use league_core::{OutOfMemory, Question};
 use reason_core::Finding;
 use score_box::ZoneBox;
 use std::alloc::Global;
 
 /// The proposed finish with lots, exactly where it is an example; otherwise the first reason,
-/// exactly where one holds; otherwise a split.
+/// exactly where one holds; otherwise a split. A finish is made for an example alone.
 pub fn find(alloc: Global, zone_box: &ZoneBox, question: &Question) -> Result<Finding, OutOfMemory>
     requires has_finish { HasFinish zone_box.now }
     requires of_sheet { IsQuestionOf zone_box.now.sheet question.now }
     ensures { IfOk result
         (IsFoundIn zone_box.now.sheet zone_box.now.season question.now zone_box.now.zone) }
 {
-    match proposed_example(alloc, zone_box, question)? {
-        Some(example) => Ok(example),
-        None => reason_or_split(alloc, zone_box, question),
+    if is_example(zone_box, question) {
+        won(alloc, zone_box, question)
+    } else {
+        reason_or_split(alloc, zone_box, question)
     }
 }
 
-/// The proposed finish with lots, exactly where it is an example.
-fn proposed_example(
-    alloc: Global,
-    zone_box: &ZoneBox,
-    question: &Question,
-) -> Result<Option<Finding>, OutOfMemory>
+/// The proposed finish, with the lots that favour the claim.
+fn won(alloc: Global, zone_box: &ZoneBox, question: &Question) -> Result<Finding, OutOfMemory>
     requires has_finish { HasFinish zone_box.now }
     requires of_sheet { IsQuestionOf zone_box.now.sheet question.now }
-    ensures found { IfOk result (λ answer. IfSome answer
-        (IsFoundIn zone_box.now.sheet zone_box.now.season question.now zone_box.now.zone)) }
-    ensures absent { IfOk result (λ answer. IfNone answer (IsProposedInVain
-        zone_box.now.sheet zone_box.now.season question.now zone_box.now.zone)) }
+    requires example { IsTrue (is_proposed_example
+        zone_box.now.sheet zone_box.now.season question.now zone_box.now.zone) }
+    ensures { IfOk result
+        (IsFoundIn zone_box.now.sheet zone_box.now.season question.now zone_box.now.zone) }
 {
     let _season = zone_box.season();
     let finish = propose(alloc, zone_box, question)?;
-    match try_example(alloc, zone_box.sheet(), question, &finish)? {
-        Some(lots) => Ok(Some(Finding::Won(finish, lots))),
-        None => Ok(None),
-    }
+    let clubs = zone_box.sheet().clubs.len() as u8;
+    let lots = lots_for(alloc, clubs, question.club, question.claim)?;
+    Ok(Finding::Won(finish, lots))
 }
 
 /// The first reason where one holds, otherwise a split.

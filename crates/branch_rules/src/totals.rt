@@ -1,11 +1,10 @@
 //! The least and the most points of every club in a box, which choices are rated by. They stand in
-//! no clause: whatever they say, a choice is proper and due. So their sums may wrap; they do not,
-//! for a season has a few thousand points.
+//! no clause: whatever they say, a choice is proper and due.
 
 ghost use Rattle.std.specs.Prelude.{◌<◌};
+ghost use Rattle.score_box.specs.Settings.{HasFinish};
 
-use crate::left::Outcomes;
-use league_core::{Fixture, Question};
+use league_core::Question;
 use score_box::ZoneBox;
 
 /// Points for each club that a set has room for.
@@ -16,38 +15,19 @@ pub struct Totals {
 }
 
 impl Totals {
-    /// The points of all clubs, in one walk over the fixtures.
-    pub fn of(zone_box: &ZoneBox) -> Totals {
+    /// The points of all clubs, as the box keeps them: no fixture is looked at.
+    pub fn of(zone_box: &ZoneBox) -> Totals
+        requires { HasFinish zone_box.now }
+    {
         let mut totals = Totals {
             least: [0; 32],
             most: [0; 32],
         };
-        totals.take_off(zone_box.season().deductions());
-        let fixtures = zone_box.sheet().fixtures.as_slice();
-        let _scores = zone_box.season().scores();
-        for i in 0..fixtures.len() {
-            let left = Outcomes::of(zone_box.cell(i as u16));
-            totals.add(fixtures[i], left);
+        for club in 0..zone_box.sheet().clubs.len() as u8 {
+            totals.least[place_of(club)] = zone_box.low(club);
+            totals.most[place_of(club)] = zone_box.high(club);
         }
         totals
-    }
-
-    fn take_off(&mut self, deductions: &[u8]) {
-        for club in 0..deductions.len().min(32) {
-            let off = i32::from(deductions[club]);
-            self.least[club] = self.least[club].wrapping_sub(off);
-            self.most[club] = self.most[club].wrapping_sub(off);
-        }
-    }
-
-    /// Adds what a match leaves its two sides.
-    fn add(&mut self, sides: Fixture, left: Outcomes) {
-        let home = place_of(sides.home);
-        let away = place_of(sides.away);
-        self.least[home] = self.least[home].wrapping_add(left.home_least());
-        self.most[home] = self.most[home].wrapping_add(left.home_most());
-        self.least[away] = self.least[away].wrapping_add(left.away_least());
-        self.most[away] = self.most[away].wrapping_add(left.away_most());
     }
 
     pub fn least_of(&self, club: u8) -> i32 {

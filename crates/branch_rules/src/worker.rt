@@ -12,20 +12,28 @@ use league_core::{Literal, OutOfMemory, Question};
 use reason_core::{Finding, Solver};
 use score_box::{Played, ZoneBox};
 use std::alloc::Global;
+use std::marker::Model;
 
 /// Works on zones of one season. From one zone to the next the box goes back to what both have in
-/// front, and on from there.
+/// front, and on from there. Contracts see the sheet and the season.
 #[derive(Drop)]
 pub struct Worker<'a> {
     alloc: Global,
     zone_box: ZoneBox<'a>,
 }
 
+impl<'a> Model for Worker<'a> {
+    ghost use Rattle.score_box.specs.Stages.{Stage};
+
+    ghost Value = { Stage };
+
+    ghost view = { λ w. record { sheet = w.zone_box.sheet; season = w.zone_box.season } };
+}
+
 impl<'a> Worker<'a> {
     /// A worker of the season that the tables are of.
     pub fn new(alloc: Global, played: &'a Played<'a>) -> Result<Worker<'a>, OutOfMemory>
-        ensures { IfOk result (λ worker. (worker.zone_box.sheet ≡ played.now.sheet)
-            × (worker.zone_box.season ≡ played.now.season)) }
+        ensures { IfOk result (λ worker. worker ≡ played.now) }
     {
         let zone_box = ZoneBox::over(alloc, played, &[])?;
         Ok(Worker { alloc, zone_box })
@@ -33,21 +41,21 @@ impl<'a> Worker<'a> {
 }
 
 impl<'a> Solver for Worker<'a> {
-    ghost sheet = { λ worker. worker.zone_box.sheet };
+    ghost sheet = { λ worker. worker.sheet };
 
-    ghost season = { λ worker. worker.zone_box.season };
+    ghost season = { λ worker. worker.season };
 
     fn solve(&mut self, question: &Question, zone: &[Literal]) -> Result<Finding, OutOfMemory>
-        requires of_sheet { IsQuestionOf self.old.zone_box.sheet question.now }
-        requires of_zone { IsZoneFor self.old.zone_box.sheet question.now zone.now }
+        requires of_sheet { IsQuestionOf self.old.sheet question.now }
+        requires of_zone { IsZoneFor self.old.sheet question.now zone.now }
         requires has_finish { IsTrue
-            (has_finish self.old.zone_box.sheet self.old.zone_box.season zone.now) }
-        ensures found { IfOk result (IsTrueFinding self.old.zone_box.sheet self.old.zone_box.season
+            (has_finish self.old.sheet self.old.season zone.now) }
+        ensures found { IfOk result (IsTrueFinding self.old.sheet self.old.season
             question.now zone.now) }
-        ensures first { IfOk result (IsFoundIn self.old.zone_box.sheet self.old.zone_box.season
+        ensures first { IfOk result (IsFoundIn self.old.sheet self.old.season
             question.now zone.now) }
-        ensures same_sheet { self.new.zone_box.sheet ≡ self.old.zone_box.sheet }
-        ensures same_season { self.new.zone_box.season ≡ self.old.zone_box.season }
+        ensures same_sheet { self.new.sheet ≡ self.old.sheet }
+        ensures same_season { self.new.season ≡ self.old.season }
     {
         move_to(&mut self.zone_box, zone)?;
         find(self.alloc, &self.zone_box, question)

@@ -2,3 +2,8 @@
 pub mod OrderLemmas
 pub mod FirstLemmas
 pub mod ProposedLemmas
+pub mod GroupStandingLemmas
+pub mod PlaceLemmas
+pub mod UnplayedLemmas
+pub mod ProposedTotalLemmas
+pub mod CriterionLemmas

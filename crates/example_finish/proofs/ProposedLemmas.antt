@@ -126,7 +126,7 @@ have_taken-next wishes sheet season zone finish k score so_far within is = recor
 }
 
 -- the first options, fixture by fixture
-first_options-at : (wished : ℕ → Bool) (matches : List Fixture) (options : List (List Score))
+pub first_options-at : (wished : ℕ → Bool) (matches : List Fixture) (options : List (List Score))
     (k : ℕ) (d : Fixture) → k < length matches → length matches ≡ length options
     → get_or (first_options wished matches options) k None
     ≡ first_option (wished (get_or matches k d).home) (wished (get_or matches k d).away)
@@ -137,7 +137,8 @@ first_options-at wished (match ∷ matches) (one ∷ options) zero d within same
 first_options-at wished (match ∷ matches) (one ∷ options) (suc k) d within same =
     first_options-at wished matches options k d (omega arith) (omega arith)
 
-length-first_options : (wished : ℕ → Bool) (matches : List Fixture) (options : List (List Score))
+pub length-first_options : (wished : ℕ → Bool) (matches : List Fixture) (options : List (List
+    Score))
     → length matches ≡ length options
     → length (first_options wished matches options) ≡ length options
 length-first_options wished [] [] same = refl
@@ -168,3 +169,21 @@ all_have_taken wishes sheet season zone question finish of_sheet all are =
     (are (get_or sheet.fixtures k no_sides).home) (are (get_or sheet.fixtures k no_sides).away)
     ∙ sym (first_options-at wished sheet.fixtures options k no_sides below same)) in
     λ i. record { scores = scores i; deductions = all.deductions i }
+
+-- what a fixture takes stands in the proposed finish
+pub taken_in_finish : (wishes : Wishes) (sheet : Sheet) (season : Results) (zone : List Literal)
+    (question : Question) (k : ℕ) (d : Fixture) (score : Score) → IsSeasonOf sheet season
+    → k < length season.scores → AreWishesOf zone question wishes
+    → option_at wishes sheet season zone k (get_or sheet.fixtures k d) ≡ Some score
+    → get_or (proposed_finish sheet season question zone).scores k None ≡ Some score
+unfolding proposed_finish
+taken_in_finish wishes sheet season zone question k d score of_sheet within are taken =
+    let wished = λ (club : ℕ). is_wished zone question.club club question.claim in
+    let options = options_in sheet season zone in
+    let long = length-options_from sheet.goal_limit zone 0 season.scores in
+    let same : length sheet.fixtures ≡ length options = sym of_sheet.scores ∙ sym long in
+    let below : k < length sheet.fixtures = omega (arith, of_sheet.scores) in
+    first_options-at wished sheet.fixtures options k d below same
+    ∙ sym (ap₂ (λ (x y : Bool). first_option x y (get_or options k []))
+    (are (get_or sheet.fixtures k d).home) (are (get_or sheet.fixtures k d).away))
+    ∙ taken

@@ -5,10 +5,19 @@ ghost use Rattle.std.specs.Prelude.{ℕ, length, nat_le};
 ghost use Rattle.league_core.specs.Seasons.{IsLeague};
 ghost use Rattle.league_core.specs.Questions.{holds_at, is_in_window, is_on_side};
 ghost use Rattle.league_core.specs.LotsFor.{lots_for_claim};
-ghost use Rattle.league_core.specs.Ranking.{are_lots};
+ghost use Rattle.league_core.specs.Ranking.{are_lots, is_inside};
+ghost use Rattle.league_core.specs.Sums.{points_of};
+ghost use Rattle.league_core.specs.Proposals.{proposed_finish};
+ghost use Rattle.score_box.specs.Settings.{HasFinish};
+ghost use Rattle.example_finish.specs.ProposalViews.{sheet_asked, finish_asked};
+ghost use Rattle.example_finish.specs.ProposedTotals.{AreTotalsOver};
 
+use crate::criterion::{points_left, totals_at};
+use crate::lead::{stand_by_points, stand_in};
+use crate::proposed::Proposed;
 use final_rank::{lots_for, place, points};
 use league_core::{Claim, Finish, Lots, OutOfMemory, Question, Season, Sheet};
+use score_box::{Totals, ZoneBox};
 use std::alloc::Global;
 
 /// Lots with which the question holds at the finish; none exactly where it holds with no lots.
@@ -62,6 +71,62 @@ fn holds(
     let place = place(alloc, sheet, season, lots, question.club)?;
     let in_window = is_in_window(question, points[question.club as usize]);
     Ok(in_window && is_on_side(place <= question.line, question.claim))
+}
+
+/// The proposed finish of the box's zone is an example of the question with the lots that favour
+/// the claim; with no lots it is one otherwise. It takes no memory, and looks at the fixtures that
+/// are not played alone.
+pub fn is_example(zone_box: &ZoneBox, question: &Question) -> bool
+    requires has_finish { HasFinish zone_box.now }
+    requires of_sheet { question.now.club < length zone_box.now.sheet.clubs }
+    ensures { result ≡ holds_at zone_box.now.sheet question.now
+        (proposed_finish zone_box.now.sheet zone_box.now.season question.now zone_box.now.zone)
+        (lots_for_claim (length zone_box.now.sheet.clubs) question.now.club
+        question.now.claim) }
+{
+    let proposed = Proposed::of(zone_box, question);
+    let all = proposed.totals_over();
+    has_points_in_window(&proposed, &all) && is_on_side(is_inside(&proposed, &all), question.claim)
+}
+
+/// The club's points are in the question's window. The table has the sums over all matches.
+fn has_points_in_window(proposed: &Proposed, all: &[Totals]) -> bool
+    requires { AreTotalsOver (sheet_asked proposed.now) (finish_asked proposed.now) all.now }
+    ensures { result ≡ is_in_window proposed.now.question
+        (points_of (sheet_asked proposed.now) (finish_asked proposed.now)
+        proposed.now.question.club) }
+{
+    let question = proposed.question();
+    let totals = totals_at(all, question.club);
+    let points = points_left(proposed.season(), &totals, question.club);
+    lies_in_window(question, points)
+}
+
+fn lies_in_window(question: &Question, points: i64) -> bool
+    ensures { result ≡ is_in_window question.now points }
+{
+    i64::from(question.low) <= points && points <= i64::from(question.high)
+}
+
+/// The club is inside the line, with the lots that favour the claim. Where its points alone say so,
+/// nothing else is looked at.
+fn is_inside(proposed: &Proposed, all: &[Totals]) -> bool
+    requires { AreTotalsOver (sheet_asked proposed.now) (finish_asked proposed.now) all.now }
+    ensures { result ≡ is_inside (sheet_asked proposed.now) (finish_asked proposed.now)
+        (lots_for_claim (length (sheet_asked proposed.now).clubs) proposed.now.question.club
+        proposed.now.question.claim) proposed.now.question.club proposed.now.question.line }
+{
+    let _sheet = proposed.sheet();
+    let question = proposed.question();
+    let tier = stand_by_points(proposed, all);
+    if question.line <= tier.ahead.len() {
+        return false;
+    }
+    if tier.ahead.union(tier.level).len() <= question.line {
+        return true;
+    }
+    let near = stand_in(proposed, all, tier.level, question.club);
+    tier.then(near).place(question.claim) <= question.line
 }
 
 fn is_in_window(question: &Question, points: i32) -> bool

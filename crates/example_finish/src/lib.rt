@@ -5,13 +5,18 @@
 //! then `specs/Firsts.antt` here.
 #![tactic(auto)]
 
+mod criterion;
 mod example;
+mod lead;
 mod option;
 mod proposal;
+mod proposed;
+mod standing;
+mod totals;
 mod wins;
 mod wishes;
 
-pub use example::try_example;
+pub use example::{is_example, try_example};
 pub use option::first_option;
 pub use proposal::propose;
 pub use wishes::Wishes;

@@ -47,7 +47,7 @@ fn take_options(season: &mut Season, zone_box: &ZoneBox, wishes: Wishes)
 }
 
 /// The first option of one fixture, whose sides these are.
-fn option_of(zone_box: &ZoneBox, wishes: Wishes, fixture: u16, sides: Fixture) -> Score
+pub fn option_of(zone_box: &ZoneBox, wishes: Wishes, fixture: u16, sides: Fixture) -> Score
     requires has_finish { HasFinish zone_box.now }
     requires in_range { fixture < length zone_box.now.season.scores }
     ensures { first_option (has_wish wishes.near sides.home wishes.claim)

@@ -5,7 +5,7 @@ use Rattle.score_box.specs.Unplayed.{unplayed_in}
 use Rattle.league_core.proofs.PlainLemmas.{list_all-at}
 use Rattle.league_core.proofs.OptionLemmas.{length-options_from}
 use Rattle.branch_rules.specs.Choices.{options_at_fixture}
-use Rattle.branch_rules.proofs.UnplayedLemmas.{unplayed_in_range}
+use Rattle.example_finish.proofs.UnplayedLemmas.{unplayed_in_range}
 use Rattle.branch_rules.proofs.RatedLemmas.{test_of_none}
 use Rattle.branch_rules.proofs.GoalTestLemmas.{scores_fixed}
 use Rattle.branch_rules.proofs.goals.goal_test.Goals as goal

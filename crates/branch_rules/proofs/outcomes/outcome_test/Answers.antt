@@ -2,7 +2,7 @@ use Rattle.std.proofs.Common.{◌<◌, IsTrue, List, ℕ, length, get_or, subst,
 use Rattle.league_core.specs.Options.{has_one_outcome}
 use Rattle.league_core.specs.Splits.{are_outcomes_fixed}
 use Rattle.branch_rules.specs.Choices.{options_at_fixture}
-use Rattle.branch_rules.proofs.UnplayedLemmas.{unplayed_in_range}
+use Rattle.example_finish.proofs.UnplayedLemmas.{unplayed_in_range}
 use Rattle.branch_rules.proofs.RatedLemmas.{test_of_none}
 use Rattle.branch_rules.proofs.OutcomeTestLemmas.{outcomes_fixed}
 use Rattle.branch_rules.proofs.outcomes.outcome_test.Goals as goal

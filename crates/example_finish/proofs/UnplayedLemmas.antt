@@ -3,6 +3,10 @@ use Rattle.std.proofs.Common.{◌≡◌, ◌+◌, ◌<◌, ℕ, zero, suc, Bool,
 use Rattle.std.proofs.Common.{◌++◌, inl, inr, Option, None, length, get_or, cond, refl, sym}
 use Rattle.std.proofs.Common.{ap}
 use Rattle.std.proofs.Common.{subst, arith}
+use Rattle.std.proofs.Common.{◌≤◌}
+use Rattle.std.specs.List.{range_with_len}
+use Rattle.std.proofs.lemmas.List.Sums.{length-filter, count_by-le-length}
+use Rattle.std.proofs.lemmas.List.FromFn.{length-range_with_len}
 use Rattle.std.proofs.Math.Nat.{eq-or-lt_of_le}
 use Rattle.std.proofs.lemmas.Bool.{cases_lt, cases_Bool}
 use Rattle.std.proofs.lemmas.List.{get_or_append_left, get_or_push, length_push, append-nil}
@@ -48,6 +52,17 @@ below scores (suc count) =
 pub unplayed_in_range : (scores : List (Option Score)) (j : ℕ) → j < length (unplayed_in scores)
     → get_or (unplayed_in scores) j 0 < length scores
 unplayed_in_range scores j within = below scores (length scores) j within
+
+-- they are no more than the fixtures
+pub unplayed_few : (scores : List (Option Score)) → length (unplayed_in scores) ≤ length scores
+unfolding unplayed_below
+unplayed_few scores =
+    let test : ℕ → Bool = λ fixture. is_unplayed (get_or scores fixture None) in
+    let all = range_with_len 0 (length scores) in
+    let same = length-filter test all in
+    let fewer = count_by-le-length test all in
+    let long = length-range_with_len 0 (length scores) in
+    omega arith
 
 -- what holds of each number of a list
 abbrev HoldOf : (ℕ → Type 0) → List ℕ → Type 0

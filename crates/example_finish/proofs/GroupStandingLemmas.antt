@@ -1,0 +1,261 @@
+-- Where a club stands in a group, step by step: by one order, and within the clubs that it leaves
+-- level by the next one.
+use Rattle.std.proofs.Common.{◌≡◌, ◌≢◌, ◌⊎◌, inl, inr, ℕ, ◌<◌, ◌≤◌, Bool, true, false, ◌&&◌, ◌||◌}
+use Rattle.std.proofs.Common.{◌==◌, nat_lt, cond, List, length, filter, refl, sym, ap, ◌∙◌, subst}
+use Rattle.std.proofs.Common.{arith}
+use Rattle.std.specs.declared.cmp.Ordering.{Ordering}
+use Rattle.std.specs.declared.cmp.Ordering.TheVariants.{Less, Equal, Greater}
+use Rattle.std.specs.Ordering.{is_eq, is_lt, int_eq, ordering_then}
+use Rattle.std.specs.Cmp.{IsTotalOrder}
+use Rattle.std.specs.Int.{bit_at}
+use Rattle.std.proofs.lemmas.Bool.{cases_Bool, eq-eqb, ne_eqb, and_from, and_parts, lt-ltb}
+use Rattle.std.proofs.lemmas.Cmp.{eq_by_cmp_equiv, tied_itself, int_cmp_total}
+use Rattle.league_core.specs.declared.sheet.Sheet.{Sheet}
+use Rattle.league_core.specs.declared.sheet.Order.TheVariants.{OverallFirst}
+use Rattle.league_core.specs.declared.club_set.ClubSet.{ClubSet}
+use Rattle.league_core.specs.Results.{Results}
+use Rattle.league_core.specs.Sheets.{clubs_of}
+use Rattle.league_core.specs.Sums.{has_club, points_of}
+use Rattle.league_core.specs.ClubSets.{clubs_in}
+use Rattle.league_core.specs.HeadToHead.{greater_first, by_head_to_head, are_level_in, level_with}
+use Rattle.league_core.specs.Ahead.{by_overall, lead_in, by_first_sums, are_level_overall}
+use Rattle.league_core.specs.Ahead.{level_overall, standing_by, standing_in}
+use Rattle.league_core.specs.Ranking.{tied_group_of}
+use Rattle.league_core.specs.LotsFor.{order_without_lots}
+use Rattle.league_core.proofs.OrderingLemmas.{then_agree}
+use Rattle.league_core.proofs.StandingLemmas.{by_head_to_head_total, by_first_sums_total}
+use Rattle.league_core.proofs.StandingLemmas.{level_with-tied, level_overall-tied}
+use Rattle.league_core.proofs.TimesLemmas.{lead_in-again, level_with-le}
+use Rattle.league_core.proofs.ClubSetLemmas.{clubs_below-filter, clubs_below-filter_range}
+use Rattle.league_core.proofs.ClubSetLemmas.{has_club-range, has_club-clubs_below}
+use Rattle.league_core.proofs.RankingLemmas.{tied_group_of-tied}
+use Rattle.final_rank.proofs.TierLemmas.{by_points, by_points_total, is_of_sheet}
+use Rattle.example_finish.specs.declared.standing.Standing.{Standing}
+use Rattle.example_finish.specs.GroupStandings.{IsStandingOf, next_after}
+
+and_under : (a b c : Bool) → (a && ((a && b) && c)) ≡ ((a && b) && c)
+and_under true b c = refl
+and_under false b c = refl
+
+-- a club of a set is below the number of clubs that a set has room for
+pub below_width : (set : ClubSet) (x : ℕ) (b : Bool)
+    → (nat_lt x 32 && (has_club (clubs_in set) x && b)) ≡ (has_club (clubs_in set) x && b)
+below_width set x b =
+    let is = has_club-clubs_below 32 set.bits x in
+    ap (λ h. nat_lt x 32 && (h && b)) is
+    ∙ and_under (nat_lt x 32) (bit_at set.bits x == 1) b
+    ∙ ap (λ h. h && b) (sym is)
+
+-- orders that agree on the clubs of a group leave a club where it stands
+pub standing_agrees : (order other : ℕ → ℕ → Ordering) (group : List ℕ) (club : ℕ)
+    (standing : Standing)
+    → ((x : ℕ) → has_club group x ≡ true → order x club ≡ other x club)
+    → IsStandingOf order group club standing → IsStandingOf other group club standing
+standing_agrees order other group club standing agree is = record {
+  ahead = λ x. is.ahead x ∙ under (has_club group x) is_lt (order x club) (other x club) (agree x);
+  level = λ x. is.level x ∙ under (has_club group x) is_eq (order x club) (other x club) (agree x);
+}
+  where
+    under : (among : Bool) (test : Ordering → Bool) (a b : Ordering) → (among ≡ true → a ≡ b)
+        → (among && test a) ≡ (among && test b)
+    under true test a b same = ap test (same refl)
+    under false test a b same = refl
+
+ahead_in_two : (among : Bool) (first next whole : Ordering)
+    → (among ≡ true → whole ≡ ordering_then first next)
+    → ((among && is_lt first) || ((among && is_eq first) && is_lt next)) ≡ (among && is_lt whole)
+ahead_in_two false first next whole is = refl
+ahead_in_two true Less next whole is = ap is_lt (sym (is refl))
+ahead_in_two true Equal next whole is = ap is_lt (sym (is refl))
+ahead_in_two true Greater next whole is = ap is_lt (sym (is refl))
+
+level_in_two : (among : Bool) (first next whole : Ordering)
+    → (among ≡ true → whole ≡ ordering_then first next)
+    → ((among && is_eq first) && is_eq next) ≡ (among && is_eq whole)
+level_in_two false first next whole is = refl
+level_in_two true Less next whole is = ap is_eq (sym (is refl))
+level_in_two true Equal next whole is = ap is_eq (sym (is refl))
+level_in_two true Greater next whole is = ap is_eq (sym (is refl))
+
+-- where a club stands by a first order, and among those that it leaves level by the next one, is
+-- where it stands by both
+pub standing_then : (first next whole : ℕ → ℕ → Ordering) (group : List ℕ) (club : ℕ)
+    (outer inner : Standing) (ahead : ClubSet) → IsStandingOf first group club outer
+    → IsStandingOf next (clubs_in outer.level) club inner
+    → ((x : ℕ) → has_club group x ≡ true
+    → whole x club ≡ ordering_then (first x club) (next x club))
+    → ((x : ℕ) → has_club (clubs_in ahead) x
+    ≡ (has_club (clubs_in outer.ahead) x || has_club (clubs_in inner.ahead) x))
+    → IsStandingOf whole group club (record { ahead = ahead; level = inner.level })
+standing_then first next whole group club outer inner ahead is_first is_next is_whole union =
+    record {
+      ahead = λ x.
+          union x
+          ∙ (λ i. is_first.ahead x i || is_next.ahead x i)
+          ∙ ap (λ b. (has_club group x && is_lt (first x club)) || (b && is_lt (next x club)))
+          (is_first.level x)
+          ∙ ahead_in_two (has_club group x) (first x club) (next x club) (whole x club) (is_whole
+          x);
+      level = λ x.
+          is_next.level x
+          ∙ ap (λ b. b && is_eq (next x club)) (is_first.level x)
+          ∙ level_in_two (has_club group x) (first x club) (next x club) (whole x club) (is_whole
+          x);
+    }
+
+-- the clubs of a set that an order leaves level with a club, as a list
+level_list : (order : ℕ → ℕ → Ordering) (group : ClubSet) (club : ℕ) (standing : Standing)
+    → IsStandingOf order (clubs_in group) club standing
+    → clubs_in standing.level ≡ filter (λ other. is_eq (order other club)) (clubs_in group)
+level_list order group club standing is =
+    clubs_below-filter 32 standing.level.bits group.bits (λ other. is_eq (order other club))
+    is.level
+
+-- a club is level with itself
+level_itself : (order : ℕ → ℕ → Ordering) → IsTotalOrder order → (group : List ℕ) (club : ℕ)
+    (standing : Standing) → has_club group club ≡ true → IsStandingOf order group club standing
+    → has_club (clubs_in standing.level) club ≡ true
+level_itself order total group club standing has is =
+    is.level club
+    ∙ and_from (has_club group club) (is_eq (order club club)) has
+    (ap is_eq (tied_itself total club))
+
+-- the clubs that the record leaves level with a club
+pub level_by_record : (sheet : Sheet) (season : Results) (group : ClubSet) (club : ℕ)
+    (standing : Standing)
+    → IsStandingOf (by_head_to_head sheet season (clubs_in group)) (clubs_in group) club standing
+    → clubs_in standing.level ≡ level_with sheet season (clubs_in group) club
+level_by_record sheet season group club standing is =
+    level_list (by_head_to_head sheet season (clubs_in group)) group club standing is
+
+-- they are no more than the group
+pub few_by_record : (sheet : Sheet) (season : Results) (group : ClubSet) (club : ℕ)
+    (standing : Standing)
+    → IsStandingOf (by_head_to_head sheet season (clubs_in group)) (clubs_in group) club standing
+    → length (clubs_in standing.level) ≤ length (clubs_in group)
+few_by_record sheet season group club standing is =
+    let same = ap length (level_by_record sheet season group club standing is) in
+    let fewer = level_with-le sheet season (clubs_in group) club in
+    omega arith
+
+-- who leads is told by the record in the group, and by what decides after it
+lead_is : (sheet : Sheet) (season : Results) (group : ClubSet) (club : ℕ) (standing : Standing)
+    → IsStandingOf (by_head_to_head sheet season (clubs_in group)) (clubs_in group) club standing
+    → (x : ℕ) → has_club (clubs_in group) x ≡ true
+    → lead_in sheet season (clubs_in group) x club
+    ≡ ordering_then (by_head_to_head sheet season (clubs_in group) x club)
+    (next_after (length (clubs_in standing.level) == length (clubs_in group)) sheet season
+    (clubs_in standing.level) x club)
+lead_is sheet season group club standing is x has =
+    let all = clubs_in group in
+    lead_in-again sheet season all x club has
+    ∙ then_agree (by_head_to_head sheet season all x club) _ _
+    (λ tied.
+    let same : level_with sheet season all x ≡ clubs_in standing.level =
+    level_with-tied sheet season all x club tied
+    ∙ sym (level_by_record sheet season group club standing is) in
+    ap (λ xs. next_after (length xs == length all) sheet season xs x club) same)
+
+-- so where the record and what decides after it tell how a club stands, it stands so by who leads
+pub standing_in_lead : (sheet : Sheet) (season : Results) (group : ClubSet) (club : ℕ)
+    (outer inner : Standing) (ahead : ClubSet)
+    → IsStandingOf (by_head_to_head sheet season (clubs_in group)) (clubs_in group) club outer
+    → IsStandingOf
+    (next_after (length (clubs_in outer.level) == length (clubs_in group)) sheet season
+    (clubs_in outer.level)) (clubs_in outer.level) club inner
+    → ((x : ℕ) → has_club (clubs_in ahead) x
+    ≡ (has_club (clubs_in outer.ahead) x || has_club (clubs_in inner.ahead) x))
+    → IsStandingOf (lead_in sheet season (clubs_in group)) (clubs_in group) club
+    (record { ahead = ahead; level = inner.level })
+standing_in_lead sheet season group club outer inner ahead is_first is_next union =
+    standing_then (by_head_to_head sheet season (clubs_in group))
+    (next_after (length (clubs_in outer.level) == length (clubs_in group)) sheet season
+    (clubs_in outer.level)) (lead_in sheet season (clubs_in group)) (clubs_in group) club outer
+    inner ahead is_first is_next (lead_is sheet season group club outer is_first) union
+
+-- the club is one of those that its record leaves level with it, and they are clubs of the group
+pub itself_by_record : (sheet : Sheet) (season : Results) (group : ClubSet) (club : ℕ)
+    (standing : Standing) → has_club (clubs_in group) club ≡ true
+    → IsStandingOf (by_head_to_head sheet season (clubs_in group)) (clubs_in group) club standing
+    → has_club (clubs_in standing.level) club ≡ true
+itself_by_record sheet season group club standing has is =
+    level_itself (by_head_to_head sheet season (clubs_in group))
+    (by_head_to_head_total sheet season (clubs_in group)) (clubs_in group) club standing has is
+
+pub itself_by_first_sums : (sheet : Sheet) (season : Results) (group : ClubSet) (club : ℕ)
+    (standing : Standing) → has_club (clubs_in group) club ≡ true
+    → IsStandingOf (by_first_sums sheet season) (clubs_in group) club standing
+    → has_club (clubs_in standing.level) club ≡ true
+itself_by_first_sums sheet season group club standing has is =
+    level_itself (by_first_sums sheet season) (by_first_sums_total sheet season) (clubs_in group)
+    club standing has is
+
+pub itself_by_points : (sheet : Sheet) (season : Results) (club : ℕ) (standing : Standing)
+    → club < length sheet.clubs
+    → IsStandingOf (by_points sheet season) (clubs_of sheet) club standing
+    → has_club (clubs_in standing.level) club ≡ true
+itself_by_points sheet season club standing below is =
+    level_itself (by_points sheet season) (by_points_total sheet season) (clubs_of sheet) club
+    standing (is_of_sheet sheet club below) is
+
+-- the clubs that an order leaves level are clubs of the group
+pub level_in_group : (order : ℕ → ℕ → Ordering) (group : List ℕ) (club : ℕ) (standing : Standing)
+    → IsStandingOf order group club standing → (x : ℕ)
+    → has_club (clubs_in standing.level) x ≡ true → has_club group x ≡ true
+level_in_group order group club standing is x has =
+    (and_parts (has_club group x) (is_eq (order x club)) (sym (is.level x) ∙ has)).0
+
+-- where difference and goals over all matches come first, and then who leads among the clubs that
+-- share them
+pub standing_overall_first : (sheet : Sheet) (season : Results) (group : ClubSet) (club : ℕ)
+    (outer inner : Standing) (ahead : ClubSet)
+    → IsStandingOf (by_first_sums sheet season) (clubs_in group) club outer
+    → IsStandingOf (lead_in sheet season (clubs_in outer.level)) (clubs_in outer.level) club inner
+    → ((x : ℕ) → has_club (clubs_in ahead) x
+    ≡ (has_club (clubs_in outer.ahead) x || has_club (clubs_in inner.ahead) x))
+    → IsStandingOf (standing_by OverallFirst sheet season (clubs_in group)) (clubs_in group) club
+    (record { ahead = ahead; level = inner.level })
+standing_overall_first sheet season group club outer inner ahead is_first is_next union =
+    let all = clubs_in group in
+    let level_is : clubs_in outer.level ≡ level_overall sheet season all club =
+    level_list (by_first_sums sheet season) group club outer is_first in
+    standing_then (by_first_sums sheet season) (lead_in sheet season (clubs_in outer.level))
+    (standing_by OverallFirst sheet season all) all club outer inner ahead is_first is_next
+    (λ x has.
+    then_agree (by_first_sums sheet season x club) _ _
+    (λ tied. ap (λ xs. lead_in sheet season xs x club)
+    (level_overall-tied sheet season all x club tied ∙ sym level_is)))
+    union
+
+-- the clubs on a club's points are its tied group
+pub level_by_points : (sheet : Sheet) (season : Results) (club : ℕ) (standing : Standing)
+    → length sheet.clubs ≤ 32
+    → IsStandingOf (by_points sheet season) (clubs_of sheet) club standing
+    → clubs_in standing.level ≡ tied_group_of sheet season club
+level_by_points sheet season club standing few is =
+    clubs_below-filter_range 32 standing.level.bits (length sheet.clubs)
+    (λ other. int_eq (points_of sheet season other) (points_of sheet season club)) few
+    (λ x.
+    is.level x
+    ∙ (λ i. has_club-range (length sheet.clubs) x i && (eq_by_cmp_equiv int_cmp_total).symm
+    (points_of sheet season club) (points_of sheet season x) i))
+
+-- before the lots clubs stand by their points, and then as they stand among those on one number
+pub standing_without_lots : (sheet : Sheet) (season : Results) (club : ℕ)
+    (outer inner : Standing) (ahead : ClubSet) → length sheet.clubs ≤ 32
+    → IsStandingOf (by_points sheet season) (clubs_of sheet) club outer
+    → IsStandingOf (standing_in sheet season (clubs_in outer.level)) (clubs_in outer.level) club
+    inner
+    → ((x : ℕ) → has_club (clubs_in ahead) x
+    ≡ (has_club (clubs_in outer.ahead) x || has_club (clubs_in inner.ahead) x))
+    → IsStandingOf (order_without_lots sheet season) (clubs_of sheet) club
+    (record { ahead = ahead; level = inner.level })
+standing_without_lots sheet season club outer inner ahead few is_first is_next union =
+    let level_is = level_by_points sheet season club outer few is_first in
+    standing_then (by_points sheet season) (standing_in sheet season (clubs_in outer.level))
+    (order_without_lots sheet season) (clubs_of sheet) club outer inner ahead is_first is_next
+    (λ x has.
+    then_agree (by_points sheet season x club) _ _
+    (λ tied. ap (λ xs. standing_in sheet season xs x club)
+    (tied_group_of-tied sheet season x club tied ∙ sym level_is)))
+    union

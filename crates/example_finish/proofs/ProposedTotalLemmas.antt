@@ -1,0 +1,267 @@
+-- What the matches of the proposed finish add up to: what was played, and what is proposed for the
+-- matches that are not.
+use Rattle.std.proofs.Common.{◌≡◌, ℕ, zero, suc, ◌+◌, ◌*◌, ◌<◌, ◌≤◌, ℤ, pos, ◌+ℤ◌, ◌&&◌, Bool, true}
+use Rattle.std.proofs.Common.{false, cond, List, [], ◌∷◌, ◌++◌, length, get_or, take, Option, Some}
+use Rattle.std.proofs.Common.{None, ◌≢◌, inl, inr, set, refl, sym, ap, ◌∙◌, subst, arith}
+use Rattle.std.proofs.lemmas.Bool.{true≢false, cases_eq}
+use Rattle.std.specs.List.{range_with_len}
+use Rattle.tie_criteria.specs.Groups.{IsGroupOf}
+use Rattle.std.proofs.lemmas.Int.{ints}
+use Rattle.std.proofs.lemmas.List.{take_more, take_all, get_or-set_same, get_or-set_other}
+use Rattle.league_core.specs.declared.sheet.Sheet.{Sheet}
+use Rattle.league_core.specs.declared.sheet.Fixture.{Fixture}
+use Rattle.league_core.specs.declared.season.Score.{Score}
+use Rattle.league_core.specs.declared.question.Question.{Question}
+use Rattle.league_core.specs.declared.zone.Literal.{Literal}
+use Rattle.league_core.specs.Results.{Results}
+use Rattle.league_core.specs.Seasons.{IsSeasonOf}
+use Rattle.league_core.specs.Sheets.{IsWithinLimits, clubs_of}
+use Rattle.league_core.specs.Sums.{Worth, has_club, worth_to, worth_among, if_played, sum_over}
+use Rattle.league_core.specs.Sums.{sum_of, sum_among}
+use Rattle.league_core.specs.PointRanges.{total_of}
+use Rattle.league_core.specs.Options.{options_in, has_finish}
+use Rattle.league_core.specs.Proposals.{is_wished, first_option, proposed_finish}
+use Rattle.league_core.proofs.PointRangeLemmas.{total_of-append}
+use Rattle.league_core.proofs.OptionLemmas.{length-options_from}
+use Rattle.final_rank.proofs.PointsLemmas.{sum_over-among_all}
+use Rattle.final_rank.proofs.TierLemmas.{is_of_sheet, below_clubs}
+use Rattle.score_box.specs.declared.totals.Totals.{Totals}
+use Rattle.score_box.specs.Totals.{Column, worth_in, total_in, AreTotals, AreTotalsNear}
+use Rattle.score_box.specs.Totals.{totals_at, no_totals, AreTogether, TotalsGrowBy}
+use Rattle.score_box.specs.Unplayed.{is_unplayed, unplayed_in}
+use Rattle.score_box.proofs.SplitLemmas.{sum_split, keeps_played, worth_at_fixture}
+use Rattle.score_box.proofs.TotalLemmas.{same_totals, near_none, near_together, near_wider}
+use Rattle.score_box.proofs.TotalLemmas.{each_column}
+use Rattle.example_finish.specs.ProposalViews.{Asked, sheet_asked, season_asked, finish_asked}
+use Rattle.example_finish.specs.ProposedTotals.{AreTotalsAmong, AreTotalsOver, worth_proposed}
+use Rattle.example_finish.proofs.ProposedLemmas.{first_options-at, length-first_options}
+
+-- the proposed finish has a score for each match, and keeps those of the matches that are played
+pub length-proposed : (asked : Asked) → IsSeasonOf (sheet_asked asked) (season_asked asked)
+    → length (finish_asked asked).scores ≡ length (sheet_asked asked).fixtures
+unfolding proposed_finish
+length-proposed asked of_sheet =
+    let setting = asked.setting in
+    let long = length-options_from setting.sheet.goal_limit setting.zone 0 setting.season.scores in
+    let same : length setting.sheet.fixtures
+    ≡ length (options_in setting.sheet setting.season setting.zone) =
+    sym of_sheet.scores ∙ sym long in
+    length-first_options
+    (λ (club : ℕ). is_wished setting.zone asked.question.club club asked.question.claim)
+    setting.sheet.fixtures (options_in setting.sheet setting.season setting.zone) same
+    ∙ sym same
+
+proposed_keeps : (asked : Asked) → IsSeasonOf (sheet_asked asked) (season_asked asked)
+    → has_finish asked.setting.sheet asked.setting.season asked.setting.zone ≡ true → (k : ℕ)
+    → is_unplayed (get_or (season_asked asked).scores k None) ≡ false
+    → get_or (finish_asked asked).scores k None ≡ get_or (season_asked asked).scores k None
+unfolding proposed_finish
+proposed_keeps asked of_sheet some k played =
+    let setting = asked.setting in
+    let options = options_in setting.sheet setting.season setting.zone in
+    let wished = λ (club : ℕ).
+    is_wished setting.zone asked.question.club club asked.question.claim in
+    let long = length-options_from setting.sheet.goal_limit setting.zone 0 setting.season.scores in
+    let same : length setting.sheet.fixtures ≡ length options = sym of_sheet.scores ∙ sym long in
+    let found = keeps_played setting.sheet setting.season setting.zone some k played in
+    let below : k < length setting.sheet.fixtures =
+    omega (arith, of_sheet.scores, played_within setting.season.scores k played) in
+    let sides = get_or setting.sheet.fixtures k (record { home = 0; away = 0 }) in
+    first_options-at wished setting.sheet.fixtures options k (record { home = 0; away = 0 }) below
+    same
+    ∙ ap (first_option (wished sides.home) (wished sides.away)) found.2
+    ∙ sym found.1
+  where
+    played_within : (scores : List (Option Score)) (k : ℕ)
+        → is_unplayed (get_or scores k None) ≡ false → k < length scores
+    played_within [] k is = absurd (true≢false is)
+    played_within (score ∷ scores) zero is = omega arith
+    played_within (score ∷ scores) (suc k) is =
+        let rest = played_within scores k is in omega arith
+
+-- what matches add up to in the proposed finish
+pub sum_proposed : (asked : Asked) → IsSeasonOf (sheet_asked asked) (season_asked asked)
+    → has_finish asked.setting.sheet asked.setting.season asked.setting.zone ≡ true
+    → (value : Fixture → Score → ℤ)
+    → sum_over value (sheet_asked asked).fixtures (finish_asked asked).scores
+    ≡ sum_over value (sheet_asked asked).fixtures (season_asked asked).scores
+    +ℤ total_of (worth_at_fixture value (sheet_asked asked).fixtures (finish_asked asked).scores)
+    (unplayed_in (season_asked asked).scores)
+sum_proposed asked of_sheet some value =
+    sum_split value (sheet_asked asked).fixtures (season_asked asked).scores
+    (finish_asked asked).scores of_sheet.scores (length-proposed asked of_sheet)
+    (proposed_keeps asked of_sheet some)
+
+-- the rows of a group's clubs with so many of the matches that are not played
+pub record AreTotalsWith (asked : Asked) (group : List ℕ) (matches : List ℕ) (i : ℕ)
+    (table : List Totals) : Type 0 where
+  pub sums : (club : ℕ) → has_club group club ≡ true → AreTotals (λ worth.
+      sum_among group worth (sheet_asked asked) (season_asked asked) club
+      +ℤ total_of (λ k. worth_proposed asked group club k worth) (take i matches))
+      (totals_at table club)
+  pub near : (club : ℕ) → AreTotalsNear (5000000 + 255 * i) (totals_at table club)
+
+-- with one match more
+pub with_one_more : (asked : Asked) (group : List ℕ) (matches : List ℕ) (i k : ℕ)
+    (old new : List Totals) → i < length matches → k ≡ get_or matches i 0
+    → AreTotalsWith asked group matches i old
+    → ((club : ℕ) → TotalsGrowBy (worth_proposed asked group club k) (totals_at old club)
+    (totals_at new club))
+    → AreTotalsWith asked group matches (i + 1) new
+with_one_more asked group matches i k old new within is so_far grows = record {
+  sums = λ club has column.
+      let value : ℕ → ℤ = λ k. worth_proposed asked group club k (worth_in column) in
+      let before = so_far.sums club has column in
+      let here = (grows club).sums column in
+      let more : total_of value (take (i + 1) matches)
+      ≡ total_of value (take i matches) +ℤ (value k +ℤ pos 0) =
+      ap (total_of value) (take_more matches i 0 within)
+      ∙ total_of-append value (take i matches) (get_or matches i 0 ∷ [])
+      ∙ ap (λ (j : ℕ). total_of value (take i matches) +ℤ (value j +ℤ pos 0)) (sym is) in
+      omega (arith, ints, before, here, more);
+  near = λ club. subst (λ (bound : ℕ). AreTotalsNear bound (totals_at new club))
+      (let e : 5000000 + 255 * i + 255 ≡ 5000000 + 255 * (i + 1) = omega arith in e)
+      ((grows club).near (5000000 + 255 * i) (so_far.near club));
+}
+
+-- with all of them they are what the proposed finish adds up to
+pub with_all : (asked : Asked) (group : List ℕ) (i : ℕ) (table : List Totals)
+    → IsSeasonOf (sheet_asked asked) (season_asked asked)
+    → has_finish asked.setting.sheet asked.setting.season asked.setting.zone ≡ true
+    → length (unplayed_in (season_asked asked).scores) ≤ i
+    → AreTotalsWith asked group (unplayed_in (season_asked asked).scores) i table
+    → AreTotalsAmong (sheet_asked asked) (finish_asked asked) group table
+with_all asked group i table of_sheet some past all club has column =
+    all.sums club has column
+    ∙ ap (λ (ks : List ℕ). sum_among group (worth_in column) (sheet_asked asked)
+    (season_asked asked) club +ℤ total_of (λ k. worth_proposed asked group club k (worth_in column))
+    ks) (take_all i (unplayed_in (season_asked asked).scores) past)
+    ∙ sym (sum_proposed asked of_sheet some (worth_among group (worth_in column) club))
+
+-- a match without both its sides in the group adds nothing
+pub none_added : (asked : Asked) (group : List ℕ) (club k : ℕ) (sides : Fixture)
+    (totals : Totals)
+    → sides ≡ get_or (sheet_asked asked).fixtures k (record { home = 0; away = 0 })
+    → (has_club group sides.home && has_club group sides.away) ≡ false
+    → TotalsGrowBy (worth_proposed asked group club k) totals totals
+none_added asked group club k sides totals is out =
+    subst (λ (value : Worth → ℤ). TotalsGrowBy value totals totals)
+    (λ i worth. (sym (nothing worth (get_or (finish_asked asked).scores k None))
+    ∙ ap (λ (match : Fixture). if_played (worth_among group worth club) match
+    (get_or (finish_asked asked).scores k None)) is) i)
+    (same_totals totals)
+  where
+    nothing : (worth : Worth) (score : Option Score)
+        → if_played (worth_among group worth club) sides score ≡ pos 0
+    nothing worth None = refl
+    nothing worth (Some score) = ap (λ b. cond b (worth_to worth club sides score) (pos 0)) out
+
+-- another adds what it is worth
+pub one_added : (asked : Asked) (group : List ℕ) (club k : ℕ) (sides : Fixture) (score : Score)
+    (old new : Totals)
+    → sides ≡ get_or (sheet_asked asked).fixtures k (record { home = 0; away = 0 })
+    → get_or (finish_asked asked).scores k None ≡ Some score
+    → (has_club group sides.home && has_club group sides.away) ≡ true
+    → TotalsGrowBy (λ worth. worth_to worth club sides score) old new
+    → TotalsGrowBy (worth_proposed asked group club k) old new
+one_added asked group club k sides score old new is taken both grows =
+    subst (λ (value : Worth → ℤ). TotalsGrowBy value old new)
+    (λ i worth. (sym (ap (λ b. cond b (worth_to worth club sides score) (pos 0)) both)
+    ∙ (λ j. if_played (worth_among group worth club) (is j) (sym taken j))) i)
+    grows
+
+-- the totals over all matches are those among all clubs
+among_all : (sheet : Sheet) (season : Results) (worth : Worth) (club : ℕ)
+    → IsWithinLimits sheet
+    → sum_among (clubs_of sheet) worth sheet season club ≡ sum_of worth sheet season club
+among_all sheet season worth club limits =
+    sum_over-among_all (clubs_of sheet) (length sheet.clubs) worth club sheet.fixtures season.scores
+    (is_of_sheet sheet) limits.fixtures
+
+pub over_from_among : (sheet : Sheet) (season : Results) (table : List Totals)
+    → IsWithinLimits sheet → AreTotalsAmong sheet season (clubs_of sheet) table
+    → AreTotalsOver sheet season table
+over_from_among sheet season table limits are club below column =
+    are club (is_of_sheet sheet club below) column
+    ∙ among_all sheet season (worth_in column) club limits
+
+pub among_from_over : (sheet : Sheet) (season : Results) (table : List Totals)
+    → IsWithinLimits sheet → AreTotalsOver sheet season table
+    → AreTotalsAmong sheet season (clubs_of sheet) table
+among_from_over sheet season table limits are club has column =
+    are club (below_clubs sheet club has) column
+    ∙ sym (among_all sheet season (worth_in column) club limits)
+
+-- a row that is put together with that of a match grows by what the match is worth
+pub grown_by_match : (old row new : Totals) (scored conceded : ℕ) (away : Bool)
+    → TotalsGrowBy (λ worth. worth scored conceded away) no_totals row → AreTogether old row new
+    → TotalsGrowBy (λ worth. worth scored conceded away) old new
+grown_by_match old row new scored conceded away grows together = record {
+  sums = λ column.
+      let sum = together column in
+      let here = grows.sums column in
+      let nothing = zero_in column in
+      omega (arith, ints, sum, here, nothing);
+  near = λ bound near. near_together old row new bound 255 together near (grows.near 0 near_none);
+}
+  where
+    zero_in : (column : Column) → total_in no_totals column ≡ pos 0
+    zero_in = each_column _ refl refl refl refl refl refl
+
+-- a row that is near zero is no farther than a wider bound
+pub all_wider : (bound more : ℕ) (table : List Totals) → bound ≤ more
+    → ((club : ℕ) → AreTotalsNear bound (totals_at table club))
+    → (club : ℕ) → AreTotalsNear more (totals_at table club)
+all_wider bound more table fewer near club =
+    near_wider bound more (totals_at table club) fewer (near club)
+
+-- rows of which the one is set, where it and all others are near zero, are near zero
+pub all_near_set : (bound : ℕ) (table : List Totals) (club : ℕ) (row : Totals)
+    → club < length table → ((x : ℕ) → AreTotalsNear bound (totals_at table x))
+    → AreTotalsNear bound row → (x : ℕ) → AreTotalsNear bound (totals_at (set table club row) x)
+all_near_set bound table club row within near here x =
+    elim (cases_eq club x) as (λ _. AreTotalsNear bound (totals_at (set table club row) x)) [
+      | inl same ↦
+          subst (λ (k : ℕ). AreTotalsNear bound (totals_at (set table club row) k)) same
+          (subst (AreTotalsNear bound)
+          (sym (get_or-set_same table club row no_totals within)) here)
+      | inr other ↦
+          subst (AreTotalsNear bound)
+          (sym (get_or-set_other table club x row no_totals (λ e. other (sym e)))) (near x)
+    ]
+
+-- a row that is set, and the others
+pub row_set : (table : List Totals) (club : ℕ) (row : Totals) → club < length table
+    → totals_at (set table club row) club ≡ row
+row_set table club row within = get_or-set_same table club row no_totals within
+
+pub row_kept : (table : List Totals) (club x : ℕ) (row : Totals) → x ≢ club
+    → totals_at (set table club row) x ≡ totals_at table x
+row_kept table club x row other = get_or-set_other table club x row no_totals other
+
+-- the row of no match is near zero
+pub none_near : (bound : ℕ) (row : Totals) → row ≡ no_totals → AreTotalsNear bound row
+none_near bound row is =
+    subst (AreTotalsNear bound) (sym is) (near_wider 0 bound no_totals (omega arith) near_none)
+
+-- all clubs of a sheet, as they were read
+pub all_clubs : (sheet read : Sheet) (group : List ℕ) (clubs : ℕ) → read ≡ sheet
+    → clubs ≡ length read.clubs → group ≡ range_with_len 0 clubs → group ≡ clubs_of sheet
+all_clubs sheet read group clubs read_is clubs_are group_is =
+    group_is ∙ ap (λ n. range_with_len 0 n) clubs_are
+    ∙ ap (λ (s : Sheet). clubs_of s) read_is
+
+-- they are clubs of the sheet
+pub group_of_all : (sheet : Sheet) (group : List ℕ) → group ≡ clubs_of sheet → IsGroupOf sheet group
+group_of_all sheet group is club has =
+    below_clubs sheet club (ap (λ (clubs : List ℕ). has_club clubs club) (sym is) ∙ has)
+
+-- so many rows of no match have no match at any place
+abbrev pub rows_of : ℕ → List Totals
+rows_of zero = []
+rows_of (suc n) = no_totals ∷ rows_of n
+
+pub at_rows : (n club : ℕ) → totals_at (rows_of n) club ≡ no_totals
+at_rows zero club = refl
+at_rows (suc n) zero = refl
+at_rows (suc n) (suc club) = at_rows n club

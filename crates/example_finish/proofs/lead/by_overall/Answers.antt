@@ -1,0 +1,20 @@
+use Rattle.league_core.specs.Ahead.{by_overall}
+use Rattle.league_core.specs.ClubSets.{clubs_in}
+use Rattle.example_finish.specs.ProposalViews.{sheet_asked, finish_asked}
+use Rattle.example_finish.specs.ProposedTotals.{by_criterion}
+use Rattle.example_finish.specs.declared.criterion.Criterion.TheVariants.{Overall}
+use Rattle.example_finish.proofs.CriterionLemmas.{by_overall_is}
+use Rattle.example_finish.proofs.GroupStandingLemmas.{standing_agrees}
+use Rattle.example_finish.proofs.lead.by_overall.Goals as goal
+
+pub returns : goal.returns
+returns c =
+    let sheet = sheet_asked c.args.proposed.now in
+    let finish = finish_asked c.args.proposed.now in
+    let group = clubs_in c.args.group in
+    standing_agrees (by_criterion Overall c.sheet.result.now c.season.result.now c.args.all.now)
+    (by_overall sheet finish) group c.args.club c.by.result
+    (λ x has. by_overall_is sheet c.sheet.result.now c.season.result.now finish c.args.all.now x
+    c.args.club c.sheet.ensures.sheet c.requires.totals (c.requires.of_group x has)
+    (c.requires.of_group c.args.club c.requires.among))
+    c.by.ensures

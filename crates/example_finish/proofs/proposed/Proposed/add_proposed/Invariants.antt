@@ -1,0 +1,11 @@
+-- The rows have what was played, and what the matches before this one add.
+use Rattle.std.proofs.Common.{length}
+use Rattle.league_core.specs.ClubSets.{clubs_in}
+use Rattle.score_box.specs.Unplayed.{unplayed_in}
+use Rattle.example_finish.specs.ProposalViews.{season_asked}
+use Rattle.example_finish.proofs.ProposedTotalLemmas.{AreTotalsWith}
+use Rattle.example_finish.proofs.proposed.Proposed.add_proposed.Given as goal
+
+abbrev pub invariant-loop-i : goal.invariant-loop-i
+invariant-loop-i l =
+    AreTotalsWith l.self (clubs_in l.group) (unplayed_in (season_asked l.self).scores) l.i l.table

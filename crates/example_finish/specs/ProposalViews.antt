@@ -1,0 +1,36 @@
+-- The proposed finish of a box, as it is looked at: the box and the question that it is proposed
+-- for.
+use Rattle.std.specs.Prelude.{◌<◌, length}
+use Rattle.league_core.specs.declared.sheet.Sheet.{Sheet}
+use Rattle.league_core.specs.declared.question.Question.{Question}
+use Rattle.league_core.specs.Results.{Results}
+use Rattle.league_core.specs.Proposals.{proposed_finish}
+use Rattle.score_box.specs.Settings.{Setting, HasFinish}
+use Rattle.example_finish.specs.declared.wishes.Wishes.{Wishes}
+use Rattle.example_finish.specs.Wished.{AreWishesOf}
+
+-- a sheet, a season and a zone of it, with a question
+pub record Asked : Type 0 where
+  pub setting : Setting
+  pub question : Question
+
+-- the sheet of what is asked
+abbrev pub sheet_asked : Asked → Sheet
+sheet_asked asked = asked.setting.sheet
+
+-- the season that is asked about
+abbrev pub season_asked : Asked → Results
+season_asked asked = asked.setting.season
+
+-- the finish that is proposed for it
+abbrev pub finish_asked : Asked → Results
+finish_asked asked =
+    proposed_finish asked.setting.sheet asked.setting.season asked.question asked.setting.zone
+
+-- what a look at a proposed finish keeps: the zone has a finish, the club is one of the sheet's,
+-- and
+-- the wishes are those of the question
+pub record IsProposalFor (setting : Setting) (question : Question) (wishes : Wishes) : Type 0 where
+  pub has_finish : HasFinish setting
+  pub of_sheet : question.club < length setting.sheet.clubs
+  pub wishes_are : AreWishesOf setting.zone question wishes

@@ -1,0 +1,67 @@
+-- What matches add up to for clubs, kept by the clubs' numbers, and the comparisons of clubs by
+-- these sums.
+use Rattle.std.specs.Prelude.{◌<◌, ℕ, ℤ, pos, neg_ℤ, ◌-ℤ◌, IsTrue, List, [], ◌∷◌, length}
+use Rattle.std.specs.Prelude.{slice_index, slice_index_or, None}
+use Rattle.std.specs.declared.cmp.Ordering.{Ordering}
+use Rattle.league_core.specs.declared.sheet.Sheet.{Sheet}
+use Rattle.league_core.specs.Results.{Results}
+use Rattle.league_core.specs.Sums.{Worth, has_club, worth_among, sum_of, sum_among}
+use Rattle.league_core.specs.Sums.{if_played}
+use Rattle.league_core.specs.HeadToHead.{by_first_difference}
+use Rattle.league_core.specs.Ahead.{rank_of}
+use Rattle.score_box.specs.declared.totals.Totals.{Totals}
+use Rattle.score_box.specs.Totals.{AreTotals, AreTotalsNear, totals_at}
+use Rattle.example_finish.specs.ProposalViews.{Asked, sheet_asked, finish_asked}
+use Rattle.example_finish.specs.declared.criterion.Criterion.{Criterion}
+use Rattle.example_finish.specs.declared.criterion.Criterion.TheVariants.{Points, Record}
+use Rattle.example_finish.specs.declared.criterion.Criterion.TheVariants.{Goals, Overall}
+
+-- each club of the group has what the matches of the group add up to for it
+abbrev pub AreTotalsAmong : Sheet → Results → List ℕ → List Totals → Type 0
+AreTotalsAmong sheet season group table =
+    (club : ℕ) → IsTrue (has_club group club)
+    → AreTotals (λ worth. sum_among group worth sheet season club) (totals_at table club)
+
+-- each club of the sheet has what all matches add up to for it
+abbrev pub AreTotalsOver : Sheet → Results → List Totals → Type 0
+AreTotalsOver sheet season table =
+    (club : ℕ) → club < length sheet.clubs
+    → AreTotals (λ worth. sum_of worth sheet season club) (totals_at table club)
+
+-- all rows of the table are at most this far from zero
+abbrev pub AreTotalsAllNear : ℕ → List Totals → Type 0
+AreTotalsAllNear bound table = (club : ℕ) → AreTotalsNear bound (totals_at table club)
+
+-- what a fixture of the proposed finish is worth to a club among the clubs of a group
+abbrev pub worth_proposed : Asked → List ℕ → ℕ → ℕ → Worth → ℤ
+worth_proposed asked group club fixture worth =
+    if_played (worth_among group worth club)
+    (slice_index_or (sheet_asked asked).fixtures fixture (record { home = 0; away = 0 }))
+    (slice_index_or (finish_asked asked).scores fixture None)
+
+-- the numbers by which clubs are compared: points less those taken off; the record of points,
+-- difference and goals; difference and goals alone; or all that decides after the records
+abbrev pub numbers_by : Criterion → Sheet → Results → List Totals → ℕ → List ℤ
+numbers_by Points sheet season table club =
+    ((totals_at table club).points -ℤ pos (slice_index season.deductions club)) ∷ []
+numbers_by Record sheet season table club =
+    (totals_at table club).points
+    ∷ (totals_at table club).difference
+    ∷ (totals_at table club).goals
+    ∷ []
+numbers_by Goals sheet season table club =
+    (totals_at table club).difference ∷ (totals_at table club).goals ∷ []
+numbers_by Overall sheet season table club =
+    (totals_at table club).difference
+    ∷ (totals_at table club).goals
+    ∷ (totals_at table club).away_goals
+    ∷ (totals_at table club).wins
+    ∷ (totals_at table club).away_wins
+    ∷ neg_ℤ (pos (rank_of sheet club))
+    ∷ []
+
+-- Less where the one club comes before the other
+abbrev pub by_criterion : Criterion → Sheet → Results → List Totals → ℕ → ℕ → Ordering
+by_criterion criterion sheet season table club other =
+    by_first_difference (numbers_by criterion sheet season table club)
+    (numbers_by criterion sheet season table other)

@@ -1,0 +1,133 @@
+//! What clubs are compared by, and the comparison.
+
+ghost use Rattle.std.specs.Prelude.{◌≡◌, ◌-ℤ◌, ◌≤ℤ◌, pos, neg_ℤ, slice_index};
+ghost use Rattle.std.specs.Prelude.{[], ◌∷◌};
+ghost use Rattle.league_core.specs.HeadToHead.{by_first_difference};
+ghost use Rattle.league_core.specs.Ahead.{rank_of};
+ghost use Rattle.score_box.specs.Totals.{totals_at};
+ghost use Rattle.example_finish.specs.ProposedTotals.{by_criterion};
+
+use league_core::{Season, Sheet};
+use score_box::Totals;
+use std::cmp::Ordering;
+use tie_criteria::{Tail, Triple};
+
+/// What two clubs are compared by, the greater first.
+#[derive(Clone, Copy)]
+pub enum Criterion {
+    /// Points over the matches, less those taken off.
+    Points,
+    /// Points, then difference, then goals.
+    Record,
+    /// Difference, then goals.
+    Goals,
+    /// Difference, goals, away goals, wins and away wins, then the lower rank.
+    Overall,
+}
+
+/// A criterion over a table of sums by the clubs' numbers.
+#[derive(Clone, Copy)]
+pub struct Comparison<'a> {
+    pub criterion: Criterion,
+    pub sheet: &'a Sheet,
+    pub season: &'a Season,
+    pub table: &'a [Totals],
+}
+
+impl<'a> Comparison<'a> {
+    /// `Less` where the club comes before the other.
+    pub fn order(&self, club: u8, other: u8) -> Ordering
+        ensures { result ≡ by_criterion self.now.criterion self.now.sheet.now
+            self.now.season.now self.now.table.now club other }
+    {
+        let one = totals_at(self.table, club);
+        let two = totals_at(self.table, other);
+        match self.criterion {
+            Criterion::Points => {
+                let points = points_left(self.season, &one, club);
+                by_points(points, points_left(self.season, &two, other))
+            }
+            Criterion::Record => record_of(&one).order(&record_of(&two)),
+            Criterion::Goals => record_of(&one).order_by_goals(&record_of(&two)),
+            Criterion::Overall => {
+                let tail = tail_of(&one, rank_of(self.sheet, club));
+                tail.order(&tail_of(&two, rank_of(self.sheet, other)))
+            }
+        }
+    }
+}
+
+/// The sums at a club's number.
+pub fn totals_at(table: &[Totals], club: u8) -> Totals
+    ensures { result ≡ totals_at table.now club }
+{
+    table.get(club as usize).copied().unwrap_or(Totals::NONE)
+}
+
+/// The club's points less those taken off.
+pub fn points_left(season: &Season, totals: &Totals, club: u8) -> i64
+    ensures value { result ≡ (totals.now.points -ℤ pos (slice_index season.now.deductions club)) }
+    ensures least { neg_ℤ (pos 3000000000) ≤ℤ result }
+    ensures most { result ≤ℤ pos 3000000000 }
+{
+    i64::from(totals.points) - taken_off(season.deductions(), club)
+}
+
+/// `Less` where the first of two numbers is the greater.
+fn by_points(points: i64, other: i64) -> Ordering
+    ensures { result ≡ by_first_difference (points ∷ []) (other ∷ []) }
+{
+    other.cmp(&points).then(Ordering::Equal)
+}
+
+/// The points that are taken off the club; none off a number that is no club's.
+fn taken_off(deductions: &[u8], club: u8) -> i64
+    ensures value { result ≡ pos (slice_index deductions.now club) }
+    ensures small { result ≤ℤ pos 255 }
+{
+    i64::from(deductions.get(club as usize).copied().unwrap_or(0))
+}
+
+fn record_of(totals: &Totals) -> Triple
+    ensures { result ≡ record {
+      points = totals.now.points;
+      difference = totals.now.difference;
+      scored = totals.now.goals;
+    } }
+{
+    Triple {
+        points: totals.points,
+        difference: totals.difference,
+        scored: totals.goals,
+    }
+}
+
+fn tail_of(totals: &Totals, rank: u16) -> Tail
+    ensures { result ≡ record {
+      difference = totals.now.difference;
+      scored = totals.now.goals;
+      away_scored = totals.now.away_goals;
+      wins = totals.now.wins;
+      away_wins = totals.now.away_wins;
+      rank = rank;
+    } }
+{
+    Tail {
+        difference: totals.difference,
+        scored: totals.goals,
+        away_scored: totals.away_goals,
+        wins: totals.wins,
+        away_wins: totals.away_wins,
+        rank,
+    }
+}
+
+/// The club's fixed rank; 0 for a number that is no club's.
+fn rank_of(sheet: &Sheet, club: u8) -> u16
+    ensures { result ≡ rank_of sheet.now club }
+{
+    match sheet.clubs.as_slice().get(club as usize) {
+        Some(found) => found.rank,
+        None => 0,
+    }
+}

@@ -1,0 +1,91 @@
+//! Where a club stands in a group of clubs.
+
+ghost use Rattle.std.specs.Prelude.{◌≡◌, ◌<◌, ◌||◌, ◌&&◌, ◌==◌, ℕ, length};
+ghost use Rattle.std.specs.Ordering.{is_lt, is_eq};
+ghost use Rattle.league_core.specs.declared.sheet.Sheet.{Sheet};
+ghost use Rattle.league_core.specs.Results.{Results};
+ghost use Rattle.league_core.specs.Sheets.{IsWithinLimits, clubs_of};
+ghost use Rattle.league_core.specs.Sums.{has_club};
+ghost use Rattle.league_core.specs.Ranking.{place_of};
+ghost use Rattle.league_core.specs.LotsFor.{lots_for_claim, order_without_lots};
+ghost use Rattle.league_core.specs.ClubSets.{clubs_in};
+ghost use Rattle.example_finish.specs.ProposedTotals.{by_criterion};
+ghost use Rattle.example_finish.specs.GroupStandings.{IsStandingOf};
+
+use crate::criterion::Comparison;
+use league_core::{Claim, ClubSet};
+
+/// The clubs of a group that come before one of its clubs, and those level with it, itself among
+/// them.
+#[derive(Clone, Copy)]
+pub struct Standing {
+    pub ahead: ClubSet,
+    pub level: ClubSet,
+}
+
+impl Standing {
+    /// The clubs of the group around the club, by a comparison.
+    pub fn by(comparison: &Comparison, group: ClubSet, club: u8) -> Standing
+        ensures { IsStandingOf (by_criterion comparison.now.criterion
+            comparison.now.sheet.now comparison.now.season.now comparison.now.table.now)
+            (clubs_in group) club result }
+    {
+        let mut standing = Standing {
+            ahead: ClubSet::empty(),
+            level: ClubSet::empty(),
+        };
+        for other in 0..32 {
+            standing = standing.with_if(comparison, group, club, other);
+        }
+        standing
+    }
+
+    /// The clubs ahead by this or by the next one, and those level by both.
+    pub fn then(self, next: Standing) -> Standing
+        ensures ahead { (x : ℕ) → has_club (clubs_in result.ahead) x
+            ≡ (has_club (clubs_in self.ahead) x || has_club (clubs_in next.ahead) x) }
+        ensures level { result.level ≡ next.level }
+    {
+        Standing {
+            ahead: self.ahead.union(next.ahead),
+            level: next.level,
+        }
+    }
+
+    /// The place, from 1, of the club that these are around before the lots, with the lots that
+    /// favour the claim.
+    pub fn place(self, claim: Claim) -> u8
+        ensures { (sheet : Sheet) (season : Results) (club : ℕ)
+            → IsWithinLimits sheet → club < length sheet.clubs
+            → IsStandingOf (order_without_lots sheet season) (clubs_of sheet) club self
+            → result ≡ place_of sheet season (lots_for_claim (length sheet.clubs) club claim)
+            club }
+    {
+        match claim {
+            Claim::Inside => 1 + self.ahead.len(),
+            Claim::Outside => self.ahead.union(self.level).len(),
+        }
+    }
+
+    /// With one more of the clubs, where it is of the group.
+    fn with_if(self, comparison: &Comparison, group: ClubSet, club: u8, other: u8) -> Standing
+        requires { other < 32 }
+        ensures ahead { (x : ℕ) → has_club (clubs_in result.ahead) x
+            ≡ (has_club (clubs_in self.ahead) x || ((other == x) && (has_club (clubs_in group) x
+            && is_lt (by_criterion comparison.now.criterion comparison.now.sheet.now
+            comparison.now.season.now comparison.now.table.now x club)))) }
+        ensures level { (x : ℕ) → has_club (clubs_in result.level) x
+            ≡ (has_club (clubs_in self.level) x || ((other == x) && (has_club (clubs_in group) x
+            && is_eq (by_criterion comparison.now.criterion comparison.now.sheet.now
+            comparison.now.season.now comparison.now.table.now x club)))) }
+    {
+        if !group.has(other) {
+            return self;
+        }
+        let order = comparison.order(other, club);
+        Standing {
+            ahead: self.ahead.with_if(order.is_lt(), other),
+            level: self.level.with_if(order.is_eq(), other),
+        }
+    }
+}

@@ -1,0 +1,147 @@
+//! What the matches of the proposed finish add up to for clubs.
+
+ghost use Rattle.std.specs.Prelude.{◌≡◌, ◌≢◌, ℕ, ◌<◌, IsTrue, length};
+ghost use Rattle.league_core.specs.Sums.{has_club, worth_to, sum_among};
+ghost use Rattle.league_core.specs.ClubSets.{clubs_in};
+ghost use Rattle.tie_criteria.specs.Groups.{IsGroupOf};
+ghost use Rattle.score_box.specs.Totals.{totals_at, no_totals, AreTotals, AreTotalsNear};
+ghost use Rattle.score_box.specs.Totals.{TotalsGrowBy};
+ghost use Rattle.example_finish.specs.ProposalViews.{sheet_asked, season_asked, finish_asked};
+ghost use Rattle.example_finish.specs.ProposedTotals.{AreTotalsAmong, AreTotalsOver};
+ghost use Rattle.example_finish.specs.ProposedTotals.{AreTotalsAllNear, worth_proposed};
+
+use crate::proposed::Proposed;
+use league_core::{ClubSet, Fixture, Score};
+use score_box::{Totals, ZoneBox};
+
+impl<'a> Proposed<'a> {
+    /// What the matches among the clubs of a group add up to for each of these, by the clubs'
+    /// numbers.
+    pub fn totals_among(&self, group: ClubSet) -> [Totals; 24]
+        requires { IsGroupOf (sheet_asked self.now) (clubs_in group) }
+        ensures { AreTotalsAmong (sheet_asked self.now) (finish_asked self.now) (clubs_in group)
+            result }
+    {
+        let mut table = played_among(self.zone_box(), group);
+        self.add_proposed(&mut table, group);
+        table
+    }
+
+    /// What all matches add up to for each club, by the clubs' numbers.
+    pub fn totals_over(&self) -> [Totals; 24]
+        ensures { AreTotalsOver (sheet_asked self.now) (finish_asked self.now) result }
+    {
+        let mut table = played_over(self.zone_box());
+        self.add_proposed(&mut table, ClubSet::first(self.sheet().clubs.len() as u8));
+        table
+    }
+
+    /// Adds the matches among the group's clubs that are not played.
+    fn add_proposed(&self, table: &mut [Totals], group: ClubSet)
+        requires of_group { IsGroupOf (sheet_asked self.now) (clubs_in group) }
+        requires long { length table.old ≡ 24 }
+        requires near { AreTotalsAllNear 5000000 table.old }
+        requires played { AreTotalsAmong (sheet_asked self.now) (season_asked self.now)
+            (clubs_in group) table.old }
+        ensures { AreTotalsAmong (sheet_asked self.now) (finish_asked self.now)
+            (clubs_in group) table.new }
+    {
+        let _season = self.season();
+        let _sheet = self.sheet();
+        let unplayed = self.zone_box.unplayed();
+        for i in 0..unplayed.len() {
+            self.add_if_counted(table, group, unplayed[i]);
+        }
+    }
+
+    /// Adds a match, if both its sides are of the group.
+    fn add_if_counted(&self, table: &mut [Totals], group: ClubSet, fixture: u16)
+        requires in_range { fixture < length (season_asked self.now).scores }
+        requires long { length table.old ≡ 24 }
+        requires near { AreTotalsAllNear 100000000 table.old }
+        ensures { (club : ℕ) → TotalsGrowBy
+            (worth_proposed self.now (clubs_in group) club fixture)
+            (totals_at table.old club) (totals_at table.new club) }
+    {
+        let sides = self.sides(fixture);
+        if group.has(sides.home) && group.has(sides.away) {
+            add(table, sides, self.score(fixture));
+        }
+    }
+}
+
+/// Adds a match to the rows of its two clubs.
+fn add(table: &mut [Totals], sides: Fixture, score: Score)
+    requires different { sides.home ≢ sides.away }
+    requires home { sides.home < length table.old }
+    requires away { sides.away < length table.old }
+    requires near { AreTotalsAllNear 100000000 table.old }
+    ensures { (club : ℕ) → TotalsGrowBy (λ worth. worth_to worth club sides score)
+        (totals_at table.old club) (totals_at table.new club) }
+{
+    let at_home = with_match(&table[sides.home as usize], score.home, score.away, false);
+    let on_tour = with_match(&table[sides.away as usize], score.away, score.home, true);
+    table[sides.home as usize] = at_home;
+    table[sides.away as usize] = on_tour;
+}
+
+/// The row with one match more.
+fn with_match(totals: &Totals, scored: u8, conceded: u8, away: bool) -> Totals
+    requires { AreTotalsNear 100000000 totals.now }
+    ensures { TotalsGrowBy (λ worth. worth scored conceded away) totals.now result }
+{
+    totals.with(&Totals::NONE.plus(scored, conceded, away))
+}
+
+/// A table of clubs without a match.
+fn no_rows() -> [Totals; 24]
+    ensures none { (club : ℕ) → totals_at result club ≡ no_totals }
+    ensures long { length result ≡ 24 }
+{
+    [Totals::NONE; 24]
+}
+
+/// What the played matches among the clubs of a group add up to for each of these.
+fn played_among(zone_box: &ZoneBox, group: ClubSet) -> [Totals; 24]
+    requires { IsGroupOf zone_box.now.sheet (clubs_in group) }
+    ensures totals { AreTotalsAmong zone_box.now.sheet zone_box.now.season (clubs_in group)
+        result }
+    ensures near { AreTotalsAllNear 5000000 result }
+    ensures long { length result ≡ 24 }
+{
+    let mut table = no_rows();
+    for club in 0..zone_box.sheet().clubs.len() as u8 {
+        put_played(&mut table, zone_box, group, club);
+    }
+    table
+}
+
+/// Puts the club's row into the table, where the club is of the group.
+fn put_played(table: &mut [Totals], zone_box: &ZoneBox, group: ClubSet, club: u8)
+    requires of_group { IsGroupOf zone_box.now.sheet (clubs_in group) }
+    requires in_range { club < length table.old }
+    requires near { AreTotalsAllNear 5000000 table.old }
+    ensures itself { IsTrue (has_club (clubs_in group) club) → AreTotals (λ worth. sum_among
+        (clubs_in group) worth zone_box.now.sheet zone_box.now.season club)
+        (totals_at table.new club) }
+    ensures others { (other : ℕ) → other ≢ club
+        → totals_at table.new other ≡ totals_at table.old other }
+    ensures near { AreTotalsAllNear 5000000 table.new }
+{
+    if group.has(club) {
+        table[club as usize] = zone_box.totals_among(group, club);
+    }
+}
+
+/// What all played matches add up to for each club.
+fn played_over(zone_box: &ZoneBox) -> [Totals; 24]
+    ensures totals { AreTotalsOver zone_box.now.sheet zone_box.now.season result }
+    ensures near { AreTotalsAllNear 5000000 result }
+    ensures long { length result ≡ 24 }
+{
+    let mut table = no_rows();
+    for club in 0..zone_box.sheet().clubs.len() as u8 {
+        table[club as usize] = zone_box.totals(club);
+    }
+    table
+}
