@@ -20,7 +20,7 @@ use Rattle.league_core.specs.Zones.{marked_after, is_marked, is_test_of}
 use Rattle.league_core.specs.Options.{has_finish}
 use Rattle.league_core.specs.Reasons.{has_reason}
 use Rattle.league_core.specs.Trees.{Tree, open_leaf, lent_leaf, refuted_leaf, branch, NodesMeet}
-use Rattle.league_core.specs.Trees.{preorder, node_count, new_count}
+use Rattle.league_core.specs.Trees.{preorder, node_count, new_count, has_open}
 use Rattle.league_core.specs.Lending.{lent_count, times_lent}
 use Rattle.league_core.specs.Splits.{IsProperNode, is_proper, have_both_finish}
 use Rattle.league_core.proofs.HalfLemmas.{half_has_finish, root_has_finish}
@@ -380,6 +380,25 @@ proper_tests sheet season question zone (branch test fresh yes_half no_half) pro
     (All-append (IsNodeOf sheet) (preorder yes_half) (preorder no_half)
     (proper_tests sheet season question (with_test zone test true) yes_half proper.1)
     (proper_tests sheet season question (with_test zone test false) no_half proper.2))
+
+-- a tree of one node that has an open leaf is one
+pub open_leaf_is : (tree : Tree) → node_count tree ≡ 1 → has_open tree ≡ true → tree ≡ open_leaf
+open_leaf_is open_leaf one some = refl
+open_leaf_is (lent_leaf number) one some = absurd (false≢true some)
+open_leaf_is (refuted_leaf reason fresh) one some = absurd (false≢true some)
+open_leaf_is (branch test fresh yes_half no_half) one some =
+    let first = node_count-some yes_half in
+    let second = node_count-some no_half in
+    absurd (omega arith)
+
+-- a tree of one open leaf stays one
+pub retargeted-open : (sheet : Sheet) (season : Results) (question : Question) (tree : Tree)
+    → tree ≡ open_leaf → open_leaf ≡ retargeted sheet season question tree
+unfolding retargeted
+retargeted-open sheet season question tree is =
+    limit_cases (λ kept. open_leaf ≡ kept) open_leaf (λ few. refl) refl
+    ∙ ap (λ t. within_limit (retargeted_from sheet season question [] t))
+    (sym is)
 
 -- a list of more nodes than the limit is that of a tree that becomes one open leaf
 pub retargeted-many : (sheet : Sheet) (season : Results) (question : Question) (tree : Tree)

@@ -1,6 +1,7 @@
 //! A tree carried over to another season.
 
-ghost use Rattle.std.specs.Prelude.{◌≡◌, ◌<◌, length, IfOk};
+ghost use Rattle.std.specs.Prelude.{◌≡◌, ◌<◌, length, IfOk, IsTrue};
+ghost use Rattle.league_core.specs.Trees.{open_leaf};
 ghost use Rattle.league_core.specs.Seasons.{IsLeague};
 ghost use Rattle.tree_reuse.specs.Calls.{AreTestsOf};
 ghost use Rattle.tree_reuse.specs.Retargets.{retargeted};
@@ -13,7 +14,8 @@ use league_core::{OutOfMemory, Question, Season, Sheet};
 use std::alloc::Global;
 
 /// What the season leaves of a tree: refuted leaves whose reasons still hold, and the splits above
-/// them; a tree of more than 100,001 nodes is one open leaf. One look at each node.
+/// them; a tree of more than 100,001 nodes is one open leaf. One look at each node; for a tree that
+/// is one open leaf nothing of the season is looked at.
 pub fn retarget(
     alloc: Global,
     sheet: &Sheet,
@@ -26,6 +28,9 @@ pub fn retarget(
     requires tests { AreTestsOf sheet.now tree.now }
     ensures { IfOk result (λ new. new ≡ retargeted sheet.now season.now question.now tree.now) }
 {
+    if is_one_open_leaf(tree) {
+        return Tree::root(alloc);
+    }
     let found = carry(alloc, sheet, question, tree, season)?;
     if found.len() > MOST_KEPT as usize {
         return Tree::root(alloc);
@@ -35,4 +40,11 @@ pub fn retarget(
         Err(TreeStop::NoTree(_)) => unreachable!(),
         Err(TreeStop::OutOfMemory) => Err(OutOfMemory),
     }
+}
+
+#[tactic(auto, using(crate::proofs::RetargetLemmas::open_leaf_is))]
+fn is_one_open_leaf(tree: &Tree) -> bool
+    ensures { IsTrue result → tree.now ≡ open_leaf }
+{
+    tree.node_count() == 1 && tree.has_open()
 }

@@ -71,6 +71,13 @@ impl Tree {
         })
     }
 
+    /// How many nodes it has.
+    pub fn node_count(&self) -> usize
+        ensures { result ≡ node_count self.now }
+    {
+        self.nodes.len()
+    }
+
     /// A leaf is open.
     pub fn has_open(&self) -> bool
         ensures { result ≡ has_open self.now }

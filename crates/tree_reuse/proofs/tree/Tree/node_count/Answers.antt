@@ -1,0 +1,11 @@
+use Rattle.std.proofs.Common.{sym, ap, ◌∙◌}
+use Rattle.league_core.specs.Trees.{node_count}
+use Rattle.tree_reuse.proofs.ArenaLemmas.{arena-nodes}
+use Rattle.tree_reuse.proofs.tree.Tree.node_count.Goals as goal
+
+pub returns : goal.returns
+returns c =
+    c.len.ensures
+    ∙ sym (arena-nodes c.self.inside.nodes.items c.self.inside.waiting.items
+    c.self.inside.lent.items c.self.invariant.arena)
+    ∙ ap node_count c.self.view_is
