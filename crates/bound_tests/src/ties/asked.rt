@@ -4,13 +4,13 @@
 
 use super::leagues::{Game, are_fixtures, fixtures_of, four_clubs};
 use super::zones::{is_of_sheet, zone_of};
-use tie_bound::{holds, own_least, own_most, tie_reason};
 use league_core::Order::{HeadFirst, OverallFirst};
 use league_core::{Claim, ClubSet, Order, Question, Reason, Season};
 use score_box::ZoneBox;
 use std::alloc::Global;
 use std::process::Abort;
 use std::test::Fail;
+use tie_bound::{holds, own_least, own_most, tie_reason};
 
 /// The order of the criteria, the outcome of B and C and the goals of each, the marks of rivals,
 /// the

@@ -2,12 +2,12 @@
 
 use super::leagues::{Game, are_fixtures, fixtures_of, four_clubs};
 use super::zones::{is_of_sheet, zone_of};
-use tie_bound::{has_one_outcome, judge};
 use league_core::{Order, Season, Sure};
 use score_box::ZoneBox;
 use std::alloc::Global;
 use std::process::Abort;
 use std::test::Fail;
+use tie_bound::{has_one_outcome, judge};
 
 /// A zone, and what is sure of B against A in it by either order.
 struct Row {
