@@ -1,0 +1,2 @@
+-- Events of a sample as a pool hears them.
+pub mod HeardLemmas

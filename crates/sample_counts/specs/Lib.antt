@@ -1,0 +1,2 @@
+-- What is counted, and the pool of a sample league.
+pub mod SampleCounts

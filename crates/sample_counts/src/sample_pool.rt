@@ -1,0 +1,51 @@
+//! The pool of a sample league.
+
+ghost use Rattle.std.specs.Prelude.{◌<◌, ◌≤◌, IfOk, OnOk, length};
+ghost use Rattle.league_core.specs.Limits.{most_events};
+ghost use Rattle.league_core.specs.Seasons.{AreEventsOf, IsEventOf};
+ghost use Rattle.branch_pool.specs.Steps.{Changes};
+ghost use Rattle.sample_counts.specs.SampleCounts.{IsSamplePool, IsBegun, HasHeard};
+
+use branch_pool::{ChangeStop, Pool};
+use league_core::{Event, OutOfMemory};
+use std::alloc::Global;
+use verdict_run::{make_sample, questions};
+
+/// The pool of the league of a seed, with all its questions, once its results are told.
+pub fn sample_pool(alloc: Global, seed: u64) -> Result<Pool, OutOfMemory>
+    ensures { IfOk result (IsSamplePool seed) }
+{
+    let (sheet, events) = make_sample(alloc, seed)?;
+    let asked = questions(alloc, &sheet)?;
+    let mut pool = Pool::begin(alloc, sheet, asked)?;
+    tell_all(&mut pool, events.as_slice())?;
+    pool.is_sound();
+    Ok(pool)
+}
+
+// Tells the events to a pool that has heard of none.
+fn tell_all(pool: &mut Pool, events: &[Event]) -> Result<(), OutOfMemory>
+    requires begun { IsBegun pool.old }
+    requires of_sheet { AreEventsOf pool.old.sheet events.now }
+    requires few { length events.now ≤ most_events }
+    ensures { OnOk result (HasHeard pool.old events.now pool.new) }
+{
+    for event in events {
+        pool.is_sound();
+        tell(pool, *event)?;
+    }
+    Ok(())
+}
+
+// Tells one event more. There is room in the log.
+fn tell(pool: &mut Pool, event: Event) -> Result<(), OutOfMemory>
+    requires may_be { IsEventOf pool.old.season event }
+    requires room { length pool.old.log < most_events }
+    ensures { OnOk result (Changes pool.old event pool.new) }
+{
+    match pool.change(event) {
+        Ok(_) => Ok(()),
+        Err(ChangeStop::OutOfMemory) => Err(OutOfMemory),
+        Err(ChangeStop::LogFull) => unreachable!(),
+    }
+}
