@@ -1,5 +1,5 @@
-//! Each call of the checker once, on a report that is worked by hand: the one match is drawn 0:0, so
-//! the fixed rank decides, and the reason of both leaves holds.
+//! Each call of the checker once, on a report that is worked by hand: the one match is drawn 0:0,
+//! so the fixed rank decides, and the reason of both leaves holds.
 
 ghost use Rattle.std.specs.Prelude.{IsTrue};
 ghost use Rattle.league_core.specs.Questions.{IsQuestionOf};
