@@ -1,11 +1,14 @@
 -- Lines that tell events, one after another, and what they are as a round of the feed.
 use Rattle.std.proofs.Common.{◌≡◌, ℕ, List, [], ◌∷◌, ◌++◌, Option, None, Some, Result, Ok}
-use Rattle.std.proofs.Common.{Err, refl, sym, ◌∙◌, subst, append_assoc, arith}
+use Rattle.std.proofs.Common.{Err, refl, sym, ap, ◌∙◌, subst, append_assoc, arith}
 use Rattle.std.proofs.lemmas.List.Elements.{All-head, All-tail}
-use Rattle.std.specs.Prelude.{All, OnOk, false}
+use Rattle.std.specs.Prelude.{All, OnErr, OnOk, false}
 use Rattle.std.specs.Result.{is_err}
 use Rattle.league_core.specs.declared.sheet.Sheet.{Sheet}
 use Rattle.league_core.specs.declared.season.Event.{Event}
+use Rattle.league_core.specs.Results.{Results}
+use Rattle.league_core.specs.Seasons.{IsSeasonOf, season_after}
+use Rattle.league_core.proofs.LogLemmas.{season_after_of}
 use Rattle.port_core.specs.Readers.{given_by}
 use Rattle.port_core.proofs.PassingLemmas.{passes-none, passes-more}
 use Rattle.port_core.proofs.TakingLemmas.{TakesInput-more, TakesInput-none}
@@ -17,6 +20,8 @@ use Rattle.result_log.specs.Calls.{CountsEntry, LineEntry, entry_answer_behind}
 use Rattle.result_log.proofs.CallLemmas.{MovesToEntry-from}
 use Rattle.worker_gate.specs.Rounds.{Crosses, EndsRound, IsUnderWay, IsNextEntry, Spot, TellsEvents}
 use Rattle.worker_gate.specs.Rounds.{live_entry, told_on}
+use Rattle.worker_gate.specs.Feeding.{IsSeasonTold}
+use Rattle.result_log.specs.Feeds.{entry_in}
 
 -- ---- what lines tell
 
@@ -137,6 +142,7 @@ round-ends sheet log mid close first old new front next =
           behind.passes);
       comes = behind.comes;
       leaves = next.leaves;
+      stops = next.stops;
       takes = TakesInput-more first.reader old.reader new.reader first.left old.left new.left
           front.takes next.takes;
       moves = MovesToEntry-from first.reader old.reader new.reader close front.forth next.moves;
@@ -154,3 +160,27 @@ pub ok-holds : {A E : Type 0} (result : Result A E) (P : Type 0) → is_err resu
     → OnOk result P → P
 ok-holds (Ok done) P is holds = holds
 ok-holds (Err stop) P is holds = cc
+
+-- ---- the season told so far
+
+-- a line in the season of these events
+pub live-as : (own sheet : Sheet) (log : List Event) (season : Results) (events : ℕ)
+    → own ≡ sheet → IsSeasonTold sheet log season events
+    → entry_in own season events false ≡ live_entry sheet log
+live-as own sheet log season events same told =
+    ap (λ (s : Sheet). entry_in s season events false) same
+    ∙ ap (λ (r : Results). entry_in sheet r events false) told.0
+    ∙ ap (λ (n : ℕ). entry_in sheet (season_after sheet log) n false) told.1
+
+-- it is one of the sheet
+pub told-of-sheet : (own sheet : Sheet) (log : List Event) (season : Results) (events : ℕ)
+    → own ≡ sheet → IsSeasonTold sheet log season events → IsSeasonOf own season
+told-of-sheet own sheet log season events same told =
+    let P : Sheet → Type 0 = λ s. IsSeasonOf s season in
+    let Q : Results → Type 0 = λ r. IsSeasonOf sheet r in
+    subst P (sym same) (subst Q (sym told.0) (season_after_of sheet log))
+
+-- what holds anyhow holds of a call that failed
+pub err-holds : {A E : Type 0} (result : Result A E) (P : Type 0) → P → OnErr result P
+err-holds (Ok done) P holds = tt
+err-holds (Err stop) P holds = holds

@@ -1,3 +1,6 @@
--- Reading order: what a round passes and tells, and the law of rounds.
+-- Reading order: what a round passes and tells, the law of rounds; then what a worker and a feeder
+-- go on with.
 pub mod Rounds
 pub mod Laws
+pub mod Workers
+pub mod Feeding

@@ -2,15 +2,19 @@
 -- stands behind the events before it, up to what ends the round. A line is read in the season of
 -- the events before it, so that what is told at once is what a reader of the whole feed is told.
 use Rattle.std.specs.Prelude.{◌≡◌, ◌≤◌, ℕ, Bool, false, List, [], ◌∷◌, ◌++◌, Option, None, Some}
-use Rattle.std.specs.Prelude.{Result, Ok, Err}
+use Rattle.std.specs.Prelude.{IfSome, Result, Ok, Err}
 use Rattle.league_core.specs.declared.sheet.Sheet.{Sheet}
 use Rattle.league_core.specs.declared.season.Event.{Event}
 use Rattle.league_core.specs.Seasons.{epoch_of, season_after}
-use Rattle.port_core.specs.Readers.{LeavesReader, Reader, PassesTo, TakesInput, given_by}
+use Rattle.port_core.specs.declared.answers.ReadStop.TheVariants as stop
+use Rattle.port_core.specs.Contents.{Contents, ended}
+use Rattle.port_core.specs.Readers.{LeavesReader, Reader, PassesTo, TakesInput, contents_to_come}
+use Rattle.port_core.specs.Readers.{given_by}
 use Rattle.result_log.specs.declared.entry.Entry.{Entry}
 use Rattle.result_log.specs.declared.entry.Entry.TheVariants as entry
 use Rattle.result_log.specs.declared.fault.FeedFault.{FeedFault}
 use Rattle.result_log.specs.declared.fault.FeedStop.{FeedStop}
+use Rattle.result_log.specs.declared.fault.FeedStop.TheVariants as feed_stop
 use Rattle.result_log.specs.Calls.{ComesOf, CountsEntry, LineEntry, MovesToEntry, PassesToEntry}
 use Rattle.result_log.specs.Calls.{entry_answer_behind}
 use Rattle.result_log.specs.Feeds.{entry_in}
@@ -78,10 +82,21 @@ close_of round_end.Ask = Ok entry.Ask
 close_of round_end.End = Ok entry.End
 close_of (round_end.Stop stop) = Err stop
 
+-- where reading stopped for good, nothing is to come but that stop
+abbrev pub StopsThere : Result Entry FeedStop → Option Contents → Type 0
+StopsThere (Ok told) after = Unit {0}
+StopsThere (Err (feed_stop.Fault number fault)) after = Unit {0}
+StopsThere (Err (feed_stop.Read stop.ReadFault)) after = Unit {0}
+StopsThere (Err (feed_stop.Read (stop.LineTooLong number))) after =
+    IfSome after (λ contents. contents ≡ ended (Err (stop.LineTooLong number)))
+StopsThere (Err (feed_stop.Read (stop.InputTooLong number))) after =
+    IfSome after (λ contents. contents ≡ ended (Err (stop.InputTooLong number)))
+StopsThere (Err feed_stop.OutOfMemory) after = Unit {0}
+
 -- a round is over. The contents passed: all but the last tell these events, and nothing else; the
 -- last is what the end of the round says, read in the season of all of them. Then where the reader
--- is left, what it took, that an ask moves it on, and that a read failed only where the source
--- counted a fault
+-- is left, what is to come behind a stop, what it took, that an ask moves it on, and that a read
+-- failed only where the source counted a fault
 pub record EndsRound (sheet : Sheet) (log log' : List Event) (old new : Spot)
     (close : Result Entry FeedStop) : Type 0 where
   pub lines : List (ℕ × List ℕ)
@@ -90,6 +105,7 @@ pub record EndsRound (sheet : Sheet) (log log' : List Event) (old new : Spot)
       (lines ++ given_by (entry_answer_behind new.reader close) new.reader.text)
   pub comes : ComesOf (live_entry sheet log') new.reader.text close
   pub leaves : LeavesReader new.reader new.left (entry_answer_behind new.reader close)
+  pub stops : StopsThere close (contents_to_come new.reader new.left)
   pub takes : TakesAlong old new
   pub moves : MovesToEntry old.reader new.reader close
   pub cause : CountsEntry old.faults new.faults close
@@ -100,6 +116,7 @@ pub record IsNextEntry (found : LineEntry) (old new : Spot) (result : Result Ent
   pub passes : PassesToEntry found old.reader new.reader old.left new.left old.ended new.ended
       result
   pub leaves : LeavesReader new.reader new.left (entry_answer_behind new.reader result)
+  pub stops : StopsThere result (contents_to_come new.reader new.left)
   pub takes : TakesAlong old new
   pub moves : MovesToEntry old.reader new.reader result
   pub cause : CountsEntry old.faults new.faults result

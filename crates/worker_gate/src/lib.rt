@@ -5,12 +5,19 @@
 //! What a round passes and tells stands in `specs/Rounds.antt`; read it first.
 #![tactic(auto)]
 
+mod desk;
+mod feeder;
 mod gate;
 mod laws;
+mod piece;
 mod plain;
+mod post;
 mod round;
+mod together;
+mod worker;
 
 pub use gate::{Gate, OpenGate, Point};
 pub use laws::a_round_is_read_as_its_lines;
 pub use plain::read_round;
 pub use round::{Round, RoundEnd, run_round};
+pub use worker::{WorkerEnd, run_worker};

@@ -7,11 +7,12 @@ ghost use Rattle.result_log.specs.Records.{IsEntryAt};
 ghost use Rattle.branch_pool.specs.States.{out_count};
 ghost use Rattle.worker_gate.specs.Rounds.{BreaksOff, EndsRound, IsNextEntry, close_of, live_entry};
 
+use crate::feeder::next_told;
 use crate::round::{Round, RoundEnd};
 use branch_pool::Pool;
 use league_core::{Event, OutOfMemory};
 use port_core::{LineReader, Source};
-use result_log::{Entry, FeedStop, next_entry};
+use result_log::{Entry, FeedStop};
 use std::alloc::Global;
 
 /// Reads the feed on to the next ask, its end or a stop, and tells the pool each event as it comes.
@@ -141,15 +142,7 @@ fn next_of<S: Source>(
         }) result }
 {
     let events = pool.log().len() as u64;
-    next_entry(
-        alloc,
-        pool.sheet(),
-        pool.season(),
-        events,
-        false,
-        reader,
-        source,
-    )
+    next_told(alloc, pool.sheet(), pool.season(), events, reader, source)
 }
 
 fn tell(pool: &mut Pool, event: Event) -> Result<(), OutOfMemory>

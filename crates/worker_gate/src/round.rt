@@ -6,13 +6,16 @@ ghost use Rattle.branch_pool.specs.States.{out_count};
 ghost use Rattle.worker_gate.specs.Rounds.{BreaksOff, EndsRound, close_of};
 
 use crate::gate::Gate;
-use crate::plain::read_round;
+use crate::together::{Seated, round_as};
 use branch_pool::Pool;
+use epoch_cancel::EpochWord;
 use league_core::{OutOfMemory, Sheet};
 use port_core::{LineReader, Source};
 use result_log::FeedStop;
 use std::alloc::Global;
+use std::marker::Brand;
 use std::sync::Wait;
+use std::sync::ledger::Blank;
 use std::thread::Threads;
 
 /// A round that is over.
@@ -85,5 +88,13 @@ pub fn run_round<R: Threads + Wait + Sync, S: Source + Send, G: Gate + Sync>(
           faults = S.faults source.new;
         })) }
 {
-    read_round(alloc, pool, reader, source)
+    let (word, owner, front, eyes) = EpochWord::new(alloc, pool.log(), workers)?;
+    let seated = Seated {
+        word,
+        owner,
+        front,
+        eyes,
+    };
+    let blank = Blank::new(1);
+    round_as::<Brand, _, _, _>(rt, alloc, sheet, blank, seated, pool, reader, source, gate)
 }

@@ -1,0 +1,8 @@
+-- Where there is no memory for the word, nothing was passed.
+use Rattle.worker_gate.proofs.RoundLemmas.{err-holds, goes-nowhere}
+use Rattle.worker_gate.proofs.round.run_round.Goals as goal
+
+pub returns-in_err-word-clause-err : goal.returns-in_err-word-clause-err
+returns-in_err-word-clause-err g c =
+    err-holds c.from_residual.result _
+    (c.args.pool.log, goes-nowhere c.args.pool.sheet c.args.pool.log _)

@@ -1,0 +1,18 @@
+-- Where the round does not begin, nothing was passed.
+use Rattle.worker_gate.proofs.RoundLemmas.{err-holds, goes-nowhere}
+use Rattle.worker_gate.proofs.together.round_as.Goals as goal
+
+pub returns-in_err-season-clause-err : goal.returns-in_err-season-clause-err
+returns-in_err-season-clause-err g c =
+    err-holds c.from_residual.result _
+    (c.args.pool.log, goes-nowhere c.args.pool.sheet c.args.pool.log _)
+
+pub returns-in_err-lock-clause-err : goal.returns-in_err-lock-clause-err
+returns-in_err-lock-clause-err g c =
+    err-holds c.from_residual-in_err-lock.result _
+    (c.args.pool.log, goes-nowhere c.args.pool.sheet c.args.pool.log _)
+
+pub returns-in_err-posts-clause-err : goal.returns-in_err-posts-clause-err
+returns-in_err-posts-clause-err g c =
+    err-holds c.from_residual-in_err-posts.result _
+    (c.args.pool.log, goes-nowhere c.args.pool.sheet c.args.pool.log _)

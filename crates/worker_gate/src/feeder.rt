@@ -1,0 +1,122 @@
+//! The feeder: reads entries while the workers work, and reports the events to the lock.
+
+ghost use Rattle.std.specs.Prelude.{◌≡◌, IfOk, false, true};
+ghost use Rattle.league_core.specs.Seasons.{IsSeasonOf};
+ghost use Rattle.league_core.specs.Sheets.{IsWithinLimits};
+ghost use Rattle.result_log.specs.Feeds.{entry_in};
+ghost use Rattle.result_log.specs.Records.{IsEntryAt};
+ghost use Rattle.worker_gate.specs.Feeding.{FeedsRound, IsSeasonTold};
+ghost use Rattle.worker_gate.specs.Rounds.{IsNextEntry};
+
+use crate::desk::Desk;
+use crate::round::RoundEnd;
+use league_core::{OutOfMemory, Season, Sheet};
+use pool_lock::{Job, PoolLock};
+use port_core::{LineReader, Source};
+use result_log::{Entry, FeedStop, next_entry};
+use std::alloc::Global;
+use std::sync::Wait;
+
+/// Reads up to what ends the round, and reports each event. Then no event will come, whatever ended
+/// the round.
+pub fn feed<J: Job, R: Wait, S: Source>(
+    rt: &R,
+    alloc: Global,
+    sheet: &Sheet,
+    lock: &PoolLock<J>,
+    desk: &mut Desk<J>,
+    reader: &mut LineReader,
+    source: &mut S,
+) -> Result<RoundEnd, OutOfMemory>
+    requires of_job { sheet.now ≡ J.sheet }
+    requires limits { IsWithinLimits sheet.now }
+    requires told { IsSeasonTold J.sheet desk.old.front desk.old.season desk.old.events }
+    ensures feeds { FeedsRound J.sheet desk.old.front desk.new.front
+        (record {
+          reader = reader.old;
+          left = S.left source.old;
+          ended = S.ended source.old;
+          faults = S.faults source.old;
+        })
+        (record {
+          reader = reader.new;
+          left = S.left source.new;
+          ended = S.ended source.new;
+          faults = S.faults source.new;
+        }) result }
+    ensures shut { desk.new.is_shut ≡ true }
+{
+    let end = feed_open(rt, alloc, sheet, lock, desk, reader, source);
+    desk.shut(rt, lock);
+    end
+}
+
+fn feed_open<J: Job, R: Wait, S: Source>(
+    rt: &R,
+    alloc: Global,
+    sheet: &Sheet,
+    lock: &PoolLock<J>,
+    desk: &mut Desk<J>,
+    reader: &mut LineReader,
+    source: &mut S,
+) -> Result<RoundEnd, OutOfMemory>
+    requires of_job { sheet.now ≡ J.sheet }
+    requires limits { IsWithinLimits sheet.now }
+    requires told { IsSeasonTold J.sheet desk.old.front desk.old.season desk.old.events }
+    ensures { FeedsRound J.sheet desk.old.front desk.new.front
+        (record {
+          reader = reader.old;
+          left = S.left source.old;
+          ended = S.ended source.old;
+          faults = S.faults source.old;
+        })
+        (record {
+          reader = reader.new;
+          left = S.left source.new;
+          ended = S.ended source.new;
+          faults = S.faults source.new;
+        }) result }
+{
+    'entries: loop {
+        match next_told(alloc, sheet, &desk.season, desk.events, reader, source) {
+            Ok(Entry::Change(event)) => {
+                if desk.report(rt, lock, event).is_err() {
+                    return Err(OutOfMemory);
+                }
+            }
+            Ok(Entry::Ask) => return Ok(RoundEnd::Ask),
+            Ok(Entry::End) => return Ok(RoundEnd::End),
+            Ok(Entry::Proofs) => unreachable!(),
+            Err(stop) => return Ok(RoundEnd::Stop(stop)),
+        }
+    }
+}
+
+/// The next entry behind so many events, in the season after them.
+pub fn next_told<S: Source>(
+    alloc: Global,
+    sheet: &Sheet,
+    season: &Season,
+    events: u64,
+    reader: &mut LineReader,
+    source: &mut S,
+) -> Result<Entry, FeedStop>
+    requires limits { IsWithinLimits sheet.now }
+    requires of_sheet { IsSeasonOf sheet.now season.now }
+    ensures told { IfOk result (λ entry. IsEntryAt season.now events false entry) }
+    ensures next { IsNextEntry (entry_in sheet.now season.now events false)
+        (record {
+          reader = reader.old;
+          left = S.left source.old;
+          ended = S.ended source.old;
+          faults = S.faults source.old;
+        })
+        (record {
+          reader = reader.new;
+          left = S.left source.new;
+          ended = S.ended source.new;
+          faults = S.faults source.new;
+        }) result }
+{
+    next_entry(alloc, sheet, season, events, false, reader, source)
+}

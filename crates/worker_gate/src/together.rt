@@ -1,0 +1,180 @@
+//! The feeder beside the workers.
+
+ghost use Rattle.std.specs.Prelude.{◌≡◌, All, IfOk, OnErr, true};
+ghost use Rattle.std.specs.Thread.{IsSync};
+ghost use Rattle.league_core.specs.Seasons.{season_after};
+ghost use Rattle.league_core.specs.Sheets.{IsWithinLimits};
+ghost use Rattle.branch_pool.specs.States.{out_count};
+ghost use Rattle.epoch_cancel.specs.Seats.{seat_of};
+ghost use Rattle.pool_lock.specs.Lends.{IsEyeAfter};
+ghost use Rattle.worker_gate.specs.Feeding.{FeedsRound, IsSeasonTold};
+ghost use Rattle.worker_gate.specs.Rounds.{BreaksOff, EndsRound, close_of};
+
+use crate::desk::Desk;
+use crate::feeder::feed;
+use crate::gate::Gate;
+use crate::post::{Post, posts_of, run_all};
+use crate::round::{Round, RoundEnd};
+use branch_pool::Pool;
+use epoch_cancel::{EpochWord, Eye, Front, Owner};
+use league_core::{OutOfMemory, Sheet};
+use pool_lock::{Job, PoolLock};
+use port_core::{LineReader, Source};
+use std::alloc::Global;
+use std::sync::Wait;
+use std::sync::ledger::Blank;
+use std::thread::{Threads, join_mut};
+
+/// The word of a round, with the seats of the one who tells, of the one who reports, and of each
+/// worker.
+#[derive(Drop)]
+pub struct Seated {
+    pub word: EpochWord,
+    pub owner: Owner,
+    pub front: Front,
+    pub eyes: Vec<Eye>,
+}
+
+/// A round behind a lock, for the job that the caller picks: the feeder reads while the workers
+/// work. All threads have ended afterwards.
+pub fn round_as<J: Job + Send + Sync, R: Threads + Wait + Sync, S: Source + Send, G: Gate + Sync>(
+    rt: &R,
+    alloc: Global,
+    sheet: &Sheet,
+    blank: Blank,
+    seated: Seated,
+    pool: Pool,
+    reader: &mut LineReader,
+    source: &mut S,
+    gate: &G,
+) -> Result<Round, OutOfMemory>
+    requires ledger { blank.name ≡ J.name }
+    requires parts { blank.parts ≡ J.parts }
+    requires one_part { blank.parts ≡ 1 }
+    requires word { seated.word ≡ J.table }
+    requires owner { seated.owner ≡ seat_of seated.word pool.log }
+    requires front { seated.front ≡ seat_of seated.word pool.log }
+    requires eyes { All (IsEyeAfter seated.word pool.log) seated.eyes.items }
+    requires of_pool { sheet.now ≡ pool.sheet }
+    requires sheet { pool.sheet ≡ J.sheet }
+    requires questions { pool.questions ≡ J.questions }
+    requires home { out_count pool.loans ≡ 0 }
+    ensures sheet { IfOk result (λ round. round.pool.sheet ≡ pool.sheet) }
+    ensures questions { IfOk result (λ round. round.pool.questions ≡ pool.questions) }
+    ensures season { IfOk result (λ round.
+        round.pool.season ≡ season_after round.pool.sheet round.pool.log) }
+    ensures home { IfOk result (λ round. out_count round.pool.loans ≡ 0) }
+    ensures ends { IfOk result (λ round. EndsRound pool.sheet pool.log round.pool.log
+        (record {
+          reader = reader.old;
+          left = S.left source.old;
+          ended = S.ended source.old;
+          faults = S.faults source.old;
+        })
+        (record {
+          reader = reader.new;
+          left = S.left source.new;
+          ended = S.ended source.new;
+          faults = S.faults source.new;
+        }) (close_of round.end)) }
+    ensures err { OnErr result (BreaksOff pool.sheet pool.log
+        (record {
+          reader = reader.old;
+          left = S.left source.old;
+          ended = S.ended source.old;
+          faults = S.faults source.old;
+        })
+        (record {
+          reader = reader.new;
+          left = S.left source.new;
+          ended = S.ended source.new;
+          faults = S.faults source.new;
+        })) }
+{
+    let season = pool.season().copy(alloc)?;
+    let events = pool.log().len() as u64;
+    let Seated {
+        word,
+        owner,
+        front,
+        eyes,
+    } = seated;
+    let (lock, front, badges) = PoolLock::<J>::new(alloc, blank, word, owner, front, eyes, pool)?;
+    let posts = posts_of(alloc, badges)?;
+    let mut desk = Desk {
+        front,
+        season,
+        events,
+        is_shut: false,
+    };
+    let end = read_beside(
+        rt, alloc, sheet, &lock, &mut desk, posts, reader, source, gate,
+    )?;
+    let pool = desk.close(lock);
+    let _log = pool.log();
+    Ok(Round { pool, end })
+}
+
+// The feeder reads beside the workers. All threads have ended afterwards.
+fn read_beside<J: Job + Send + Sync, R: Threads + Wait + Sync, S: Source + Send, G: Gate + Sync>(
+    rt: &R,
+    alloc: Global,
+    sheet: &Sheet,
+    lock: &PoolLock<J>,
+    desk: &mut Desk<J>,
+    posts: Vec<Post<J>>,
+    reader: &mut LineReader,
+    source: &mut S,
+    gate: &G,
+) -> Result<RoundEnd, OutOfMemory>
+    requires of_job { sheet.now ≡ J.sheet }
+    requires limits { IsWithinLimits sheet.now }
+    requires told { IsSeasonTold J.sheet desk.old.front desk.old.season desk.old.events }
+    ensures feeds { FeedsRound J.sheet desk.old.front desk.new.front
+        (record {
+          reader = reader.old;
+          left = S.left source.old;
+          ended = S.ended source.old;
+          faults = S.faults source.old;
+        })
+        (record {
+          reader = reader.new;
+          left = S.left source.new;
+          ended = S.ended source.new;
+          faults = S.faults source.new;
+        }) result }
+    ensures shut { desk.new.is_shut ≡ true }
+{
+    let mut left = Some(posts);
+    let (end, ()) = join_mut(
+        rt,
+        &mut ||
+            requires { (sheet.now ≡ J.sheet) × IsWithinLimits sheet.now
+                × IsSeasonTold J.sheet desk.now.front desk.now.season desk.now.events
+                × IsSync R.row }
+            ensures { FeedsRound J.sheet desk.entry.now.front desk.exit.now.front
+                (record {
+                  reader = reader.entry.now;
+                  left = S.left source.entry.now;
+                  ended = S.ended source.entry.now;
+                  faults = S.faults source.entry.now;
+                })
+                (record {
+                  reader = reader.exit.now;
+                  left = S.left source.exit.now;
+                  ended = S.ended source.exit.now;
+                  faults = S.faults source.exit.now;
+                }) result
+                × (desk.exit.now.is_shut ≡ true) }
+        { feed(rt, alloc, sheet, lock, desk, reader, source) },
+        &mut move ||
+            requires { (sheet.now ≡ J.sheet) × IsWithinLimits sheet.now × IsSync R.row
+                × IsSync G.row }
+        {
+            if let Some(mut posts) = left.take() {
+                run_all(rt, alloc, sheet, lock, posts.as_mut_slice(), gate);
+            }
+        },
+    );
+    end
+}

@@ -1,0 +1,214 @@
+//! A worker: takes what the lock lends, works on it, and gives it back.
+
+ghost use Rattle.std.specs.Prelude.{◌≡◌};
+ghost use mathlib.Core.List.{IsPrefix};
+ghost use Rattle.league_core.specs.Sheets.{IsWithinLimits};
+ghost use Rattle.league_core.specs.Seasons.{IsLeague};
+ghost use Rattle.pool_lock.specs.Lends.{IsWorkAfter};
+ghost use Rattle.worker_gate.specs.Workers.{IsNextAfter};
+
+use crate::gate::{Gate, Point};
+use crate::piece::{find_at, give_back};
+use branch_pool::Ticket;
+use branch_rules::Worker;
+use league_core::{OutOfMemory, Season, Sheet};
+use pool_lock::{Job, LentOut, PoolLock, WorkBadge};
+use reason_core::{Done, Solver};
+use score_box::Played;
+use std::alloc::Global;
+use std::sync::Wait;
+
+/// How a worker ended.
+#[derive(Clone, Copy, Debug, PartialEq, Eq)]
+pub enum WorkerEnd {
+    /// The lock has nothing more to lend: nothing is out, and no event will come.
+    Over,
+    /// Memory was wanting. What the worker had in hand is given back undone.
+    Memory,
+}
+
+/// What a worker goes on with.
+enum Next {
+    Work(Ticket),
+    Over,
+    Memory,
+}
+
+/// Works on tickets until the lock has nothing more to lend. The gate hears where the worker is:
+/// after each loan, after each piece of work, after each return.
+///
+/// A ticket goes back undone where an event has come since it was lent: the worker looks for that
+/// before it works, and again before it gives back.
+pub fn run_worker<J: Job, R: Wait, G: Gate>(
+    rt: &R,
+    alloc: Global,
+    sheet: &Sheet,
+    lock: &PoolLock<J>,
+    badge: &mut WorkBadge<J>,
+    worker: u8,
+    gate: &G,
+) -> WorkerEnd
+    requires of_job { sheet.now ≡ J.sheet }
+    requires limits { IsWithinLimits sheet.now }
+    ensures { IsPrefix badge.old.list badge.new.list }
+{
+    let mut next = take_next(rt, lock, badge, worker, gate);
+    for _ in rt.forever() {
+        match next {
+            Next::Work(ticket) => {
+                next = work_epoch(rt, alloc, sheet, lock, badge, worker, gate, ticket);
+            }
+            Next::Over => return WorkerEnd::Over,
+            Next::Memory => return WorkerEnd::Memory,
+        }
+    }
+    unreachable!()
+}
+
+fn take_next<J: Job, R: Wait, G: Gate>(
+    rt: &R,
+    lock: &PoolLock<J>,
+    badge: &mut WorkBadge<J>,
+    worker: u8,
+    gate: &G,
+) -> Next
+    ensures next { IsNextAfter J.sheet badge.new.list result }
+    ensures begins { IsPrefix badge.old.list badge.new.list }
+{
+    match lock.lend(rt, badge) {
+        Ok(LentOut::Work(ticket)) => {
+            gate.at(Point::Taken, worker);
+            Next::Work(ticket)
+        }
+        Ok(LentOut::Over) => Next::Over,
+        Err(OutOfMemory) => Next::Memory,
+    }
+}
+
+// Works on the ticket, and on those that follow it in its season.
+fn work_epoch<J: Job, R: Wait, G: Gate>(
+    rt: &R,
+    alloc: Global,
+    sheet: &Sheet,
+    lock: &PoolLock<J>,
+    badge: &mut WorkBadge<J>,
+    worker: u8,
+    gate: &G,
+    ticket: Ticket,
+) -> Next
+    requires of_job { sheet.now ≡ J.sheet }
+    requires limits { IsWithinLimits sheet.now }
+    requires work { IsWorkAfter J.sheet badge.old.list ticket }
+    ensures next { IsNextAfter J.sheet badge.new.list result }
+    ensures begins { IsPrefix badge.old.list badge.new.list }
+{
+    match ticket.piece.season.copy(alloc) {
+        Ok(season) => work_season(rt, alloc, sheet, &season, lock, badge, worker, gate, ticket),
+        Err(OutOfMemory) => give_up(rt, lock, badge, worker, gate, ticket),
+    }
+}
+
+fn work_season<J: Job, R: Wait, G: Gate>(
+    rt: &R,
+    alloc: Global,
+    sheet: &Sheet,
+    season: &Season,
+    lock: &PoolLock<J>,
+    badge: &mut WorkBadge<J>,
+    worker: u8,
+    gate: &G,
+    ticket: Ticket,
+) -> Next
+    requires of_job { sheet.now ≡ J.sheet }
+    requires limits { IsWithinLimits sheet.now }
+    requires season { season.now ≡ ticket.piece.season }
+    requires work { IsWorkAfter J.sheet badge.old.list ticket }
+    ensures next { IsNextAfter J.sheet badge.new.list result }
+    ensures begins { IsPrefix badge.old.list badge.new.list }
+{
+    let Ok(played) = Played::of(alloc, sheet, season) else {
+        return give_up(rt, lock, badge, worker, gate, ticket);
+    };
+    match Worker::new(alloc, &played) {
+        Ok(mut solver) => work_on(rt, alloc, lock, badge, worker, gate, &mut solver, ticket),
+        Err(OutOfMemory) => give_up(rt, lock, badge, worker, gate, ticket),
+    }
+}
+
+// Works on by one solver, until a ticket of another epoch comes.
+fn work_on<J: Job, R: Wait, G: Gate, W: Solver>(
+    rt: &R,
+    alloc: Global,
+    lock: &PoolLock<J>,
+    badge: &mut WorkBadge<J>,
+    worker: u8,
+    gate: &G,
+    solver: &mut W,
+    ticket: Ticket,
+) -> Next
+    requires sheet { W.sheet solver.old ≡ J.sheet }
+    requires season { W.season solver.old ≡ ticket.piece.season }
+    requires work { IsWorkAfter J.sheet badge.old.list ticket }
+    ensures next { IsNextAfter J.sheet badge.new.list result }
+    ensures begins { IsPrefix badge.old.list badge.new.list }
+{
+    let epoch = ticket.epoch;
+    let mut ticket = ticket;
+    for _ in rt.forever() {
+        match take_turn(rt, alloc, lock, badge, worker, gate, solver, ticket) {
+            Next::Work(next) => {
+                if next.epoch != epoch {
+                    return Next::Work(next);
+                }
+                ticket = next;
+            }
+            Next::Over => return Next::Over,
+            Next::Memory => return Next::Memory,
+        }
+    }
+    unreachable!()
+}
+
+// Works on the ticket, gives it back, and takes the next one.
+fn take_turn<J: Job, R: Wait, G: Gate, W: Solver>(
+    rt: &R,
+    alloc: Global,
+    lock: &PoolLock<J>,
+    badge: &mut WorkBadge<J>,
+    worker: u8,
+    gate: &G,
+    solver: &mut W,
+    ticket: Ticket,
+) -> Next
+    requires sheet { W.sheet solver.old ≡ J.sheet }
+    requires season { W.season solver.old ≡ ticket.piece.season }
+    requires work { IsWorkAfter J.sheet badge.old.list ticket }
+    ensures next { IsNextAfter J.sheet badge.new.list result }
+    ensures begins { IsPrefix badge.old.list badge.new.list }
+    ensures same_sheet { W.sheet solver.new ≡ W.sheet solver.old }
+    ensures same_season { W.season solver.new ≡ W.season solver.old }
+{
+    match find_at(alloc, lock, badge, worker, gate, solver, &ticket) {
+        Ok(done) => {
+            give_back(rt, lock, badge, worker, gate, ticket, done);
+            take_next(rt, lock, badge, worker, gate)
+        }
+        Err(OutOfMemory) => give_up(rt, lock, badge, worker, gate, ticket),
+    }
+}
+
+// Gives the ticket back undone, for want of memory.
+fn give_up<J: Job, R: Wait, G: Gate>(
+    rt: &R,
+    lock: &PoolLock<J>,
+    badge: &mut WorkBadge<J>,
+    worker: u8,
+    gate: &G,
+    ticket: Ticket,
+) -> Next
+    ensures next { result ≡ Next.Memory }
+    ensures begins { IsPrefix badge.old.list badge.new.list }
+{
+    give_back(rt, lock, badge, worker, gate, ticket, Done::Undone);
+    Next::Memory
+}
