@@ -1,4 +1,5 @@
--- Splits that are due, questions that are decided, and answers.
+-- Splits that are due, questions that are decided, answers, and qualification scores.
 pub mod DueLemmas
 pub mod DecidedLemmas
 pub mod AnswerLemmas
+pub mod ScoreLemmas

@@ -1,0 +1,11 @@
+//! The laws of qualification scores: a function that does nothing.
+
+ghost use Rattle.answer_laws.specs.ScoreLaws.{PossibleScoresAreThere, GuaranteedScoresAreThere};
+ghost use Rattle.answer_laws.specs.ScoreLaws.{HalvingIsByTheScore};
+
+/// Each club has its two scores for each line, and ranges on the way to a score are halved by it.
+pub fn scores_are_there()
+    ensures possible { PossibleScoresAreThere }
+    ensures guaranteed { GuaranteedScoresAreThere }
+    ensures halving { HalvingIsByTheScore }
+{}
