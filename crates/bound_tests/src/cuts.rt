@@ -1,7 +1,4 @@
-//! Worked leagues, and drawn zones against a search through all sets.
+//! Worked leagues.
 
-mod drawn;
-mod draws;
 mod league;
-mod search;
 mod worked;

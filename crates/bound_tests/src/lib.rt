@@ -1,18 +1,12 @@
 //! Comparisons of boxes and bounds with a plain slow program: tests alone.
 //!
 //! `plain` tries every score of every fixture; `tests` compares it with boxes along drawn paths of
-//! literals, with boxes made anew, and with the cuts. `listed` and `boxes` do the same on a sheet
-//! of three clubs, where a played score passes the goal limit. `cuts` has leagues that are added up
-//! by hand and drawn zones against a search through all sets, `ties` zones worked by hand for the
-//! sure order and the reasons.
+//! literals, with boxes made anew, and with the cuts. `cuts` has leagues that are added up by hand,
+//! `ties` zones worked by hand for the sure order and the reasons.
 #![tactic(auto)]
 
 #[cfg(test)]
-mod boxes;
-#[cfg(test)]
 mod cuts;
-#[cfg(test)]
-mod listed;
 #[cfg(test)]
 mod plain;
 #[cfg(test)]
