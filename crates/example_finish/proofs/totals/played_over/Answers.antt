@@ -13,7 +13,7 @@ loop-club-init c = record {
   long = c.no_rows-table.ensures.long;
   totals = λ x below. absurd (omega arith);
   near = λ x. none_near 5000000 (totals_at c.no_rows-table.result x) (c.no_rows-table.ensures.none
-    x);
+      x);
 }
 
 pub loop-club-preserved : goal.loop-club-preserved

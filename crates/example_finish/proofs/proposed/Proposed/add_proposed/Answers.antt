@@ -17,8 +17,11 @@ add_if_counted-requires-clause-in_range c =
     let all : c.unplayed-unplayed.result.now ≡ unplayed_in scores =
     c.unplayed-unplayed.ensures ∙ ap (λ (asked : Asked). unplayed_in (season_asked asked).scores)
     c.self.view_is in
-    let within : c.loop-i.i < length (unplayed_in scores) = omega (arith, ap (λ (ks : List ℕ).
-    length ks) all) in
+    let within : c.loop-i.i < length (unplayed_in scores) = omega (
+      arith,
+      ap (λ (ks : List ℕ).
+          length ks) all,
+    ) in
     subst (λ (ks : List ℕ). get_or ks c.loop-i.i 0 < length scores) (sym all)
     (unplayed_in_range scores c.loop-i.i within)
 
@@ -34,8 +37,13 @@ add_if_counted-requires-clause-near c =
     let limits : IsWithinLimits (sheet_asked c.args.self.now) =
     subst IsWithinLimits c.sheet-sheet.ensures.sheet c.sheet-sheet.ensures.limits in
     all_wider (5000000 + 255 * c.loop-i.i) 100000000 c.loop-i.table
-    (omega (arith, ap (λ (ks : List ℕ). length ks) all, unplayed_few scores, of_sheet.scores,
-    limits.most_fixtures))
+    (omega (
+      arith,
+      ap (λ (ks : List ℕ). length ks) all,
+      unplayed_few scores,
+      of_sheet.scores,
+      limits.most_fixtures,
+    ))
     c.loop-i.invariant.near
 
 pub loop-i-preserved : goal.loop-i-preserved
