@@ -10,19 +10,17 @@ use std::alloc::Global;
 use std::process::ExitCode;
 use std::rt::Env;
 use std::{env, io};
-
-fn main(rt: HostRuntime) -> ExitCode {
-    ExitCode::from(run(&rt).code())
-}
+use worker_gate::OpenGate;
 
 // Without memory for the words nothing is read and nothing is written.
-fn run(rt: &HostRuntime) -> Status {
-    let Ok(words) = words(rt) else {
-        return Status::OutOfMemory;
+fn main(rt: HostRuntime) -> ExitCode {
+    let Ok(words) = words(&rt) else {
+        return ExitCode::from(Status::OutOfMemory.code());
     };
     let mut source = StdSource::new(rt.stdin());
-    let mut sink = StdSink::new(io::writer(rt));
-    futmax(rt.alloc(), words, &mut source, &mut sink)
+    let mut sink = StdSink::new(io::writer(&rt));
+    let status = futmax(&rt, rt.alloc(), words, &mut source, &mut sink, &OpenGate);
+    ExitCode::from(status.code())
 }
 
 fn words(rt: &(impl Env + Alloc<A = Global>)) -> io::Result<Vec<String>> {

@@ -1,10 +1,9 @@
-pub mod CommandLemmas
-pub mod PathLemmas
-pub mod AnswerLemmas
-pub mod TableLemmas
-pub mod OutputLemmas
-pub mod VerdictLemmas
+pub mod CourseLemmas
+pub mod SheetLemmas
+pub mod StopLemmas
+pub mod TextLemmas
 pub mod EndLemmas
+pub mod AnswerLemmas
 pub mod TurnLemmas
-pub mod RunLemmas
+pub mod RoundLemmas
 pub mod EarnedLemmas

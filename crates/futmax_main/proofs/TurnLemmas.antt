@@ -1,305 +1,359 @@
--- What a turn gives, from what the reader gave and what was written.
-use Rattle.std.proofs.Common.{◌≡◌, ℕ, Bool, List, [], ◌∷◌, ◌++◌, Option, Some, None}
-use Rattle.std.proofs.Common.{Ok, Err, refl, ap, sym, ◌∙◌, subst}
-use Rattle.std.specs.Prelude.{IfSome}
-use Rattle.std.specs.Io.KnownBytes.{append_known, prepend_known, IsAtEnd}
+-- The reading of the sheet: what it gives, from what the reader gave and what was written.
+use Rattle.std.proofs.Common.{◌≡◌, ℕ, false, Bool, List, [], ◌∷◌, ◌++◌, Option, Some, None}
+use Rattle.std.proofs.Common.{Result, Ok, Err, refl, ap, sym, ◌∙◌, subst, inl, inr}
+use Rattle.std.specs.Prelude.{option_map}
+use Rattle.std.specs.Io.KnownBytes.{append_known, prepend_known}
 use Rattle.std.proofs.lemmas.List.{append-nil}
-use Rattle.port_core.specs.declared.answers.ReadStop.{ReadStop}
+use Rattle.league_core.specs.declared.sheet.Sheet.{Sheet}
+use Rattle.league_core.specs.declared.season.Event.{Event}
+use Rattle.port_core.specs.declared.answers.Line.TheVariants as line
 use Rattle.port_core.specs.declared.answers.ReadStop.TheVariants as stop
-use Rattle.port_core.specs.Lines.{lines_of, HasNoLineFeed}
-use Rattle.port_core.specs.Contents.{Position, start, number_at, Contents, ended, with_line}
+use Rattle.port_core.specs.Lines.{lines_of, HasNoLineFeed, AreEndedLines}
+use Rattle.port_core.specs.Contents.{Position, start, number_at, Contents, ended, with_lines}
 use Rattle.port_core.specs.Contents.{contents_from, contents_of}
-use Rattle.port_core.specs.Readers.{contents_behind, Passes, PassesKnown}
-use Rattle.port_core.proofs.PassingLemmas.{passes-more}
+use Rattle.port_core.specs.Readers.{Reader, contents_behind, contents_to_come, stream_of, Passes}
+use Rattle.port_core.specs.Readers.{LeavesReader, PassesKnown, PassesTo}
+use Rattle.fixture_sheet.specs.declared.fault.SheetStop.{SheetStop}
+use Rattle.fixture_sheet.specs.declared.fault.SheetStop.TheVariants as sheet_stop
+use Rattle.fixture_sheet.specs.Calls.{Leads, PassesUpTo, ReadsSheet, ReadsSheetAs}
+use Rattle.fixture_sheet.specs.Calls.{sheet_answer_behind}
+use Rattle.fixture_sheet.specs.Sheets.{sheet_reading_of}
 use Rattle.futmax_main.specs.declared.status.Status.{Status}
-use Rattle.futmax_main.specs.declared.status.Status.TheVariants.{ReadFault}
-use Rattle.futmax_main.specs.declared.session.Command.{Command}
-use Rattle.futmax_main.specs.declared.session.Session.{Session}
+use Rattle.futmax_main.specs.declared.status.Status.TheVariants.{ReadFault, OutOfMemory}
+use Rattle.futmax_main.specs.declared.session.Answering.{Answering}
 use Rattle.futmax_main.specs.declared.session.Fault.{Fault}
-use Rattle.futmax_main.specs.declared.session.Step.{Step}
-use Rattle.futmax_main.specs.declared.session.Step.TheVariants.{Goes, Asks, Stops}
 use Rattle.futmax_main.specs.declared.session.Outcome.{Outcome}
 use Rattle.futmax_main.specs.declared.session.Outcome.TheVariants.{Complete, Refused}
 use Rattle.futmax_main.specs.declared.turn.Turn.{Turn}
 use Rattle.futmax_main.specs.declared.turn.Turn.TheVariants.{GoesOn, Ends}
-use Rattle.futmax_main.specs.Session.{first_session, step_of, ending}
-use Rattle.futmax_main.specs.Session.{status_of_cause}
-use Rattle.futmax_main.specs.Rows.{fault_row, last_row}
-use Rattle.futmax_main.specs.Path.{line_fault, input_fault, status_of_outcome, status_at_end}
-use Rattle.futmax_main.specs.Path.{row_at_end, AreAnswersFrom, LeadsOn, Path}
-use Rattle.futmax_main.specs.Top.{IsText, AreAnswersIn, Serves}
-use Rattle.futmax_main.specs.Turns.{FaultEnds, EndEnds, LineTurns, TurnGives}
-use Rattle.futmax_main.proofs.PathLemmas.{leads_goes, leads_asks, front_written, answers_written}
-use Rattle.futmax_main.proofs.EndLemmas.{written-more, fault-serves, ask-serves, line-stops}
-use Rattle.futmax_main.proofs.EndLemmas.{end-stops}
+use Rattle.futmax_main.specs.Courses.{Course, course_behind, course_ended, course_from, course_of}
+use Rattle.futmax_main.specs.Courses.{course_of_reading, input_fault, line_fault}
+use Rattle.futmax_main.specs.Courses.{outcome_at_sheet, with_asks}
+use Rattle.futmax_main.specs.Texts.{AreAnswers, AreAllAnswers, IsRefusedAtEnd}
+use Rattle.futmax_main.specs.Top.{AnswersTaken, AreAnswersIn, Serves}
+use Rattle.futmax_main.specs.Way.{LeadsOn, Path}
+use Rattle.futmax_main.specs.Turns.{FaultEnds, TurnBegins, TurnGives}
+use Rattle.futmax_main.proofs.SheetLemmas.{same-lines, sheet-elsewhere, sheet-reading}
+use Rattle.futmax_main.proofs.TextLemmas.{Reached, reached-start}
+use Rattle.futmax_main.proofs.EndLemmas.{fault-serves, memory-serves}
 
--- a turn on a line of an input that the source tells
-line-turn : (command : Command) (input after : List ℕ) (told0 told' : Bool) (to : Position)
-    (taken : List (ℕ × List ℕ)) (number : ℕ) (text written : List ℕ) (session : Session)
-    (left old now0 now1 : Option (List ℕ)) (step : Step) (turn : Turn)
-    → Passes start input told0 to after told' (taken ++ (number, text) ∷ [])
-    → LeadsOn (first_session command) (contents_of input) taken
-    (with_line number text (contents_from to (lines_of after))) written session
-    → now0 ≡ append_known old written → step_of number session text ≡ step
-    → LineTurns step now0 now1 turn
-    → TurnGives command (Some input) told0 (Some after) told' to left old now1 turn
-line-turn command input after told0 told' to taken number text written session left old now0 now1
-    (Goes next) (GoesOn t) passed way known is gives =
-    let P : Session → Type 0 =
-    λ s. Path command (Some input) told0 (Some after) told' to s old now1 in
-    subst P (sym gives.0) (
-      taken ++ (number, text) ∷ [],
-      written,
-      gives.1 ∙ known,
+-- nothing written leaves the sink's bytes
+pub append_known-none : (old : Option (List ℕ)) → old ≡ append_known old []
+append_known-none None = refl
+append_known-none (Some bytes) = ap Some (sym (append-nil bytes))
+
+-- a run that found no memory before it read
+pub serves-nothing : (answering : Answering) (input left : Option (List ℕ)) (told : Bool)
+    (old : Option (List ℕ)) → Serves (Some answering) input left told old old OutOfMemory
+serves-nothing answering None left told old = tt
+serves-nothing answering (Some input) left told old =
+    memory-serves answering input [] left told old old (course_of (contents_of input))
+    (reached-start answering input (course_of (contents_of input)) refl) (append_known-none old)
+
+-- nothing was written, since the words wanted memory
+pub serves-no_memory : (answering : Option Answering) (input left : Option (List ℕ)) (told : Bool)
+    (old : Option (List ℕ)) → Serves answering input left told old old OutOfMemory
+serves-no_memory None input left told old = ([], append_known-none old, refl)
+serves-no_memory (Some answering) input left told old = serves-nothing answering input left told old
+
+-- ---- the contents of lines that were passed
+
+-- the contents of an input are those that the lines passed give, and then those behind them
+pub all-contents : (input after : List ℕ) (told told' : Bool) (to : Position)
+    (given : List (ℕ × List ℕ)) → Passes start input told to after told' given
+    → contents_of input ≡ with_lines given (contents_from to (lines_of after))
+all-contents input after told told' to given passed =
+    ap (contents_from start) passed.split ∙ passed.gives (lines_of after)
+
+-- the lines passed, by themselves, give their contents, and end there
+pub lines-alone : (input after : List ℕ) (told told' : Bool) (to : Position)
+    (given : List (ℕ × List ℕ)) (passed : Passes start input told to after told' given)
+    → contents_from start passed.lines ≡ with_lines given (ended (Ok (number_at to)))
+lines-alone input after told told' to given passed =
+    ap (contents_from start) (sym (append-nil passed.lines)) ∙ passed.gives []
+
+-- ---- the sheet
+
+-- a session that begins behind its sheet
+sheet-path : (answering : Answering) (input after : List ℕ) (told told' : Bool) (to : Position)
+    (given : List (ℕ × List ℕ)) (sheet : Sheet) (old : Option (List ℕ))
+    → Passes start input told to after told' given
+    → ReadsSheetAs (Some (contents_of input)) (Some (contents_from to (lines_of after))) (Ok sheet)
+    → Path answering (Some input) told (Some after) told' to sheet [] old old
+sheet-path answering input after told told' to given sheet old passed reads =
+    let elsewhere = sheet-elsewhere given (contents_of input) (contents_from to (lines_of after))
+    sheet (all-contents input after told told' to given passed) reads in (
+      given,
+      [],
+      append_known-none old,
       passed,
-      leads_goes (first_session command) (contents_of input) taken number text
-          (contents_from to (lines_of after)) written session next way is,
+      record {
+        asks = [];
+        answers = refl;
+        course = λ rest. ap course_of_reading (elsewhere rest);
+      },
     )
-line-turn command input after told0 told' to taken number text written session left old now0 now1
-    (Goes next) (Ends status) passed way known is gives =
-    let P : Status → Type 0 = λ s. Serves (Some command) (Some input) left told' old now1 s in
-    subst P (sym gives.0) (
-      written,
-      gives.1 ∙ known,
-      front_written (first_session command) (contents_of input) taken
-          (with_line number text (contents_from to (lines_of after))) written session way,
-    )
-line-turn command input after told0 told' to taken number text written session left old now0 now1
-    (Asks asked) (GoesOn t) passed way known is gives =
-    let P : Session → Type 0 =
-    λ s. Path command (Some input) told0 (Some after) told' to s old now1 in
-    let answer = gives.1.0 in
-    subst P (sym gives.0) (
-      taken ++ (number, text) ∷ [],
-      written ++ answer,
-      written-more old now0 now1 written answer known gives.1.2,
-      passed,
-      leads_asks (first_session command) (contents_of input) taken number text
-          (contents_from to (lines_of after)) written answer session asked way is gives.1.1,
-    )
-line-turn command input after told0 told' to taken number text written session left old now0 now1
-    (Asks asked) (Ends status) passed way known is gives =
-    ask-serves command input taken number text (contents_from to (lines_of after)) written session
-    asked left told' old now0 now1 status way is known gives
-line-turn command input after told0 told' to taken number text written session left old now0 now1
-    (Stops fault) (GoesOn t) passed way known is gives = absurd gives
-line-turn command input after told0 told' to taken number text written session left old now0 now1
-    (Stops fault) (Ends status) passed way known is gives =
-    fault-serves command input written left told' old now0 now1 fault status
-    (line-stops command input taken number text (contents_from to (lines_of after)) written session
-    fault way is) known gives
+
+-- a turn behind a whole sheet of an input that is told
+sheet-turn : (answering : Answering) (input after : List ℕ) (told told' : Bool) (to : Position)
+    (given : List (ℕ × List ℕ)) (sheet : Sheet) (left old : Option (List ℕ)) (turn : Turn)
+    → Passes start input told to after told' given
+    → ReadsSheetAs (Some (contents_of input)) (Some (contents_from to (lines_of after))) (Ok sheet)
+    → TurnBegins sheet turn
+    → TurnGives answering (Some input) told (Some after) told' to left old old turn
+sheet-turn answering input after told told' to given sheet left old (GoesOn next) passed reads
+    begins =
+    let P : Sheet → Type 0 =
+    λ s. Path answering (Some input) told (Some after) told' to s [] old old in
+    let Q : List Event → Type 0 =
+    λ log. Path answering (Some input) told (Some after) told' to next.sheet log old old in
+    subst Q (sym begins.1) (subst P (sym begins.0)
+    (sheet-path answering input after told told' to given sheet old passed reads))
+sheet-turn answering input after told told' to given sheet left old (Ends status) passed reads
+    begins =
+    let P : Status → Type 0 = λ s. Serves (Some answering) (Some input) left told' old old s in
+    subst P (sym begins) (serves-nothing answering (Some input) left told' old)
 
 -- nothing is said of a turn where the source does not tell its bytes
-turn-untold : (command : Command) (told0 : Bool) (stream : Option (List ℕ)) (told' : Bool)
+pub turn-untold : (answering : Answering) (told : Bool) (stream : Option (List ℕ)) (told' : Bool)
     (position : Position) (left old now : Option (List ℕ)) (turn : Turn)
-    → TurnGives command None told0 stream told' position left old now turn
-turn-untold command told0 stream told' position left old now (GoesOn next) = tt
-turn-untold command told0 stream told' position left old now (Ends status) = tt
+    → TurnGives answering None told stream told' position left old now turn
+turn-untold answering told stream told' position left old now (GoesOn next) = tt
+turn-untold answering told stream told' position left old now (Ends status) = tt
 
--- a turn on a line that the reader gave
-text-turn : (command : Command) (input : Option (List ℕ)) (told0 : Bool) (before : Option (List ℕ))
-    (told : Bool) (after : Option (List ℕ)) (told' : Bool) (from to : Position) (number : ℕ)
-    (session : Session) (text : List ℕ) (left old now0 now1 : Option (List ℕ)) (turn : Turn)
-    → Path command input told0 before told from session old now0
-    → PassesKnown from before told to after told' ((number, text) ∷ [])
-    → LineTurns (step_of number session text) now0 now1 turn
-    → TurnGives command input told0 after told' to left old now1 turn
-text-turn command None told0 before told after told' from to number session text left old now0 now1
-    turn path passed gives = turn-untold command told0 after told' to left old now1 turn
-text-turn command (Some input) told0 None told after told' from to number session text left old now0
-    now1 turn path passed gives = absurd path
-text-turn command (Some input) told0 (Some before) told None told' from to number session text left
-    old now0 now1 turn path passed gives = absurd passed
-text-turn command (Some input) told0 (Some before) told (Some after) told' from to number session
-    text
-    left old now0 now1 turn path passed gives =
-    let is : contents_from from (lines_of before)
-    ≡ with_line number text (contents_from to (lines_of after)) =
-    ap (contents_from from) passed.split ∙ passed.gives (lines_of after) in
-    let P : Contents → Type 0 =
-    λ contents. LeadsOn (first_session command) (contents_of input) path.0 contents path.1 session
-    in
-    line-turn command input after told0 told' to path.0 number text path.1 session left old now0
-    now1
-    (step_of number session text) turn
-    (passes-more start from to (Some input) (Some before) (Some after) told0 told told' path.0
-    ((number, text) ∷ []) path.3 passed)
-    (subst P is path.4) path.2 refl gives
+-- a turn behind a whole sheet
+pub turn-sheet : (answering : Answering) (input after : Option (List ℕ)) (told told' : Bool)
+    (to : Position) (given : List (ℕ × List ℕ)) (sheet : Sheet) (left old : Option (List ℕ))
+    (turn : Turn) → PassesKnown start input told to after told' given
+    → ReadsSheetAs (contents_behind start input) (contents_behind to after) (Ok sheet)
+    → TurnBegins sheet turn
+    → TurnGives answering input told after told' to left old old turn
+turn-sheet answering None after told told' to given sheet left old turn passed reads begins =
+    turn-untold answering told after told' to left old old turn
+turn-sheet answering (Some input) None told told' to given sheet left old turn passed reads begins =
+    absurd passed
+turn-sheet answering (Some input) (Some after) told told' to given sheet left old turn passed reads
+    begins =
+    sheet-turn answering input after told told' to given sheet left old turn passed reads begins
 
--- the same, with the text as the code has it
-pub turn-text : (command : Command) (input : Option (List ℕ)) (told0 : Bool)
-    (before : Option (List ℕ))
-    (told : Bool) (after : Option (List ℕ)) (told' : Bool) (from to : Position) (number : ℕ)
-    (session : Session) (text seen : List ℕ) (left old now0 now1 : Option (List ℕ)) (turn : Turn)
-    → Path command input told0 before told from session old now0
-    → PassesKnown from before told to after told' ((number, text) ∷ []) → seen ≡ text
-    → LineTurns (step_of number session seen) now0 now1 turn
-    → TurnGives command input told0 after told' to left old now1 turn
-turn-text command input told0 before told after told' from to number session text seen left old now0
-    now1 turn path passed seen_is gives =
-    let P : List ℕ → Type 0 = λ t. LineTurns (step_of number session t) now0 now1 turn in
-    text-turn command input told0 before told after told' from to number session text left old now0
-    now1 turn path passed (subst P seen_is gives)
+-- a turn in which no sheet came, for this fault
+pub turn-no_sheet : (answering : Answering) (input after : Option (List ℕ)) (told told' : Bool)
+    (to : Position) (given : List (ℕ × List ℕ)) (stop : SheetStop) (fault : Fault)
+    (left old now : Option (List ℕ)) (status : Status)
+    → PassesKnown start input told to after told' given
+    → ReadsSheetAs (contents_behind start input) (contents_behind to after) (Err stop)
+    → outcome_at_sheet stop ≡ Refused fault → FaultEnds fault old now status
+    → Serves (Some answering) input left told' old now status
+turn-no_sheet answering None after told told' to given stop fault left old now status passed reads
+    is ends = tt
+turn-no_sheet answering (Some input) None told told' to given stop fault left old now status passed
+    reads is ends = absurd passed
+turn-no_sheet answering (Some input) (Some after) told told' to given stop fault left old now status
+    passed reads is ends =
+    let read = sheet-reading (contents_of input) (contents_from to (lines_of after)) (Err stop)
+    reads in
+    fault-serves answering input [] left told' old old now fault status
+    (reached-start answering input (course_ended (Refused fault))
+    (ap course_of_reading read ∙ ap course_ended is)) (append_known-none old) ends
 
--- a turn at the end of an input that the source tells
-end-turn : (command : Command) (input : List ℕ) (taken : List (ℕ × List ℕ)) (rest : Contents)
-    (number : ℕ) (written : List ℕ) (session : Session) (left : Option (List ℕ)) (told' : Bool)
-    (old now0 now1 : Option (List ℕ)) (outcome : Outcome) (status : Status)
-    → LeadsOn (first_session command) (contents_of input) taken rest written session
-    → rest ≡ ended (Ok number) → now0 ≡ append_known old written → left ≡ Some []
-    → ending number session ≡ outcome → EndEnds outcome now0 now1 status
-    → Serves (Some command) (Some input) left told' old now1 status
-end-turn command input taken rest number written session left told' old now0 now1 Complete status
-    way
-    end known nothing is ends =
-    let P : Status → Type 0 = λ s. Serves (Some command) (Some input) left told' old now1 s in
-    let Q : List ℕ → Type 0 = λ t. IsText command input t in
-    let R : Contents → Type 0 = λ contents.
-    LeadsOn (first_session command) (contents_of input) taken contents written session in
-    let there = subst R end way in
-    subst P (sym ends.0) (
-      written,
-      ends.1 ∙ known,
-      (
-        (
-          there.status ∙ ap status_of_outcome is,
-          subst Q (append-nil written) (there.text [] (sym (ap last_row is))),
-        ),
-        nothing,
-      ),
-    )
-end-turn command input taken rest number written session left told' old now0 now1 (Refused fault)
-    status way end known nothing is ends =
-    fault-serves command input written left told' old now0 now1 fault status
-    (end-stops command input taken rest (Ok number) written session fault way end
-    (ap status_of_outcome is) (ap last_row is)) known ends
+-- ---- a fault of the source
 
--- a turn at the end that the reader met
-pub turn-end : (command : Command) (input : Option (List ℕ)) (told0 : Bool)
-    (before : Option (List ℕ))
-    (told : Bool) (held : List ℕ) (from to : Position) (number : ℕ) (session : Session)
-    (left : Option (List ℕ)) (told' : Bool) (old now0 now1 : Option (List ℕ)) (status : Status)
-    → Path command input told0 before told from session old now0
-    → IfSome (contents_behind from before) (λ contents. contents ≡ ended (Ok number))
-    → PassesKnown from before told to (prepend_known held left) told' [] → IsAtEnd left
-    → EndEnds (ending number session) now0 now1 status
-    → Serves (Some command) input left told' old now1 status
-turn-end command None told0 before told held from to number session left told' old now0 now1 status
-    path end passed at_end ends = tt
-turn-end command (Some input) told0 None told held from to number session left told' old now0 now1
-    status path end passed at_end ends = absurd path
-turn-end command (Some input) told0 (Some before) told held from to number session None told' old
-    now0
-    now1 status path end passed at_end ends = absurd passed
-turn-end command (Some input) told0 (Some before) told held from to number session (Some left) told'
-    old now0 now1 status path end passed at_end ends =
-    end-turn command input path.0 (contents_from from (lines_of before)) number path.1 session
-    (Some left) told' old now0 now1 (ending number session) status path.4 end path.2
-    (ap Some at_end) refl ends
-
--- a turn where reading stops, with this fault
-turn-stop : (command : Command) (input : Option (List ℕ)) (told0 : Bool) (before : Option (List ℕ))
-    (told : Bool) (from : Position) (found : ReadStop) (session : Session) (fault : Fault)
-    (left : Option (List ℕ)) (told' : Bool) (old now0 now1 : Option (List ℕ)) (status : Status)
-    → Path command input told0 before told from session old now0
-    → IfSome (contents_behind from before) (λ contents. contents ≡ ended (Err found))
-    → status_at_end (Err found) session ≡ status_of_cause fault.cause
-    → row_at_end (Err found) session ≡ fault_row fault → FaultEnds fault now0 now1 status
-    → Serves (Some command) input left told' old now1 status
-turn-stop command None told0 before told from found session fault left told' old now0 now1 status
-    path
-    end ended_so row ends = tt
-turn-stop command (Some input) told0 None told from found session fault left told' old now0 now1
-    status path end ended_so row ends = absurd path
-turn-stop command (Some input) told0 (Some before) told from found session fault left told' old now0
-    now1 status path end ended_so row ends =
-    fault-serves command input path.1 left told' old now0 now1 fault status
-    (end-stops command input path.0 (contents_from from (lines_of before)) (Err found) path.1
-    session
-    fault path.4 end ended_so row) path.2 ends
-
--- a turn on a line that is too long
-pub turn-long_line : (command : Command) (input : Option (List ℕ)) (told0 : Bool)
-    (before : Option (List ℕ)) (told : Bool) (from : Position) (number : ℕ) (session : Session)
-    (left : Option (List ℕ)) (told' : Bool) (old now0 now1 : Option (List ℕ)) (status : Status)
-    → Path command input told0 before told from session old now0
-    → IfSome (contents_behind from before)
-    (λ contents. contents ≡ ended (Err (stop.LineTooLong number)))
-    → FaultEnds (line_fault number) now0 now1 status
-    → Serves (Some command) input left told' old now1 status
-turn-long_line command input told0 before told from number session left told' old now0 now1 status
-    path
-    end ends =
-    turn-stop command input told0 before told from (stop.LineTooLong number) session
-    (line_fault number) left told' old now0 now1 status path end refl refl ends
-
--- a turn where the input is too long
-pub turn-long_input : (command : Command) (input : Option (List ℕ)) (told0 : Bool)
-    (before : Option (List ℕ)) (told : Bool) (from : Position) (number : ℕ) (session : Session)
-    (left : Option (List ℕ)) (told' : Bool) (old now0 now1 : Option (List ℕ)) (status : Status)
-    → Path command input told0 before told from session old now0
-    → IfSome (contents_behind from before)
-    (λ contents. contents ≡ ended (Err (stop.InputTooLong number)))
-    → FaultEnds (input_fault number) now0 now1 status
-    → Serves (Some command) input left told' old now1 status
-turn-long_input command input told0 before told from number session left told' old now0 now1 status
-    path end ends =
-    turn-stop command input told0 before told from (stop.InputTooLong number) session
-    (input_fault number) left told' old now0 now1 status path end refl refl ends
-
--- the answers of the lines taken, from what these give
-answers-in : (command : Command) (lines : List (List ℕ)) (to : Position) (taken : List (ℕ × List ℕ))
-    (written : List ℕ)
-    → contents_from start (lines ++ [])
-    ≡ record { lines = taken ++ []; ending = Ok (number_at to) }
-    → AreAnswersFrom taken (first_session command) written → AreAnswersIn command lines written
-answers-in command lines to taken written gives answers =
-    let is : contents_from start lines ≡ record { lines = taken; ending = Ok (number_at to) } =
-    ap (contents_from start) (sym (append-nil lines)) ∙ gives
-    ∙ ap (λ (l : List (ℕ × List ℕ)). record { lines = l; ending = Ok (number_at to) })
-    (append-nil taken) in
-    let first = first_session command in
-    let P : List (ℕ × List ℕ) → Type 0 = λ ls. AreAnswersFrom ls first written in (
+-- the answers of the lines taken, from their course
+pub answers-in : (answering : Answering) (input after : List ℕ) (told told' : Bool) (to : Position)
+    (given : List (ℕ × List ℕ)) (written : List ℕ) (course : Course)
+    (passed : Passes start input told to after told' given)
+    → course_of (with_lines given (ended (Ok (number_at to)))) ≡ course
+    → AreAllAnswers answering (number_at to) course written
+    → AreAnswersIn answering passed.lines written
+answers-in answering input after told told' to given written course passed is are =
+    let alone = lines-alone input after told told' to given passed in
+    let P : Course → Type 0 = λ c. AreAllAnswers answering (number_at to) c written in (
       number_at to,
-      ap (λ contents. contents.ending) is,
-      subst P (sym (ap (λ contents. contents.lines) is)) answers,
+      ap (λ (c : Contents). c.ending) alone,
+      subst P (sym (ap course_of alone ∙ is)) are,
     )
 
--- a turn in which the source failed
-pub turn-fails : (command : Command) (input : Option (List ℕ)) (told0 : Bool)
-    (before : Option (List ℕ))
-    (told : Bool) (held : List ℕ) (from to : Position) (session : Session)
-    (left : Option (List ℕ)) (told' : Bool) (old now : Option (List ℕ))
-    → Path command input told0 before told from session old now
-    → PassesKnown from before told to (prepend_known held left) told' [] → HasNoLineFeed held
-    → Serves (Some command) input left told' old now ReadFault
-turn-fails command None told0 before told held from to session left told' old now path passed
-    no_feed
-    = tt
-turn-fails command (Some input) told0 None told held from to session left told' old now path passed
-    no_feed = absurd path
-turn-fails command (Some input) told0 (Some before) told held from to session None told' old now
-    path
-    passed no_feed = absurd passed
-turn-fails command (Some input) told0 (Some before) told held from to session (Some left) told' old
-    now
-    path passed no_feed =
-    let taken = path.0 ++ [] in
-    let whole_way = passes-more start from to (Some input) (Some before) (Some (held ++ left))
-    told0 told told' path.0 [] path.3 passed in
-    let P : List (ℕ × List ℕ) → Type 0 =
-    λ ls. AreAnswersFrom ls (first_session command) path.1 in (
-      path.1,
-      path.2,
+-- the source failed before the sheet was whole
+fails-early : (answering : Answering) (input held left : List ℕ) (told told' : Bool) (to : Position)
+    (given : List (ℕ × List ℕ)) (old : Option (List ℕ))
+    → Passes start input told to (held ++ left) told' given
+    → (draft : Option Sheet)
+    → Leads (Some (contents_of input)) (Some (contents_from to (lines_of (held ++ left)))) draft
+    → HasNoLineFeed held
+    → Serves (Some answering) (Some input) (Some left) told' old old ReadFault
+fails-early answering input held left told told' to given old passed draft leads no_feed =
+    let after = held ++ left in
+    let there = contents_from to (lines_of after) in
+    let some : contents_of input ≡ with_lines leads.0 there =
+    ap (λ (o : Option Contents). elim o [ None ↦ contents_of input | Some c ↦ c ]) leads.1 in
+    let same : given ≡ leads.0 =
+    same-lines given leads.0 there
+    (sym (all-contents input after told told' to given passed) ∙ some) in
+    let number = number_at to in
+    let read : course_of (with_lines given (ended (Ok number)))
+    ≡ course_of_reading (sheet_reading_of (ended (Ok number)) draft) =
+    ap (λ lines. course_of (with_lines lines (ended (Ok number)))) same
+    ∙ ap course_of_reading (leads.2 (ended (Ok number))) in (
+      [],
+      append_known-none old,
       (
-        whole_way.lines,
+        passed.lines,
         held,
         no_feed,
-        whole_way.split,
-        whole_way.whole,
-        answers-in command whole_way.lines to taken path.1 (whole_way.gives [])
-            (subst P (sym (append-nil path.0))
-            (answers_written (first_session command) (contents_of input) path.0
-            (contents_from from (lines_of before)) path.1 session path.4)),
+        passed.split,
+        passed.whole,
+        answers-in answering input after told told' to given []
+            (course_of_reading (sheet_reading_of (ended (Ok number)) draft)) passed read
+            (refl, inr (_, refl)),
       ),
     )
+
+pub turn-fails_early : (answering : Answering) (input : Option (List ℕ)) (held : List ℕ)
+    (left : Option (List ℕ)) (told told' : Bool) (to : Position) (given : List (ℕ × List ℕ))
+    (old : Option (List ℕ))
+    → PassesKnown start input told to (prepend_known held left) told' given
+    → (draft : Option Sheet)
+    → Leads (contents_behind start input) (contents_behind to (prepend_known held left)) draft
+    → HasNoLineFeed held
+    → Serves (Some answering) input left told' old old ReadFault
+turn-fails_early answering None held left told told' to given old passed draft leads no_feed = tt
+turn-fails_early answering (Some input) held None told told' to given old passed draft leads no_feed
+    = absurd passed
+turn-fails_early answering (Some input) held (Some left) told told' to given old passed draft leads
+    no_feed =
+    fails-early answering input held left told told' to given old passed draft leads no_feed
+
+-- ---- a reader that has given nothing
+
+-- what it has in hand changes nothing of what the source has left
+fresh-stream : (input : Option (List ℕ)) → prepend_known [] input ≡ input
+fresh-stream None = refl
+fresh-stream (Some bytes) = refl
+
+-- the contents to come are all contents
+pub fresh-contents : (reader : Reader) (input : Option (List ℕ))
+    → reader ≡ record { held = []; text = []; position = start }
+    → contents_to_come reader input ≡ contents_behind start input
+fresh-contents reader input is =
+    ap (λ r. contents_to_come r input) is ∙ ap (contents_behind start) (fresh-stream input)
+
+-- the lines that it passes are the first ones
+pub fresh-passes : (reader new : Reader) (input left : Option (List ℕ)) (told told' : Bool)
+    (given : List (ℕ × List ℕ)) → reader ≡ record { held = []; text = []; position = start }
+    → PassesTo reader new input left told told' given
+    → PassesKnown start input told new.position (stream_of new left) told' given
+fresh-passes reader new input left told told' given is passed =
+    let P : Reader → Type 0 = λ r. PassesTo r new input left told told' given in
+    let Q : Option (List ℕ) → Type 0 =
+    λ known. PassesKnown start known told new.position (stream_of new left) told' given in
+    subst Q (fresh-stream input) (subst P is passed)
+
+-- what it reads of a sheet is read of the whole input
+pub fresh-reads : (reader : Reader) (input : Option (List ℕ)) (after : Option Contents)
+    (result : Result Sheet SheetStop)
+    → reader ≡ record { held = []; text = []; position = start }
+    → ReadsSheetAs (contents_to_come reader input) after result
+    → ReadsSheetAs (contents_behind start input) after result
+fresh-reads reader input after result is reads =
+    let P : Option Contents → Type 0 = λ before. ReadsSheetAs before after result in
+    subst P (fresh-contents reader input is) reads
+
+-- and so far
+pub fresh-leads : (reader : Reader) (input : Option (List ℕ)) (after : Option Contents)
+    (draft : Option Sheet) → reader ≡ record { held = []; text = []; position = start }
+    → Leads (contents_to_come reader input) after draft
+    → Leads (contents_behind start input) after draft
+fresh-leads reader input after draft is leads =
+    let P : Option Contents → Type 0 = λ before. Leads before after draft in
+    subst P (fresh-contents reader input is) leads
+
+-- ---- what came in place of a sheet
+
+-- a stop in place of a sheet
+abbrev pub no_sheet : SheetStop → Result Sheet SheetStop
+no_sheet stop = Err stop
+
+-- a fault of the source
+pub sheet-fails : (answering : Answering) (reader new : Reader) (input left : Option (List ℕ))
+    (told told' : Bool) (found : SheetStop) (old : Option (List ℕ))
+    → reader ≡ record { held = []; text = []; position = start }
+    → found ≡ sheet_stop.Read stop.ReadFault
+    → ReadsSheet (contents_to_come reader input) (contents_to_come new left) (no_sheet found)
+    → PassesUpTo reader new input left told told' (sheet_answer_behind new (no_sheet found))
+    → LeavesReader new left (sheet_answer_behind new (no_sheet found))
+    → Serves (Some answering) input left told' old old ReadFault
+sheet-fails answering reader new input left told told' found old fresh is reads passes leaves =
+    let there : Option Contents = contents_to_come new left in
+    let P : SheetStop → Type 0 =
+    λ s. ReadsSheet (contents_to_come reader input) there (no_sheet s) in
+    let Q : SheetStop → Type 0 =
+    λ s. PassesUpTo reader new input left told told' (sheet_answer_behind new (no_sheet s)) in
+    let R : SheetStop → Type 0 =
+    λ s. LeavesReader new left (sheet_answer_behind new (no_sheet s)) in
+    let read = subst P is reads in
+    let passed = subst Q is passes in
+    turn-fails_early answering input new.held left told told' new.position (passed.0 ++ []) old
+    (fresh-passes reader new input left told told' (passed.0 ++ []) fresh passed.1)
+    read.0 (fresh-leads reader input there read.0 fresh read.1) (subst R is leaves).0
+
+-- a line that is too long
+pub sheet-long_line : (answering : Answering) (reader new : Reader)
+    (input left : Option (List ℕ)) (told told' : Bool) (found : SheetStop) (number : ℕ)
+    (old now : Option (List ℕ)) (status : Status)
+    → reader ≡ record { held = []; text = []; position = start }
+    → found ≡ sheet_stop.Read (stop.LineTooLong number)
+    → ReadsSheet (contents_to_come reader input) (contents_to_come new left) (no_sheet found)
+    → PassesUpTo reader new input left told told' (sheet_answer_behind new (no_sheet found))
+    → FaultEnds (line_fault number) old now status
+    → Serves (Some answering) input left told' old now status
+sheet-long_line answering reader new input left told told' found number old now status fresh is
+    reads passes ends =
+    let there : Option Contents = contents_to_come new left in
+    let stopped : SheetStop = sheet_stop.Read (stop.LineTooLong number) in
+    let P : SheetStop → Type 0 =
+    λ s. ReadsSheet (contents_to_come reader input) there (no_sheet s) in
+    let Q : SheetStop → Type 0 =
+    λ s. PassesUpTo reader new input left told told' (sheet_answer_behind new (no_sheet s)) in
+    let passed = subst Q is passes in
+    turn-no_sheet answering input (stream_of new left) told told' new.position (passed.0 ++ [])
+    stopped (line_fault number) left old now status
+    (fresh-passes reader new input left told told' (passed.0 ++ []) fresh passed.1)
+    (fresh-reads reader input there (no_sheet stopped) fresh (subst P is reads)) refl ends
+
+-- an input that is too long
+pub sheet-long_input : (answering : Answering) (reader new : Reader)
+    (input left : Option (List ℕ)) (told told' : Bool) (found : SheetStop) (number : ℕ)
+    (old now : Option (List ℕ)) (status : Status)
+    → reader ≡ record { held = []; text = []; position = start }
+    → found ≡ sheet_stop.Read (stop.InputTooLong number)
+    → ReadsSheet (contents_to_come reader input) (contents_to_come new left) (no_sheet found)
+    → PassesUpTo reader new input left told told' (sheet_answer_behind new (no_sheet found))
+    → FaultEnds (input_fault number) old now status
+    → Serves (Some answering) input left told' old now status
+sheet-long_input answering reader new input left told told' found number old now status fresh is
+    reads passes ends =
+    let there : Option Contents = contents_to_come new left in
+    let stopped : SheetStop = sheet_stop.Read (stop.InputTooLong number) in
+    let P : SheetStop → Type 0 =
+    λ s. ReadsSheet (contents_to_come reader input) there (no_sheet s) in
+    let Q : SheetStop → Type 0 =
+    λ s. PassesUpTo reader new input left told told' (sheet_answer_behind new (no_sheet s)) in
+    let passed = subst Q is passes in
+    turn-no_sheet answering input (stream_of new left) told told' new.position (passed.0 ++ [])
+    stopped (input_fault number) left old now status
+    (fresh-passes reader new input left told told' (passed.0 ++ []) fresh passed.1)
+    (fresh-reads reader input there (no_sheet stopped) fresh (subst P is reads)) refl ends
+
+-- the sheet
+pub sheet-comes : (answering : Answering) (reader new : Reader) (input left : Option (List ℕ))
+    (told told' : Bool) (sheet : Sheet) (old : Option (List ℕ)) (turn : Turn)
+    → reader ≡ record { held = []; text = []; position = start }
+    → ReadsSheet (contents_to_come reader input) (contents_to_come new left) (Ok sheet)
+    → PassesUpTo reader new input left told told' (Ok (line.Text new.position.lines))
+    → TurnBegins sheet turn
+    → TurnGives answering input told (stream_of new left) told' new.position left old old turn
+sheet-comes answering reader new input left told told' sheet old turn fresh reads passes begins =
+    let given : List (ℕ × List ℕ) = passes.0 ++ (new.position.lines, new.text) ∷ [] in
+    turn-sheet answering input (stream_of new left) told told' new.position given sheet left old
+    turn (fresh-passes reader new input left told told' given fresh passes.1)
+    (fresh-reads reader input (contents_to_come new left) (Ok sheet) fresh reads) begins

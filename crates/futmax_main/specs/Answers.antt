@@ -1,18 +1,19 @@
--- The answer of an ask, by the mode.
-use Rattle.std.specs.Prelude.{ℕ, Bool, List}
-use Rattle.futmax_main.specs.declared.session.Mode.{Mode}
-use Rattle.futmax_main.specs.declared.session.Mode.TheVariants.{Verdicts, Table}
-use Rattle.futmax_main.specs.declared.session.Asked.{Asked}
+-- The answer of an ask, by what is answered.
+use Rattle.std.specs.Prelude.{ℕ, List}
+use Rattle.league_core.specs.declared.sheet.Sheet.{Sheet}
+use Rattle.league_core.specs.Results.{Results}
+use Rattle.ask_answers.specs.Verdicts.{AreVerdicts}
+use Rattle.ask_answers.specs.Tables.{IsTableText}
+use Rattle.futmax_main.specs.declared.session.Answering.{Answering}
+use Rattle.futmax_main.specs.declared.session.Answering.TheVariants.{Verdicts, Table}
 use Rattle.futmax_main.specs.Plays.{Played}
-use Rattle.futmax_main.specs.Verdicts.{AreVerdicts}
-use Rattle.futmax_main.specs.Tables.{IsTableText}
 
--- the answer of a mode, with proofs or without, from what was played
-abbrev pub IsAnswerFrom : Mode → Bool → Played → List ℕ → Type 0
-IsAnswerFrom Verdicts proofs played text = AreVerdicts proofs played text
-IsAnswerFrom Table proofs played text =
-    IsTableText played.sheet played.season played.epoch text
+-- the text answers from a season that so many events told
+abbrev pub IsAnswerFrom : Answering → Sheet → Results → ℕ → List ℕ → Type 0
+IsAnswerFrom (Verdicts proofs) sheet season epoch text = AreVerdicts proofs sheet season epoch text
+IsAnswerFrom Table sheet season epoch text = IsTableText sheet season epoch text
 
--- the text answers the ask
-abbrev pub IsAnswerTo : Asked → List ℕ → Type 0
-IsAnswerTo asked text = IsAnswerFrom asked.command.mode asked.command.proofs asked.played text
+-- the text answers an ask, from what was played there
+abbrev pub IsAnswerTo : Answering → Played → List ℕ → Type 0
+IsAnswerTo answering played text =
+    IsAnswerFrom answering played.sheet played.season played.epoch text

@@ -2,18 +2,11 @@
 -- promises comes first, from Statuses to Top; what the inner functions promise each other stands
 -- behind it.
 pub mod Statuses
-pub mod Commands
 pub mod Plays
-pub mod Session
+pub mod Courses
 pub mod Rows
-pub mod Parts
-pub mod Verdicts
-pub mod Tables
 pub mod Answers
-pub mod Path
+pub mod Texts
 pub mod Top
-pub mod Sound
-pub mod Items
-pub mod Outputs
+pub mod Way
 pub mod Turns
-pub mod Pieces

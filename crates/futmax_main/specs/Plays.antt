@@ -1,13 +1,17 @@
--- What a session has come to behind its sheet: what was played, and what is asked of it.
+-- What a session has come to behind its sheet: what was played.
 use Rattle.std.specs.Prelude.{ℕ, List}
 use Rattle.league_core.specs.declared.sheet.Sheet.{Sheet}
-use Rattle.league_core.specs.declared.question.Question.{Question}
+use Rattle.league_core.specs.declared.season.Event.{Event}
 use Rattle.league_core.specs.Results.{Results}
+use Rattle.league_core.specs.Seasons.{epoch_of, season_after}
 
--- a whole sheet, what was played so far, how many events told so, and the questions that an ask
--- answers
+-- a whole sheet, what was played so far, and how many events told so
 pub record Played : Type 0 where
   pub sheet : Sheet
   pub season : Results
   pub epoch : ℕ
-  pub questions : List Question
+
+-- what was played behind these events
+abbrev pub played_behind : Sheet → List Event → Played
+played_behind sheet events =
+    record { sheet = sheet; season = season_after sheet events; epoch = epoch_of events }

@@ -2,6 +2,8 @@
 -- It is said where the source tells its bytes; a sink that does not tell its own is taken to hold
 -- what was written.
 use Rattle.std.specs.Prelude.{◌≡◌, ℕ, Bool, false, ◌⊎◌, List, [], ◌++◌, Option, Some, None, Ok}
+use Rattle.std.specs.Prelude.{option_and_then}
+use Rattle.clap.specs.Words.{Text}
 use Rattle.std.specs.Io.KnownBytes.{append_known}
 use Rattle.port_core.specs.Lines.{lines_of, AreEndedLines, HasNoLineFeed}
 use Rattle.port_core.specs.Ports.{IsFront, Rose}
@@ -10,57 +12,82 @@ use Rattle.futmax_main.specs.declared.status.Status.{Status}
 use Rattle.futmax_main.specs.declared.status.Status.TheVariants.{Done, BadWords, BadSheet, BadFeed}
 use Rattle.futmax_main.specs.declared.status.Status.TheVariants.{ReadFault, WriteFault, OutOfMemory}
 use Rattle.futmax_main.specs.declared.status.Status.TheVariants.{NotProved, TooLong}
-use Rattle.futmax_main.specs.declared.session.Command.{Command}
+use Rattle.futmax_main.specs.declared.session.Answering.{Answering}
+use Rattle.futmax_main.specs.declared.session.Answering.TheVariants as answering
+use Rattle.command_words.specs.declared.command.Mode.{Mode}
+use Rattle.command_words.specs.declared.command.Mode.TheVariants as mode
+use Rattle.command_words.specs.declared.command.Command.{Command}
+use Rattle.command_words.specs.Commands.{command_of}
 use Rattle.futmax_main.specs.Rows.{usage_row}
-use Rattle.futmax_main.specs.Session.{first_session}
-use Rattle.futmax_main.specs.Path.{status_of, IsTextOf, IsFrontOf, AreAnswersFrom}
+use Rattle.futmax_main.specs.Courses.{course_of}
+use Rattle.futmax_main.specs.Texts.{status_of_outcome, IsTextOf, IsFrontOf, AreAllAnswers}
+
+-- ---- what a command is for
+
+-- what is answered at each ask, in a mode that answers asks
+abbrev pub answering_in : Mode → Bool → Option Answering
+answering_in mode.Verdicts proofs = Some (answering.Verdicts proofs)
+answering_in mode.Table proofs = Some answering.Table
+answering_in mode.Scores proofs = None
+answering_in mode.Check proofs = None
+answering_in mode.Sample proofs = None
+
+-- the same of a command
+abbrev pub answering_of : Command → Option Answering
+answering_of command = answering_in command.mode command.proofs
+
+-- the same of words, where they fit
+abbrev pub answering_for : List Text → Option Answering
+answering_for words = option_and_then answering_of (command_of words)
+
+-- ---- what is written
 
 -- the status of the session of an input
-abbrev pub session_status : Command → List ℕ → Status
-session_status command input = status_of (contents_of input) (first_session command)
+abbrev pub session_status : List ℕ → Status
+session_status input = status_of_outcome (course_of (contents_of input)).outcome
 
 -- the text is one of the session of an input
-abbrev pub IsText : Command → List ℕ → List ℕ → Type 0
-IsText command input text = IsTextOf (contents_of input) (first_session command) text
+abbrev pub IsText : Answering → List ℕ → List ℕ → Type 0
+IsText answering input text = IsTextOf answering (course_of (contents_of input)) text
 
 -- whole answers of the session's first asks, and a front of its next answer or row
-abbrev pub IsTextFront : Command → List ℕ → List ℕ → Type 0
-IsTextFront command input text = IsFrontOf (contents_of input) (first_session command) text
+abbrev pub IsTextFront : Answering → List ℕ → List ℕ → Type 0
+IsTextFront answering input text = IsFrontOf answering (course_of (contents_of input)) text
 
 -- the whole text of the session, which has this status
-abbrev pub IsWholeText : Command → List ℕ → Status → List ℕ → Type 0
-IsWholeText command input status text =
-    (session_status command input ≡ status) × IsText command input text
+abbrev pub IsWholeText : Answering → List ℕ → Status → List ℕ → Type 0
+IsWholeText answering input status text =
+    (session_status input ≡ status) × IsText answering input text
 
--- the text is the answers of all asks in these first lines of an input, of which none is too long
--- and none has the input's first byte too many
-abbrev pub AreAnswersIn : Command → List (List ℕ) → List ℕ → Type 0
-AreAnswersIn command lines text =
+-- the text is the answers of all asks in these first lines of an input, of which none is refused or
+-- too long, and none has the input's first byte too many
+abbrev pub AreAnswersIn : Answering → List (List ℕ) → List ℕ → Type 0
+AreAnswersIn answering lines text =
     let contents = contents_from start lines in
     (number : ℕ) × (contents.ending ≡ Ok number)
-    × AreAnswersFrom contents.lines (first_session command) text
+    × AreAllAnswers answering number (course_of contents) text
 
 -- the answers of the asks in the whole lines that were taken: what was taken behind them has no LF,
 -- and each of them ended with its LF, unless the source told its end, which ends a line too
-abbrev pub AnswersTaken : Command → List ℕ → Option (List ℕ) → Bool → List ℕ → Type 0
-AnswersTaken command input None ended text = ⊥
-AnswersTaken command input (Some left) ended text =
+abbrev pub AnswersTaken : Answering → List ℕ → Option (List ℕ) → Bool → List ℕ → Type 0
+AnswersTaken answering input None ended text = ⊥
+AnswersTaken answering input (Some left) ended text =
     (taken : List (List ℕ)) × (held : List ℕ) × HasNoLineFeed held
     × (lines_of input ≡ taken ++ lines_of (held ++ left)) × (ended ≡ false → AreEndedLines taken)
-    × AreAnswersIn command taken text
+    × AreAnswersIn answering taken text
 
 -- what was written where a run over this input ends with this status, by what the source has left
 -- then and by whether it has told its end
-abbrev pub Ends : Command → List ℕ → Option (List ℕ) → Bool → Status → List ℕ → Type 0
-Ends command input left ended Done text = IsWholeText command input Done text × (left ≡ Some [])
-Ends command input left ended BadWords text = IsWholeText command input BadWords text
-Ends command input left ended BadSheet text = IsWholeText command input BadSheet text
-Ends command input left ended BadFeed text = IsWholeText command input BadFeed text
-Ends command input left ended ReadFault text = AnswersTaken command input left ended text
-Ends command input left ended WriteFault text = IsTextFront command input text
-Ends command input left ended OutOfMemory text = IsTextFront command input text
-Ends command input left ended NotProved text = IsWholeText command input NotProved text
-Ends command input left ended TooLong text = IsWholeText command input TooLong text
+abbrev pub Ends : Answering → List ℕ → Option (List ℕ) → Bool → Status → List ℕ → Type 0
+Ends answering input left ended Done text = IsWholeText answering input Done text × (left ≡ Some [])
+Ends answering input left ended BadWords text = IsWholeText answering input BadWords text
+Ends answering input left ended BadSheet text = IsWholeText answering input BadSheet text
+Ends answering input left ended BadFeed text = IsWholeText answering input BadFeed text
+Ends answering input left ended ReadFault text = AnswersTaken answering input left ended text
+Ends answering input left ended WriteFault text = IsTextFront answering input text
+Ends answering input left ended OutOfMemory text = IsTextFront answering input text
+Ends answering input left ended NotProved text = IsWholeText answering input NotProved text
+Ends answering input left ended TooLong text = IsWholeText answering input TooLong text
 
 -- what was written where the words fit no mode: the usage row, a front of it where the sink failed,
 -- or nothing where there was no memory for it
@@ -70,15 +97,15 @@ EndsUnread WriteFault text = IsFront text usage_row
 EndsUnread OutOfMemory text = text ≡ []
 EndsUnread _ text = ⊥
 
--- the sink's bytes before and after a run, by the mode of its words, by what the source had left
+-- the sink's bytes before and after a run, by what its words ask for, by what the source had left
 -- before and has left after, and by whether it has told its end
-abbrev pub Serves : Option Command → Option (List ℕ) → Option (List ℕ) → Bool → Option (List ℕ)
+abbrev pub Serves : Option Answering → Option (List ℕ) → Option (List ℕ) → Bool → Option (List ℕ)
     → Option (List ℕ) → Status → Type 0
 Serves None input left ended old new status =
     (text : List ℕ) × (new ≡ append_known old text) × EndsUnread status text
-Serves (Some command) None left ended old new status = Unit {0}
-Serves (Some command) (Some input) left ended old new status =
-    (text : List ℕ) × (new ≡ append_known old text) × Ends command input left ended status text
+Serves (Some answering) None left ended old new status = Unit {0}
+Serves (Some answering) (Some input) left ended old new status =
+    (text : List ℕ) × (new ≡ append_known old text) × Ends answering input left ended status text
 
 -- ---- the status alone, whether or not the devices tell their bytes
 
@@ -90,13 +117,13 @@ Counts reads reads' writes writes' WriteFault = (reads' ≡ reads) × Rose write
 Counts reads reads' writes writes' status = (reads' ≡ reads) × (writes' ≡ writes)
 
 -- the status is that of the session of some input
-abbrev pub IsEarned : Command → Status → Type 0
-IsEarned command status = (input : List ℕ) × (session_status command input ≡ status)
+abbrev pub IsEarned : Status → Type 0
+IsEarned status = (input : List ℕ) × (session_status input ≡ status)
 
 -- the status of a run in which no device failed: that of the session, which is that of some input
 -- where the source tells none, or that the words fit no mode; or want of memory
-abbrev pub IsSettled : Option Command → Option (List ℕ) → Status → Type 0
+abbrev pub IsSettled : Option Answering → Option (List ℕ) → Status → Type 0
 IsSettled None input status = (status ≡ BadWords) ⊎ (status ≡ OutOfMemory)
-IsSettled (Some command) None status = IsEarned command status ⊎ (status ≡ OutOfMemory)
-IsSettled (Some command) (Some input) status =
-    (status ≡ session_status command input) ⊎ (status ≡ OutOfMemory)
+IsSettled (Some answering) None status = IsEarned status ⊎ (status ≡ OutOfMemory)
+IsSettled (Some answering) (Some input) status =
+    (status ≡ session_status input) ⊎ (status ≡ OutOfMemory)

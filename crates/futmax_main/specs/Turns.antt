@@ -1,28 +1,75 @@
--- What one turn of a run does: what a line, an ask, a fault and the end leave of the sink's bytes,
--- and how the way goes on.
-use Rattle.std.specs.Prelude.{◌≡◌, ◌<◌, ◌≤◌, ◌⊎◌, ℕ, Bool, List, Option, Some}
+-- What one turn of a run does: what an ask, a fault and the end leave of the sink's bytes, and how
+-- the way goes on. A turn is the reading of the sheet, or a round of the feed and its ask.
+use Rattle.std.specs.Prelude.{◌≡◌, ◌<◌, ◌≤◌, ◌⊎◌, ℕ, Bool, List, [], Option, Some, Result, Ok, Err}
 use Rattle.std.specs.Io.KnownBytes.{append_known}
+use Rattle.league_core.specs.declared.sheet.Sheet.{Sheet}
+use Rattle.league_core.specs.declared.question.Question.{Question}
+use Rattle.league_core.specs.Sheets.{IsWithinLimits}
+use Rattle.league_core.specs.Seasons.{season_after}
 use Rattle.port_core.specs.Ports.{AppendsFront, Rose}
 use Rattle.port_core.specs.Contents.{Position, input_limit}
+use Rattle.branch_pool.specs.States.{PoolState, out_count}
+use Rattle.verdict_run.specs.AskedQuestions.{questions_of}
+use Rattle.ask_answers.specs.declared.output.OutputStop.{OutputStop}
+use Rattle.ask_answers.specs.declared.output.OutputStop.TheVariants as output
 use Rattle.futmax_main.specs.declared.status.Status.{Status}
 use Rattle.futmax_main.specs.declared.status.Status.TheVariants.{Done, BadWords, ReadFault}
 use Rattle.futmax_main.specs.declared.status.Status.TheVariants.{WriteFault, OutOfMemory, NotProved}
-use Rattle.futmax_main.specs.declared.session.Command.{Command}
-use Rattle.futmax_main.specs.declared.session.Asked.{Asked}
+use Rattle.futmax_main.specs.declared.session.Answering.{Answering}
+use Rattle.futmax_main.specs.declared.session.Answering.TheVariants.{Verdicts, Table}
 use Rattle.futmax_main.specs.declared.session.Fault.{Fault}
-use Rattle.futmax_main.specs.declared.session.Step.{Step}
-use Rattle.futmax_main.specs.declared.session.Step.TheVariants.{Goes, Asks, Stops}
-use Rattle.futmax_main.specs.declared.session.Outcome.{Outcome}
-use Rattle.futmax_main.specs.declared.session.Outcome.TheVariants.{Complete, Refused}
 use Rattle.futmax_main.specs.declared.turn.Turn.{Turn}
 use Rattle.futmax_main.specs.declared.turn.Turn.TheVariants.{GoesOn, Ends}
-use Rattle.futmax_main.specs.Session.{session_behind, status_of_cause}
+use Rattle.futmax_main.specs.Plays.{Played, played_behind}
 use Rattle.futmax_main.specs.Rows.{fault_row}
 use Rattle.futmax_main.specs.Answers.{IsAnswerTo}
-use Rattle.futmax_main.specs.Outputs.{PutsFront}
-use Rattle.futmax_main.specs.Path.{Path}
+use Rattle.futmax_main.specs.Texts.{status_of_cause}
+use Rattle.futmax_main.specs.Way.{Path}
 use Rattle.futmax_main.specs.Top.{Counts, Serves}
-use Rattle.futmax_main.specs.Sound.{IsSound}
+
+-- ---- the pool of a session
+
+-- the questions that an ask answers, by what is answered
+abbrev pub asked_by : Answering → Sheet → List Question
+asked_by (Verdicts proofs) sheet = questions_of sheet
+asked_by Table sheet = []
+
+-- a pool that a session keeps from ask to ask: it has the questions of what is answered, its season
+-- is that of its events, and nothing is out
+pub record IsLive (answering : Answering) (pool : PoolState) : Type 0 where
+  pub limits : IsWithinLimits pool.sheet
+  pub questions : pool.questions ≡ asked_by answering pool.sheet
+  pub season : pool.season ≡ season_after pool.sheet pool.log
+  pub home : out_count pool.loans ≡ 0
+
+-- what a pool was told
+abbrev pub told_to : PoolState → Played
+told_to pool = played_behind pool.sheet pool.log
+
+-- a pool of the same sheet, that was told the same
+abbrev pub IsToldSame : PoolState → PoolState → Type 0
+IsToldSame pool next = (next.sheet ≡ pool.sheet) × (next.log ≡ pool.log)
+
+-- ---- an answer
+
+-- a front of some answer was written
+abbrev pub PutsFront : (List ℕ → Type 0) → Option (List ℕ) → Option (List ℕ) → Type 0
+PutsFront IsAnswer old now = (answer : List ℕ) × IsAnswer answer × AppendsFront old now answer
+
+-- an ask was answered, and the pool was told no more; or a front of an answer was written, or,
+-- where memory was wanting, nothing
+abbrev pub AnswersAsk : Answering → PoolState → Option (List ℕ) → Option (List ℕ)
+    → Result PoolState OutputStop → Type 0
+AnswersAsk answering pool old now (Ok next) =
+    IsToldSame pool next
+    × ((answer : List ℕ) × IsAnswerTo answering (told_to pool) answer
+    × (now ≡ append_known old answer))
+AnswersAsk answering pool old now (Err output.WriteFault) =
+    PutsFront (IsAnswerTo answering (told_to pool)) old now
+AnswersAsk answering pool old now (Err output.OutOfMemory) =
+    (now ≡ old) ⊎ PutsFront (IsAnswerTo answering (told_to pool)) old now
+
+-- ---- what ends a run
 
 -- how a fault ends a run: its row is written and its status is the run's, or a device or memory
 -- fails
@@ -32,45 +79,41 @@ FaultEnds fault old now WriteFault = AppendsFront old now (fault_row fault)
 FaultEnds fault old now status =
     (status_of_cause fault.cause ≡ status) × (now ≡ append_known old (fault_row fault))
 
--- how the end of the input ends it
-abbrev pub EndEnds : Outcome → Option (List ℕ) → Option (List ℕ) → Status → Type 0
-EndEnds Complete old now status = (status ≡ Done) × (now ≡ old)
-EndEnds (Refused fault) old now status = FaultEnds fault old now status
-
 -- how an ask ends it, where it does
-abbrev pub AskEnds : Asked → Option (List ℕ) → Option (List ℕ) → Status → Type 0
-AskEnds asked old now OutOfMemory = (now ≡ old) ⊎ PutsFront (IsAnswerTo asked) old now
-AskEnds asked old now WriteFault = PutsFront (IsAnswerTo asked) old now
-AskEnds asked old now status = ⊥
+abbrev pub AskEnds : Answering → Played → Option (List ℕ) → Option (List ℕ) → Status → Type 0
+AskEnds answering asked old now OutOfMemory =
+    (now ≡ old) ⊎ PutsFront (IsAnswerTo answering asked) old now
+AskEnds answering asked old now WriteFault = PutsFront (IsAnswerTo answering asked) old now
+AskEnds answering asked old now status = ⊥
 
 -- a turn on an ask: its answer is written, or the run ends
-abbrev pub AskGives : Asked → Option (List ℕ) → Option (List ℕ) → Turn → Type 0
-AskGives asked old now (GoesOn next) =
-    (next ≡ session_behind asked) × ((answer : List ℕ) × IsAnswerTo asked answer
+abbrev pub AskGives : Answering → PoolState → Option (List ℕ) → Option (List ℕ) → Turn → Type 0
+AskGives answering pool old now (GoesOn next) =
+    IsToldSame pool next
+    × ((answer : List ℕ) × IsAnswerTo answering (told_to pool) answer
     × (now ≡ append_known old answer))
-AskGives asked old now (Ends status) = AskEnds asked old now status
+AskGives answering pool old now (Ends status) = AskEnds answering (told_to pool) old now status
 
--- a turn on a line, by what the line does
-abbrev pub LineTurns : Step → Option (List ℕ) → Option (List ℕ) → Turn → Type 0
-LineTurns (Goes session) old now (GoesOn next) = (next ≡ session) × (now ≡ old)
-LineTurns (Goes session) old now (Ends status) = (status ≡ OutOfMemory) × (now ≡ old)
-LineTurns (Asks asked) old now turn = AskGives asked old now turn
-LineTurns (Stops fault) old now (GoesOn next) = ⊥
-LineTurns (Stops fault) old now (Ends status) = FaultEnds fault old now status
+-- ---- a turn
 
 -- a turn: the way goes on, or the run has served; `ended` says whether the source had told its end
 -- when the run began, and `ended'` whether it has now
-abbrev pub TurnGives : Command → Option (List ℕ) → Bool → Option (List ℕ) → Bool → Position
+abbrev pub TurnGives : Answering → Option (List ℕ) → Bool → Option (List ℕ) → Bool → Position
     → Option (List ℕ) → Option (List ℕ) → Option (List ℕ) → Turn → Type 0
-TurnGives command input ended stream ended' position left old now (GoesOn next) =
-    Path command input ended stream ended' position next old now
-TurnGives command input ended stream ended' position left old now (Ends status) =
-    Serves (Some command) input left ended' old now status
+TurnGives answering input ended stream ended' position left old now (GoesOn next) =
+    Path answering input ended stream ended' position next.sheet next.log old now
+TurnGives answering input ended stream ended' position left old now (Ends status) =
+    Serves (Some answering) input left ended' old now status
 
--- a session that goes on is sound
-abbrev pub TurnIsSound : Turn → Type 0
-TurnIsSound (GoesOn next) = IsSound next
-TurnIsSound (Ends status) = Unit {0}
+-- a session that goes on has its pool
+abbrev pub TurnIsLive : Answering → Turn → Type 0
+TurnIsLive answering (GoesOn next) = IsLive answering next
+TurnIsLive answering (Ends status) = Unit {0}
+
+-- the sheet of a session that goes on
+abbrev pub TurnKeepsSheet : Sheet → Turn → Type 0
+TurnKeepsSheet sheet (GoesOn next) = next.sheet ≡ sheet
+TurnKeepsSheet sheet (Ends status) = Unit {0}
 
 -- a session that goes on has more of its input passed, and not more than an input may have
 abbrev pub TurnMovesOn : ℕ → ℕ → Turn → Type 0
@@ -108,3 +151,8 @@ CountsWords writes writes' BadWords = writes' ≡ writes
 CountsWords writes writes' OutOfMemory = writes' ≡ writes
 CountsWords writes writes' WriteFault = Rose writes writes'
 CountsWords writes writes' status = ⊥
+
+-- a session that begins behind its sheet has been told nothing; otherwise memory was wanting
+abbrev pub TurnBegins : Sheet → Turn → Type 0
+TurnBegins sheet (GoesOn next) = (next.sheet ≡ sheet) × (next.log ≡ [])
+TurnBegins sheet (Ends status) = status ≡ OutOfMemory

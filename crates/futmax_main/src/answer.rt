@@ -1,74 +1,108 @@
-//! The answer of an ask, by the mode.
+//! The pool of a session, and the answer of an ask.
 
-ghost use Rattle.std.specs.Prelude.{◌≡◌, Bool};
-ghost use Rattle.futmax_main.specs.declared.session.Mode.TheVariants.{Verdicts, Table};
-ghost use Rattle.futmax_main.specs.Answers.{IsAnswerFrom};
-ghost use Rattle.futmax_main.specs.Outputs.{AnswersAsk, CountsPut};
-ghost use Rattle.futmax_main.specs.Sound.{IsSoundPlayed};
-ghost use Rattle.futmax_main.specs.Tables.{IsTableText};
-ghost use Rattle.futmax_main.specs.Verdicts.{AreVerdicts};
+ghost use Rattle.std.specs.Prelude.{◌≡◌, ◌≤◌, [], All, IfOk, length};
+ghost use Rattle.league_core.specs.Questions.{IsQuestionOf};
+ghost use Rattle.league_core.specs.Sheets.{IsWithinLimits};
+ghost use Rattle.ask_answers.specs.Outputs.{CountsPut};
+ghost use Rattle.futmax_main.specs.declared.session.Answering.TheVariants.{Verdicts, Table};
+ghost use Rattle.futmax_main.specs.Turns.{AnswersAsk, IsLive, asked_by};
 
-use crate::live_league::LiveLeague;
-use crate::output::{OutputStop, put_text};
-use crate::session::{Command, Mode};
-use crate::table::table_rows;
-use crate::verdicts::put_verdicts;
+use crate::session::Answering;
+use ask_answers::{OutputStop, put_text, put_verdicts, table_rows};
+use branch_pool::Pool;
+use league_core::{OutOfMemory, Question, Sheet};
 use port_core::Sink;
 use std::alloc::Global;
+use verdict_run::{finish, questions, verdicts};
 
-/// Writes the answer of an ask, and gives back what was played.
-pub fn put_answer<K: Sink>(
-    alloc: Global,
-    command: Command,
-    played: LiveLeague,
-    sink: &mut K,
-) -> Result<LiveLeague, OutputStop>
-    requires { IsSoundPlayed command.mode played }
-    ensures answer { AnswersAsk (IsAnswerFrom command.mode command.proofs played) played
-        (K.holds sink.old) (K.holds sink.new) result }
-    ensures counts { CountsPut (K.faults sink.old) (K.faults sink.new) result }
+/// The pool of a session whose sheet is whole, before the first event.
+pub fn begin_pool(alloc: Global, answering: Answering, sheet: Sheet) -> Result<Pool, OutOfMemory>
+    requires { IsWithinLimits sheet }
+    ensures live { IfOk result (IsLive answering) }
+    ensures sheet { IfOk result (λ pool. pool.sheet ≡ sheet) }
+    ensures log { IfOk result (λ pool. pool.log ≡ []) }
 {
-    match command.mode {
-        Mode::Verdicts => answer_verdicts(alloc, command.proofs, played, sink),
-        Mode::Table => answer_table(alloc, played, sink),
+    let asked = questions_for(alloc, answering, &sheet)?;
+    Pool::begin(alloc, sheet, asked)
+}
+
+fn questions_for(
+    alloc: Global,
+    answering: Answering,
+    sheet: &Sheet,
+) -> Result<Vec<Question>, OutOfMemory>
+    requires { IsWithinLimits sheet.now }
+    ensures value { IfOk result (λ asked. asked.items ≡ asked_by answering sheet.now) }
+    ensures of_sheet { IfOk result (λ asked. All (IsQuestionOf sheet.now) asked.items) }
+    ensures few { IfOk result (λ asked. length asked.items ≤ 192) }
+{
+    match answering {
+        Answering::Verdicts { proofs: _ } => questions(alloc, sheet),
+        Answering::Table => Ok(Vec::new(alloc)),
     }
 }
 
+/// Writes the answer of an ask, and gives back the pool, which may know more then.
+pub fn put_answer<K: Sink>(
+    alloc: Global,
+    answering: Answering,
+    pool: Pool,
+    sink: &mut K,
+) -> Result<Pool, OutputStop>
+    requires { IsLive answering pool }
+    ensures answer { AnswersAsk answering pool (K.holds sink.old) (K.holds sink.new) result }
+    ensures live { IfOk result (IsLive answering) }
+    ensures counts { CountsPut (K.faults sink.old) (K.faults sink.new) result }
+{
+    match answering {
+        Answering::Verdicts { proofs } => answer_verdicts(alloc, proofs, pool, sink),
+        Answering::Table => answer_table(alloc, pool, sink),
+    }
+}
+
+// What is open is worked on first, as far as the budget goes.
 fn answer_verdicts<K: Sink>(
     alloc: Global,
     proofs: bool,
-    played: LiveLeague,
+    pool: Pool,
     sink: &mut K,
-) -> Result<LiveLeague, OutputStop>
-    requires { IsSoundPlayed Verdicts played }
-    ensures answer { AnswersAsk (AreVerdicts proofs played) played
-        (K.holds sink.old) (K.holds sink.new) result }
+) -> Result<Pool, OutputStop>
+    requires { IsLive (Verdicts proofs) pool }
+    ensures answer { AnswersAsk (Verdicts proofs) pool (K.holds sink.old) (K.holds sink.new)
+        result }
+    ensures live { IfOk result (IsLive (Verdicts proofs)) }
     ensures counts { CountsPut (K.faults sink.old) (K.faults sink.new) result }
 {
-    let Ok((solved, verdicts)) = played.solved(alloc) else {
+    let Ok(pool) = finish(alloc, pool) else {
         return Err(OutputStop::OutOfMemory);
     };
-    match put_verdicts(alloc, proofs, &solved, verdicts.as_slice(), sink) {
-        Ok(()) => Ok(solved),
+    let Ok(found) = verdicts(alloc, &pool) else {
+        return Err(OutputStop::OutOfMemory);
+    };
+    match put_verdicts(
+        alloc,
+        proofs,
+        pool.sheet(),
+        pool.epoch(),
+        found.as_slice(),
+        sink,
+    ) {
+        Ok(()) => Ok(pool),
         Err(stop) => Err(stop),
     }
 }
 
-fn answer_table<K: Sink>(
-    alloc: Global,
-    played: LiveLeague,
-    sink: &mut K,
-) -> Result<LiveLeague, OutputStop>
-    requires { IsSoundPlayed Table played }
-    ensures answer { AnswersAsk (IsTableText played.sheet played.season played.epoch) played
-        (K.holds sink.old) (K.holds sink.new) result }
+fn answer_table<K: Sink>(alloc: Global, pool: Pool, sink: &mut K) -> Result<Pool, OutputStop>
+    requires { IsLive Table pool }
+    ensures answer { AnswersAsk Table pool (K.holds sink.old) (K.holds sink.new) result }
+    ensures live { IfOk result (IsLive Table) }
     ensures counts { CountsPut (K.faults sink.old) (K.faults sink.new) result }
 {
-    let Ok(rows) = table_rows(alloc, played.sheet(), played.season(), played.epoch()) else {
+    let Ok(rows) = table_rows(alloc, pool.sheet(), pool.season(), pool.epoch()) else {
         return Err(OutputStop::OutOfMemory);
     };
     match put_text(sink, rows.as_slice()) {
-        Ok(()) => Ok(played),
+        Ok(()) => Ok(pool),
         Err(stop) => Err(stop),
     }
 }

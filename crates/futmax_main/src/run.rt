@@ -1,26 +1,32 @@
 //! A run of one session, from the first line to the end.
-//!
-//! Each line is answered before the next one is read. The form of the input bounds how many lines
-//! go on.
 
-ghost use Rattle.std.specs.Prelude.{Some};
+ghost use Rattle.std.specs.Prelude.{◌<◌, ◌≤◌, Some};
 ghost use Rattle.futmax_main.specs.Top.{Counts, Serves};
 ghost use Rattle.futmax_main.specs.Turns.{MayEndSession};
 
-use crate::session::{Command, Session};
+use crate::rounds::run_rounds;
+use crate::session::Answering;
 use crate::status::Status;
-use crate::turn::{Turn, take_turn};
+use crate::turn::{Turn, take_sheet};
 use port_core::{LineReader, Sink, Source};
 use std::alloc::Global;
+use std::sync::Wait;
+use std::thread::Threads;
+use worker_gate::Gate;
 
 /// Reads the source to its end, or to what ends the run before.
-pub fn run<S: Source, K: Sink>(
+pub fn run<R: Threads + Wait + Sync, S: Source + Send, K: Sink, G: Gate + Sync>(
+    rt: &R,
     alloc: Global,
-    command: Command,
+    answering: Answering,
+    workers: u8,
     source: &mut S,
     sink: &mut K,
+    gate: &G,
 ) -> Status
-    ensures serves { Serves (Some command) (S.left source.old) (S.left source.new)
+    requires some { 0 < workers }
+    requires few { workers ≤ 8 }
+    ensures serves { Serves (Some answering) (S.left source.old) (S.left source.new)
         (S.ended source.new) (K.holds sink.old) (K.holds sink.new) result }
     ensures counts { Counts (S.faults source.old) (S.faults source.new)
         (K.faults sink.old) (K.faults sink.new) result }
@@ -29,11 +35,20 @@ pub fn run<S: Source, K: Sink>(
     let Ok(mut reader) = LineReader::new(alloc) else {
         return Status::OutOfMemory;
     };
-    let mut session = Session::first(command);
-    'lines: loop {
-        match take_turn(alloc, &mut reader, source, session, sink) {
-            Turn::GoesOn(next) => session = next,
-            Turn::Ends(status) => return status,
+    match take_sheet(alloc, answering, &mut reader, source, sink) {
+        Turn::GoesOn(pool) => {
+            run_rounds(
+                rt,
+                alloc,
+                answering,
+                workers,
+                pool,
+                &mut reader,
+                source,
+                sink,
+                gate,
+            )
         }
+        Turn::Ends(status) => status,
     }
 }

@@ -1,50 +1,16 @@
-//! Where a session stands between two lines of its input.
+//! What a session answers, and how it ends.
 
-use crate::live_league::LiveLeague;
-use fixture_sheet::{Draft, SheetFault};
+use fixture_sheet::SheetFault;
 use result_log::FeedFault;
 
-/// What the program was started for.
+/// What is answered at each ask.
 #[derive(Clone, Copy, Debug, PartialEq, Eq)]
-pub enum Mode {
-    /// At each ask, the verdict of every club for every line.
-    Verdicts,
-    /// At each ask, the table of the matches played so far.
+pub enum Answering {
+    /// The verdict of every club for every line; with `proofs`, refutations behind those that they
+    /// show.
+    Verdicts { proofs: bool },
+    /// The table of the matches played so far.
     Table,
-}
-
-/// What the words of a command say.
-#[derive(Clone, Copy, Debug, PartialEq, Eq)]
-pub struct Command {
-    pub mode: Mode,
-    /// Whether refutations are written behind the verdicts that they show.
-    pub proofs: bool,
-    /// From 1 to 8. No mode of today uses it.
-    pub workers: u8,
-    /// No mode of today uses it.
-    pub seed: u64,
-}
-
-/// How far the input has come.
-#[derive(Drop)]
-pub enum Stage {
-    /// The sheet so far; none before its first record.
-    InSheet(Option<Draft>),
-    /// The sheet is whole, and events and asks come.
-    InFeed(LiveLeague),
-}
-
-#[derive(Drop)]
-pub struct Session {
-    pub command: Command,
-    pub stage: Stage,
-}
-
-/// What an ask is answered from.
-#[derive(Drop)]
-pub struct Asked {
-    pub command: Command,
-    pub played: LiveLeague,
 }
 
 /// Why a line is refused.
@@ -69,20 +35,11 @@ pub struct Fault {
     pub cause: Cause,
 }
 
-/// What one line does.
-#[derive(Drop)]
-pub enum Step {
-    /// The session goes on.
-    Goes(Session),
-    /// The line is an ask: the session answers it, and goes on.
-    Asks(Asked),
-    /// The line is refused, and the session ends.
-    Stops(Fault),
-}
-
-/// How a session ends at the end of its input.
+/// How a session ends, by its input.
 #[derive(Clone, Copy, Debug, PartialEq, Eq)]
 pub enum Outcome {
+    /// The input is read to its end.
     Complete,
+    /// A line of it, or its end, is refused.
     Refused(Fault),
 }

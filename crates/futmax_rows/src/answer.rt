@@ -6,25 +6,36 @@ use port_core::{MemSink, MemSource};
 use std::alloc::Global;
 use std::io;
 use std::io::Write;
+use std::sync::Wait;
+use std::thread::Threads;
+use worker_gate::OpenGate;
 
 /// Prints the status and the rows; where a trouble is run with several numbers, the rows of the run
 /// without it, and then how much of them each run wrote. A row that lacks its LF is printed with a
 /// backslash.
-pub fn print_answer(rt: &HostRuntime, case: &Case) -> io::Result<()> {
+pub fn print_answer(
+    rt: &(impl Threads + Wait + Print + Sync + Alloc<A = Global>),
+    case: &Case,
+) -> io::Result<()> {
     if case.first == case.last {
-        let (status, rows) = run(rt.alloc(), case, case.trouble, case.first)?;
+        let (status, rows) = run(rt, case, case.trouble, case.first)?;
         return print_rows(rt, case, status, &rows);
     }
-    let (status, rows) = run(rt.alloc(), case, Trouble::Nothing, 0)?;
+    let (status, rows) = run(rt, case, Trouble::Nothing, 0)?;
     print_rows(rt, case, status, &rows)?;
     for number in case.first..=case.last {
-        let (status, front) = run(rt.alloc(), case, case.trouble, number)?;
+        let (status, front) = run(rt, case, case.trouble, number)?;
         print_front(rt, number, status, &front, &rows)?;
     }
     Ok(())
 }
 
-fn print_rows(rt: &HostRuntime, case: &Case, status: Status, rows: &[u8]) -> io::Result<()> {
+fn print_rows(
+    rt: &(impl Print + Alloc<A = Global>),
+    case: &Case,
+    status: Status,
+    rows: &[u8],
+) -> io::Result<()> {
     let code = status.code();
     println!(rt; "status {code}")?;
     let mut text = Vec::new(rt.alloc());
@@ -62,7 +73,7 @@ fn outline_of(row: &[u8]) -> &[u8] {
 }
 
 fn print_front(
-    rt: &HostRuntime,
+    rt: &impl Print,
     number: u64,
     status: Status,
     front: &[u8],
@@ -77,7 +88,13 @@ fn print_front(
     }
 }
 
-fn run(alloc: Global, case: &Case, trouble: Trouble, number: u64) -> io::Result<(Status, Vec<u8>)> {
+fn run(
+    rt: &(impl Threads + Wait + Sync + Alloc<A = Global>),
+    case: &Case,
+    trouble: Trouble,
+    number: u64,
+) -> io::Result<(Status, Vec<u8>)> {
+    let alloc = rt.alloc();
     let read_fails = if trouble == Trouble::ReadFails {
         number
     } else {
@@ -100,6 +117,13 @@ fn run(alloc: Global, case: &Case, trouble: Trouble, number: u64) -> io::Result<
     let Ok(mut sink) = MemSink::new(alloc, room, piece, fails) else {
         return Err(io::ErrorKind::OutOfMemory.into());
     };
-    let status = futmax(alloc, case.words.clone()?, &mut source, &mut sink);
+    let status = futmax(
+        rt,
+        alloc,
+        case.words.clone()?,
+        &mut source,
+        &mut sink,
+        &OpenGate,
+    );
     Ok((status, sink.bytes().to_vec(alloc)?))
 }

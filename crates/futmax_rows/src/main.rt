@@ -23,7 +23,10 @@ mod input;
 
 use answer::print_answer;
 use case::Case;
+use std::alloc::Global;
 use std::io;
+use std::sync::Wait;
+use std::thread::Threads;
 
 fn main(rt: HostRuntime) -> io::Result<()> {
     let mut case = None;
@@ -34,7 +37,11 @@ fn main(rt: HostRuntime) -> io::Result<()> {
 }
 
 // The case that the next line stands in, if it does in one.
-fn take_line(rt: &HostRuntime, mut case: Option<Case>, line: &str) -> io::Result<Option<Case>> {
+fn take_line(
+    rt: &(impl Threads + Wait + Print + Sync + Alloc<A = Global>),
+    mut case: Option<Case>,
+    line: &str,
+) -> io::Result<Option<Case>> {
     if let Some(head) = line.strip_prefix("== ") {
         println!(rt; "{line}")?;
         return Ok(Some(Case::new(rt.alloc(), head)?));

@@ -7,7 +7,10 @@ use futmax_main::{Status, futmax};
 use port_core::{Got, MemSink, Source};
 use std::alloc::Global;
 use std::process::Abort;
+use std::sync::Wait;
 use std::test::Fail;
+use std::thread::Threads;
+use worker_gate::OpenGate;
 
 // Makes the bytes of an input: comments of 1,024 bytes with their LF, then letters.
 #[derive(Drop)]
@@ -48,7 +51,7 @@ impl Source for Made {
 
 // 65,536 comments of 1,024 bytes are as many bytes as an input may have.
 fn check_run(
-    rt: &(impl Abort + Alloc<A = Global>),
+    rt: &(impl Abort + Threads + Wait + Sync + Alloc<A = Global>),
     letters: usize,
     wanted: Status,
     row: &str,
@@ -60,7 +63,7 @@ fn check_run(
     };
     let mut sink = MemSink::new(rt.alloc(), 100, 100, Vec::new(rt.alloc()))?;
     let words = words_of(rt.alloc(), &["futmax", "verdicts"])?;
-    let status = futmax(rt.alloc(), words, &mut source, &mut sink);
+    let status = futmax(rt, rt.alloc(), words, &mut source, &mut sink, &OpenGate);
     assert_eq!(rt; status, wanted);
     assert_eq!(rt; sink.bytes(), row.as_bytes());
     Ok(())

@@ -5,8 +5,9 @@ ghost use Rattle.std.specs.Prelude.{None};
 use crate::words::words_of;
 use futmax_main::{Status, futmax};
 use port_core::{Got, Put, Sink, Source};
-use std::cell::Cell;
+use std::sync::atomic::{AtomicU64, Ordering};
 use std::test::Fail;
+use worker_gate::OpenGate;
 
 // A draw with goals, an ask, the score put right, and an ask again.
 const CORRECTED: &[u8] = b"league,Tiny,1\nclub,A,1\nclub,B,2\nmatch,A,B\nline,1\nseason\n\
@@ -17,7 +18,7 @@ const CORRECTED: &[u8] = b"league,Tiny,1\nclub,A,1\nclub,B,2\nmatch,A,B\nline,1\
 struct Counted<'a> {
     bytes: &'a [u8],
     at: usize,
-    given: &'a Cell<u64>,
+    given: &'a AtomicU64,
 }
 
 impl Source for Counted<'_> {
@@ -31,7 +32,7 @@ impl Source for Counted<'_> {
         };
         into[0] = *byte;
         self.at = self.at.wrapping_add(1);
-        self.given.set(self.given.get().wrapping_add(1));
+        self.given.fetch_add(1, Ordering::SeqCst);
         Got::Bytes(1)
     }
 }
@@ -39,7 +40,7 @@ impl Source for Counted<'_> {
 // Notes at each piece how many bytes the source had given.
 #[derive(Drop)]
 struct Noting<'a> {
-    given: &'a Cell<u64>,
+    given: &'a AtomicU64,
     notes: [u64; 8],
     pieces: usize,
 }
@@ -51,7 +52,7 @@ impl Sink for Noting<'_> {
 
     fn write(&mut self, piece: &[u8]) -> Put {
         if self.pieces < self.notes.len() {
-            self.notes[self.pieces] = self.given.get();
+            self.notes[self.pieces] = self.given.load(Ordering::SeqCst);
             self.pieces += 1;
         }
         Put::Took(piece.len())
@@ -61,7 +62,7 @@ impl Sink for Noting<'_> {
 // The first ask ends 14 bytes before the end, the second at the end. Each answer has three rows.
 #[test]
 fn an_answer_comes_before_the_next_line(rt: HostRuntime) -> Result<(), Fail> {
-    let given = Cell::new(0);
+    let given = AtomicU64::new(0);
     let mut source = Counted {
         bytes: CORRECTED,
         at: 0,
@@ -73,7 +74,7 @@ fn an_answer_comes_before_the_next_line(rt: HostRuntime) -> Result<(), Fail> {
         pieces: 0,
     };
     let words = words_of(rt.alloc(), &["futmax", "verdicts"])?;
-    let status = futmax(rt.alloc(), words, &mut source, &mut sink);
+    let status = futmax(&rt, rt.alloc(), words, &mut source, &mut sink, &OpenGate);
     let end = CORRECTED.len() as u64;
     let first = end - 14;
     assert_eq!(rt; status, Status::Done);

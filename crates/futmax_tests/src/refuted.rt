@@ -4,6 +4,7 @@ use crate::words::words_of;
 use futmax_main::{Status, futmax};
 use port_core::{MemSink, MemSource};
 use std::test::Fail;
+use worker_gate::OpenGate;
 
 // Sixteen clubs before an open round; K01 has won twice against K02. Each rival reaches 3 points at
 // most, and K01 has 6.
@@ -24,7 +25,7 @@ fn sixteen_clubs_take_31_nodes(rt: HostRuntime) -> Result<(), Fail> {
     let Ok(mut sink) = MemSink::new(alloc, 1048576, 8192, Vec::new(alloc)) else {
         return Err("room".into());
     };
-    let status = futmax(alloc, words, &mut source, &mut sink);
+    let status = futmax(&rt, alloc, words, &mut source, &mut sink, &OpenGate);
     assert_eq!(rt; status, Status::Done);
     let rows = sink.bytes().split(|byte| *byte == b'\n').skip(2);
     let lines = rows.take_while(|row| row.starts_with(b"[")).count();

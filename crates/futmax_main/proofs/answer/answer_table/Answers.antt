@@ -1,14 +1,12 @@
-use Rattle.futmax_main.specs.Plays.{Played}
-use Rattle.futmax_main.specs.Tables.{IsTableText}
-use Rattle.futmax_main.proofs.VerdictLemmas.{answers-front, table-answer}
+use Rattle.futmax_main.specs.declared.session.Answering.TheVariants.{Table}
+use Rattle.futmax_main.proofs.AnswerLemmas.{answers-front, table-answer}
 use Rattle.futmax_main.proofs.answer.answer_table.Goals as goal
 
 pub returns-in-Err-clause-answer : goal.returns-in-Err-clause-answer
 returns-in-Err-clause-answer g c =
-    let played : Played = c.args.played in
-    answers-front (IsTableText played.sheet played.season played.epoch) played _ _ c.in-Err.stop (
+    answers-front Table c.args.pool _ _ c.in-Err.stop (
       c.in-Ok.rows.items,
-      table-answer played _ _ _ c.in-Ok.rows.items c.sheet.ensures c.season.ensures
-          c.epoch.ensures c.in-Ok.ensures,
+      table-answer c.args.pool _ _ _ c.in-Ok.rows.items c.requires c.sheet.ensures.sheet
+          c.season.ensures.season c.epoch.ensures c.in-Ok.ensures,
       rw c.as_slice.ensures.value at c.in-Err.ensures.text,
     )

@@ -7,5 +7,5 @@ pub returns : goal.returns
 returns c =
     IfOk-weaker c.write_row.result _ _
     (λ row is. is ∙ ap₂ (λ first second. text_of_row (first ∷ second ∷ []))
-    c.in_ok-copy_of.ensures c.in_ok-copy_of-2.ensures)
+    c.in_ok-text_field.ensures c.in_ok-text_field-2.ensures)
     c.write_row.ensures.text

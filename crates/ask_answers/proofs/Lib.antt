@@ -1,0 +1,4 @@
+pub mod AnswerLemmas
+pub mod TableLemmas
+pub mod OutputLemmas
+pub mod VerdictLemmas

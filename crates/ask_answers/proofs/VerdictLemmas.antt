@@ -1,0 +1,98 @@
+-- The items of an answer, piece by piece.
+use Rattle.std.proofs.Common.{◌≡◌, ℕ, suc, ◌+◌, ◌<◌, Bool, true, false, List, ◌++◌, length}
+use Rattle.std.proofs.Common.{drop, get_or, Option, Result, Err, ap, sym, ◌∙◌, subst, inr, add-one}
+use Rattle.std.specs.Io.KnownBytes.{append_known}
+use Rattle.std.proofs.Math.Seq.{drop-cons}
+use Rattle.league_core.specs.declared.sheet.Sheet.{Sheet}
+use Rattle.league_core.specs.Results.{Results}
+use Rattle.port_core.specs.Ports.{AppendsFront}
+use Rattle.cert_text.specs.declared.proof_line.ProofLine.{ProofLine}
+use Rattle.cert_text.specs.ExampleLines.{text_of_proof_lines}
+use Rattle.verdict_run.specs.declared.word.Word.{Word}
+use Rattle.verdict_run.specs.declared.word.Verdict.{Verdict}
+use Rattle.verdict_run.specs.Items.{AreVerdictsOf, lines_shown}
+use Rattle.ask_answers.specs.declared.output.OutputStop.{OutputStop}
+use Rattle.ask_answers.specs.Rows.{ask_row, line_row, verdict_row}
+use Rattle.ask_answers.specs.Parts.{club_name}
+use Rattle.ask_answers.specs.Verdicts.{item_text, text_of_items}
+use Rattle.ask_answers.specs.Verdicts.{text_of_verdicts}
+use Rattle.ask_answers.specs.Outputs.{Puts}
+use Rattle.ask_answers.proofs.OutputLemmas.{front-more, puts-behind}
+
+-- the next of the lines that are left
+pub lines-next : (lines : List ProofLine) (i : ℕ) (line : ProofLine) → i < length lines
+    → line ≡ get_or lines i line
+    → text_of_proof_lines (drop i lines) ≡ line_row line ++ text_of_proof_lines (drop (i + 1) lines)
+lines-next lines i line inside is =
+    ap text_of_proof_lines (drop-cons lines i line inside)
+    ∙ ap (λ l. line_row l ++ text_of_proof_lines (drop (suc i) lines)) (sym is)
+    ∙ ap (λ n. line_row line ++ text_of_proof_lines (drop n lines)) (sym (add-one i))
+
+-- the next of the verdicts that are left
+pub items-next : (proofs : Bool) (sheet : Sheet) (verdicts : List Verdict) (i : ℕ)
+    (verdict : Verdict) → i < length verdicts → verdict ≡ get_or verdicts i verdict
+    → text_of_items proofs sheet (drop i verdicts)
+    ≡ item_text proofs sheet verdict ++ text_of_items proofs sheet (drop (i + 1) verdicts)
+items-next proofs sheet verdicts i verdict inside is =
+    ap (text_of_items proofs sheet) (drop-cons verdicts i verdict inside)
+    ∙ ap (λ v. item_text proofs sheet v ++ text_of_items proofs sheet (drop (suc i) verdicts))
+    (sym is)
+    ∙ ap (λ n. item_text proofs sheet verdict ++ text_of_items proofs sheet (drop n verdicts))
+    (sym (add-one i))
+
+-- all lines are shown where proofs are asked for
+pub shown-all : (proofs : Bool) (word : Word) (lines : List ProofLine) → proofs ≡ true
+    → lines ≡ lines_shown proofs word lines
+shown-all proofs word lines is = ap (λ test. lines_shown test word lines) (sym is)
+
+-- without proofs those are that the word leaves
+pub shown-short : (proofs : Bool) (word other : Word) (lines shown : List ProofLine)
+    → proofs ≡ false → word ≡ other → shown ≡ lines_shown false other lines
+    → shown ≡ lines_shown proofs word lines
+shown-short proofs word other lines shown is named short =
+    short ∙ ap (λ w. lines_shown false w lines) (sym named)
+    ∙ ap (λ test. lines_shown test word lines) (sym is)
+
+-- the row of a verdict and what is written behind it, whole or a front of it
+pub item-puts : {A : Type 0} (proofs : Bool) (sheet : Sheet) (verdict : Verdict) (name : List ℕ)
+    (old now next : Option (List ℕ)) (result : Result A OutputStop)
+    → name ≡ club_name sheet verdict.club
+    → now ≡ append_known old (verdict_row verdict.line name verdict.word)
+    → Puts (text_of_proof_lines (lines_shown proofs verdict.word verdict.proof.items)) now next
+    result
+    → Puts (item_text proofs sheet verdict) old next result
+item-puts {A} proofs sheet verdict name old now next result named before puts =
+    let P : List ℕ → Type 0 = λ t. now ≡ append_known old (verdict_row verdict.line t verdict.word)
+    in
+    puts-behind (verdict_row verdict.line (club_name sheet verdict.club) verdict.word)
+    (text_of_proof_lines (lines_shown proofs verdict.word verdict.proof.items)) old now next result
+    (subst P named before) puts
+
+-- a front of the row of a verdict is one of its item
+pub item-front : (proofs : Bool) (sheet : Sheet) (verdict : Verdict) (name : List ℕ)
+    (old now : Option (List ℕ)) → name ≡ club_name sheet verdict.club
+    → AppendsFront old now (verdict_row verdict.line name verdict.word)
+    → AppendsFront old now (item_text proofs sheet verdict)
+item-front proofs sheet verdict name old now named front =
+    let P : List ℕ → Type 0 =
+    λ t. AppendsFront old now (verdict_row verdict.line t verdict.word) in
+    front-more (verdict_row verdict.line (club_name sheet verdict.club) verdict.word)
+    (text_of_proof_lines (lines_shown proofs verdict.word verdict.proof.items)) old now
+    (subst P named front)
+
+-- the row of the ask and what is written behind it, whole or a front of it
+pub verdicts-put : {A : Type 0} (proofs : Bool) (sheet : Sheet) (epoch : ℕ)
+    (verdicts : List Verdict) (old now next : Option (List ℕ)) (result : Result A OutputStop)
+    → now ≡ append_known old (ask_row epoch)
+    → Puts (text_of_items proofs sheet verdicts) now next result
+    → Puts (text_of_verdicts proofs sheet epoch verdicts) old next result
+verdicts-put {A} proofs sheet epoch verdicts old now next result before puts =
+    puts-behind (ask_row epoch) (text_of_items proofs sheet verdicts) old now next result before
+    puts
+
+-- a front of the row of the ask is one of the answer
+pub verdicts-front : (proofs : Bool) (sheet : Sheet) (epoch : ℕ) (verdicts : List Verdict)
+    (old now : Option (List ℕ)) → AppendsFront old now (ask_row epoch)
+    → AppendsFront old now (text_of_verdicts proofs sheet epoch verdicts)
+verdicts-front proofs sheet epoch verdicts old now front =
+    front-more (ask_row epoch) (text_of_items proofs sheet verdicts) old now front

@@ -1,0 +1,131 @@
+-- Texts of a course, from answers to its first asks on.
+use Rattle.std.proofs.Common.{◌≡◌, ℕ, List, [], ◌∷◌, ◌++◌, refl, ap, sym, ◌∙◌, subst, inl, inr}
+use Rattle.std.proofs.Common.{append-nil}
+use Rattle.std.proofs.lemmas.List.{append_assoc}
+use Rattle.port_core.specs.Ports.{IsFront}
+use Rattle.port_core.specs.Contents.{Contents, contents_of, with_lines}
+use Rattle.league_core.specs.declared.sheet.Sheet.{Sheet}
+use Rattle.league_core.specs.declared.season.Event.{Event}
+use Rattle.futmax_main.specs.declared.status.Status.{Status}
+use Rattle.futmax_main.specs.declared.session.Answering.{Answering}
+use Rattle.futmax_main.specs.declared.session.Outcome.{Outcome}
+use Rattle.futmax_main.specs.Plays.{Played}
+use Rattle.futmax_main.specs.Courses.{Course, course_ended, course_from, course_of, with_asks}
+use Rattle.futmax_main.specs.Rows.{last_row}
+use Rattle.futmax_main.specs.Answers.{IsAnswerTo}
+use Rattle.futmax_main.specs.Texts.{AreAnswers, IsFrontTo, IsTextOf, status_of_outcome}
+use Rattle.futmax_main.specs.Top.{IsText, IsTextFront, session_status}
+use Rattle.futmax_main.specs.Way.{LeadsOn}
+
+-- answers and then more answers
+pub answers-append : (answering : Answering) (asks others : List Played) (written more : List ℕ)
+    → AreAnswers answering asks written → AreAnswers answering others more
+    → AreAnswers answering (asks ++ others) (written ++ more)
+answers-append answering [] others written more first second =
+    let P : List ℕ → Type 0 = λ t. AreAnswers answering others (t ++ more) in
+    subst P (sym first) second
+answers-append answering (asked ∷ asks) others written more first second = (
+  first.0,
+  first.1 ++ more,
+  ap (λ t. t ++ more) first.2 ∙ append_assoc first.0 first.1 more,
+  first.3,
+  answers-append answering asks others first.1 more first.4 second,
+)
+
+-- one answer
+pub answers-one : (answering : Answering) (asked : Played) (answer : List ℕ)
+    → IsAnswerTo answering asked answer → AreAnswers answering (asked ∷ []) answer
+answers-one answering asked answer is = (answer, [], sym (append-nil answer), is, refl)
+
+-- whole answers, and a front of what is behind them
+front-behind : (answering : Answering) (asks others : List Played) (last written more : List ℕ)
+    → AreAnswers answering asks written → IsFrontTo answering others last more
+    → IsFrontTo answering (asks ++ others) last (written ++ more)
+front-behind answering [] others last written more first front =
+    let P : List ℕ → Type 0 = λ t. IsFrontTo answering others last (t ++ more) in
+    subst P (sym first) front
+front-behind answering (asked ∷ asks) others last written more first front = inr (
+  first.0,
+  first.1 ++ more,
+  ap (λ t. t ++ more) first.2 ∙ append_assoc first.0 first.1 more,
+  first.3,
+  front-behind answering asks others last first.1 more first.4 front,
+)
+
+-- nothing is a front of everything
+pub front-nothing : (answering : Answering) (asks : List Played) (last : List ℕ)
+    → IsFrontTo answering asks last []
+front-nothing answering [] last = (last, refl)
+front-nothing answering (asked ∷ asks) last = inl (inl refl)
+
+-- ---- what a run knows of its input
+
+-- these asks were answered, and this course is behind them
+pub record Reached (answering : Answering) (input written : List ℕ) (behind : Course) : Type 0 where
+  pub asks : List Played
+  pub answers : AreAnswers answering asks written
+  pub all : course_of (contents_of input) ≡ with_asks asks behind
+
+-- nothing was read
+pub reached-start : (answering : Answering) (input : List ℕ) (behind : Course)
+    → course_of (contents_of input) ≡ behind → Reached answering input [] behind
+reached-start answering input behind is = record { asks = []; answers = refl; all = is }
+
+-- lines were taken
+pub reached : (answering : Answering) (input : List ℕ) (taken : List (ℕ × List ℕ))
+    (written : List ℕ) (sheet : Sheet) (events : List Event) (rest : Contents)
+    → LeadsOn answering taken written sheet events → contents_of input ≡ with_lines taken rest
+    → Reached answering input written (course_from sheet events rest)
+reached answering input taken written sheet events rest way is = record {
+  asks = way.asks;
+  answers = way.answers;
+  all = ap course_of is ∙ way.course rest;
+}
+
+-- what is behind is another way to say it
+pub reached-as : (answering : Answering) (input written : List ℕ) (behind other : Course)
+    → Reached answering input written behind → behind ≡ other
+    → Reached answering input written other
+reached-as answering input written behind other there is = record {
+  asks = there.asks;
+  answers = there.answers;
+  all = there.all ∙ ap (with_asks there.asks) is;
+}
+
+-- a front of what is behind
+pub reached-front : (answering : Answering) (input written : List ℕ) (behind : Course)
+    (more : List ℕ) → Reached answering input written behind
+    → IsFrontTo answering behind.asks (last_row behind.outcome) more
+    → IsTextFront answering input (written ++ more)
+reached-front answering input written behind more there front =
+    let P : Course → Type 0 =
+    λ c. IsFrontTo answering c.asks (last_row c.outcome) (written ++ more) in
+    subst P (sym there.all)
+    (front-behind answering there.asks behind.asks (last_row behind.outcome) written more
+    there.answers front)
+
+-- what was written so far
+pub reached-so_far : (answering : Answering) (input written : List ℕ) (behind : Course)
+    → Reached answering input written behind → IsTextFront answering input written
+reached-so_far answering input written behind there =
+    let P : List ℕ → Type 0 = λ t. IsTextFront answering input t in
+    subst P (append-nil written)
+    (reached-front answering input written behind [] there
+    (front-nothing answering behind.asks (last_row behind.outcome)))
+
+-- the whole text, where nothing is asked any more
+pub reached-text : (answering : Answering) (input written : List ℕ) (outcome : Outcome)
+    → Reached answering input written (course_ended outcome)
+    → IsText answering input (written ++ last_row outcome)
+reached-text answering input written outcome there =
+    let P : Course → Type 0 = λ c. IsTextOf answering c (written ++ last_row outcome) in
+    let Q : List Played → Type 0 = λ asks. AreAnswers answering asks written in
+    subst P (sym there.all)
+    (written, subst Q (sym (append-nil there.asks)) there.answers, refl)
+
+-- and its status
+pub reached-status : (answering : Answering) (input written : List ℕ) (outcome : Outcome)
+    → Reached answering input written (course_ended outcome)
+    → session_status input ≡ status_of_outcome outcome
+reached-status answering input written outcome there =
+    ap (λ (c : Course). status_of_outcome c.outcome) there.all

@@ -1,0 +1,25 @@
+use Rattle.std.proofs.Common.{◌≡◌, ◌-◌, ℕ, Bool, List, Option}
+use Rattle.port_core.specs.Contents.{input_limit}
+use Rattle.port_core.specs.Readers.{stream_of}
+use Rattle.futmax_main.specs.Way.{Path}
+use Rattle.futmax_main.specs.Turns.{IsLive}
+use Rattle.futmax_main.proofs.rounds.run_rounds.Given as goal
+
+-- the pool is live and of the sheet, the way led here from wherever it led to the first round, and
+-- the counts of faults are as they were
+abbrev pub invariant-rounds : goal.invariant-rounds
+invariant-rounds g l =
+    IsLive l.answering l.live × (l.sheet ≡ l.live.sheet)
+    × ((input : Option (List ℕ)) (ended : Bool) (old : Option (List ℕ))
+    → Path l.fn.answering input ended (stream_of l.fn.reader (g.S.Source.left l.fn.source))
+    (g.S.Source.ended l.fn.source) l.fn.reader.position l.fn.pool.sheet l.fn.pool.log old
+    (g.K.Sink.holds l.fn.sink)
+    → Path l.answering input ended (stream_of l.reader (g.S.Source.left l.source))
+    (g.S.Source.ended l.source) l.reader.position l.live.sheet l.live.log old
+    (g.K.Sink.holds l.sink))
+    × (g.S.Source.faults l.source ≡ g.S.Source.faults l.fn.source)
+    × (g.K.Sink.faults l.sink ≡ g.K.Sink.faults l.fn.sink)
+
+-- the bytes of the input that may still be passed
+abbrev pub decreases-rounds : goal.decreases-rounds
+decreases-rounds g l = input_limit - l.reader.position.bytes

@@ -1,0 +1,71 @@
+-- The status and the texts of a course: an answer to each ask, and then the last row.
+use Rattle.std.specs.Prelude.{◌≡◌, ℕ, ◌⊎◌, List, [], ◌∷◌, ◌++◌}
+use Rattle.port_core.specs.Ports.{IsFront}
+use Rattle.fixture_sheet.specs.declared.fault.SheetFault.{SheetFault}
+use Rattle.ask_answers.specs.Parts.{IsMadeOf}
+use Rattle.futmax_main.specs.declared.status.Status.{Status}
+use Rattle.futmax_main.specs.declared.status.Status.TheVariants.{Done, BadSheet, BadFeed, TooLong}
+use Rattle.futmax_main.specs.declared.session.Answering.{Answering}
+use Rattle.futmax_main.specs.declared.session.Cause.{Cause}
+use Rattle.futmax_main.specs.declared.session.Cause.TheVariants as cause
+use Rattle.futmax_main.specs.declared.session.Outcome.{Outcome}
+use Rattle.futmax_main.specs.declared.session.Outcome.TheVariants.{Complete, Refused}
+use Rattle.futmax_main.specs.Plays.{Played}
+use Rattle.futmax_main.specs.Courses.{Course}
+use Rattle.futmax_main.specs.Rows.{last_row}
+use Rattle.futmax_main.specs.Answers.{IsAnswerTo}
+
+-- ---- the status
+
+-- the status of a session that a fault ends
+abbrev pub status_of_cause : Cause → Status
+status_of_cause (cause.Sheet fault) = BadSheet
+status_of_cause (cause.Feed fault) = BadFeed
+status_of_cause cause.LineTooLong = TooLong
+status_of_cause cause.InputTooLong = TooLong
+
+-- the status of a session that ends so
+abbrev pub status_of_outcome : Outcome → Status
+status_of_outcome Complete = Done
+status_of_outcome (Refused fault) = status_of_cause fault.cause
+
+-- ---- the texts
+
+-- whole answers to these asks, in their order
+abbrev pub AreAnswers : Answering → List Played → List ℕ → Type 0
+AreAnswers answering asks text = IsMadeOf (IsAnswerTo answering) asks text
+
+-- the text is one that a session of this course writes
+abbrev pub IsTextOf : Answering → Course → List ℕ → Type 0
+IsTextOf answering course text =
+    (answers : List ℕ) × AreAnswers answering course.asks answers
+    × (text ≡ answers ++ last_row course.outcome)
+
+-- the front of an answer: nothing yet, or a front of some answer
+abbrev pub IsAnswerFront : Answering → Played → List ℕ → Type 0
+IsAnswerFront answering asked text = (text ≡ [])
+    ⊎ ((answer : List ℕ) × IsAnswerTo answering asked answer × IsFront text answer)
+
+-- whole answers to the first of these asks, and a front of the next answer, or of the last row
+abbrev pub IsFrontTo : Answering → List Played → List ℕ → List ℕ → Type 0
+IsFrontTo answering [] last text = IsFront text last
+IsFrontTo answering (asked ∷ asks) last text =
+    IsAnswerFront answering asked text
+    ⊎ ((answer : List ℕ) × (rest : List ℕ) × (text ≡ answer ++ rest)
+    × IsAnswerTo answering asked answer × IsFrontTo answering asks last rest)
+
+-- the same of a course
+abbrev pub IsFrontOf : Answering → Course → List ℕ → Type 0
+IsFrontOf answering course text = IsFrontTo answering course.asks (last_row course.outcome) text
+
+-- no line is refused where the input ends at this number: it is complete there, or its sheet is not
+abbrev pub IsRefusedAtEnd : ℕ → Outcome → Type 0
+IsRefusedAtEnd number outcome =
+    (outcome ≡ Complete)
+    ⊎ ((fault : SheetFault)
+    × (outcome ≡ Refused (record { number = number; cause = cause.Sheet fault })))
+
+-- the text is the answers of all asks of this course, whose input ends at this number
+abbrev pub AreAllAnswers : Answering → ℕ → Course → List ℕ → Type 0
+AreAllAnswers answering number course text =
+    AreAnswers answering course.asks text × IsRefusedAtEnd number course.outcome
