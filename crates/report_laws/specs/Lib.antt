@@ -1,0 +1,3 @@
+-- One answer as the lines of a report, then whole reports.
+pub mod AcceptedAnswers
+pub mod AcceptedReports

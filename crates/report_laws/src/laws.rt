@@ -1,0 +1,12 @@
+//! The laws: a function that does nothing, with the laws as its contract.
+
+ghost use Rattle.report_laws.specs.AcceptedAnswers.{AnswersAreAccepted};
+ghost use Rattle.report_laws.specs.AcceptedReports.{ReportsAreAccepted};
+
+/// An answer with proofs is one part of a report that the checker accepts for that season and that
+/// number of events, whatever follows it, with as many unsettled rows as it has; and a report that
+/// is the answers of all asks of a feed is accepted.
+pub fn answers_are_accepted()
+    ensures answers { AnswersAreAccepted }
+    ensures reports { ReportsAreAccepted }
+{}

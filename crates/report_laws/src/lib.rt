@@ -1,0 +1,10 @@
+//! What joins the search and the checker: an answer of the mode `verdicts` with proofs is a part of
+//! a report that the checker accepts.
+//!
+//! The statement is in `specs/AcceptedAnswers.antt`. Nothing runs here, and neither side knows of
+//! the other.
+#![tactic(auto)]
+
+mod laws;
+
+pub use laws::answers_are_accepted;
