@@ -1,0 +1,2 @@
+-- The items of an answer, piece by piece.
+pub mod ScoreLemmas

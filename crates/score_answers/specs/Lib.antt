@@ -1,0 +1,3 @@
+-- Reading order: the rows, and the whole answer.
+pub mod ScoreRows
+pub mod ScoreTexts

@@ -1,0 +1,128 @@
+//! The numbers on their way to the sink, row by row.
+
+ghost use Rattle.cert_text.specs.ExampleLines.{text_of_proof_lines};
+ghost use Rattle.ask_answers.specs.Outputs.{CountsPut, Puts};
+ghost use Rattle.ask_answers.specs.Rows.{ask_row};
+ghost use Rattle.score_answers.specs.ScoreRows.{score_row};
+ghost use Rattle.qual_scores.specs.AllScores.{AreInLineRange, IsInLineRange, IsBoundInRange};
+ghost use Rattle.qual_scores.specs.AllScores.{tree_lines};
+ghost use Rattle.score_answers.specs.ScoreTexts.{trees_text, score_item};
+ghost use Rattle.score_answers.specs.ScoreTexts.{text_of_score_items, text_of_scores};
+
+use crate::fields::score_row;
+use ask_answers::{OutputStop, ask_row, club_name, put_lines, put_text};
+use league_core::Sheet;
+use port_core::Sink;
+use qual_scores::{Bound, ClubScores, Score2};
+use std::alloc::Global;
+
+/// Writes the row of an ask and the row of each line and club, with the spent trees of its ranges
+/// behind it, that of the possible score first.
+pub fn put_scores<K: Sink>(
+    alloc: Global,
+    epoch: u64,
+    sheet: &Sheet,
+    scores: &[ClubScores],
+    sink: &mut K,
+) -> Result<(), OutputStop>
+    requires { AreInLineRange sheet.now scores.now }
+    ensures text { Puts (text_of_scores sheet.now epoch scores.now)
+        (K.holds sink.old) (K.holds sink.new) result }
+    ensures counts { CountsPut (K.faults sink.old) (K.faults sink.new) result }
+{
+    match put_ask(alloc, epoch, sink) {
+        Ok(()) => put_items(alloc, sheet, scores, sink),
+        Err(stop) => Err(stop),
+    }
+}
+
+fn put_ask<K: Sink>(alloc: Global, epoch: u64, sink: &mut K) -> Result<(), OutputStop>
+    ensures text { Puts (ask_row epoch) (K.holds sink.old) (K.holds sink.new) result }
+    ensures counts { CountsPut (K.faults sink.old) (K.faults sink.new) result }
+{
+    match ask_row(alloc, epoch) {
+        Ok(row) => put_text(sink, row.as_slice()),
+        Err(_) => Err(OutputStop::OutOfMemory),
+    }
+}
+
+fn put_items<K: Sink>(
+    alloc: Global,
+    sheet: &Sheet,
+    scores: &[ClubScores],
+    sink: &mut K,
+) -> Result<(), OutputStop>
+    requires { AreInLineRange sheet.now scores.now }
+    ensures text { Puts (text_of_score_items sheet.now scores.now)
+        (K.holds sink.old) (K.holds sink.new) result }
+    ensures counts { CountsPut (K.faults sink.old) (K.faults sink.new) result }
+{
+    for found in scores {
+        match put_item(alloc, sheet, found, sink) {
+            Ok(()) => {}
+            Err(stop) => return Err(stop),
+        }
+    }
+    Ok(())
+}
+
+fn put_item<K: Sink>(
+    alloc: Global,
+    sheet: &Sheet,
+    found: &ClubScores,
+    sink: &mut K,
+) -> Result<(), OutputStop>
+    requires { IsInLineRange sheet.now found.now }
+    ensures text { Puts (score_item sheet.now found.now) (K.holds sink.old) (K.holds sink.new)
+        result }
+    ensures counts { CountsPut (K.faults sink.old) (K.faults sink.new) result }
+{
+    let name = club_name(sheet, found.club);
+    match put_row(alloc, found.line, name, &found.scores, sink) {
+        Ok(()) => put_trees(alloc, &found.scores, sink),
+        Err(stop) => Err(stop),
+    }
+}
+
+fn put_row<K: Sink>(
+    alloc: Global,
+    line: u8,
+    name: &str,
+    scores: &Score2,
+    sink: &mut K,
+) -> Result<(), OutputStop>
+    ensures text { Puts (score_row line name.now scores.now) (K.holds sink.old) (K.holds sink.new)
+        result }
+    ensures counts { CountsPut (K.faults sink.old) (K.faults sink.new) result }
+{
+    match score_row(alloc, line, name, scores) {
+        Ok(row) => put_text(sink, row.as_slice()),
+        Err(_) => Err(OutputStop::OutOfMemory),
+    }
+}
+
+// The spent trees of both numbers.
+fn put_trees<K: Sink>(alloc: Global, scores: &Score2, sink: &mut K) -> Result<(), OutputStop>
+    requires possible { IsBoundInRange scores.now.pqs }
+    requires guaranteed { IsBoundInRange scores.now.gqs }
+    ensures text { Puts (trees_text scores.now) (K.holds sink.old) (K.holds sink.new) result }
+    ensures counts { CountsPut (K.faults sink.old) (K.faults sink.new) result }
+{
+    match put_tree(alloc, &scores.pqs, sink) {
+        Ok(()) => put_tree(alloc, &scores.gqs, sink),
+        Err(stop) => Err(stop),
+    }
+}
+
+// The spent tree of a range; nothing where there is none.
+fn put_tree<K: Sink>(alloc: Global, bound: &Bound, sink: &mut K) -> Result<(), OutputStop>
+    requires { IsBoundInRange bound.now }
+    ensures text { Puts (text_of_proof_lines (tree_lines bound.now))
+        (K.holds sink.old) (K.holds sink.new) result }
+    ensures counts { CountsPut (K.faults sink.old) (K.faults sink.new) result }
+{
+    match bound {
+        Bound::Known(_) | Bound::None => Ok(()),
+        Bound::Between { spent, .. } => put_lines(alloc, spent.as_slice(), sink),
+    }
+}
