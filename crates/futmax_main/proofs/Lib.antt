@@ -7,3 +7,6 @@ pub mod AnswerLemmas
 pub mod TurnLemmas
 pub mod RoundLemmas
 pub mod EarnedLemmas
+pub mod CheckLemmas
+pub mod CheckedLemmas
+pub mod ServiceLemmas

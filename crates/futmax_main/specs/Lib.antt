@@ -1,6 +1,6 @@
 -- Read in this order: it is the order in which the notions rest on each other. What the public call
--- promises comes first, from Statuses to Top; what the inner functions promise each other stands
--- behind it.
+-- promises comes first, from Statuses to SampleRows, and Services, by what its words ask for; what
+-- the inner functions promise each other stands in Way, Turns and Judging.
 pub mod Statuses
 pub mod Plays
 pub mod Courses
@@ -8,5 +8,9 @@ pub mod Rows
 pub mod Answers
 pub mod Texts
 pub mod Top
+pub mod Checks
+pub mod SampleRows
 pub mod Way
 pub mod Turns
+pub mod Services
+pub mod Judging

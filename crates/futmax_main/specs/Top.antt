@@ -1,9 +1,7 @@
--- What the top call promises of the status, of the bytes written, and of what the source has left.
--- It is said where the source tells its bytes; a sink that does not tell its own is taken to hold
--- what was written.
+-- What a run that answers asks promises of the status, of the bytes written, and of what the source
+-- has left. It is said where the source tells its bytes; a sink that does not tell its own is taken
+-- to hold what was written.
 use Rattle.std.specs.Prelude.{◌≡◌, ℕ, Bool, false, ◌⊎◌, List, [], ◌++◌, Option, Some, None, Ok}
-use Rattle.std.specs.Prelude.{option_and_then}
-use Rattle.clap.specs.Words.{Text}
 use Rattle.std.specs.Io.KnownBytes.{append_known}
 use Rattle.port_core.specs.Lines.{lines_of, AreEndedLines, HasNoLineFeed}
 use Rattle.port_core.specs.Ports.{IsFront, Rose}
@@ -13,32 +11,9 @@ use Rattle.futmax_main.specs.declared.status.Status.TheVariants.{Done, BadWords,
 use Rattle.futmax_main.specs.declared.status.Status.TheVariants.{ReadFault, WriteFault, OutOfMemory}
 use Rattle.futmax_main.specs.declared.status.Status.TheVariants.{NotProved, TooLong}
 use Rattle.futmax_main.specs.declared.session.Answering.{Answering}
-use Rattle.futmax_main.specs.declared.session.Answering.TheVariants as answering
-use Rattle.command_words.specs.declared.command.Mode.{Mode}
-use Rattle.command_words.specs.declared.command.Mode.TheVariants as mode
-use Rattle.command_words.specs.declared.command.Command.{Command}
-use Rattle.command_words.specs.Commands.{command_of}
 use Rattle.futmax_main.specs.Rows.{usage_row}
 use Rattle.futmax_main.specs.Courses.{course_of}
 use Rattle.futmax_main.specs.Texts.{status_of_outcome, IsTextOf, IsFrontOf, AreAllAnswers}
-
--- ---- what a command is for
-
--- what is answered at each ask, in a mode that answers asks
-abbrev pub answering_in : Mode → Bool → Option Answering
-answering_in mode.Verdicts proofs = Some (answering.Verdicts proofs)
-answering_in mode.Table proofs = Some answering.Table
-answering_in mode.Scores proofs = None
-answering_in mode.Check proofs = None
-answering_in mode.Sample proofs = None
-
--- the same of a command
-abbrev pub answering_of : Command → Option Answering
-answering_of command = answering_in command.mode command.proofs
-
--- the same of words, where they fit
-abbrev pub answering_for : List Text → Option Answering
-answering_for words = option_and_then answering_of (command_of words)
 
 -- ---- what is written
 

@@ -16,7 +16,7 @@ use Rattle.futmax_main.specs.declared.status.Status.{Status}
 use Rattle.futmax_main.specs.declared.status.Status.TheVariants.{Done, BadWords, ReadFault}
 use Rattle.futmax_main.specs.declared.status.Status.TheVariants.{WriteFault, OutOfMemory, NotProved}
 use Rattle.futmax_main.specs.declared.session.Answering.{Answering}
-use Rattle.futmax_main.specs.declared.session.Answering.TheVariants.{Verdicts, Table}
+use Rattle.futmax_main.specs.declared.session.Answering.TheVariants.{Verdicts, Table, Scores}
 use Rattle.futmax_main.specs.declared.session.Fault.{Fault}
 use Rattle.futmax_main.specs.declared.turn.Turn.{Turn}
 use Rattle.futmax_main.specs.declared.turn.Turn.TheVariants.{GoesOn, Ends}
@@ -33,6 +33,7 @@ use Rattle.futmax_main.specs.Top.{Counts, Serves}
 abbrev pub asked_by : Answering → Sheet → List Question
 asked_by (Verdicts proofs) sheet = questions_of sheet
 asked_by Table sheet = []
+asked_by Scores sheet = []
 
 -- a pool that a session keeps from ask to ask: it has the questions of what is answered, its season
 -- is that of its events, and nothing is out

@@ -4,7 +4,7 @@ ghost use Rattle.std.specs.Prelude.{◌≡◌, ◌≤◌, [], All, IfOk, length}
 ghost use Rattle.league_core.specs.Questions.{IsQuestionOf};
 ghost use Rattle.league_core.specs.Sheets.{IsWithinLimits};
 ghost use Rattle.ask_answers.specs.Outputs.{CountsPut};
-ghost use Rattle.futmax_main.specs.declared.session.Answering.TheVariants.{Verdicts, Table};
+ghost use Rattle.futmax_main.specs.declared.session.Answering.TheVariants.{Verdicts, Table, Scores};
 ghost use Rattle.futmax_main.specs.Turns.{AnswersAsk, IsLive, asked_by};
 
 use crate::session::Answering;
@@ -12,6 +12,8 @@ use ask_answers::{OutputStop, put_text, put_verdicts, table_rows};
 use branch_pool::Pool;
 use league_core::{OutOfMemory, Question, Sheet};
 use port_core::Sink;
+use qual_scores::all_scores;
+use score_answers::put_scores;
 use std::alloc::Global;
 use verdict_run::{finish, questions, verdicts};
 
@@ -38,7 +40,7 @@ fn questions_for(
 {
     match answering {
         Answering::Verdicts { proofs: _ } => questions(alloc, sheet),
-        Answering::Table => Ok(Vec::new(alloc)),
+        Answering::Table | Answering::Scores => Ok(Vec::new(alloc)),
     }
 }
 
@@ -57,6 +59,7 @@ pub fn put_answer<K: Sink>(
     match answering {
         Answering::Verdicts { proofs } => answer_verdicts(alloc, proofs, pool, sink),
         Answering::Table => answer_table(alloc, pool, sink),
+        Answering::Scores => answer_scores(alloc, pool, sink),
     }
 }
 
@@ -102,6 +105,21 @@ fn answer_table<K: Sink>(alloc: Global, pool: Pool, sink: &mut K) -> Result<Pool
         return Err(OutputStop::OutOfMemory);
     };
     match put_text(sink, rows.as_slice()) {
+        Ok(()) => Ok(pool),
+        Err(stop) => Err(stop),
+    }
+}
+
+fn answer_scores<K: Sink>(alloc: Global, pool: Pool, sink: &mut K) -> Result<Pool, OutputStop>
+    requires { IsLive Scores pool }
+    ensures answer { AnswersAsk Scores pool (K.holds sink.old) (K.holds sink.new) result }
+    ensures live { IfOk result (IsLive Scores) }
+    ensures counts { CountsPut (K.faults sink.old) (K.faults sink.new) result }
+{
+    let Ok(found) = all_scores(alloc, pool.sheet(), pool.season()) else {
+        return Err(OutputStop::OutOfMemory);
+    };
+    match put_scores(alloc, pool.epoch(), pool.sheet(), found.as_slice(), sink) {
         Ok(()) => Ok(pool),
         Err(stop) => Err(stop),
     }

@@ -99,6 +99,6 @@ pub fn next_round<R: Threads + Wait + Sync, S: Source + Send, G: Gate + Sync>(
         Answering::Verdicts { proofs: _ } => {
             run_round(rt, alloc, sheet, pool, reader, source, workers, gate)
         }
-        Answering::Table => read_round(alloc, pool, reader, source),
+        Answering::Table | Answering::Scores => read_round(alloc, pool, reader, source),
     }
 }

@@ -1,7 +1,18 @@
-//! What a session answers, and how it ends.
+//! What the program does for a command, what a session answers, and how it ends.
 
 use fixture_sheet::SheetFault;
 use result_log::FeedFault;
+
+/// What the program does for a command.
+#[derive(Clone, Copy, Debug, PartialEq, Eq)]
+pub enum Service {
+    /// The asks of an input are answered.
+    Answers(Answering),
+    /// A report is checked.
+    Checks,
+    /// The verdicts of the league that this number gives are counted. No input is read.
+    Samples(u64),
+}
 
 /// What is answered at each ask.
 #[derive(Clone, Copy, Debug, PartialEq, Eq)]
@@ -11,6 +22,8 @@ pub enum Answering {
     Verdicts { proofs: bool },
     /// The table of the matches played so far.
     Table,
+    /// For every line and club, how few points can still do, and how many are enough.
+    Scores,
 }
 
 /// Why a line is refused.

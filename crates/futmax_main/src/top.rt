@@ -1,15 +1,17 @@
 //! The top call.
 
-ghost use Rattle.std.specs.Prelude.{◌≡◌, ◌≢◌, ◌<◌, ◌≤◌, None, false, map, string_bytes};
-ghost use Rattle.futmax_main.specs.Top.{Counts, IsSettled, Serves, answering_for, answering_of};
+ghost use Rattle.std.specs.Prelude.{◌≡◌, ◌≢◌, ◌<◌, ◌≤◌, None, Some, false, map, string_bytes};
+ghost use Rattle.futmax_main.specs.declared.session.Service.TheVariants.{Checks};
+ghost use Rattle.futmax_main.specs.Services.{IsSettledAs, ReadsNothing, ServesAs, service_for};
+ghost use Rattle.futmax_main.specs.Services.{service_of};
+ghost use Rattle.futmax_main.specs.Top.{Counts, Serves};
 ghost use Rattle.futmax_main.specs.Turns.{CountsWords};
 
 use crate::rows::usage_row;
-use crate::run::run;
-use crate::session::Answering;
+use crate::service::{run_service, service_of};
 use crate::status::Status;
 use ask_answers::put_rows;
-use command_words::{Command, Mode, command_of};
+use command_words::{Command, command_of};
 use league_core::OutOfMemory;
 use port_core::{Sink, Source};
 use std::alloc::Global;
@@ -31,23 +33,25 @@ pub fn futmax<R: Threads + Wait + Sync, S: Source + Send, K: Sink, G: Gate + Syn
     gate: &G,
 ) -> Status
     // What was written, and what is left of the input, by the status.
-    ensures serves { Serves (answering_for (map string_bytes words.items)) (S.left source.old)
+    ensures serves { ServesAs (service_for (map string_bytes words.items)) (S.left source.old)
         (S.left source.new) (S.ended source.new) (K.holds sink.old) (K.holds sink.new) result }
 
     // A fault of a device is answered only where its count rose, and else the counts stay.
     ensures counts { Counts (S.faults source.old) (S.faults source.new)
         (K.faults sink.old) (K.faults sink.new) result }
 
-    // Where no device failed, the status is the session's, or memory was wanting; no mode of today
-    // checks a report.
+    // Where no device failed, the status is the session's, or memory was wanting; only a check says
+    // that a report is no proof.
     ensures settled { result ≢ Status.ReadFault → result ≢ Status.WriteFault
-        → IsSettled (answering_for (map string_bytes words.items)) (S.left source.old) result }
-    ensures unproved { result ≢ Status.NotProved }
+        → IsSettledAs (service_for (map string_bytes words.items)) (S.left source.old) result }
+    ensures unproved { result ≡ Status.NotProved
+        → service_for (map string_bytes words.items) ≡ Some Checks }
 
-    // Words are refused only where they fit no mode, and then nothing is read.
+    // Words are refused only where they fit no mode, and then nothing is read, nor for a sample.
     ensures words_cause { result ≡ Status.BadWords
-        → answering_for (map string_bytes words.items) ≡ None }
-    ensures unread { answering_for (map string_bytes words.items) ≡ None → source.new ≡ source.old }
+        → service_for (map string_bytes words.items) ≡ None }
+    ensures unread { ReadsNothing (service_for (map string_bytes words.items))
+        → source.new ≡ source.old }
 {
     match command_of(alloc, words.as_slice()) {
         Ok(Some(command)) => run_command(rt, alloc, command, source, sink, gate),
@@ -66,32 +70,18 @@ fn run_command<R: Threads + Wait + Sync, S: Source + Send, K: Sink, G: Gate + Sy
 ) -> Status
     requires some { 0 < command.workers }
     requires few { command.workers ≤ 8 }
-    ensures serves { Serves (answering_of command) (S.left source.old) (S.left source.new)
+    ensures serves { ServesAs (Some (service_of command)) (S.left source.old) (S.left source.new)
         (S.ended source.new) (K.holds sink.old) (K.holds sink.new) result }
     ensures counts { Counts (S.faults source.old) (S.faults source.new)
         (K.faults sink.old) (K.faults sink.new) result }
     ensures settled { result ≢ Status.ReadFault → result ≢ Status.WriteFault
-        → IsSettled (answering_of command) (S.left source.old) result }
-    ensures unproved { result ≢ Status.NotProved }
-    ensures words_cause { result ≡ Status.BadWords → answering_of command ≡ None }
-    ensures unread { answering_of command ≡ None → source.new ≡ source.old }
+        → IsSettledAs (Some (service_of command)) (S.left source.old) result }
+    ensures unproved { result ≡ Status.NotProved → service_of command ≡ Checks }
+    ensures words_cause { result ≢ Status.BadWords }
+    ensures unread { ReadsNothing (Some (service_of command)) → source.new ≡ source.old }
 {
-    match answering_of(command) {
-        Some(answering) => run(rt, alloc, answering, command.workers, source, sink, gate),
-        None => refuse_words(alloc, sink),
-    }
-}
-
-// What is answered at each ask, where the mode answers asks.
-fn answering_of(command: Command) -> Option<Answering>
-    ensures { result ≡ answering_of command }
-{
-    let proofs = command.proofs;
-    match command.mode {
-        Mode::Verdicts => Some(Answering::Verdicts { proofs }),
-        Mode::Table => Some(Answering::Table),
-        Mode::Scores | Mode::Check | Mode::Sample => None,
-    }
+    let service = service_of(command);
+    run_service(rt, alloc, service, command.workers, source, sink, gate)
 }
 
 fn refuse_words<K: Sink>(alloc: Global, sink: &mut K) -> Status

@@ -1,0 +1,91 @@
+-- Checks of an input: what was written, from what the input comes to.
+use Rattle.std.proofs.Common.{◌≡◌, ℕ, List, [], Option, Some, None, Result, Ok, Err, refl, ap, sym}
+use Rattle.std.proofs.Common.{◌∙◌, subst}
+use Rattle.std.specs.Io.KnownBytes.{append_known, prepend_known, IsAtEnd}
+use Rattle.port_core.specs.Contents.{start, Contents, contents_of}
+use Rattle.port_core.specs.Readers.{Reader, contents_to_come, LeavesReader, TakesInput}
+use Rattle.check_run.specs.declared.outcome.CheckOutcome.{CheckOutcome}
+use Rattle.check_run.specs.declared.outcome.CheckOutcome.TheVariants as outcome
+use Rattle.check_run.specs.Outcomes.{outcome_of}
+use Rattle.check_run.specs.Calls.{ChecksInput, LeavesCheck}
+use Rattle.futmax_main.specs.declared.status.Status.{Status}
+use Rattle.futmax_main.specs.declared.status.Status.TheVariants.{Done, BadWords, BadSheet, BadFeed}
+use Rattle.futmax_main.specs.declared.status.Status.TheVariants.{ReadFault, WriteFault, OutOfMemory}
+use Rattle.futmax_main.specs.declared.status.Status.TheVariants.{NotProved, TooLong}
+use Rattle.futmax_main.specs.Checks.{CheckEnds, ComesTo, ServesCheck, check_row, status_of_check}
+use Rattle.futmax_main.specs.Judging.{OutcomeEnds}
+use Rattle.futmax_main.proofs.TurnLemmas.{append_known-none, fresh-contents}
+
+-- no outcome is a fault of the source
+not_a_fault : (outcome : CheckOutcome) → status_of_check outcome ≡ ReadFault → ⊥
+not_a_fault (outcome.Accepted rows unsettled) is = cc
+not_a_fault (outcome.Refused number fault) is = cc
+not_a_fault (outcome.BadSheet number fault) is = cc
+not_a_fault (outcome.BadFeed number fault) is = cc
+not_a_fault (outcome.LineTooLong number) is = cc
+not_a_fault (outcome.InputTooLong number) is = cc
+
+-- an input that a source told has told bytes left
+told-left : (input bytes : List ℕ) (left : Option (List ℕ))
+    → Some input ≡ prepend_known bytes left → IsAtEnd left → left ≡ Some []
+told-left input bytes None is at_end = cc
+told-left input bytes (Some rest) is at_end = ap Some at_end
+
+-- where a report is accepted, nothing is left
+accepted-end : (outcome : CheckOutcome) (new : Reader) (left : Option (List ℕ))
+    → status_of_check outcome ≡ Done → LeavesCheck new left (Ok outcome) → IsAtEnd left
+accepted-end (outcome.Accepted rows unsettled) new left is leaves = leaves.2
+accepted-end (outcome.Refused number fault) new left is leaves = cc
+accepted-end (outcome.BadSheet number fault) new left is leaves = cc
+accepted-end (outcome.BadFeed number fault) new left is leaves = cc
+accepted-end (outcome.LineTooLong number) new left is leaves = cc
+accepted-end (outcome.InputTooLong number) new left is leaves = cc
+
+-- what an input comes to is written
+check-ends : (input : List ℕ) (left : Option (List ℕ)) (outcome : CheckOutcome)
+    (old now : Option (List ℕ)) (status : Status) → ComesTo input outcome
+    → (status_of_check outcome ≡ Done → left ≡ Some []) → OutcomeEnds outcome old now status
+    → ServesCheck (Some input) left old now status
+check-ends input left outcome old now Done comes at_end ends =
+    (check_row outcome, ends.1, ((outcome, comes, ends.0, refl), at_end ends.0))
+check-ends input left outcome old now BadWords comes at_end ends =
+    (check_row outcome, ends.1, (outcome, comes, ends.0, refl))
+check-ends input left outcome old now BadSheet comes at_end ends =
+    (check_row outcome, ends.1, (outcome, comes, ends.0, refl))
+check-ends input left outcome old now BadFeed comes at_end ends =
+    (check_row outcome, ends.1, (outcome, comes, ends.0, refl))
+check-ends input left outcome old now ReadFault comes at_end ends =
+    absurd (not_a_fault outcome ends.0)
+check-ends input left outcome old now WriteFault comes at_end ends =
+    (ends.0, ends.2, (outcome, comes, ends.1))
+check-ends input left outcome old now OutOfMemory comes at_end ends =
+    ([], ends ∙ append_known-none old, refl)
+check-ends input left outcome old now NotProved comes at_end ends =
+    (check_row outcome, ends.1, (outcome, comes, ends.0, refl))
+check-ends input left outcome old now TooLong comes at_end ends =
+    (check_row outcome, ends.1, (outcome, comes, ends.0, refl))
+
+-- a report that was judged
+pub check-serves : (reader new : Reader) (input left : Option (List ℕ)) (outcome : CheckOutcome)
+    (old now : Option (List ℕ)) (status : Status)
+    → reader ≡ record { held = []; text = []; position = start }
+    → ChecksInput (contents_to_come reader input) (contents_to_come new left) (Ok outcome)
+    → LeavesCheck new left (Ok outcome) → TakesInput reader new input left
+    → OutcomeEnds outcome old now status → ServesCheck input left old now status
+check-serves reader new None left outcome old now status fresh checks leaves takes ends = tt
+check-serves reader new (Some input) left outcome old now status fresh checks leaves takes ends =
+    check-ends input left outcome old now status
+    (checks (contents_of input) (fresh-contents reader (Some input) fresh))
+    (λ is. told-left input takes.0 left takes.1 (accepted-end outcome new left is leaves)) ends
+
+-- a fault of the source, which leaves no text
+pub check-fails : (input left old : Option (List ℕ))
+    → ServesCheck input left old old ReadFault
+check-fails None left old = tt
+check-fails (Some input) left old = ([], append_known-none old, refl)
+
+-- want of memory, which leaves none
+pub check-starved : (input left old : Option (List ℕ))
+    → ServesCheck input left old old OutOfMemory
+check-starved None left old = tt
+check-starved (Some input) left old = ([], append_known-none old, refl)

@@ -1,0 +1,78 @@
+-- What the modes without asks write: `check` one row for all of an input, and `sample` one row,
+-- which no input changes.
+use Rattle.std.specs.Prelude.{◌≡◌, ℕ, List, [], ◌∷◌, Option, Some, None, codes, decimal}
+use Rattle.std.specs.Io.KnownBytes.{append_known}
+use Rattle.port_core.specs.Ports.{IsFront}
+use Rattle.port_core.specs.Contents.{contents_of}
+use Rattle.cert_text.specs.Rows.{text_of_row}
+use Rattle.check_run.specs.declared.outcome.ReportFault.{ReportFault}
+use Rattle.check_run.specs.declared.outcome.CheckOutcome.{CheckOutcome}
+use Rattle.check_run.specs.declared.outcome.CheckOutcome.TheVariants.{Accepted, Refused, BadSheet}
+use Rattle.check_run.specs.declared.outcome.CheckOutcome.TheVariants.{BadFeed, LineTooLong}
+use Rattle.check_run.specs.declared.outcome.CheckOutcome.TheVariants.{InputTooLong}
+use Rattle.check_run.specs.Outcomes.{outcome_of, report_code_of}
+use Rattle.futmax_main.specs.declared.status.Status.{Status}
+use Rattle.futmax_main.specs.declared.status.Status.TheVariants as status
+use Rattle.futmax_main.specs.declared.session.Cause.TheVariants as cause
+use Rattle.futmax_main.specs.Courses.{input_fault, line_fault}
+use Rattle.futmax_main.specs.Rows.{fault_row}
+
+-- ---- a report is checked
+
+-- `accepted,ROWS,UNSETTLED`
+abbrev pub accepted_row : ℕ → ℕ → List ℕ
+accepted_row rows unsettled =
+    text_of_row (codes "accepted" ∷ decimal rows ∷ decimal unsettled ∷ [])
+
+-- `refused,LINE,CODE`
+abbrev pub refused_row : ℕ → ReportFault → List ℕ
+refused_row number fault =
+    text_of_row (codes "refused" ∷ decimal number ∷ report_code_of fault ∷ [])
+
+-- the one row that is written, by what the input comes to
+abbrev pub check_row : CheckOutcome → List ℕ
+check_row (Accepted rows unsettled) = accepted_row rows unsettled
+check_row (Refused number fault) = refused_row number fault
+check_row (BadSheet number fault) =
+    fault_row (record { number = number; cause = cause.Sheet fault })
+check_row (BadFeed number fault) =
+    fault_row (record { number = number; cause = cause.Feed fault })
+check_row (LineTooLong number) = fault_row (line_fault number)
+check_row (InputTooLong number) = fault_row (input_fault number)
+
+-- the status, by the same
+abbrev pub status_of_check : CheckOutcome → Status
+status_of_check (Accepted rows unsettled) = status.Done
+status_of_check (Refused number fault) = status.NotProved
+status_of_check (BadSheet number fault) = status.BadSheet
+status_of_check (BadFeed number fault) = status.BadFeed
+status_of_check (LineTooLong number) = status.TooLong
+status_of_check (InputTooLong number) = status.TooLong
+
+-- an input comes to this
+abbrev pub ComesTo : List ℕ → CheckOutcome → Type 0
+ComesTo input outcome = outcome_of (contents_of input) ≡ Some outcome
+
+-- the whole text of a check of this input, which has this status
+abbrev pub IsCheckText : List ℕ → Status → List ℕ → Type 0
+IsCheckText input status text =
+    (outcome : CheckOutcome) × ComesTo input outcome × (status_of_check outcome ≡ status)
+    × (text ≡ check_row outcome)
+
+-- what was written where a check of this input ends with this status, by what the source has left:
+-- nothing where the source failed, or memory was wanting
+abbrev pub CheckEnds : List ℕ → Option (List ℕ) → Status → List ℕ → Type 0
+CheckEnds input left status.Done text = IsCheckText input status.Done text × (left ≡ Some [])
+CheckEnds input left status.ReadFault text = text ≡ []
+CheckEnds input left status.WriteFault text =
+    (outcome : CheckOutcome) × ComesTo input outcome × IsFront text (check_row outcome)
+CheckEnds input left status.OutOfMemory text = text ≡ []
+CheckEnds input left status text = IsCheckText input status text
+
+-- the sink's bytes before and after a check, by what the source had left and has left; nothing is
+-- said where it does not tell its bytes
+abbrev pub ServesCheck : Option (List ℕ) → Option (List ℕ) → Option (List ℕ) → Option (List ℕ)
+    → Status → Type 0
+ServesCheck None left old new status = Unit {0}
+ServesCheck (Some input) left old new status =
+    (text : List ℕ) × (new ≡ append_known old text) × CheckEnds input left status text

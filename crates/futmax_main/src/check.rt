@@ -1,0 +1,107 @@
+//! The mode `check`: a report is judged, and one row says how.
+
+ghost use Rattle.std.specs.Prelude.{◌≡◌, ◌≢◌, IfOk};
+ghost use Rattle.futmax_main.specs.Checks.{ServesCheck, check_row, refused_row, status_of_check};
+ghost use Rattle.futmax_main.specs.Checks.{accepted_row};
+ghost use Rattle.futmax_main.specs.Judging.{CountsJudged, OutcomeEnds};
+ghost use Rattle.futmax_main.specs.Top.{Counts};
+
+use crate::rows::fault_row;
+use crate::session::{Cause, Fault};
+use crate::status::Status;
+use ask_answers::{number_field, put_rows, text_field};
+use cert_text::write_row;
+use check_run::{CheckFailure, CheckOutcome, ReportFault, check_input};
+use league_core::OutOfMemory;
+use port_core::{LineReader, Sink, Source};
+use std::alloc::Global;
+
+/// Reads the whole input, then judges the report in it, and writes one row.
+pub fn run_check<S: Source, K: Sink>(alloc: Global, source: &mut S, sink: &mut K) -> Status
+    ensures serves { ServesCheck (S.left source.old) (S.left source.new)
+        (K.holds sink.old) (K.holds sink.new) result }
+    ensures counts { Counts (S.faults source.old) (S.faults source.new)
+        (K.faults sink.old) (K.faults sink.new) result }
+    ensures status { result ≢ Status.BadWords }
+{
+    let Ok(mut reader) = LineReader::new(alloc) else {
+        return Status::OutOfMemory;
+    };
+    match check_input(alloc, &mut reader, source) {
+        Ok(outcome) => put_outcome(alloc, outcome, sink),
+        Err(CheckFailure::ReadFault) => Status::ReadFault,
+        Err(CheckFailure::OutOfMemory) => Status::OutOfMemory,
+    }
+}
+
+fn put_outcome<K: Sink>(alloc: Global, outcome: CheckOutcome, sink: &mut K) -> Status
+    ensures ends { OutcomeEnds outcome (K.holds sink.old) (K.holds sink.new) result }
+    ensures counts { CountsJudged (K.faults sink.old) (K.faults sink.new) result }
+{
+    let Ok(row) = check_row(alloc, outcome) else {
+        return Status::OutOfMemory;
+    };
+    match put_rows(sink, row.as_slice()) {
+        Ok(()) => status_of_check(outcome),
+        Err(_) => Status::WriteFault,
+    }
+}
+
+fn check_row(alloc: Global, outcome: CheckOutcome) -> Result<Vec<u8>, OutOfMemory>
+    ensures { IfOk result (λ row. row.items ≡ check_row outcome) }
+{
+    match outcome {
+        CheckOutcome::Accepted { rows, unsettled } => accepted_row(alloc, rows, unsettled),
+        CheckOutcome::Refused { number, fault } => refused_row(alloc, number, fault),
+        CheckOutcome::BadSheet { number, fault } => {
+            let cause = Cause::Sheet(fault);
+            fault_row(alloc, &Fault { number, cause })
+        }
+        CheckOutcome::BadFeed { number, fault } => {
+            let cause = Cause::Feed(fault);
+            fault_row(alloc, &Fault { number, cause })
+        }
+        CheckOutcome::LineTooLong { number } => {
+            let cause = Cause::LineTooLong;
+            fault_row(alloc, &Fault { number, cause })
+        }
+        CheckOutcome::InputTooLong { number } => {
+            let cause = Cause::InputTooLong;
+            fault_row(alloc, &Fault { number, cause })
+        }
+    }
+}
+
+fn accepted_row(alloc: Global, rows: u64, unsettled: u64) -> Result<Vec<u8>, OutOfMemory>
+    ensures { IfOk result (λ row. row.items ≡ accepted_row rows unsettled) }
+{
+    let fields = [
+        text_field(alloc, "accepted")?,
+        number_field(alloc, rows)?,
+        number_field(alloc, unsettled)?,
+    ];
+    write_row(alloc, &fields)
+}
+
+fn refused_row(alloc: Global, number: u64, fault: ReportFault) -> Result<Vec<u8>, OutOfMemory>
+    ensures { IfOk result (λ row. row.items ≡ refused_row number fault) }
+{
+    let fields = [
+        text_field(alloc, "refused")?,
+        number_field(alloc, number)?,
+        text_field(alloc, fault.code())?,
+    ];
+    write_row(alloc, &fields)
+}
+
+fn status_of_check(outcome: CheckOutcome) -> Status
+    ensures { result ≡ status_of_check outcome }
+{
+    match outcome {
+        CheckOutcome::Accepted { .. } => Status::Done,
+        CheckOutcome::Refused { .. } => Status::NotProved,
+        CheckOutcome::BadSheet { .. } => Status::BadSheet,
+        CheckOutcome::BadFeed { .. } => Status::BadFeed,
+        CheckOutcome::LineTooLong { .. } | CheckOutcome::InputTooLong { .. } => Status::TooLong,
+    }
+}
