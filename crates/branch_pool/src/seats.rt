@@ -44,9 +44,25 @@ pub fn trees_for(
     ensures { IfOk result (λ trees. trees.items ≡ map (tree_for sheet.now season.now) seats.now) }
 {
     let tables = tables_for(alloc, sheet, season, seats)?;
+    trees_by(alloc, sheet, season, &tables, seats)
+}
+
+fn trees_by(
+    alloc: Global,
+    sheet: &Sheet,
+    season: &Season,
+    tables: &Option<Played>,
+    seats: &[Seat],
+) -> Result<Vec<Tree>, OutOfMemory>
+    requires league { IsLeague sheet.now season.now }
+    requires ready { All (MayBeCarried sheet.now) seats.now }
+    requires tables { IfSome tables.now (λ played.
+        played ≡ record { sheet = sheet.now; season = season.now }) }
+    ensures { IfOk result (λ trees. trees.items ≡ map (tree_for sheet.now season.now) seats.now) }
+{
     let mut trees = Vec::new(alloc);
     for seat in seats {
-        trees.push(tree_for(alloc, sheet, season, &tables, seat)?)?;
+        trees.push(tree_for(alloc, sheet, season, tables, seat)?)?;
     }
     Ok(trees)
 }
