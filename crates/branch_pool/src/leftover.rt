@@ -1,6 +1,7 @@
 //! What is left of a ticket that was given back, and of what was done with it.
 
-ghost use Rattle.std.specs.Prelude.{◌≡◌};
+ghost use Rattle.std.specs.Prelude.{◌≡◌, Some};
+ghost use Rattle.std.specs.Option.{option_or, option_map};
 ghost use Rattle.branch_pool.specs.Calls.{piece_done, example_done};
 
 use crate::seat::Example;
@@ -28,4 +29,16 @@ pub fn parts_of(done: Done) -> (Option<Piece>, Option<Example>)
         Done::Won(piece, finish, lots) => (Some(piece), Some(Example { finish, lots })),
         Done::Undone => (None, None),
     }
+}
+
+/// An example stays where there is none, and is handed back where there is one.
+pub fn keep_first(kept: &mut Option<Example>, example: Example) -> Option<Example>
+    ensures kept { kept.new ≡ option_or kept.old (Some example) }
+    ensures over { result ≡ option_map (λ _. example) kept.old }
+{
+    if kept.is_some() {
+        return Some(example);
+    }
+    *kept = Some(example);
+    None
 }

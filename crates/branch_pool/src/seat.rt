@@ -1,8 +1,6 @@
 //! What the pool keeps for each of its questions.
 
 ghost use Rattle.std.specs.Prelude.{◌≡◌, ◌<◌, ◌≤◌, ◌+◌, ◌^◌, IfOk, OnErr, OnOk, true, None};
-ghost use Rattle.std.specs.Prelude.{Some};
-ghost use Rattle.std.specs.Option.{option_or, option_map};
 ghost use Rattle.std.specs.Prelude.{if◌then◌else◌};
 ghost use Rattle.league_core.specs.Seasons.{IsLeague};
 ghost use Rattle.league_core.specs.Trees.{open_leaf, has_open, node_count};
@@ -16,6 +14,7 @@ ghost use Rattle.branch_pool.specs.Seats.{LendsSeat, MayLend, WorksSeat, seat_fo
 ghost use Rattle.branch_pool.specs.Goodness.{IsGoodSeat};
 ghost use Rattle.league_core.specs.Questions.{IsQuestionOf};
 
+use crate::leftover::keep_first;
 use crate::ticket::Answer;
 use league_core::{Finish, Lots, OutOfMemory, Question, Season, Sheet, Zone};
 use reason_core::{Done, Finding, Piece, Solver};
@@ -230,18 +229,6 @@ impl Seat {
             Answer::NotYet
         }
     }
-}
-
-// An example stays where there is none, and is handed back where there is one.
-fn keep_first(kept: &mut Option<Example>, example: Example) -> Option<Example>
-    ensures kept { kept.new ≡ option_or kept.old (Some example) }
-    ensures over { result ≡ option_map (λ _. example) kept.old }
-{
-    if kept.is_some() {
-        return Some(example);
-    }
-    *kept = Some(example);
-    None
 }
 
 // The example, if there is one, is one of the season too.

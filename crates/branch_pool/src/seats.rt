@@ -44,15 +44,47 @@ pub fn trees_for(
     ensures { IfOk result (λ trees. trees.items ≡ map (tree_for sheet.now season.now) seats.now) }
 {
     let tables = tables_for(alloc, sheet, season, seats)?;
+    trees_by(alloc, sheet, season, &tables, seats)
+}
+
+fn trees_by(
+    alloc: Global,
+    sheet: &Sheet,
+    season: &Season,
+    tables: &Option<Played>,
+    seats: &[Seat],
+) -> Result<Vec<Tree>, OutOfMemory>
+    requires league { IsLeague sheet.now season.now }
+    requires ready { All (MayBeCarried sheet.now) seats.now }
+    requires tables { IfSome tables.now (λ played.
+        played ≡ record { sheet = sheet.now; season = season.now }) }
+    ensures { IfOk result (λ trees. trees.items ≡ map (tree_for sheet.now season.now) seats.now) }
+{
     let mut trees = Vec::new(alloc);
     for seat in seats {
-        let tree = match &tables {
-            Some(played) => retarget_over(alloc, played, &seat.question, &seat.tree)?,
-            None => retarget(alloc, sheet, &seat.question, &seat.tree, season)?,
-        };
-        trees.push(tree)?;
+        trees.push(tree_for(alloc, sheet, season, tables, seat)?)?;
     }
     Ok(trees)
+}
+
+// The tree of a question for another season, by the tables of that season where there are any.
+fn tree_for(
+    alloc: Global,
+    sheet: &Sheet,
+    season: &Season,
+    tables: &Option<Played>,
+    seat: &Seat,
+) -> Result<Tree, OutOfMemory>
+    requires league { IsLeague sheet.now season.now }
+    requires ready { MayBeCarried sheet.now seat.now }
+    requires tables { IfSome tables.now (λ played.
+        played ≡ record { sheet = sheet.now; season = season.now }) }
+    ensures { IfOk result (λ tree. tree ≡ tree_for sheet.now season.now seat.now) }
+{
+    match tables {
+        Some(played) => retarget_over(alloc, played, &seat.question, &seat.tree),
+        None => retarget(alloc, sheet, &seat.question, &seat.tree, season),
+    }
 }
 
 // The tables that all trees are carried over by: none where each tree is one open leaf, since then
