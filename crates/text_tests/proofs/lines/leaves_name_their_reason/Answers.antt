@@ -1,6 +1,6 @@
 use Rattle.std.proofs.Common.{refl}
 use Rattle.league_core.specs.ClubSets as sets
-use Rattle.cert_text.proofs.line_tests.leaves_name_their_reason.Goals as goal
+use Rattle.text_tests.proofs.lines.leaves_name_their_reason.Goals as goal
 
 pub writes-requires-4 : goal.writes-requires-4
 unfolding sets.clubs_below

@@ -1,7 +1,7 @@
 //! Texts that have a form, and texts that have none. What each text is follows from the table of
 //! forms and from JSON by hand.
 
-use crate::{LineStop, ProofLine, read_line};
+use cert_text::{LineStop, ProofLine, read_line};
 use league_core::{Claim, Reason, Test};
 use std::alloc::Global;
 use std::test::Fail;

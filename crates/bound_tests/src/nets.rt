@@ -1,6 +1,7 @@
 ghost use Rattle.std.specs.Prelude.{◌<◌};
 
-use super::*;
+use flow_net::{Flow, Net};
+use std::alloc::Global;
 use std::process::Abort;
 use std::test::Fail;
 

@@ -3,7 +3,7 @@
 ghost use Rattle.std.specs.Prelude.{IsTrue};
 ghost use Rattle.cert_text.specs.Ranges.{is_in_range};
 
-use crate::{ClubList, ProofLine, write_line};
+use cert_text::{ClubList, ProofLine, write_line};
 use league_core::{Claim, ClubSet, Listing, Reason, Score, Test};
 use std::alloc::Global;
 use std::test::Fail;

@@ -1,8 +1,7 @@
 //! Rows against the texts that Python's csv module writes for them with a line feed at the end;
-//! each
-//! is read back by csv.
+//! each is read back by csv.
 
-use crate::write_row;
+use cert_text::write_row;
 use csv::{ByteRecord, ReaderBuilder};
 use std::alloc::Global;
 use std::test::Fail;
