@@ -1,6 +1,6 @@
 -- What stands between the commas of a text, and how csv reads a text without signs.
-use Rattle.std.proofs.Common.{◌≡◌, ◌==◌, ◌||◌, ℕ, Bool, true, false, cond, List, [], ◌∷◌, ◌++◌, Some}
-use Rattle.std.proofs.Common.{None, refl, sym, ap, ◌∙◌, append_assoc, inl, inr}
+use Rattle.std.proofs.Common.{◌≡◌, ◌==◌, ◌||◌, ℕ, Bool, true, false, cond, List, [], ◌∷◌, ◌++◌}
+use Rattle.std.proofs.Common.{Some, None, refl, sym, ap, ◌∙◌, append_assoc, inl, inr}
 use Rattle.std.specs.Prelude.{option_map, option_and_then}
 use Rattle.std.specs.List.{list_any}
 use Rattle.std.proofs.lemmas.List.{append-nil}
@@ -21,7 +21,8 @@ with_front-none front [] = refl
 with_front-none front (field ∷ fields) = refl
 
 with_front-cond : (test : Bool) (first second : List (List ℕ)) → with_front [] first ≡ first
-    → with_front [] second ≡ second → with_front [] (cond test first second) ≡ cond test first second
+    → with_front [] second ≡ second
+    → with_front [] (cond test first second) ≡ cond test first second
 with_front-cond true first second one other = one
 with_front-cond false first second one other = other
 
@@ -147,7 +148,8 @@ pub csv_record-plain : (byte : ℕ) (bytes : List ℕ) → has_sign (byte ∷ by
 csv_record-plain byte bytes plain =
     let signs = or_parts (is_sign byte) (list_any is_sign bytes) plain in
     let none = no_sign byte signs.0 in
-    ap (λ text. option_map (λ read. read.0) (next_record default_config state.StartRecord [] [] text))
+    ap (λ text. option_map (λ read. read.0)
+    (next_record default_config state.StartRecord [] [] text))
     (strip_bom-plain (byte ∷ bytes) plain)
     ∙ ap (option_map (λ read. read.0))
     (record-same [] [] byte bytes none.1.0 none.1.1.0

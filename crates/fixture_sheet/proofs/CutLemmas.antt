@@ -1,6 +1,6 @@
 -- Steps of a loop that cuts a text at its commas.
-use Rattle.std.proofs.Common.{◌≡◌, ℕ, ◌+◌, ◌-◌, ◌<◌, ◌≤◌, List, [], ◌∷◌, ◌++◌, length, map, take, drop}
-use Rattle.std.proofs.Common.{get_or, refl, sym, ap, ◌∙◌, append_assoc, eq-eqb, arith}
+use Rattle.std.proofs.Common.{◌≡◌, ℕ, ◌+◌, ◌-◌, ◌<◌, ◌≤◌, List, [], ◌∷◌, ◌++◌, length, map, take}
+use Rattle.std.proofs.Common.{drop, get_or, refl, sym, ap, ◌∙◌, append_assoc, eq-eqb, arith}
 use Rattle.std.specs.List.{between}
 use Rattle.std.proofs.lemmas.List.{drop_more, map-append}
 use Rattle.std.proofs.lemmas.List.Edits.{between_more}
@@ -49,8 +49,8 @@ module _ {A : Type 0} (bytes_of : A → List ℕ) (text : List ℕ) where
       (map-append bytes_of copies (copy ∷ []))
       ∙ ap (λ bytes. (map bytes_of copies ++ bytes ∷ [])
       ++ with_front (between next (place + 1) text) rest) same
-      ∙ ap (λ n. (map bytes_of copies ++ field ∷ []) ++ with_front (between n (place + 1) text) rest)
-      at_next
+      ∙ ap (λ n. (map bytes_of copies ++ field ∷ [])
+      ++ with_front (between n (place + 1) text) rest) at_next
       ∙ ap (λ front. (map bytes_of copies ++ field ∷ []) ++ with_front front rest)
       (between-none (place + 1))
       ∙ append_assoc (map bytes_of copies) (field ∷ []) (with_front [] rest)

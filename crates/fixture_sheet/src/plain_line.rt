@@ -12,7 +12,7 @@ use std::alloc::Global;
 // The first byte of the byte order mark.
 const MARK: u8 = 0xEF;
 
-// More fields than a record of the project's formats has. A longer list grows.
+// More fields than a record of a sheet or a feed has. A longer list grows.
 const USUAL_WIDTH: usize = 8;
 
 /// Whether a byte stands in the text that means more to csv than itself, a comma apart.
@@ -32,7 +32,7 @@ pub fn plain_record(alloc: Global, text: &[u8]) -> Result<Option<Fields>, OutOfM
     if counted.is_empty() {
         return Ok(None);
     }
-    let list = cut_at_commas(alloc, counted)?;
+    let list = cut_fields(alloc, counted)?;
     Ok(Some(Fields { list }))
 }
 
@@ -49,8 +49,9 @@ fn without_commas(text: &[u8]) -> &[u8]
     &text[..end]
 }
 
-fn cut_at_commas(alloc: Global, text: &[u8]) -> Result<Vec<Vec<u8>>, OutOfMemory>
-    ensures { IfOk result (λ list. map (λ bytes. bytes.items) list.items ≡ between_commas text.now) }
+fn cut_fields(alloc: Global, text: &[u8]) -> Result<Vec<Vec<u8>>, OutOfMemory>
+    ensures { IfOk result (λ list. map (λ bytes. bytes.items) list.items
+        ≡ between_commas text.now) }
 {
     let mut list = Vec::with_capacity(alloc, USUAL_WIDTH)?;
     let mut start = 0;

@@ -1,7 +1,7 @@
 use Rattle.std.proofs.Common.{◌≡◌, ◌≤◌, ◌++◌, map, drop}
 use Rattle.std.specs.List.{between}
 use Rattle.fixture_sheet.specs.PlainLines.{between_commas, with_front}
-use Rattle.fixture_sheet.proofs.plain_line.cut_at_commas.Given as goal
+use Rattle.fixture_sheet.proofs.plain_line.cut_fields.Given as goal
 
 -- the fields so far, and then those of the rest, the bytes since the last comma in front
 abbrev pub invariant-loop-place : goal.invariant-loop-place

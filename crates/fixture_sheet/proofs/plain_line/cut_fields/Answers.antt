@@ -1,8 +1,8 @@
 use Rattle.std.proofs.Common.{ap, ◌∙◌, arith}
 use Rattle.fixture_sheet.proofs.CutLemmas.{cut-begins, cut-byte, cut-comma}
-use Rattle.fixture_sheet.proofs.plain_line.cut_at_commas.Goals as goal
-use Rattle.fixture_sheet.proofs.plain_line.cut_at_commas.Goals.{else-byte-eq44}
-use Rattle.fixture_sheet.proofs.plain_line.cut_at_commas.Goals.{then-byte-eq44+in_ok-to_vec+in_ok-push}
+use Rattle.fixture_sheet.proofs.plain_line.cut_fields.Goals as goal
+use Rattle.fixture_sheet.proofs.plain_line.cut_fields.Goals.{else-byte-eq44}
+use Rattle.fixture_sheet.proofs.plain_line.cut_fields.Goals.{then-byte-eq44+in_ok-to_vec+in_ok-push}
 
 pub loop-place-init : goal.loop-place-init
 loop-place-init c = record {
