@@ -1,7 +1,7 @@
 -- What stands between the commas of a text, and how csv reads a text without signs.
 use Rattle.std.proofs.Common.{◌≡◌, ◌==◌, ◌||◌, ℕ, Bool, true, false, cond, List, [], ◌∷◌, ◌++◌}
 use Rattle.std.proofs.Common.{Some, None, refl, sym, ap, ◌∙◌, append_assoc, inl, inr}
-use Rattle.std.specs.Prelude.{option_map, option_and_then}
+use Rattle.std.specs.Prelude.{option_map}
 use Rattle.std.specs.List.{list_any}
 use Rattle.std.proofs.lemmas.List.{append-nil}
 use Rattle.std.proofs.lemmas.Bool.{cases_Bool, or_parts}
@@ -9,10 +9,8 @@ use Rattle.csv.specs.Machine.{next_record}
 use Rattle.csv.specs.Reading.{default_config, strip_bom}
 use Rattle.csv.specs.declared.parser.State.TheVariants as state
 use Rattle.csv.proofs.RoundTrip.{record-same, start-same}
-use Rattle.fixture_sheet.specs.Fields.{csv_read, csv_record, record_of, unless_empty, with_field}
-use Rattle.fixture_sheet.specs.Fields.{without_padding}
-use Rattle.fixture_sheet.specs.PlainLines.{between_commas, has_sign, is_sign, with_byte, with_front}
-use Rattle.fixture_sheet.specs.PlainLines.{without_commas}
+use Rattle.fixture_sheet.specs.Fields.{csv_record}
+use Rattle.fixture_sheet.specs.PlainLines.{between_commas, has_sign, is_sign, with_front}
 
 -- nothing in front of a first field changes nothing
 with_front-none : (front : List ℕ) (fields : List (List ℕ))

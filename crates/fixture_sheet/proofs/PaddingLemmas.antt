@@ -4,7 +4,7 @@ use Rattle.std.proofs.Common.{take, get_or, Some, None, refl, sym, ap, ◌∙◌
 use Rattle.std.specs.Prelude.{option_and_then}
 use Rattle.std.proofs.lemmas.Bool.{cases_Bool, ne_eqb}
 use Rattle.std.proofs.lemmas.List.{take_more}
-use Rattle.fixture_sheet.specs.Fields.{csv_record, is_blank, record_of, unless_empty, with_field}
+use Rattle.fixture_sheet.specs.Fields.{is_blank, record_of, unless_empty, with_field}
 use Rattle.fixture_sheet.specs.Fields.{without_padding}
 use Rattle.fixture_sheet.specs.PlainLines.{between_commas, has_sign, with_byte, with_front}
 use Rattle.fixture_sheet.specs.PlainLines.{without_commas}

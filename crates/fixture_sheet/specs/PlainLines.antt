@@ -1,5 +1,5 @@
 -- Texts that csv reads by their commas alone.
-use Rattle.std.specs.Prelude.{ℕ, Bool, false, ◌==◌, ◌||◌, List, [], ◌∷◌, ◌++◌, if◌then◌else◌}
+use Rattle.std.specs.Prelude.{ℕ, Bool, ◌==◌, ◌||◌, List, [], ◌∷◌, ◌++◌, if◌then◌else◌}
 use Rattle.std.specs.List.{list_any}
 
 -- a byte that means more to csv than itself, a comma apart: a quote, CR, LF, and the first byte of
