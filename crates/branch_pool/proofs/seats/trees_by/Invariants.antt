@@ -1,6 +1,6 @@
 use Rattle.std.proofs.Common.{◌≡◌, map, take}
 use Rattle.branch_pool.specs.Seats.{tree_for}
-use Rattle.branch_pool.proofs.seats.trees_for.Given as goal
+use Rattle.branch_pool.proofs.seats.trees_by.Given as goal
 
 -- one tree for each seat so far
 abbrev pub invariant-loop-seat : goal.invariant-loop-seat
