@@ -53,7 +53,9 @@ def is_true(test: list, score: tuple[int, int]) -> bool:
 def options(league: League, zone: list, fixture: int) -> list[tuple[int, int]]:
     """The scores that the zone leaves a match."""
     goals = range(league.goal_limit + 1)
-    scores = [league.scores[fixture]] if fixture in league.scores else itertools.product(goals, goals)
+    scores = itertools.product(goals, goals)
+    if fixture in league.scores:
+        scores = [league.scores[fixture]]
     tests = [(test, yes) for test, yes in zone if test[0] != "rival" and test[1] == fixture]
     return [score for score in scores if all(is_true(test, score) == yes for test, yes in tests)]
 
@@ -301,7 +303,8 @@ class Report:
         for fixture in league.open_fixtures():
             _, line = self.expect("proof", lambda it: it[:2] == ["score", fixture + 1]
                                   and type(it[1]) is int and len(it) == 4
-                                  and all(is_within(goals, 0, league.goal_limit) for goals in it[2:]))
+                                  and all(is_within(goals, 0, league.goal_limit)
+                                          for goals in it[2:]))
             scores[fixture] = (line[2], line[3])
         number, line = self.expect("proof", lambda it: it[0] == "lots" and len(it) == 2
                                    and type(it[1]) is list
