@@ -1,5 +1,5 @@
 -- A literal cuts the scope of its fixture, or none; what the scope was puts it back.
-use Rattle.std.proofs.Common.{◌≡◌, ◌<◌, ◌&&◌, length, set, get_or, ap, ◌∙◌, arith}
+use Rattle.std.proofs.Common.{◌<◌, ◌&&◌, length, ap, ◌∙◌, arith}
 use Rattle.std.proofs.lemmas.List.{get_or_default, length-set, set-set, set-get_or}
 use Rattle.league_core.specs.Zones.{is_as_said, passes}
 use Rattle.check_bounds.specs.Scopes.{is_left}

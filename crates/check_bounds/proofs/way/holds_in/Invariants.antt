@@ -1,5 +1,4 @@
 use Rattle.std.proofs.Common.{◌≡◌, take}
-use Rattle.check_bounds.specs.Ways.{Place}
 use Rattle.check_bounds.proofs.way.holds_in.Given as goal
 
 -- the way of the literals so far
