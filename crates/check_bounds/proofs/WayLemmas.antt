@@ -114,7 +114,7 @@ leads_back sheet season scopes marks steps step way =
     let Up : List Step → Type 0 =
     λ up. LeadTo sheet.goal_limit season.scores up scopes marks in
     let leads = subst Up (turned-push steps step) way.leads in
-    (leads.1, record { league = way.league; leads = leads.2; })
+    (leads.1, record { league = way.league; leads = leads.2 })
 
 -- a reason over the corners of a zone, with its marks as sets, is the reason in the zone
 pub reason_of : (sheet : Sheet) (season : Results) (question : Question) (zone : List Literal)

@@ -43,11 +43,7 @@ impl<'a> Model for Way<'a> {
 
 impl<'a> Way<'a> {
     /// The whole season.
-    pub fn new(
-        alloc: Global,
-        sheet: &'a Sheet,
-        season: &'a Season,
-    ) -> Result<Way<'a>, OutOfMemory>
+    pub fn new(alloc: Global, sheet: &'a Sheet, season: &'a Season) -> Result<Way<'a>, OutOfMemory>
         requires { IsLeague sheet.now season.now }
         ensures { IfOk result (λ way. way ≡ root_of sheet.now season.now) }
     {

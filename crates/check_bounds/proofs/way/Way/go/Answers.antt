@@ -25,7 +25,7 @@ invariant_of-self-2 c =
     let new = c.cut_by-cut.new.scopes in
     let cut = c.cut_by-cut.result in
     let marks = c.with-self-inside.result in
-    let step : Step = record { literal = c.args.literal; cut = cut; marks = way.marks; } in
+    let step : Step = record { literal = c.args.literal; cut = cut; marks = way.marks } in
     let Of : Place → Type 0 = λ place. is_test_of place.sheet test ≡ true in
     let within = within_way way.sheet.now way.season.now way.scopes.items way.marks way.steps.items
     test c.self.invariant (subst Of (sym c.self.view_is) c.requires) in
