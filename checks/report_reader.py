@@ -26,12 +26,14 @@ class Stop(Exception):
 
 @dataclass
 class Question:
-    """Whether a club can end so."""
+    """Whether a club can end so, with points from the one to the other."""
 
     league: League
     line: int
     club: int
     claim: str
+    low: int = LOW
+    high: int = HIGH
 
 
 # ---- zones: lists of tests, each with whether it holds
@@ -51,7 +53,9 @@ def is_true(test: list, score: tuple[int, int]) -> bool:
 def options(league: League, zone: list, fixture: int) -> list[tuple[int, int]]:
     """The scores that the zone leaves a match."""
     goals = range(league.goal_limit + 1)
-    scores = [league.scores[fixture]] if fixture in league.scores else itertools.product(goals, goals)
+    scores = itertools.product(goals, goals)
+    if fixture in league.scores:
+        scores = [league.scores[fixture]]
     tests = [(test, yes) for test, yes in zone if test[0] != "rival" and test[1] == fixture]
     return [score for score in scores if all(is_true(test, score) == yes for test, yes in tests)]
 
@@ -84,14 +88,14 @@ def holds(question: Question, zone: list, reason: list) -> bool:
     if kind == "count":
         return len(before if question.claim == "inside" else after) >= room
     if kind == "window":
-        return own_most < LOW or own_least > HIGH
+        return own_most < question.low or own_least > question.high
     if kind in ("low", "high"):
         clubs = {number - 1 for number in reason[1]}
         if kind == "low":
             return clubs <= after and (
-                together(league, choices, clubs, min) > len(clubs) * min(HIGH, own_most))
+                together(league, choices, clubs, min) > len(clubs) * min(question.high, own_most))
         return clubs <= before and (
-            together(league, choices, clubs, max) < len(clubs) * max(LOW, own_least))
+            together(league, choices, clubs, max) < len(clubs) * max(question.low, own_least))
     if any(len({points_of(score) for score in scores}) > 1 for scores in choices):
         return False
     sure = {rival: stand(league, choices, club, rival)
@@ -152,6 +156,15 @@ def surely_level(league: League, choices: list, club: int, group: set, among, va
     return level
 
 
+def narrowed(league: League, choices: list, club: int, rival: int, group: set, among, values):
+    """What some sums say of rival and club, and the group that is level with both after them."""
+    found = compared(league, choices, club, rival, among, values)
+    if found != "level":
+        return found, group
+    level = surely_level(league, choices, club, group, among, values)
+    return ("unknown", group) if level is None else ("level", level)
+
+
 def stand(league: League, choices: list, club: int, rival: int) -> str:
     """What is sure of a rival against the club."""
     every = set(range(len(league.clubs)))
@@ -163,24 +176,16 @@ def stand(league: League, choices: list, club: int, rival: int) -> str:
         return "above" if points(rival) > points(club) else "below"
     group = {it for it in every if points(it) == points(club)}
     if league.overall_first:
-        first = (DIFFERENCE, GOALS)
-        found = compared(league, choices, club, rival, every, first)
+        found, group = narrowed(league, choices, club, rival, group, every, (DIFFERENCE, GOALS))
         if found != "level":
             return found
-        group = surely_level(league, choices, club, group, every, first)
-        if group is None:
-            return "unknown"
-    record = (POINTS, DIFFERENCE, GOALS)
-    while True:
-        found = compared(league, choices, club, rival, group, record)
+    before = None
+    while group != before:
+        before = group
+        found, group = narrowed(league, choices, club, rival, group, group,
+                                (POINTS, DIFFERENCE, GOALS))
         if found != "level":
             return found
-        level = surely_level(league, choices, club, group, group, record)
-        if level is None:
-            return "unknown"
-        if level == group:
-            break
-        group = level
     found = compared(league, choices, club, rival, every,
                      (DIFFERENCE, GOALS, AWAY_GOALS, WINS, AWAY_WINS))
     if found == "level" and league.ranks[rival] != league.ranks[club]:
@@ -298,7 +303,8 @@ class Report:
         for fixture in league.open_fixtures():
             _, line = self.expect("proof", lambda it: it[:2] == ["score", fixture + 1]
                                   and type(it[1]) is int and len(it) == 4
-                                  and all(is_within(goals, 0, league.goal_limit) for goals in it[2:]))
+                                  and all(is_within(goals, 0, league.goal_limit)
+                                          for goals in it[2:]))
             scores[fixture] = (line[2], line[3])
         number, line = self.expect("proof", lambda it: it[0] == "lots" and len(it) == 2
                                    and type(it[1]) is list
@@ -309,7 +315,7 @@ class Report:
                  for club in sorted(block, key=lots.index)]
         is_inside = table.index(question.club) < question.line
         points = points_in(league, Sums(league, scores), question.club)
-        if is_inside != (question.claim == "inside") or not LOW <= points <= HIGH:
+        if is_inside != (question.claim == "inside") or not question.low <= points <= question.high:
             raise Stop(number, "no_proof")
 
     def item(self, league: League, line: int, club: int) -> None:
