@@ -2,11 +2,13 @@
 //!
 //! `plain` tries every score of every fixture; `tests` compares it with boxes along drawn paths of
 //! literals, with boxes made anew, and with the cuts. `cuts` has leagues that are added up by hand,
-//! `ties` zones worked by hand for the sure order and the reasons.
+//! `nets` networks, `ties` zones worked by hand for the sure order and the reasons.
 #![tactic(auto)]
 
 #[cfg(test)]
 mod cuts;
+#[cfg(test)]
+mod nets;
 #[cfg(test)]
 mod plain;
 #[cfg(test)]

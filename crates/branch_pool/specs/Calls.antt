@@ -1,17 +1,23 @@
 -- What the calls answer, beside the steps that they make: which question comes next, when there is
 -- nothing to do, and how far a question is.
-use Rattle.std.specs.Prelude.{◌≡◌, ℕ, Bool, true, false, ◌&&◌, ◌||◌, ◌==◌, nat_lt}
+use Rattle.std.specs.Prelude.{◌≡◌, ◌≢◌, ℕ, Bool, true, false, ◌&&◌, ◌||◌, ◌==◌, nat_lt}
 use Rattle.std.specs.Prelude.{is_some}
-use Rattle.std.specs.Prelude.{IsTrue, length, position, Option, Some, if◌then◌else◌}
+use Rattle.std.specs.Prelude.{IsTrue, length, position, Option, Some, None}
+use Rattle.std.specs.Prelude.{if◌then◌else◌}
 use Rattle.std.specs.List.{slice_get}
 use Rattle.std.specs.Option.{option_or, option_map}
 use Rattle.league_core.specs.declared.sheet.Sheet.{Sheet}
+use Rattle.league_core.specs.Results.{Results}
 use Rattle.league_core.specs.Seasons.{IsSeasonOf}
 use Rattle.league_core.specs.Questions.{IsQuestionOf}
 use Rattle.league_core.specs.Zones.{IsZoneFor}
 use Rattle.league_core.specs.Options.{has_finish}
 use Rattle.league_core.specs.Trees.{Tree, is_refuted}
+use Rattle.reason_core.specs.declared.piece.Piece.{Piece}
+use Rattle.reason_core.specs.declared.done.Done.{Done}
+use Rattle.reason_core.specs.declared.done.Done.TheVariants.{Refuted, Split, Won, Undone}
 use Rattle.branch_pool.specs.declared.seat.Example.{Example}
+use Rattle.branch_pool.specs.declared.leftover.Leftover.{Leftover}
 use Rattle.branch_pool.specs.declared.seat.Seat.{Seat}
 use Rattle.branch_pool.specs.declared.ticket.Answer.{Answer}
 use Rattle.branch_pool.specs.declared.ticket.Answer.TheVariants as answer
@@ -75,7 +81,54 @@ IsFitIfLent pool Rest = Unit {0}
 IsFitIfLent pool Over = Unit {0}
 IsFitIfLent pool OutOfMemory = Unit {0}
 
+-- a spare season is not spare any more where it is this one, and else is as before
+abbrev pub IsSpareUsed : Results → Option Results → Option Results → Type 0
+IsSpareUsed season old new = (old ≡ Some season → new ≡ None) × (old ≢ Some season → new ≡ old)
+
+-- what is left of a spare season: it goes along with a ticket that is lent, where it is the season
+-- of the pool
+abbrev pub LeavesSpare : Results → Took → Option Results → Option Results → Type 0
+LeavesSpare season (Lent ticket) old new = IsSpareUsed season old new
+LeavesSpare season Rest old new = new ≡ old
+LeavesSpare season Over old new = new ≡ old
+LeavesSpare season OutOfMemory old new = new ≡ old
+
 -- ---- give
+
+-- the piece that was worked on
+abbrev pub piece_done : Done → Option Piece
+piece_done (Refuted piece reason) = Some piece
+piece_done (Split piece literal) = Some piece
+piece_done (Won piece finish lots) = Some piece
+piece_done Undone = None
+
+-- the example that was found
+abbrev pub example_done : Done → Option Example
+example_done (Refuted piece reason) = None
+example_done (Split piece literal) = None
+example_done (Won piece finish lots) = Some (record { finish = finish; lots = lots })
+example_done Undone = None
+
+-- the example that was found, where another is kept already
+abbrev pub example_over : Option Example → Done → Option Example
+example_over None done = None
+example_over (Some example) done = example_done done
+
+-- the example that is left over: where what was done is kept, the one beside another; where it is
+-- stale, any
+abbrev pub IsExampleLeft : PoolState → Ticket → Done → Gave → Option Example → Type 0
+IsExampleLeft old ticket done Kept left =
+    (seat : Seat) → slice_get old.seats ticket.place ≡ Some seat
+    → left ≡ example_over seat.example done
+IsExampleLeft old ticket done (Stale epoch) left = left ≡ example_done done
+
+-- what is left over when a ticket is given back: its piece, the piece that was worked on, and the
+-- example that is not kept
+pub record LeavesOver (old : PoolState) (ticket : Ticket) (done : Done) (gave : Gave)
+    (left : Leftover) : Type 0 where
+  pub piece : left.piece ≡ ticket.piece
+  pub worked_on : left.done ≡ piece_done done
+  pub example : IsExampleLeft old ticket done gave left.example
 
 -- what `give` tells of epochs: what is kept is of the present one, and what is stale is told it
 abbrev pub IsTold : PoolState → Ticket → Gave → Type 0

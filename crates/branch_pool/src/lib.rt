@@ -6,6 +6,7 @@
 #![tactic(auto)]
 
 mod laws;
+mod leftover;
 mod loans;
 mod pool;
 mod seat;
@@ -13,6 +14,7 @@ mod seats;
 mod ticket;
 
 pub use laws::{pools_stay_good, work_comes_to_an_end};
+pub use leftover::Leftover;
 pub use pool::Pool;
 pub use seat::{Example, Loan, MOST_QUESTIONS, Seat};
 pub use ticket::{Answer, ChangeStop, Gave, Ticket, Took, Turn};

@@ -17,14 +17,17 @@ ghost use Rattle.branch_pool.specs.Steps.{IsOwnTicket, IsPresent, ComesHome, Kee
 ghost use Rattle.branch_pool.specs.Steps.{MayBeGiven, loan_of, Changes, pool_changed};
 ghost use Rattle.branch_pool.specs.Goodness.{IsGood, IsSoundPool};
 ghost use Rattle.branch_pool.specs.Calls.{Taking, IsFit, IsFitIfLent, LendsNext, IsTold};
-ghost use Rattle.branch_pool.specs.Calls.{may_go_on};
+ghost use Rattle.branch_pool.specs.Calls.{may_go_on, IsSpareUsed, LeavesSpare, LeavesOver};
+ghost use Rattle.branch_pool.specs.Calls.{piece_done, IsExampleLeft};
+ghost use Rattle.branch_pool.specs.declared.ticket.Gave.TheVariants.{Kept};
 ghost use Rattle.branch_pool.specs.Calls.{pool_answer, example_at, is_untouched, next_place};
 ghost use Rattle.branch_pool.specs.Calls.{tree_at};
 ghost use Rattle.branch_pool.specs.Looks.{seen_example};
 ghost use Rattle.branch_pool.specs.Runs.{IsSameButSeats, TakesTurn, WorksNext};
 
+use crate::leftover::{Leftover, parts_of};
 use crate::loans::{free_number, is_loan_of, keep_slot, put_loan};
-use crate::seat::{Loan, MOST_QUESTIONS, Seat};
+use crate::seat::{Example, Loan, MOST_QUESTIONS, Seat};
 use crate::seats::{change_seats, new_seats, recall_seats, trees_for};
 use crate::ticket::{Answer, ChangeStop, Gave, Ticket, Took, Turn};
 use league_core::limits::MOST_EVENTS;
@@ -230,6 +233,21 @@ impl Pool {
         ensures questions { self.new.questions ≡ self.old.questions }
         ensures log { self.new.log ≡ self.old.log }
     {
+        let mut spare = None;
+        self.take_with(&mut spare)
+    }
+
+    /// As `take`, but a ticket carries the spare season where that is the pool's season: then none
+    /// is copied, and none is spare any more. Else the pool's season is copied, and the spare one
+    /// stays.
+    pub fn take_with(&mut self, spare: &mut Option<Season>) -> Took
+        ensures taking { Taking self.old result self.new }
+        ensures fit { IsFitIfLent self.new result }
+        ensures spare { LeavesSpare self.old.season result spare.old spare.new }
+        ensures sheet { self.new.sheet ≡ self.old.sheet }
+        ensures questions { self.new.questions ≡ self.old.questions }
+        ensures log { self.new.log ≡ self.old.log }
+    {
         let Some(place) = self.next_place() else {
             return if self.may_go_on() {
                 Took::Rest
@@ -237,7 +255,7 @@ impl Pool {
                 Took::Over
             };
         };
-        match self.lend_at(place) {
+        match self.lend_next(place, spare) {
             Ok(ticket) => Took::Lent(ticket),
             Err(OutOfMemory) => Took::OutOfMemory,
         }
@@ -250,15 +268,43 @@ impl Pool {
         self.is_open || self.out() > 0
     }
 
-    // Lends a leaf of the question at a place, and writes it down.
-    fn lend_at(&mut self, place: u16) -> Result<Ticket, OutOfMemory>
+    // Lends a leaf of the question at a place, with the spare season where that is the pool's.
+    fn lend_next(&mut self, place: u16, spare: &mut Option<Season>) -> Result<Ticket, OutOfMemory>
         requires next { next_place self.old ≡ Some place }
         ensures ok { IfOk result (λ ticket. LendsNext self.old ticket self.new) }
         ensures fit { IfOk result (IsFit self.new) }
+        ensures spare { OnOk result (IsSpareUsed self.old.season spare.old spare.new) }
         ensures err { OnErr result (self.new ≡ self.old) }
+        ensures same { OnErr result (spare.new ≡ spare.old) }
+    {
+        if self.is_season(spare) {
+            return self.lend_at(place, spare);
+        }
+        let mut copied = Some(self.season.copy(self.alloc)?);
+        self.lend_at(place, &mut copied)
+    }
+
+    // The spare season is the pool's.
+    fn is_season(&self, spare: &Option<Season>) -> bool
+        ensures { IsTrue result ↔ (spare.now ≡ Some self.now.season) }
+    {
+        match spare {
+            Some(season) => season.equals(&self.season),
+            None => false,
+        }
+    }
+
+    // Lends a leaf of the question at a place with this season, and writes it down.
+    fn lend_at(&mut self, place: u16, season: &mut Option<Season>) -> Result<Ticket, OutOfMemory>
+        requires next { next_place self.old ≡ Some place }
+        requires season { season.old ≡ Some self.old.season }
+        ensures ok { IfOk result (λ ticket. LendsNext self.old ticket self.new) }
+        ensures fit { IfOk result (IsFit self.new) }
+        ensures none { OnOk result (season.new ≡ None) }
+        ensures err { OnErr result (self.new ≡ self.old) }
+        ensures same { OnErr result (season.new ≡ season.old) }
     {
         let number = free_number(self.loans.as_slice());
-        let season = self.season.copy(self.alloc)?;
         self.loans.reserve(1)?;
         let epoch = self.log.len() as u64;
         let seat = &mut self.seats[place as usize];
@@ -270,6 +316,9 @@ impl Pool {
             zone: kept,
         };
         put_loan(&mut self.loans, number, loan);
+        let Some(season) = season.take() else {
+            unreachable!()
+        };
         Ok(Ticket {
             number: number as u64,
             epoch,
@@ -331,31 +380,57 @@ impl Pool {
         ensures questions { self.new.questions ≡ self.old.questions }
         ensures log { self.new.log ≡ self.old.log }
     {
-        let gave = self.give_back(&ticket, done);
+        let (gave, _) = self.give_leaving(ticket, done);
+        gave
+    }
+
+    /// As `give`, and answers what the pool has no use for, of which nothing was let go.
+    pub fn give_leaving(&mut self, ticket: Ticket, done: Done) -> (Gave, Leftover)
+        requires is_for { IsFor done ticket.piece }
+        requires sound { IsTrueDone self.old.sheet done }
+        ensures gives { Gives self.old ticket done result.0 self.new }
+        ensures epoch { IsTold self.new ticket result.0 }
+        ensures leaves { LeavesOver self.old ticket done result.0 result.1 }
+        ensures sheet { self.new.sheet ≡ self.old.sheet }
+        ensures questions { self.new.questions ≡ self.old.questions }
+        ensures log { self.new.log ≡ self.old.log }
+    {
+        let (gave, done, example) = self.give_back(&ticket, done);
         let Ticket {
             number: _,
             epoch: _,
             place: _,
-            piece: _,
+            piece,
         } = ticket;
-        gave
+        (
+            gave,
+            Leftover {
+                piece,
+                done,
+                example,
+            },
+        )
     }
 
-    fn give_back(&mut self, ticket: &Ticket, done: Done) -> Gave
+    fn give_back(&mut self, ticket: &Ticket, done: Done) -> (Gave, Option<Piece>, Option<Example>)
         requires is_for { IsFor done ticket.now.piece }
         requires sound { IsTrueDone self.old.sheet done }
-        ensures { Gives self.old ticket.now done result self.new }
+        ensures gives { Gives self.old ticket.now done result.0 self.new }
+        ensures piece { result.1 ≡ piece_done done }
+        ensures example { IsExampleLeft self.old ticket.now done result.0 result.2 }
     {
         let epoch = self.epoch();
         if !self.is_own(ticket) {
-            return Gave::Stale { epoch };
+            let (piece, example) = parts_of(done);
+            return (Gave::Stale { epoch }, piece, example);
         }
         if ticket.epoch != epoch {
             self.come_home(ticket);
-            return Gave::Stale { epoch };
+            let (piece, example) = parts_of(done);
+            return (Gave::Stale { epoch }, piece, example);
         }
-        self.keep(ticket, done);
-        Gave::Kept
+        let (piece, example) = self.keep(ticket, done);
+        (Gave::Kept, piece, example)
     }
 
     // The ticket is one of the pool's.
@@ -400,15 +475,18 @@ impl Pool {
     }
 
     // What was done comes in place of the leaf that is lent with the ticket.
-    fn keep(&mut self, ticket: &Ticket, done: Done)
+    fn keep(&mut self, ticket: &Ticket, done: Done) -> (Option<Piece>, Option<Example>)
         requires own { IsOwnTicket self.old ticket.now }
         requires epoch { ticket.now.epoch ≡ present_epoch self.old }
         requires given { MayBeGiven self.old ticket.now done }
-        ensures { Keeps self.old ticket.now done self.new }
+        ensures keeps { Keeps self.old ticket.now done self.new }
+        ensures piece { result.0 ≡ piece_done done }
+        ensures example { IsExampleLeft self.old ticket.now done Kept result.1 }
     {
         let seat = &mut self.seats[ticket.place as usize];
-        seat.give(ticket.number, done);
+        let left = seat.give(ticket.number, done);
         let _home = self.loans.replace(ticket.number as usize, None);
+        left
     }
 
     /// Reports an event, and answers the new epoch. Each tree is carried over to the new season,

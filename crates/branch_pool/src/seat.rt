@@ -9,14 +9,15 @@ ghost use Rattle.tree_reuse.specs.Retargets.{retargeted};
 ghost use Rattle.branch_pool.specs.States.{new_seat, is_workable};
 ghost use Rattle.branch_pool.specs.Steps.{seat_given, seat_recalled, seat_changed, example_kept};
 ghost use Rattle.branch_pool.specs.Steps.{example_given, units_given};
-ghost use Rattle.branch_pool.specs.Calls.{is_untouched, answer_of};
+ghost use Rattle.branch_pool.specs.Calls.{is_untouched, answer_of, example_over, piece_done};
 ghost use Rattle.branch_pool.specs.Seats.{LendsSeat, MayLend, WorksSeat, seat_found, tree_for};
 ghost use Rattle.branch_pool.specs.Goodness.{IsGoodSeat};
 ghost use Rattle.league_core.specs.Questions.{IsQuestionOf};
 
+use crate::leftover::keep_first;
 use crate::ticket::Answer;
 use league_core::{Finish, Lots, OutOfMemory, Question, Season, Sheet, Zone};
-use reason_core::{Done, Finding, Solver};
+use reason_core::{Done, Finding, Piece, Solver};
 use std::alloc::Global;
 use std::mem;
 use tree_reuse::{MOST_NODES, Tree};
@@ -108,30 +109,37 @@ impl Seat {
         }
     }
 
-    /// Puts what was done in place of the leaf that is lent under a number.
-    pub fn give(&mut self, number: u64, done: Done)
+    /// Puts what was done in place of the leaf that is lent under a number, and answers the piece
+    /// that was worked on and the example that is not kept.
+    pub fn give(&mut self, number: u64, done: Done) -> (Option<Piece>, Option<Example>)
         requires out { times_lent number self.old.tree ≡ 1 }
         requires some { 0 < self.old.lent }
         requires fits { self.old.units + 1 < 2 ^ 32 }
-        ensures { self.new ≡ seat_given number done self.old }
+        ensures seat { self.new ≡ seat_given number done self.old }
+        ensures piece { result.0 ≡ piece_done done }
+        ensures example { result.1 ≡ example_over self.old.example done }
     {
         self.lent -= 1;
         match done {
-            Done::Refuted(_, reason) => {
+            Done::Refuted(piece, reason) => {
                 self.units += 1;
                 self.tree.refute(number, reason);
+                (Some(piece), None)
             }
-            Done::Split(_, literal) => {
+            Done::Split(piece, literal) => {
                 self.units += 1;
                 self.tree.split(number, literal.test);
+                (Some(piece), None)
             }
-            Done::Won(_, finish, lots) => {
+            Done::Won(piece, finish, lots) => {
                 self.tree.reopen(number);
-                if self.example.is_none() {
-                    self.example = Some(Example { finish, lots });
-                }
+                let over = keep_first(&mut self.example, Example { finish, lots });
+                (Some(piece), over)
             }
-            Done::Undone => self.tree.reopen(number),
+            Done::Undone => {
+                self.tree.reopen(number);
+                (None, None)
+            }
         }
     }
 

@@ -187,6 +187,14 @@ two_then judged from at to token is due first second is_other goes shown (Err ha
 
 -- ---- trees
 
+-- a test of the question is of what the sheet has
+pub test_of_question : (sheet : Sheet) (question : Question) (test : _)
+    → is_test_for sheet question test ≡ true → is_test_of sheet test ≡ true
+test_of_question sheet question test is =
+    let said = and_parts (is_test_in_range test && is_test_of sheet test)
+    (not (is_of_rival question.club test)) is in
+    (and_parts (is_test_in_range test) (is_test_of sheet test) said.0).1
+
 -- a way by tests of the question names what the sheet has
 pub zone_of_path : (sheet : Sheet) (question : Question) (zone : List Literal)
     → is_path_for sheet question zone ≡ true → is_zone_of sheet zone ≡ true
@@ -195,11 +203,8 @@ zone_of_path sheet question (literal ∷ zone) path =
     let test = literal.test in
     let parts = and_parts (is_test_for sheet question test) (is_path_for sheet question zone)
     path in
-    let said = and_parts (is_test_in_range test && is_test_of sheet test)
-    (not (is_of_rival question.club test)) parts.0 in
     and_from (is_test_of sheet test) (is_zone_of sheet zone)
-    (and_parts (is_test_in_range test) (is_test_of sheet test) said.0).1
-    (zone_of_path sheet question zone parts.1)
+    (test_of_question sheet question test parts.0) (zone_of_path sheet question zone parts.1)
 
 -- a leaf that does not prove what it says leaves something due all the same
 leaf_unproved : (basis : Basis) (kind : TreeKind) (question : Question)

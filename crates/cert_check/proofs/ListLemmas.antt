@@ -42,6 +42,16 @@ token_there lines at (Ok token) within read =
     ∙ ap token_of (sym (get_or-map (λ (it : NumberedLine). it.text) lines at none [] there))
     ∙ sym read)
 
+-- what is so of each test of a way is so of the last one
+pub last_test : (test : Test → Bool) (old front : List Literal) (last : Literal)
+    → old ≡ front ++ last ∷ [] → list_all (λ (it : Literal). test it.test) old ≡ true
+    → test last.test ≡ true
+last_test test old front last was all =
+    let passes = λ (it : Literal). test it.test in
+    let parts = and_parts (list_all passes front) (list_all passes (last ∷ []))
+    (sym (list_all-append passes front (last ∷ [])) ∙ ap (list_all passes) (sym was) ∙ all) in
+    (and_parts (passes last) (list_all passes []) parts.1).0
+
 -- a way whose last literal is said the other way has the same tests
 pub last_turned : (test : Test → Bool) (old front new : List Literal) (last : Literal) (said : Bool)
     → old ≡ front ++ last ∷ [] → new ≡ front ++ record { test = last.test; yes = said } ∷ []

@@ -34,7 +34,8 @@ use Rattle.league_core.specs.declared.season.Score.{Score}
 use Rattle.league_core.specs.Questions.{holds_at}
 use Rattle.league_core.specs.Ranking.{are_lots}
 use Rattle.cert_text.specs.declared.proof_line.ProofLine.TheVariants as line
-use Rattle.cert_check.specs.Dues.{lots_if_drawn}
+use Rattle.check_bounds.specs.Ways.{Place}
+use Rattle.cert_check.specs.Dues.{is_path_for, lots_if_drawn}
 use Rattle.cert_check.specs.Machine.{Ending, whole_at, bad_line, no_proof, short, ending_of}
 use Rattle.cert_check.specs.Machine.{part_of_ask}
 use Rattle.cert_check.specs.Truths.{AreTrueRows}
@@ -133,15 +134,26 @@ to_come (literal ∷ up) =
 abbrev pub pending_of : List Literal → List (List Literal)
 pending_of path = to_come (reverse path)
 
+-- both are places of one season
+pub record IsInSeasonOf (old new : Place) : Type 0 where
+  pub sheet : new.sheet ≡ old.sheet
+  pub season : new.season ≡ old.season
+
+-- a place of the season that is judged by, whose zone a tree for the question can have
+pub record IsPathFor (basis : Basis) (question : Question) (path : Place) : Type 0 where
+  pub sheet : path.sheet ≡ basis.sheet
+  pub season : path.season ≡ basis.season
+  pub tests : IsTrue (is_path_for basis.sheet question path.zone)
+
 -- what is due where the reading of a tree stands so
 abbrev pub nodes_due : Wanted → Walk → Due
 nodes_due wanted walk =
-    nodes wanted.kind wanted.question walk.path.items (pending_of walk.path.items) walk.tally
+    nodes wanted.kind wanted.question walk.path.zone (pending_of walk.path.zone) walk.tally
 
 -- what is due behind a node where it stands so
 abbrev pub after_walked : Basis → Wanted → Walk → TreeNode → Next
 after_walked basis wanted walk node =
-    after_node basis wanted.kind wanted.question walk.path.items (pending_of walk.path.items)
+    after_node basis wanted.kind wanted.question walk.path.zone (pending_of walk.path.zone)
     walk.tally node
 
 -- the node that a line stands for, where it is a proof line that stands for one

@@ -4,19 +4,19 @@ ghost use Rattle.std.specs.Prelude.{◌≡◌, ◌<◌, ◌≤◌, ◌+◌, ◌^
 ghost use Rattle.league_core.specs.Questions.{IsQuestionOf};
 ghost use Rattle.league_core.specs.Reasons as reasons;
 ghost use Rattle.cert_check.specs.Tokens.{counts};
-ghost use Rattle.cert_check.specs.Dues.{whole_tree, is_path_for, after};
+ghost use Rattle.cert_check.specs.Dues.{whole_tree, after};
 ghost use Rattle.cert_check.specs.Dues as dues;
 ghost use Rattle.cert_check.specs.Calls.{Goes, NodeSays, nodes_due, node_of_token, pending_of};
-ghost use Rattle.cert_check.specs.Calls.{after_walked};
+ghost use Rattle.cert_check.specs.Calls.{IsPathFor, after_walked};
 
 use crate::dues::{Tally, TreeKind};
-use crate::path::{go_down, next_half};
+use crate::path::next_half;
 use crate::ranges::{is_reason_for, is_test_for};
 use crate::report::Report;
 use crate::stop::Halt;
 use crate::token::Token;
 use cert_text::ProofLine;
-use check_bounds::holds_in;
+use check_bounds::Way;
 use league_core::{Literal, OutOfMemory, Question, Reason, Test, TreeNode};
 
 // What kind of tree, for which question.
@@ -28,8 +28,8 @@ pub struct Wanted {
 
 // Where the reading of a tree stands: the way to the zone that is due, and what was counted.
 #[derive(Drop)]
-pub struct Walk {
-    pub path: Vec<Literal>,
+pub struct Walk<'a> {
+    pub path: Way<'a>,
     pub tally: Tally,
 }
 
@@ -41,7 +41,7 @@ impl<'a> Report<'a> {
         ensures { Goes self.now from (whole_tree wanted.kind wanted.question) result }
     {
         let mut walk = Walk {
-            path: Vec::new(self.alloc),
+            path: Way::new(self.alloc, self.sheet, self.season)?,
             tally: Tally {
                 news: 0,
                 some_open: false,
@@ -67,14 +67,12 @@ impl<'a> Report<'a> {
     ) -> Result<bool, Halt>
         requires counted { IsTrue (counts token.now) }
         requires question { IsQuestionOf self.now.basis.sheet wanted.question }
-        requires path { IsTrue
-            (is_path_for self.now.basis.sheet wanted.question walk.old.path.items) }
+        requires path { IsPathFor self.now.basis wanted.question walk.old.path }
         requires few { walk.old.tally.news + 1 < 2 ^ 64 }
         ensures says { NodeSays
             (after self.now.basis (nodes_due wanted walk.old) token.now)
             at (nodes_due wanted walk.new) result }
-        ensures path { OnOk result (IsTrue
-            (is_path_for self.now.basis.sheet wanted.question walk.new.path.items)) }
+        ensures path { OnOk result (IsPathFor self.now.basis wanted.question walk.new.path) }
         ensures few { walk.new.tally.news ≤ walk.old.tally.news + 1 }
     {
         match node_of(wanted.kind, token) {
@@ -99,21 +97,19 @@ impl<'a> Report<'a> {
         wanted: Wanted,
         walk: &mut Walk,
     ) -> Result<bool, Halt>
-        requires path { IsTrue
-            (is_path_for self.now.basis.sheet wanted.question walk.old.path.items) }
+        requires path { IsPathFor self.now.basis wanted.question walk.old.path }
         requires few { walk.old.tally.news + 1 < 2 ^ 64 }
         ensures says { NodeSays
             (after_walked self.now.basis wanted walk.old (TreeNode.Split test fresh))
             at (nodes_due wanted walk.new) result }
-        ensures path { OnOk result (IsTrue
-            (is_path_for self.now.basis.sheet wanted.question walk.new.path.items)) }
+        ensures path { OnOk result (IsPathFor self.now.basis wanted.question walk.new.path) }
         ensures few { walk.new.tally.news ≤ walk.old.tally.news + 1 }
     {
         if !is_test_for(self.sheet, &wanted.question, test) {
             return Err(Halt::BadLine(at));
         }
         walk.tally = with_fresh(fresh, walk.tally);
-        go_down(&mut walk.path, test)?;
+        walk.path.go(Literal { test, yes: true })?;
         Ok(false)
     }
 
@@ -126,20 +122,18 @@ impl<'a> Report<'a> {
         walk: &mut Walk,
     ) -> Result<bool, Halt>
         requires question { IsQuestionOf self.now.basis.sheet wanted.question }
-        requires path { IsTrue
-            (is_path_for self.now.basis.sheet wanted.question walk.old.path.items) }
+        requires path { IsPathFor self.now.basis wanted.question walk.old.path }
         requires few { walk.old.tally.news + 1 < 2 ^ 64 }
         ensures says { NodeSays
             (after_walked self.now.basis wanted walk.old (TreeNode.Refuted reason fresh))
             at (nodes_due wanted walk.new) result }
-        ensures path { OnOk result (IsTrue
-            (is_path_for self.now.basis.sheet wanted.question walk.new.path.items)) }
+        ensures path { OnOk result (IsPathFor self.now.basis wanted.question walk.new.path) }
         ensures few { walk.new.tally.news ≤ walk.old.tally.news + 1 }
     {
         if !is_reason_for(self.sheet, &wanted.question, reason) {
             return Err(Halt::BadLine(at));
         }
-        if !self.has_reason(wanted.question, walk.path.as_slice(), reason)? {
+        if !self.has_reason(&wanted.question, &walk.path, reason)? {
             return Err(Halt::NoProof(at));
         }
         walk.tally = with_fresh(fresh, walk.tally);
@@ -148,31 +142,29 @@ impl<'a> Report<'a> {
 
     fn has_reason(
         &self,
-        question: Question,
-        path: &[Literal],
+        question: &Question,
+        path: &Way,
         reason: Reason,
     ) -> Result<bool, OutOfMemory>
-        requires question { IsQuestionOf self.now.basis.sheet question }
-        requires path { IsTrue (is_path_for self.now.basis.sheet question path.now) }
+        requires question { IsQuestionOf self.now.basis.sheet question.now }
+        requires path { IsPathFor self.now.basis question.now path.now }
         ensures { IfOk result (λ holds. holds ≡ reasons.has_reason self.now.basis.sheet
-            self.now.basis.season question path.now reason) }
+            self.now.basis.season question.now path.now.zone reason) }
     {
-        holds_in(self.alloc, self.sheet, self.season, &question, path, reason)
+        path.holds(self.alloc, question, reason)
     }
 
     // Leaves a leaf that proves what it says.
     fn leave(&self, at: usize, wanted: Wanted, walk: &mut Walk) -> Result<bool, Halt>
-        requires path { IsTrue
-            (is_path_for self.now.basis.sheet wanted.question walk.old.path.items) }
+        requires path { IsPathFor self.now.basis wanted.question walk.old.path }
         ensures says { NodeSays
             (dues.behind_leaf self.now.basis wanted.kind wanted.question
-            (pending_of walk.old.path.items) walk.old.tally true)
+            (pending_of walk.old.path.zone) walk.old.tally true)
             at (nodes_due wanted walk.new) result }
-        ensures path { OnOk result (IsTrue
-            (is_path_for self.now.basis.sheet wanted.question walk.new.path.items)) }
+        ensures path { OnOk result (IsPathFor self.now.basis wanted.question walk.new.path) }
         ensures same { walk.new.tally ≡ walk.old.tally }
     {
-        if next_half(&mut walk.path) {
+        if next_half(&mut walk.path)? {
             Ok(false)
         } else if is_tally_whole(self.sheet.budget, wanted.kind, walk.tally) {
             Ok(true)

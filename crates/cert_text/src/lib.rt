@@ -9,17 +9,11 @@
 mod forms;
 mod laws;
 mod line;
-#[cfg(test)]
-mod line_tests;
 mod places;
 mod proof_line;
 mod range;
 mod reader;
-#[cfg(test)]
-mod reader_tests;
 mod row;
-#[cfg(test)]
-mod row_tests;
 mod values;
 
 pub use laws::lines_are_in_range;

@@ -9,3 +9,4 @@ pub mod RivalLemmas
 pub mod StepLemmas
 pub mod CornerLemmas
 pub mod RoundLemmas
+pub mod WayLemmas

@@ -170,7 +170,7 @@ marked_as-push said zone literal rival =
     ∙ ap (λ b. marked_as said zone rival || b) (or-false (is_mark said rival literal))
 
 -- a test of the sheet is of one of its fixtures or clubs
-test_within : (sheet : Sheet) (fixtures : ℕ) (test : Test) → length sheet.fixtures ≤ fixtures
+pub test_within : (sheet : Sheet) (fixtures : ℕ) (test : Test) → length sheet.fixtures ≤ fixtures
     → length sheet.clubs ≤ 32 → is_test_of sheet test ≡ true → IsTestWithin fixtures test
 test_within sheet fixtures (Home fixture) many few is =
     let h = ltb-true fixture (length sheet.fixtures) is in omega (arith, h, many)

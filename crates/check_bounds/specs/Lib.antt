@@ -5,6 +5,7 @@ pub mod Scopes
 pub mod Looks
 pub mod Corners
 pub mod Zones
+pub mod Ways
 pub mod Spans
 pub mod Tables
 pub mod Steps

@@ -14,8 +14,10 @@ mod rivals;
 mod rounds;
 mod scope;
 mod span;
+mod step;
 mod table;
 mod total;
+mod way;
 mod zone;
 
-pub use reasons::holds_in;
+pub use way::{Way, holds_in};

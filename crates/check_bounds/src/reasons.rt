@@ -1,4 +1,4 @@
-//! Whether a given reason holds in a zone.
+//! What a reason says, over the corners and the marks of a zone.
 
 ghost use Rattle.std.specs.Prelude.{◌≡◌, ◌&&◌, ◌<◌, ◌≤◌, ℕ, nat_lt, IfOk, IsTrue, length};
 ghost use Rattle.std.specs.Prelude.{count_by, int_lt, ◌||◌, pos, neg_ℤ, ◌≤ℤ◌, ◌*ℤ◌};
@@ -29,41 +29,36 @@ use crate::outcomes::{have_one_outcome, have_scores};
 use crate::rivals::{has_members_in, is_decided, too_many};
 use crate::rounds::sure_against;
 use crate::span::Span;
+use crate::step::Marks;
 use crate::total::points_of_set;
-use crate::zone::{corners_in, marked};
-use league_core::{ClubSet, Literal, OutOfMemory, Question, Reason, Season, Sheet};
-use std::alloc::Global;
+use league_core::{ClubSet, Question, Reason, Season, Sheet};
 
-/// Whether the reason holds in the zone, in one walk over the literals and a few over the fixtures.
-pub fn holds_in(
-    alloc: Global,
+/// Whether the reason holds in a zone with these corners and marks.
+pub fn holds_over(
     sheet: &Sheet,
     season: &Season,
     question: &Question,
-    zone: &[Literal],
+    corners: &[Corners],
+    marks: Marks,
     reason: Reason,
-) -> Result<bool, OutOfMemory>
+) -> bool
     requires league { IsLeague sheet.now season.now }
     requires question { IsQuestionOf sheet.now question.now }
-    requires zone { IsTrue (is_zone_of sheet.now zone.now) }
-    ensures { IfOk result (λ holds.
-        holds ≡ has_reason sheet.now season.now question.now zone.now reason) }
+    requires played { ArePlayedOver sheet.now.fixtures corners.now }
+    ensures { result ≡ (list_all has_option corners.now
+        && refutes_over sheet.now season.now question.now corners.now
+        (has_club (clubs_in marks.before)) (has_club (clubs_in marks.after)) reason) }
 {
-    let corners = corners_in(alloc, sheet, season, zone)?;
-    let before = marked(zone, true);
-    let after = marked(zone, false);
-    Ok(
-        have_scores(corners.as_slice())
-            && refutes(
-                sheet,
-                season,
-                question,
-                corners.as_slice(),
-                before,
-                after,
-                reason,
-            ),
-    )
+    have_scores(corners)
+        && refutes(
+            sheet,
+            season,
+            question,
+            corners,
+            marks.before,
+            marks.after,
+            reason,
+        )
 }
 
 // What the reason says, over corners and marks.

@@ -10,6 +10,7 @@ ghost use Rattle.fixture_sheet.specs.Fields.{csv_record, field, has_return, is_b
 ghost use Rattle.fixture_sheet.specs.Fields.{without_padding};
 
 use crate::fault::FieldsStop;
+use crate::plain_line::{has_sign, plain_record};
 use csv::{ByteRecord, ReaderBuilder};
 use league_core::OutOfMemory;
 use std::alloc::Global;
@@ -74,6 +75,15 @@ fn has_return(text: &[u8]) -> bool
 }
 
 fn record_of(alloc: Global, text: &[u8]) -> Result<Option<Fields>, OutOfMemory>
+    ensures { IfOk result (λ fields. fields ≡ record_of text.now) }
+{
+    if has_sign(text) {
+        return record_by_csv(alloc, text);
+    }
+    plain_record(alloc, text)
+}
+
+fn record_by_csv(alloc: Global, text: &[u8]) -> Result<Option<Fields>, OutOfMemory>
     ensures { IfOk result (λ fields. fields ≡ record_of text.now) }
 {
     let Some(mut row) = csv_record(alloc, text)? else {

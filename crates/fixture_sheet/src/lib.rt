@@ -14,6 +14,7 @@ mod laws;
 mod name;
 mod name_index;
 mod number;
+mod plain_line;
 mod reader;
 mod record;
 

@@ -171,6 +171,3 @@ impl Net {
         })
     }
 }
-
-#[cfg(test)]
-mod tests;

@@ -1,10 +1,12 @@
 //! What lies under the lock.
 
-ghost use Rattle.std.specs.Prelude.{◌≡◌, ◌↔◌, ◌++◌, ◌∷◌, [], length, Err, IfOk, OnOk, OnErr};
+ghost use Rattle.std.specs.Prelude.{◌≡◌, ◌↔◌, ◌++◌, ◌∷◌, [], length, Err, IfOk, OnOk, OnErr, false};
+ghost use Rattle.std.specs.Prelude.{true};
 ghost use mathlib.Core.List.{IsPrefix};
 ghost use Rattle.league_core.specs.Limits.{most_events};
 ghost use Rattle.league_core.specs.Seasons.{IsEventOf, season_after};
 ghost use Rattle.reason_core.specs.Dones.{IsFor, IsTrueDone};
+ghost use Rattle.branch_pool.specs.declared.ticket.Took.TheVariants as took;
 ghost use Rattle.branch_pool.specs.Calls.{Taking};
 ghost use Rattle.branch_pool.specs.Steps.{Gives, Changes, pool_opened, pool_shut, pool_recalled};
 ghost use Rattle.epoch_cancel.specs.Seats.{seat_of};
@@ -20,27 +22,28 @@ use reason_core::Done;
 use std::marker::Model;
 use std::sync::ledger::{Blank, Book};
 
-// The pool, beside the seat that announces its changes and the book that counts them. Contracts see
-// it as the pool.
+// The pool, beside the seat that announces its changes, the book that counts them, and whether the
+// one who reports is busy. Contracts see it as the pool with that.
 #[derive(Drop)]
 pub struct Held<J: Job> {
     pool: Pool,
     owner: Owner,
     changes: Book<J>,
+    is_busy: bool,
 }
 
 impl<J: Job> Model for Held<J> {
     ghost use Rattle.std.specs.Prelude.{◌≡◌, length};
-    ghost use Rattle.branch_pool.specs.States.{PoolState};
+    ghost use Rattle.pool_lock.specs.States.{HeldState};
     ghost use Rattle.branch_pool.specs.contracts.seat.Seat as seat;
     ghost use Rattle.branch_pool.specs.contracts.seat.Loan as loan;
     ghost use Rattle.std.specs.Coded.{codes};
 
-    ghost Value = { PoolState };
+    ghost Value = { HeldState };
 
     ghost coded = { Prim.hlevel (codes, seat.the_row.coded, loan.the_row.coded) };
 
-    ghost view = { λ held. held.pool };
+    ghost view = { λ held. record { pool = held.pool; is_busy = held.is_busy } };
 
     ghost invariant = { λ held.
         (held.owner.table ≡ J.table) × (held.owner.list ≡ held.pool.log)
@@ -50,7 +53,7 @@ impl<J: Job> Model for Held<J> {
 
 impl<J: Job> Held<J> {
     // A pool whose feed is opened, with the seat that announces its changes, and the front of the
-    // one who reports them.
+    // one who reports them, who begins busy.
     pub fn new(
         blank: Blank,
         owner: Owner,
@@ -64,7 +67,7 @@ impl<J: Job> Held<J> {
         requires front { front ≡ seat_of J.table pool.log }
         requires sheet { pool.sheet ≡ J.sheet }
         requires questions { pool.questions ≡ J.questions }
-        ensures opened { result.0 ≡ pool_opened pool }
+        ensures opened { result.0 ≡ record { pool = pool_opened pool; is_busy = true } }
         ensures front { result.1 ≡ pool.log }
     {
         let (mut changes, mut share) = blank.open::<J>();
@@ -75,6 +78,7 @@ impl<J: Job> Held<J> {
             pool,
             owner,
             changes,
+            is_busy: true,
         };
         (
             held,
@@ -85,15 +89,22 @@ impl<J: Job> Held<J> {
         )
     }
 
-    // Takes from the pool, and shows the worker all that the pool has been told.
+    // Takes from the pool, and shows the worker all that the pool has been told. While the one who
+    // reports is busy there is nothing to take.
     pub fn take(&mut self, word: &EpochWord, badge: &mut WorkBadge<J>) -> Took
         requires word { word.now ≡ J.table }
-        ensures taking { Taking self.old result self.new }
+        ensures taking { self.old.is_busy ≡ false → Taking self.old.pool result self.new.pool }
+        ensures rest { self.old.is_busy ≡ true → (result ≡ took.Rest) × (self.new ≡ self.old) }
+        ensures busy { self.new.is_busy ≡ self.old.is_busy }
         ensures work { TakesWorkAfter J.sheet badge.new.list result }
         ensures begins { IsPrefix badge.old.list badge.new.list }
-        ensures seen { badge.new ≡ record badge.old { list = self.new.log } }
+        ensures seen { badge.new ≡ record badge.old { list = self.new.pool.log } }
     {
-        let took = self.pool.take();
+        let took = if self.is_busy {
+            Took::Rest
+        } else {
+            self.pool.take()
+        };
         self.pool.is_sound();
         seen(word, &mut self.owner, &mut badge.eye);
         took
@@ -110,17 +121,19 @@ impl<J: Job> Held<J> {
         requires word { word.now ≡ J.table }
         requires is_for { IsFor done ticket.piece }
         requires sound { IsTrueDone J.sheet done }
-        ensures gives { Gives self.old ticket done result self.new }
+        ensures gives { Gives self.old.pool ticket done result self.new.pool }
+        ensures busy { self.new.is_busy ≡ self.old.is_busy }
         ensures told { IsToldAfter badge.new.list ticket result }
         ensures begins { IsPrefix badge.old.list badge.new.list }
-        ensures seen { badge.new ≡ record badge.old { list = self.new.log } }
+        ensures seen { badge.new ≡ record badge.old { list = self.new.pool.log } }
     {
         let gave = self.pool.give(ticket, done);
         seen(word, &mut self.owner, &mut badge.eye);
         gave
     }
 
-    // Reports an event to the pool, announces it, and counts it. After a refusal all is as before.
+    // Reports an event to the pool, announces it, and counts it; then the one who reports is busy.
+    // After a refusal all is as before.
     pub fn change(
         &mut self,
         word: &EpochWord,
@@ -129,9 +142,10 @@ impl<J: Job> Held<J> {
     ) -> Result<u64, ChangeStop>
         requires word { word.now ≡ J.table }
         requires may_be { IsEventOf (season_after J.sheet front.old) event }
-        ensures ok { OnOk result (Changes self.old event self.new) }
+        ensures ok { OnOk result (Changes self.old.pool event self.new.pool) }
+        ensures busy { OnOk result (self.new.is_busy ≡ true) }
         ensures front { OnOk result (front.new ≡ front.old ++ event ∷ []) }
-        ensures same { OnOk result (front.new ≡ self.new.log) }
+        ensures same { OnOk result (front.new ≡ self.new.pool.log) }
         ensures epoch { IfOk result (λ epoch. epoch ≡ length front.new) }
         ensures full { (result ≡ Err ChangeStop.LogFull) ↔ (length front.old ≡ most_events) }
         ensures err { OnErr result (self.new ≡ self.old) }
@@ -142,20 +156,29 @@ impl<J: Job> Held<J> {
         let epoch = self.pool.change(event)?;
         tell(word, &mut self.owner, &mut front.inner, &event);
         self.changes.add(&mut front.share, 1);
+        self.is_busy = true;
         Ok(epoch)
     }
 
-    // No event will come.
+    // The one who reports has nothing in hand.
+    pub fn rest(&mut self)
+        ensures { self.new ≡ record self.old { is_busy = false } }
+    {
+        self.is_busy = false;
+    }
+
+    // No event will come, and so nothing is in hand.
     pub fn shut(&mut self)
-        ensures { self.new ≡ pool_shut self.old }
+        ensures { self.new ≡ record { pool = pool_shut self.old.pool; is_busy = false } }
     {
         self.pool.shut();
+        self.is_busy = false;
     }
 
     // The pool, with all that was out at home again. Its log is what the front reported.
     pub fn finish(self, word: EpochWord, front: Front<J>) -> Pool
         requires word { word ≡ J.table }
-        ensures recalled { result ≡ pool_recalled self }
+        ensures recalled { result ≡ pool_recalled self.pool }
         ensures log { result.log ≡ front }
         ensures sheet { result.sheet ≡ J.sheet }
         ensures questions { result.questions ≡ J.questions }

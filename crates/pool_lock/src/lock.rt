@@ -26,7 +26,8 @@ use std::sync::{Condvar, Mutex, Wait};
 /// A pool that several threads work on while one reports what changes.
 ///
 /// Workers take and give back by badges, the one who reports has the front, and all of them are of
-/// the lock's job.
+/// the lock's job. Nothing is lent while the one who reports is busy: at first, and from each event
+/// that is reported until it rests.
 #[derive(Drop)]
 pub struct PoolLock<J: Job> {
     word: EpochWord,
@@ -73,8 +74,9 @@ impl<J: Job> PoolLock<J> {
     }
 
     #[tactic(auto, using(crate::proofs::PrefixLemmas::prefix_onward))]
-    /// Takes from the pool as soon as there is work, or all is over. The badge has then seen all
-    /// that the pool was told, and the ticket is work in the season after that.
+    /// Takes from the pool as soon as the one who reports rests and there is work, or all is over.
+    /// The badge has then seen all that the pool was told, and the ticket is work in the season
+    /// after that.
     pub fn lend<R: Wait>(&self, rt: &R, badge: &mut WorkBadge<J>) -> Result<LentOut, OutOfMemory>
         ensures work { IfOk result (LendsWorkAfter J.sheet badge.new.list) }
         ensures begins { IsPrefix badge.old.list badge.new.list }
@@ -122,8 +124,8 @@ impl<J: Job> PoolLock<J> {
         cancelled(&self.word, &mut badge.eye, epoch)
     }
 
-    /// Reports an event, and answers the new epoch. After a refusal pool, word and front are as
-    /// before.
+    /// Reports an event, and answers the new epoch; nothing is lent then before `rest` or `shut`.
+    /// After a refusal pool, word and front are as before.
     pub fn report<R: Wait>(
         &self,
         rt: &R,
@@ -136,12 +138,16 @@ impl<J: Job> PoolLock<J> {
         ensures full { (result ≡ Err ChangeStop.LogFull) ↔ (length front.old ≡ most_events) }
         ensures err { OnErr result (front.new ≡ front.old) }
     {
-        let told = self.held.lock(rt).change(&self.word, front, event);
-        self.moved.notify_all();
-        told
+        self.held.lock(rt).change(&self.word, front, event)
     }
 
-    /// No event will come.
+    /// The one who reports, who has the front, has nothing in hand: workers may go on.
+    pub fn rest<R: Wait>(&self, rt: &R, _front: &Front<J>) {
+        self.held.lock(rt).rest();
+        self.moved.notify_all();
+    }
+
+    /// No event will come: workers may go on.
     pub fn shut<R: Wait>(&self, rt: &R, front: &mut Front<J>)
         ensures { front.new ≡ front.old }
     {

@@ -69,7 +69,7 @@ alone_small club match score =
     (omega (arith, ints, one.0), omega (arith, ints, one.1))
 
 -- both ends of a range of small values are small
-range_small : (value : Score → ℤ) → ((score : Score) → IsSmall (value score))
+pub range_small : (value : Score → ℤ) → ((score : Score) → IsSmall (value score))
     → (options : List Score) → IsSmall (range_of value options).least
     × IsSmall (range_of value options).greatest
 range_small value small [] = (

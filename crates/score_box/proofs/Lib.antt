@@ -7,3 +7,4 @@ pub mod PointLemmas
 pub mod EndLemmas
 pub mod TotalLemmas
 pub mod SplitLemmas
+pub mod SetLemmas

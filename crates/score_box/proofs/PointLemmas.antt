@@ -1,34 +1,24 @@
--- The points of a fixture by the outcomes that its cell has left, and of all fixtures together.
-use Rattle.std.proofs.Common.{◌≡◌, ◌≢◌, ◌⊎◌, ℕ, ◌+◌, ◌<◌, ◌≤◌, min, max, ℤ, pos, ◌-ℤ◌, ◌≤ℤ◌}
-use Rattle.std.proofs.Common.{slice_index, Bool, true, false, ◌||◌, cond, List, []}
-use Rattle.std.proofs.Common.{length, get_or, drop, Option, Some, None, is_some, refl, sym, ap, ◌∙◌}
+-- The points of a fixture by the outcomes that its cell has left.
+use Rattle.std.proofs.Common.{◌≡◌, ◌⊎◌, ℕ, ◌≤◌, min, max, pos, ◌≤ℤ◌}
+use Rattle.std.proofs.Common.{Bool, true, false, ◌||◌, cond, List}
+use Rattle.std.proofs.Common.{Option, Some, None, is_some, refl, sym, ap, ◌∙◌}
 use Rattle.std.proofs.Common.{inl, inr, arith}
 use Rattle.std.proofs.lemmas.Int.{ints}
 use Rattle.std.proofs.lemmas.Bool.{false≢true, cases_lt}
 use Rattle.std.proofs.lemmas.Bool.{false_from_ne_true}
-use Rattle.league_core.specs.declared.sheet.Fixture.{Fixture}
 use Rattle.league_core.specs.declared.season.Score.{Score}
-use Rattle.league_core.specs.Sums.{has_club}
-use Rattle.league_core.specs.ClubSets.{clubs_below}
-use Rattle.league_core.specs.declared.sheet.Sheet.{Sheet}
-use Rattle.league_core.specs.declared.zone.Literal.{Literal}
-use Rattle.league_core.specs.Results.{Results}
-use Rattle.league_core.specs.Options.{options_in, is_home_win, is_draw, is_away_win}
-use Rattle.league_core.specs.PointRanges.{added, range_from, points_of_sides, points_together}
-use Rattle.league_core.specs.PointRanges.{total_of, least_points_of, most_points_of}
+use Rattle.league_core.specs.Options.{is_home_win, is_draw, is_away_win}
+use Rattle.league_core.specs.PointRanges.{points_of_sides}
 use Rattle.league_core.specs.PointRanges.{won_points, drawn_points, lost_points}
 use Rattle.league_core.proofs.OutcomeLemmas.{outcome_cases}
 use Rattle.league_core.proofs.WorthLemmas.{points_at_win, points_at_draw, points_at_loss}
 use Rattle.league_core.proofs.WorthLemmas.{won_points-most, drawn_points-most}
-use Rattle.league_core.proofs.PointRangeLemmas.{Reaches, least-is, greatest-is, range_of-same}
-use Rattle.league_core.proofs.PointRangeLemmas.{range_from-more, points_together-sides}
+use Rattle.league_core.proofs.PointRangeLemmas.{Reaches, least-is, greatest-is}
 use Rattle.score_box.specs.declared.cell.Cell.{Cell}
 use Rattle.score_box.specs.declared.cell.goals.Goals.{Goals}
 use Rattle.score_box.specs.Cells.{allows, IsCellOf, IsEmptyCell, IsAllowed}
-use Rattle.score_box.specs.Boxes.{AreCellsOf}
-use Rattle.score_box.specs.declared.points.PointRange.{PointRange}
 use Rattle.score_box.specs.declared.points.outcomes.MatchPoints.{MatchPoints}
-use Rattle.score_box.specs.Points.{least_of_three, most_of_three, IsPointsOf, IsRangeOver}
+use Rattle.score_box.specs.Points.{least_of_three, most_of_three, IsPointsOf}
 use Rattle.score_box.proofs.CellLemmas.{Says}
 
 -- each outcome that may come gives at least the least, and at most the most
@@ -302,50 +292,3 @@ points_of_outcomes cell home draws away h a points home_says draws_say away_says
         (λ passed. let b = bounds.2
         (some_outcome cell is_away_win away score away_says allowed passed) in omega
         (arith, ints, points_at_loss h a score passed))
-
--- one fixture more adds its least and its most to the range of those before it
-pub range_with : (fixtures : List Fixture) (cells : List Cell) (bits : ℕ)
-    (options : List (List Score)) (i : ℕ) (d : Fixture) (e : Cell) (points : MatchPoints)
-    → i < length fixtures → i < length cells → AreCellsOf cells options
-    → (get_or fixtures i d).home ≢ (get_or fixtures i d).away
-    → IsPointsOf (get_or cells i e) (has_club (clubs_below 32 bits) (get_or fixtures i d).home)
-    (has_club (clubs_below 32 bits) (get_or fixtures i d).away) points
-    → range_from (points_together (clubs_below 32 bits)) (drop i fixtures) (drop i options) ≡ added
-    (record { least = pos points.least; greatest = pos points.most })
-    (range_from (points_together (clubs_below 32 bits)) (drop (i + 1) fixtures)
-    (drop (i + 1) options))
-range_with fixtures cells bits options i d e points in_fixtures in_cells are apart points_is =
-    let clubs = clubs_below 32 bits in
-    let match = get_or fixtures i d in
-    let in_options : i < length options = omega (arith, are.many) in
-    let home = has_club clubs match.home in
-    let away = has_club clubs match.away in
-    let least = points_is.least (get_or options i []) (are.each i e in_cells) in
-    let most = points_is.most (get_or options i []) (are.each i e in_cells) in
-    range_from-more (points_together clubs) fixtures options i d in_fixtures in_options
-    ∙ ap (λ r. added r
-    (range_from (points_together clubs) (drop (i + 1) fixtures) (drop (i + 1) options)))
-    (range_of-same (points_together clubs match) (points_of_sides home away) (get_or options i [])
-    (λ score. points_together-sides bits match score apart)
-    ∙ (λ j. record { least = sym least j; greatest = sym most j }))
-
--- the points of a set: match points of all fixtures, less what is taken off
-pub least_points-is : (sheet : Sheet) (season : Results) (zone : List Literal) (cells : List Cell)
-    (clubs : List ℕ) (won : PointRange) (off : ℤ) → AreCellsOf cells (options_in sheet season zone)
-    → IsRangeOver sheet.fixtures cells clubs won
-    → off ≡ total_of (λ club. pos (slice_index season.deductions club)) clubs
-    → won.least -ℤ off ≡ least_points_of sheet season zone clubs
-unfolding least_points_of
-least_points-is sheet season zone cells clubs won off are range taken_off =
-    let least = range.least (options_in sheet season zone) are in
-    omega (arith, ints)
-
-pub most_points-is : (sheet : Sheet) (season : Results) (zone : List Literal) (cells : List Cell)
-    (clubs : List ℕ) (won : PointRange) (off : ℤ) → AreCellsOf cells (options_in sheet season zone)
-    → IsRangeOver sheet.fixtures cells clubs won
-    → off ≡ total_of (λ club. pos (slice_index season.deductions club)) clubs
-    → won.most -ℤ off ≡ most_points_of sheet season zone clubs
-unfolding most_points_of
-most_points-is sheet season zone cells clubs won off are range taken_off =
-    let most = range.most (options_in sheet season zone) are in
-    omega (arith, ints)

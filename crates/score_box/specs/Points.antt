@@ -1,9 +1,10 @@
 -- The least and the most points of a box, fixture by fixture and together.
-use Rattle.std.specs.Prelude.{◌≡◌, ℕ, ℤ, ◌*◌, min, max, pos, ◌≤◌, Bool, if◌then◌else◌, List}
+use Rattle.std.specs.Prelude.{◌≡◌, ℕ, ℤ, ◌*◌, min, max, pos, ◌≤◌, Bool, if◌then◌else◌, List, []}
+use Rattle.std.specs.Prelude.{slice_index_or}
 use Rattle.league_core.specs.declared.sheet.Fixture.{Fixture}
 use Rattle.league_core.specs.declared.season.Score.{Score}
 use Rattle.league_core.specs.Limits.{set_width}
-use Rattle.league_core.specs.PointRanges.{range_of, range_from, points_of_sides, points_together}
+use Rattle.league_core.specs.PointRanges.{Range, range_of, points_of_sides, points_together, total_of}
 use Rattle.league_core.specs.PointRanges.{won_points, drawn_points, lost_points}
 use Rattle.score_box.specs.declared.cell.Cell.{Cell}
 use Rattle.score_box.specs.declared.points.PointRange.{PointRange}
@@ -36,10 +37,17 @@ pub record IsPointsOf (cell : Cell) (home away : Bool) (points : MatchPoints) : 
   pub at_most : points.most ≤ 3
   pub in_order : points.least ≤ points.most
 
--- the least and the most match points of a set of clubs over all fixtures
-pub record IsRangeOver (fixtures : List Fixture) (cells : List Cell) (clubs : List ℕ)
+-- what the options of the fixture of a number leave a set of clubs
+abbrev pub left_to : List ℕ → List Fixture → List (List Score) → ℕ → Range
+left_to clubs fixtures options number =
+    range_of (points_together clubs (slice_index_or fixtures number (record { home = 0; away = 0 })))
+    (slice_index_or options number [])
+
+-- the least and the most match points that the fixtures of some numbers leave a set of clubs
+pub record IsRangeOver (fixtures : List Fixture) (cells : List Cell) (numbers clubs : List ℕ)
     (points : PointRange) : Type 0 where
   pub least : (options : List (List Score)) → AreCellsOf cells options
-      → points.least ≡ (range_from (points_together clubs) fixtures options).least
+      → points.least ≡ total_of (λ number. (left_to clubs fixtures options number).least) numbers
   pub most : (options : List (List Score)) → AreCellsOf cells options
-      → points.most ≡ (range_from (points_together clubs) fixtures options).greatest
+      → points.most
+      ≡ total_of (λ number. (left_to clubs fixtures options number).greatest) numbers

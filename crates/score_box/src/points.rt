@@ -1,8 +1,8 @@
 //! The least and the most points of a set of clubs in a box: each fixture takes the outcome that
-//! gives
-//! the set least, or most. One walk over the fixtures gives both.
+//! gives the set least, or most. One walk over the fixtures that are left gives both.
 
-ghost use Rattle.std.specs.Prelude.{◌≡◌, ◌≢◌, ◌≤◌, pos, ◌+ℤ◌, ◌≤ℤ◌, ◌<ℤ◌, length, slice_index};
+ghost use Rattle.std.specs.Prelude.{◌≡◌, ◌≢◌, ◌<◌, ◌≤◌, pos, neg_ℤ, ◌+ℤ◌, ◌≤ℤ◌, ◌<ℤ◌};
+ghost use Rattle.std.specs.Prelude.{length, slice_index};
 ghost use Rattle.std.specs.Prelude.{if◌then◌else◌};
 ghost use Rattle.std.specs.List.{All};
 ghost use Rattle.league_core.specs.Limits.{most_fixtures, most_points, set_width};
@@ -37,23 +37,44 @@ impl PointRange {
             most: self.most + i32::from(points.most),
         }
     }
+
+    /// Both ends, with what is the same in both.
+    pub(crate) fn moved(self, by: i32) -> PointRange
+        requires least { (pos 0 ≤ℤ self.least) × (self.least <ℤ pos 1000000) }
+        requires most { (pos 0 ≤ℤ self.most) × (self.most <ℤ pos 1000000) }
+        requires by { (neg_ℤ (pos 100000000) ≤ℤ by) × (by ≤ℤ pos 100000000) }
+        ensures least { result.least ≡ by +ℤ self.least }
+        ensures most { result.most ≡ by +ℤ self.most }
+    {
+        PointRange {
+            least: self.least + by,
+            most: self.most + by,
+        }
+    }
 }
 
-/// The match points of a set of clubs over all fixtures, each with its cell.
-pub fn match_points(fixtures: &[Fixture], cells: &[Cell], set: ClubSet) -> PointRange
+/// The match points that the fixtures of these numbers leave a set of clubs, each with its cell.
+pub fn points_left(
+    fixtures: &[Fixture],
+    cells: &[Cell],
+    numbers: &[u16],
+    set: ClubSet,
+) -> PointRange
     requires many { length fixtures.now ≡ length cells.now }
-    requires few { length fixtures.now ≤ most_fixtures }
+    requires in_range { All (λ number. number < length fixtures.now) numbers.now }
+    requires few { length numbers.now ≤ most_fixtures }
     requires apart { All (λ match. match.home ≢ match.away) fixtures.now }
     requires some { All (λ cell. ¬ IsEmptyCell cell) cells.now }
-    ensures range { IsRangeOver fixtures.now cells.now (clubs_in set) result }
+    ensures range { IsRangeOver fixtures.now cells.now numbers.now (clubs_in set) result }
     ensures within { (pos 0 ≤ℤ result.least) × (result.least ≤ℤ result.most)
         × (result.most ≤ℤ most_points) }
 {
     let mut total = PointRange { least: 0, most: 0 };
-    for i in 0..fixtures.len() {
-        let home = set.has(fixtures[i].home);
-        let away = set.has(fixtures[i].away);
-        total = total.with(MatchPoints::of(&cells[i], home, away));
+    for i in 0..numbers.len() {
+        let number = numbers[i] as usize;
+        let home = set.has(fixtures[number].home);
+        let away = set.has(fixtures[number].away);
+        total = total.with(MatchPoints::of(&cells[number], home, away));
     }
     total
 }

@@ -153,7 +153,8 @@ impl<'a> ZoneBox<'a> {
     }
 
     /// The least and the most points that the clubs of a set can have together: match points less
-    /// deductions, negative where the deductions exceed them. One walk over the fixtures.
+    /// deductions, negative where the deductions exceed them. A walk over the clubs, and one over
+    /// the fixtures that are not played.
     pub fn points(&self, set: ClubSet) -> PointRange
         requires { HasFinish self.now }
         ensures least { result.least
@@ -163,12 +164,11 @@ impl<'a> ZoneBox<'a> {
         ensures in_order { result.least ≤ℤ result.most }
         ensures within { (neg_ℤ most_taken_off ≤ℤ result.least) × (result.most ≤ℤ most_points) }
     {
-        let won = points::match_points(self.sheet.fixtures.as_slice(), &self.cells, set);
+        let fixtures = self.sheet.fixtures.as_slice();
+        let won = self.tables.points_of(set);
+        let left = points::points_left(fixtures, &self.cells, &self.unplayed, set);
         let off = points::deducted(self.season.deductions(), set);
-        PointRange {
-            least: won.least - off,
-            most: won.most - off,
-        }
+        left.moved(won - off)
     }
 
     /// The least points that the clubs of a set can have together.

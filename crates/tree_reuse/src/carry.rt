@@ -2,7 +2,6 @@
 
 ghost use Rattle.std.specs.Prelude.{◌≡◌, ◌<◌, ◌≤◌, IsTrue, [], ◌∷◌, ◌++◌, length, reverse, IfOk};
 ghost use Rattle.std.specs.Prelude.{Some};
-ghost use Rattle.league_core.specs.Seasons.{IsLeague};
 ghost use Rattle.league_core.specs.Zones.{is_test_of};
 ghost use Rattle.league_core.specs.Options.{has_finish};
 ghost use Rattle.league_core.specs.Reasons.{has_reason};
@@ -20,8 +19,8 @@ ghost use Rattle.tree_reuse.specs.Calls.{AreTestsOf};
 use crate::halves::Halves;
 use crate::tree::Tree;
 use crate::way::{back_to, root_box};
-use league_core::{Literal, OutOfMemory, Question, Reason, Season, Sheet, Test, TreeNode};
-use score_box::ZoneBox;
+use league_core::{Literal, OutOfMemory, Question, Reason, Test, TreeNode};
+use score_box::{Played, ZoneBox};
 use std::alloc::Global;
 use tie_bound::holds;
 
@@ -222,19 +221,18 @@ fn take_part(
 /// The list of what the season leaves of a tree, whatever its length. One look at each node.
 pub fn carry(
     alloc: Global,
-    sheet: &Sheet,
+    played: &Played,
     question: &Question,
     tree: &Tree,
-    season: &Season,
 ) -> Result<Vec<TreeNode>, OutOfMemory>
-    requires league { IsLeague sheet.now season.now }
-    requires club { question.now.club < length sheet.now.clubs }
-    requires tests { AreTestsOf sheet.now tree.now }
+    requires club { question.now.club < length played.now.sheet.clubs }
+    requires tests { AreTestsOf played.now.sheet tree.now }
     ensures { IfOk result (λ found. found.items
-        ≡ preorder (retargeted_from sheet.now season.now question.now [] tree.now)) }
+        ≡ preorder
+        (retargeted_from played.now.sheet played.now.season question.now [] tree.now)) }
 {
     let nodes = tree.nodes()?;
-    let mut way = root_box(alloc, sheet, season)?;
+    let mut way = root_box(alloc, played)?;
     let mut parts = Vec::new(alloc);
     let literal = None;
     parts.push(Part::Kept { depth: 0, literal })?;

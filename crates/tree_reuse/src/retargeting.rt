@@ -1,7 +1,6 @@
 //! A tree carried over to another season.
 
-ghost use Rattle.std.specs.Prelude.{◌≡◌, ◌<◌, length, IfOk, IsTrue};
-ghost use Rattle.league_core.specs.Trees.{open_leaf};
+ghost use Rattle.std.specs.Prelude.{◌≡◌, ◌<◌, length, IfOk};
 ghost use Rattle.league_core.specs.Seasons.{IsLeague};
 ghost use Rattle.tree_reuse.specs.Calls.{AreTestsOf};
 ghost use Rattle.tree_reuse.specs.Retargets.{retargeted};
@@ -11,6 +10,7 @@ use crate::halves::MOST_KEPT;
 use crate::stop::TreeStop;
 use crate::tree::Tree;
 use league_core::{OutOfMemory, Question, Season, Sheet};
+use score_box::Played;
 use std::alloc::Global;
 
 /// What the season leaves of a tree: refuted leaves whose reasons still hold, and the splits above
@@ -28,10 +28,29 @@ pub fn retarget(
     requires tests { AreTestsOf sheet.now tree.now }
     ensures { IfOk result (λ new. new ≡ retargeted sheet.now season.now question.now tree.now) }
 {
-    if is_one_open_leaf(tree) {
+    if tree.is_one_open_leaf() {
         return Tree::root(alloc);
     }
-    let found = carry(alloc, sheet, question, tree, season)?;
+    let played = Played::of(alloc, sheet, season)?;
+    retarget_over(alloc, &played, question, tree)
+}
+
+/// What the season of these tables leaves of a tree. The tables serve any number of trees.
+pub fn retarget_over(
+    alloc: Global,
+    played: &Played,
+    question: &Question,
+    tree: &Tree,
+) -> Result<Tree, OutOfMemory>
+    requires club { question.now.club < length played.now.sheet.clubs }
+    requires tests { AreTestsOf played.now.sheet tree.now }
+    ensures { IfOk result (λ new.
+        new ≡ retargeted played.now.sheet played.now.season question.now tree.now) }
+{
+    if tree.is_one_open_leaf() {
+        return Tree::root(alloc);
+    }
+    let found = carry(alloc, played, question, tree)?;
     if found.len() > MOST_KEPT as usize {
         return Tree::root(alloc);
     }
@@ -40,11 +59,4 @@ pub fn retarget(
         Err(TreeStop::NoTree(_)) => unreachable!(),
         Err(TreeStop::OutOfMemory) => Err(OutOfMemory),
     }
-}
-
-#[tactic(auto, using(crate::proofs::RetargetLemmas::open_leaf_is))]
-fn is_one_open_leaf(tree: &Tree) -> bool
-    ensures { IsTrue result → tree.now ≡ open_leaf }
-{
-    tree.node_count() == 1 && tree.has_open()
 }

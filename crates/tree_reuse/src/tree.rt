@@ -1,6 +1,7 @@
 //! The tree in an arena: one list of nodes, a stack of the open ones, and the lent ones.
 
-ghost use Rattle.std.specs.Prelude.{◌≡◌, ◌≤◌, ◌+◌, true, length, IsTrue, IfOk, IfErr, OnOk, OnErr};
+ghost use Rattle.std.specs.Prelude.{◌≡◌, ◌≤◌, ◌+◌, ◌↔◌, true, length, IsTrue, IfOk};
+ghost use Rattle.std.specs.Prelude.{IfErr, OnOk, OnErr};
 ghost use Rattle.std.specs.Option.{is_some};
 ghost use Rattle.league_core.specs.TreeLists.{tree_of};
 ghost use Rattle.tree_reuse.specs.Stops.{WhyNoTree};
@@ -83,6 +84,14 @@ impl Tree {
         ensures { result ≡ has_open self.now }
     {
         self.waiting.len() > 0
+    }
+
+    /// It is one open leaf.
+    #[tactic(auto, using(crate::proofs::RetargetLemmas::open_leaf_is))]
+    pub fn is_one_open_leaf(&self) -> bool
+        ensures { IsTrue result ↔ (self.now ≡ open_leaf) }
+    {
+        self.node_count() == 1 && self.has_open()
     }
 
     /// Each leaf is refuted.

@@ -1,27 +1,20 @@
 //! A box on the way through a tree: it takes up a literal going down, and gives it back coming up.
 
 ghost use Rattle.std.specs.Prelude.{◌≡◌, ◌≤◌, [], length, take, IfOk};
-ghost use Rattle.league_core.specs.Seasons.{IsLeague};
 
-use league_core::{OutOfMemory, Season, Sheet};
+use league_core::OutOfMemory;
 use score_box::{Played, ZoneBox};
 use std::alloc::Global;
 
 /// The box at the root.
-pub fn root_box<'a>(
-    alloc: Global,
-    sheet: &'a Sheet,
-    season: &'a Season,
-) -> Result<ZoneBox<'a>, OutOfMemory>
-    requires { IsLeague sheet.now season.now }
+pub fn root_box<'a>(alloc: Global, played: &Played<'a>) -> Result<ZoneBox<'a>, OutOfMemory>
     ensures { IfOk result (λ way. way ≡ record {
-      sheet = sheet.now;
-      season = season.now;
+      sheet = played.now.sheet;
+      season = played.now.season;
       zone = [];
     }) }
 {
-    let played = Played::of(alloc, sheet, season)?;
-    ZoneBox::over(alloc, &played, &[])
+    ZoneBox::over(alloc, played, &[])
 }
 
 /// Back to so many literals.

@@ -9,6 +9,7 @@ ghost use Rattle.worker_gate.specs.Feeding.{FeedsRound, IsSeasonTold};
 ghost use Rattle.worker_gate.specs.Rounds.{IsNextEntry};
 
 use crate::desk::Desk;
+use crate::resting::await_next;
 use crate::round::RoundEnd;
 use league_core::{OutOfMemory, Season, Sheet};
 use pool_lock::{Job, PoolLock};
@@ -17,8 +18,8 @@ use result_log::{Entry, FeedStop, next_entry};
 use std::alloc::Global;
 use std::sync::Wait;
 
-/// Reads up to what ends the round, and reports each event. Then no event will come, whatever ended
-/// the round.
+/// Reads up to what ends the round, and reports each event. The workers go on whenever input has to
+/// be waited for, and at the end: then no event will come, whatever ended the round.
 pub fn feed<J: Job, R: Wait, S: Source>(
     rt: &R,
     alloc: Global,
@@ -78,7 +79,7 @@ fn feed_open<J: Job, R: Wait, S: Source>(
         }) result }
 {
     'entries: loop {
-        match next_told(alloc, sheet, &desk.season, desk.events, reader, source) {
+        match await_next(rt, alloc, sheet, lock, desk, reader, source) {
             Ok(Entry::Change(event)) => {
                 if desk.report(rt, lock, event).is_err() {
                     return Err(OutOfMemory);

@@ -12,6 +12,7 @@ mod laws;
 mod piece;
 mod plain;
 mod post;
+mod resting;
 mod round;
 mod together;
 mod worker;

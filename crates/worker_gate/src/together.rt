@@ -115,7 +115,8 @@ pub fn round_as<J: Job + Send + Sync, R: Threads + Wait + Sync, S: Source + Send
     Ok(Round { pool, end })
 }
 
-// The feeder reads beside the workers. All threads have ended afterwards.
+// The feeder reads beside the workers, and before them where no thread can be made: they wait for
+// it. All threads have ended afterwards.
 fn read_beside<J: Job + Send + Sync, R: Threads + Wait + Sync, S: Source + Send, G: Gate + Sync>(
     rt: &R,
     alloc: Global,
@@ -146,8 +147,16 @@ fn read_beside<J: Job + Send + Sync, R: Threads + Wait + Sync, S: Source + Send,
     ensures shut { desk.new.is_shut ≡ true }
 {
     let mut left = Some(posts);
-    let (end, ()) = join_mut(
+    let ((), end) = join_mut(
         rt,
+        &mut move ||
+            requires { (sheet.now ≡ J.sheet) × IsWithinLimits sheet.now × IsSync R.row
+                × IsSync G.row }
+        {
+            if let Some(mut posts) = left.take() {
+                run_all(rt, alloc, sheet, lock, posts.as_mut_slice(), gate);
+            }
+        },
         &mut ||
             requires { (sheet.now ≡ J.sheet) × IsWithinLimits sheet.now
                 × IsSeasonTold J.sheet desk.now.front desk.now.season desk.now.events
@@ -167,14 +176,6 @@ fn read_beside<J: Job + Send + Sync, R: Threads + Wait + Sync, S: Source + Send,
                 }) result
                 × (desk.exit.now.is_shut ≡ true) }
         { feed(rt, alloc, sheet, lock, desk, reader, source) },
-        &mut move ||
-            requires { (sheet.now ≡ J.sheet) × IsWithinLimits sheet.now × IsSync R.row
-                × IsSync G.row }
-        {
-            if let Some(mut posts) = left.take() {
-                run_all(rt, alloc, sheet, lock, posts.as_mut_slice(), gate);
-            }
-        },
     );
     end
 }

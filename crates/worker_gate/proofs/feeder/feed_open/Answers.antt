@@ -12,8 +12,8 @@ entries-init g c = record {
   goes = goes-nowhere g.J.Job.sheet c.args.desk.now.front _;
 }
 
-pub next_told-requires-clause-of_sheet : goal.next_told-requires-clause-of_sheet
-next_told-requires-clause-of_sheet g c =
+pub await_next-requires-clause-of_sheet : goal.await_next-requires-clause-of_sheet
+await_next-requires-clause-of_sheet g c =
     told-of-sheet c.args.sheet.now g.J.Job.sheet c.entries.desk.front c.entries.desk.season
     c.entries.desk.events c.requires.of_job c.entries.invariant.told
 

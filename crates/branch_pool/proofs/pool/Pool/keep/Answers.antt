@@ -1,14 +1,18 @@
-use Rattle.std.proofs.Common.{◌≡◌, sym, subst}
+use Rattle.std.proofs.Common.{◌≡◌, Some, sym, ap, ◌∙◌, subst}
+use Rattle.std.specs.List.{slice_get}
+use Rattle.std.proofs.lemmas.Option.{same_Some}
 use Rattle.branch_pool.specs.States.{PoolState, present_epoch}
 use Rattle.branch_pool.specs.Steps.{IsOwnTicket, MayBeGiven}
+use Rattle.branch_pool.specs.Calls.{example_over}
+use Rattle.branch_pool.specs.declared.seat.Seat.{Seat}
 use Rattle.branch_pool.specs.Views.{state_of}
 use Rattle.branch_pool.proofs.CallLemmas.{found_at, kept_after, may_take_back}
 use Rattle.branch_pool.proofs.CallLemmas.{out_is_good}
 use Rattle.branch_pool.proofs.StepLemmas.{kept_sound}
 use Rattle.branch_pool.proofs.pool.Pool.keep.Goals as goal
 
-pub give-requires-clause-out : goal.give-requires-clause-out
-give-requires-clause-out c =
+pub give-left-requires-clause-out : goal.give-left-requires-clause-out
+give-left-requires-clause-out c =
     let pool : PoolState = state_of c.self.inside in
     let ticket = c.args.ticket.now in
     let own = subst (λ (p : PoolState). IsOwnTicket p ticket) (sym c.self.view_is) c.requires.own in
@@ -19,8 +23,8 @@ give-requires-clause-out c =
     (found_at pool.seats ticket.place c.index_mut-seat.result.now within
     c.index_mut-seat.ensures.value)).out
 
-pub give-requires-clause-some : goal.give-requires-clause-some
-give-requires-clause-some c =
+pub give-left-requires-clause-some : goal.give-left-requires-clause-some
+give-left-requires-clause-some c =
     let pool : PoolState = state_of c.self.inside in
     let ticket = c.args.ticket.now in
     let own = subst (λ (p : PoolState). IsOwnTicket p ticket) (sym c.self.view_is) c.requires.own in
@@ -44,10 +48,10 @@ invariant_of-self c =
     kept_sound pool ticket c.args.done _ c.self.invariant given
     (kept_after pool ticket c.args.done c.index_mut-seat.result.now _ _ own epoch
     (found_at pool.seats ticket.place c.index_mut-seat.result.now within
-    c.index_mut-seat.ensures.value) c.give.ensures c.replace-home.ensures.items)
+    c.index_mut-seat.ensures.value) c.give-left.ensures.seat c.replace-home.ensures.items)
 
-pub returns : goal.returns
-returns c =
+pub returns-clause-keeps : goal.returns-clause-keeps
+returns-clause-keeps c =
     let pool : PoolState = state_of c.self.inside in
     let ticket = c.args.ticket.now in
     let own = subst (λ (p : PoolState). IsOwnTicket p ticket) (sym c.self.view_is) c.requires.own in
@@ -57,4 +61,18 @@ returns c =
     rw (← c.self.view_is) (kept_after pool ticket c.args.done c.index_mut-seat.result.now _ _ own
     epoch
     (found_at pool.seats ticket.place c.index_mut-seat.result.now within
-    c.index_mut-seat.ensures.value) c.give.ensures c.replace-home.ensures.items)
+    c.index_mut-seat.ensures.value) c.give-left.ensures.seat c.replace-home.ensures.items)
+
+pub returns-clause-example : goal.returns-clause-example
+returns-clause-example c =
+    let pool : PoolState = state_of c.self.inside in
+    let ticket = c.args.ticket.now in
+    let own = subst (λ (p : PoolState). IsOwnTicket p ticket) (sym c.self.view_is) c.requires.own in
+    let within = (out_is_good pool ticket c.self.invariant own.out).1 in
+    let found = found_at pool.seats ticket.place c.index_mut-seat.result.now within
+    c.index_mut-seat.ensures.value in
+    λ seat is. c.give-left.ensures.example
+    ∙ ap (λ (s : Seat). example_over s.example c.args.done)
+    (same_Some c.index_mut-seat.result.now seat (sym found
+    ∙ subst (λ (p : PoolState). slice_get p.seats ticket.place ≡ Some seat) (sym c.self.view_is)
+    is))

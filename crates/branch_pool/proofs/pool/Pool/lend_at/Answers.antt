@@ -1,4 +1,5 @@
 use Rattle.std.proofs.Common.{◌≡◌, Some, length, refl, sym, ap, ◌∙◌, subst, arith}
+use Rattle.std.proofs.lemmas.Option.{same_Some}
 use Rattle.branch_pool.specs.declared.ticket.Ticket.{Ticket}
 use Rattle.branch_pool.specs.States.{PoolState, free_number, with_loan}
 use Rattle.branch_pool.specs.Calls.{next_place}
@@ -55,16 +56,19 @@ invariant_of-self-2 c =
       epoch = c.len-epoch.result;
       place = c.args.place;
       piece = record {
-        season = c.in_ok-season.season;
+        season = c.in-Some.season;
         question = seat.question;
         zone =
             c.in_ok-zone.zone;
       };
     } in
+    let season : c.in-Some.season ≡ pool.season = same_Some c.in-Some.season pool.season
+    (c.in-Some.ensures.value ∙ c.requires.season
+    ∙ ap (λ (p : PoolState). Some p.season) (sym c.self.view_is)) in
     let epoch : c.len-epoch.result ≡ length c.self.inside.log.items = omega arith in
     let lends = lent_after pool ticket seat c.lend.new.self c.put_loan.new.loans.items
     c.in_ok-zone.kept next found (c.free_number-number.ensures ∙ ap free_number c.as_slice.ensures)
-    c.in_ok-zone.ensures.ok epoch c.in_ok-season.ensures refl
+    c.in_ok-zone.ensures.ok epoch season refl
     (c.put_loan.ensures ∙ ap (λ loans. with_loan loans c.free_number-number.result
     (record { epoch = c.len-epoch.result; place = c.args.place; zone = c.in_ok-zone.kept }))
     c.in_ok-reserve.ensures.items) in
@@ -83,16 +87,19 @@ returns-clause-ok c =
       epoch = c.len-epoch.result;
       place = c.args.place;
       piece = record {
-        season = c.in_ok-season.season;
+        season = c.in-Some.season;
         question = seat.question;
         zone =
             c.in_ok-zone.zone;
       };
     } in
+    let season : c.in-Some.season ≡ pool.season = same_Some c.in-Some.season pool.season
+    (c.in-Some.ensures.value ∙ c.requires.season
+    ∙ ap (λ (p : PoolState). Some p.season) (sym c.self.view_is)) in
     let epoch : c.len-epoch.result ≡ length c.self.inside.log.items = omega arith in
     let lends = lent_after pool ticket seat c.lend.new.self c.put_loan.new.loans.items
     c.in_ok-zone.kept next found (c.free_number-number.ensures ∙ ap free_number c.as_slice.ensures)
-    c.in_ok-zone.ensures.ok epoch c.in_ok-season.ensures refl
+    c.in_ok-zone.ensures.ok epoch season refl
     (c.put_loan.ensures ∙ ap (λ loans. with_loan loans c.free_number-number.result
     (record { epoch = c.len-epoch.result; place = c.args.place; zone = c.in_ok-zone.kept }))
     c.in_ok-reserve.ensures.items) in
@@ -111,16 +118,19 @@ returns-clause-fit c =
       epoch = c.len-epoch.result;
       place = c.args.place;
       piece = record {
-        season = c.in_ok-season.season;
+        season = c.in-Some.season;
         question = seat.question;
         zone =
             c.in_ok-zone.zone;
       };
     } in
+    let season : c.in-Some.season ≡ pool.season = same_Some c.in-Some.season pool.season
+    (c.in-Some.ensures.value ∙ c.requires.season
+    ∙ ap (λ (p : PoolState). Some p.season) (sym c.self.view_is)) in
     let epoch : c.len-epoch.result ≡ length c.self.inside.log.items = omega arith in
     let lends = lent_after pool ticket seat c.lend.new.self c.put_loan.new.loans.items
     c.in_ok-zone.kept next found (c.free_number-number.ensures ∙ ap free_number c.as_slice.ensures)
-    c.in_ok-zone.ensures.ok epoch c.in_ok-season.ensures refl
+    c.in_ok-zone.ensures.ok epoch season refl
     (c.put_loan.ensures ∙ ap (λ loans. with_loan loans c.free_number-number.result
     (record { epoch = c.len-epoch.result; place = c.args.place; zone = c.in_ok-zone.kept }))
     c.in_ok-reserve.ensures.items) in

@@ -9,12 +9,11 @@ pub returns-then-not-branch-clause-says : goal.returns-then-not-branch-clause-sa
 returns-then-not-branch-clause-says c =
     let basis = c.args.self.now.basis in
     let question = c.args.wanted.question in
-    let path = c.args.walk.now.path.items in
+    let path = c.args.walk.now.path.zone in
     let P : Judged → Type 0 = λ it. is_reason_for it.basis.sheet question c.args.reason ≡ true in
     let fits = subst P c.self.view_is (sym c.is_reason_for.ensures ∙
     c.if-not-is_reason_for.false) in
     let said = c.in_ok-has_reason.ensures {u = tt} in
-    let way = c.as_slice.ensures.value in
     let no = c.if-not-branch.true in
     let fails : has_reason basis.sheet basis.season question path c.args.reason ≡ false = cc in (
       refl,

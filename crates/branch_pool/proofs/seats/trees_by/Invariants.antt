@@ -1,0 +1,7 @@
+use Rattle.std.proofs.Common.{◌≡◌, map, take}
+use Rattle.branch_pool.specs.Seats.{tree_for}
+use Rattle.branch_pool.proofs.seats.trees_by.Given as goal
+
+-- one tree for each seat so far
+abbrev pub invariant-loop-seat : goal.invariant-loop-seat
+invariant-loop-seat l = l.trees.items ≡ map (tree_for l.sheet l.season) (take l.seat-index l.seats)

@@ -1,0 +1,83 @@
+//! One literal of a way, and what has to be put back where the way goes back over it.
+
+ghost use Rattle.std.specs.Prelude.{◌≡◌, [], ◌∷◌, ◌++◌, List, length, IsTrue};
+ghost use Rattle.league_core.specs.declared.zone.Literal.{Literal};
+ghost use Rattle.check_bounds.specs.Zones.{IsTestWithin, CutsBy};
+ghost use Rattle.check_bounds.specs.Ways.{undone, IsCutWithin, AreMarks};
+
+use crate::scope::Scope;
+use crate::zone::{fixture_of, with_mark};
+use league_core::{ClubSet, Literal};
+
+/// A fixture, and the scope that it had before a literal cut it.
+#[derive(Clone, Copy)]
+pub struct Cut {
+    pub fixture: u16,
+    pub kept: Scope,
+}
+
+/// The rivals that a zone says to rank before the club, and those that it says not to.
+#[derive(Clone, Copy)]
+pub struct Marks {
+    pub before: ClubSet,
+    pub after: ClubSet,
+}
+
+/// A literal with what was there before it.
+#[derive(Clone, Copy)]
+pub struct Step {
+    pub literal: Literal,
+    pub cut: Option<Cut>,
+    pub marks: Marks,
+}
+
+impl Marks {
+    pub fn none() -> Marks
+        ensures { AreMarks result [] }
+    {
+        Marks {
+            before: ClubSet::empty(),
+            after: ClubSet::empty(),
+        }
+    }
+
+    /// Those of the zone with one literal more.
+    pub fn with(self, literal: &Literal) -> Marks
+        requires { IsTestWithin 600 literal.now.test }
+        ensures { (zone : List Literal) → AreMarks self zone
+            → AreMarks result (zone ++ literal.now ∷ []) }
+    {
+        Marks {
+            before: with_mark(self.before, literal, true),
+            after: with_mark(self.after, literal, false),
+        }
+    }
+}
+
+/// Cuts the scope of the fixture that a literal is of, and hands out what it was; of a literal that
+/// is of none, nothing.
+pub fn cut_by(scopes: &mut [Scope], literal: &Literal) -> Option<Cut>
+    requires { IsTestWithin (length scopes.old) literal.now.test }
+    ensures cut { CutsBy scopes.old scopes.new literal.now }
+    ensures within { IsCutWithin (length scopes.new) result }
+    ensures back { undone scopes.new result ≡ scopes.old }
+{
+    match fixture_of(&literal.test) {
+        Some(fixture) => {
+            let kept = scopes[fixture as usize];
+            scopes[fixture as usize].cut(literal);
+            Some(Cut { fixture, kept })
+        }
+        None => None,
+    }
+}
+
+/// Puts back what a step kept.
+pub fn undo(scopes: &mut [Scope], cut: Option<Cut>)
+    requires { IsCutWithin (length scopes.old) cut }
+    ensures { scopes.new ≡ undone scopes.old cut }
+{
+    if let Some(cut) = cut {
+        scopes[cut.fixture as usize] = cut.kept;
+    }
+}

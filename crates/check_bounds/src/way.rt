@@ -1,0 +1,136 @@
+//! The way to a zone, from the whole season on: what it leaves of each fixture, and the rivals that
+//! it marks. To go on by a literal, or back over one, costs the same however long the way is.
+
+ghost use Rattle.std.specs.Prelude.{◌≡◌, [], IsTrue, IfOk, OnOk, OnErr, IfSome, IfNone};
+ghost use Rattle.league_core.specs.Seasons.{IsLeague};
+ghost use Rattle.league_core.specs.Questions.{IsQuestionOf};
+ghost use Rattle.league_core.specs.Reasons.{has_reason};
+ghost use Rattle.league_core.specs.Zones.{is_test_of, is_zone_of};
+ghost use Rattle.check_bounds.specs.Ways.{root_of, farther};
+
+use crate::reasons::holds_over;
+use crate::scope::Scope;
+use crate::step::{Marks, Step, cut_by, undo};
+use crate::zone::{all_corners, season_scopes};
+use league_core::{Literal, OutOfMemory, Question, Reason, Season, Sheet};
+use std::alloc::Global;
+use std::marker::Model;
+
+/// A zone of a season, literal by literal. Contracts see the season and the zone.
+#[derive(Drop)]
+pub struct Way<'a> {
+    sheet: &'a Sheet,
+    season: &'a Season,
+    scopes: Vec<Scope>,
+    marks: Marks,
+    steps: Vec<Step>,
+}
+
+impl<'a> Model for Way<'a> {
+    ghost use Rattle.check_bounds.specs.Ways.{Place, zone_of, IsWay};
+
+    ghost Value = { Place };
+
+    ghost view = { λ way. record {
+      sheet = way.sheet.now;
+      season = way.season.now;
+      zone = zone_of way.steps.items;
+    } };
+
+    ghost invariant = { λ way.
+        IsWay way.sheet.now way.season.now way.scopes.items way.marks way.steps.items };
+}
+
+impl<'a> Way<'a> {
+    /// The whole season.
+    pub fn new(alloc: Global, sheet: &'a Sheet, season: &'a Season) -> Result<Way<'a>, OutOfMemory>
+        requires { IsLeague sheet.now season.now }
+        ensures { IfOk result (λ way. way ≡ root_of sheet.now season.now) }
+    {
+        let scopes = season_scopes(alloc, season.scores(), sheet.goal_limit)?;
+        Ok(Way {
+            sheet,
+            season,
+            scopes,
+            marks: Marks::none(),
+            steps: Vec::new(alloc),
+        })
+    }
+
+    /// Goes on by a literal. After a refusal the way is as before.
+    pub fn go(&mut self, literal: Literal) -> Result<(), OutOfMemory>
+        requires { IsTrue (is_test_of self.old.sheet literal.test) }
+        ensures ok { OnOk result (self.new ≡ farther self.old literal) }
+        ensures err { OnErr result (self.new ≡ self.old) }
+    {
+        self.steps.reserve(1)?;
+        let marks = self.marks;
+        let cut = cut_by(self.scopes.as_mut_slice(), &literal);
+        self.marks = marks.with(&literal);
+        self.steps.push_reserved(Step {
+            literal,
+            cut,
+            marks,
+        });
+        Ok(())
+    }
+
+    /// Goes back over the last literal, which it hands out; nothing where the way has none.
+    pub fn back(&mut self) -> Option<Literal>
+        ensures some { IfSome result (λ literal. self.old ≡ farther self.new literal) }
+        ensures none { IfNone result ((self.old.zone ≡ []) × (self.new ≡ self.old)) }
+    {
+        match self.steps.pop() {
+            Some(step) => {
+                undo(self.scopes.as_mut_slice(), step.cut);
+                self.marks = step.marks;
+                Some(step.literal)
+            }
+            None => None,
+        }
+    }
+
+    /// Whether the reason holds in the zone, in a few walks over the fixtures.
+    pub fn holds(
+        &self,
+        alloc: Global,
+        question: &Question,
+        reason: Reason,
+    ) -> Result<bool, OutOfMemory>
+        requires { IsQuestionOf self.now.sheet question.now }
+        ensures { IfOk result (λ holds. holds
+            ≡ has_reason self.now.sheet self.now.season question.now self.now.zone reason) }
+    {
+        let corners = all_corners(alloc, self.scopes.as_slice())?;
+        Ok(holds_over(
+            self.sheet,
+            self.season,
+            question,
+            corners.as_slice(),
+            self.marks,
+            reason,
+        ))
+    }
+}
+
+/// Whether the reason holds in the zone, in one walk over the literals and a few over the fixtures.
+pub fn holds_in(
+    alloc: Global,
+    sheet: &Sheet,
+    season: &Season,
+    question: &Question,
+    zone: &[Literal],
+    reason: Reason,
+) -> Result<bool, OutOfMemory>
+    requires league { IsLeague sheet.now season.now }
+    requires question { IsQuestionOf sheet.now question.now }
+    requires zone { IsTrue (is_zone_of sheet.now zone.now) }
+    ensures { IfOk result (λ holds.
+        holds ≡ has_reason sheet.now season.now question.now zone.now reason) }
+{
+    let mut way = Way::new(alloc, sheet, season)?;
+    for literal in zone {
+        way.go(*literal)?;
+    }
+    way.holds(alloc, question, reason)
+}

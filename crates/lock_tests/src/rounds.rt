@@ -1,0 +1,154 @@
+//! A pool behind its lock, by hand: two clubs and one match, which A has won. So A is first, and
+//! the questions are, in order: whether A can end inside the line (an example shows it), outside
+//! (refuted), and the same of B.
+
+ghost use Rattle.std.specs.Prelude.{◌≡◌, All, IsTrue};
+ghost use Rattle.league_core.specs.Seasons.{IsEventOf};
+ghost use Rattle.league_core.specs.Sheets.{IsWithinLimits};
+ghost use Rattle.branch_pool.specs.States.{out_count};
+ghost use Rattle.epoch_cancel.specs.Seats.{seat_of};
+ghost use Rattle.pool_lock.specs.Lends.{IsEyeAfter};
+
+use crate::cases::{Case, play};
+use branch_pool::{Answer, Gave, Pool};
+use epoch_cancel::{EpochWord, Eye, Front, Owner};
+use league_core::{Event, Score, Season, Sheet};
+use pool_lock::{Job, PoolLock};
+use sample_leagues::sample_of;
+use std::alloc::Global;
+use std::marker::Brand;
+use std::sync::Wait;
+use std::sync::ledger::Blank;
+use std::test::Fail;
+use verdict_run::questions;
+
+const TWO_CLUBS: &[u8] = b"league,Tiny,1\nclub,A,1\nclub,B,2\nmatch,A,B\nline,1\nseason\n";
+
+const WON: Event = Event::Set {
+    fixture: 0,
+    score: Score { home: 1, away: 0 },
+};
+
+/// The word of a pool, with the seats of its lock.
+#[derive(Drop)]
+struct Seated {
+    word: EpochWord,
+    owner: Owner,
+    front: Front,
+    eyes: Vec<Eye>,
+}
+
+/// A round in which the workers play a case: what became of their tickets, and the pool afterwards.
+fn round_of<R: Wait>(
+    rt: &R,
+    alloc: Global,
+    case: Case,
+) -> Result<(Option<(Gave, Gave)>, Pool), Fail> {
+    let sample = sample_of(alloc, TWO_CLUBS).ok_or("no league")?;
+    let sheet = sample.sheet.copy(alloc)?;
+    let asked = questions(alloc, &sheet)?;
+    let pool = Pool::begin(alloc, sample.sheet, asked)?;
+    let (word, owner, front, eyes) = EpochWord::new(alloc, pool.log(), 2)?;
+    let seated = Seated {
+        word,
+        owner,
+        front,
+        eyes,
+    };
+    round_as::<Brand, R>(rt, alloc, &sheet, Blank::new(1), seated, pool, case)
+}
+
+/// A result is reported, the workers play the case, and the feed is shut.
+fn round_as<J: Job, R: Wait>(
+    rt: &R,
+    alloc: Global,
+    sheet: &Sheet,
+    blank: Blank,
+    seated: Seated,
+    pool: Pool,
+    case: Case,
+) -> Result<(Option<(Gave, Gave)>, Pool), Fail>
+    requires ledger { blank.name ≡ J.name }
+    requires parts { blank.parts ≡ J.parts }
+    requires one_part { blank.parts ≡ 1 }
+    requires word { seated.word ≡ J.table }
+    requires owner { seated.owner ≡ seat_of seated.word pool.log }
+    requires front { seated.front ≡ seat_of seated.word pool.log }
+    requires eyes { All (IsEyeAfter seated.word pool.log) seated.eyes.items }
+    requires of_job { sheet.now ≡ J.sheet }
+    requires limits { IsWithinLimits sheet.now }
+    requires sheet { pool.sheet ≡ J.sheet }
+    requires questions { pool.questions ≡ J.questions }
+    requires home { out_count pool.loans ≡ 0 }
+{
+    let may_be = may_be(pool.season(), &WON);
+    let _log = pool.log();
+    let Seated {
+        word,
+        owner,
+        front,
+        eyes,
+    } = seated;
+    let (lock, mut front, mut badges) = PoolLock::<J>::new(
+        alloc, blank, word, owner, front, eyes, pool,
+    )?;
+    if !may_be {
+        return Err("no event of the season".into());
+    }
+    if lock.report(rt, &mut front, WON).is_err() {
+        // nothing has changed, so it can be reported again
+        lock.report(rt, &mut front, WON).map_err(|_| "not told")?;
+    }
+    lock.rest(rt, &front);
+    let mut one = badges.pop().ok_or("no badge")?;
+    let mut two = badges.pop().ok_or("no badge")?;
+    let gave = play(rt, alloc, sheet, &lock, &mut one, &mut two, case)?;
+    lock.shut(rt, &mut front);
+    Ok((gave, lock.close(front)))
+}
+
+/// Whether the season may be told the event.
+fn may_be(season: &Season, event: &Event) -> bool
+    ensures { IsTrue result → IsEventOf season.now event.now }
+{
+    match event {
+        Event::Set { fixture, score } => {
+            (*fixture as usize) < season.scores().len() && score.home <= 99 && score.away <= 99
+        }
+        Event::Clear { fixture: _ } | Event::Deduct { club: _, points: _ } => false,
+    }
+}
+
+fn first_two(pool: &Pool) -> Result<(Answer, Answer), Fail> {
+    if pool.questions().len() < 2 {
+        return Err("no questions".into());
+    }
+    Ok((pool.answer(0), pool.answer(1)))
+}
+
+#[test]
+fn what_is_found_comes_to_the_pool(rt: HostRuntime) -> Result<(), Fail> {
+    let (gave, pool) = round_of(&rt, rt.alloc(), Case::Worked)?;
+    assert_eq!(rt; gave, Some((Gave::Kept, Gave::Kept)));
+    assert_eq!(rt; first_two(&pool)?, (Answer::Won, Answer::Refuted));
+    assert_eq!(rt; pool.log(), [WON].as_slice());
+    Ok(())
+}
+
+#[test]
+fn what_is_of_another_piece_counts_as_nothing(rt: HostRuntime) -> Result<(), Fail> {
+    let (gave, pool) = round_of(&rt, rt.alloc(), Case::OtherPiece)?;
+    assert_eq!(rt; gave, Some((Gave::Kept, Gave::Kept)));
+    assert_eq!(rt; first_two(&pool)?, (Answer::NotYet, Answer::NotYet));
+    assert_eq!(rt; pool.out(), 0);
+    Ok(())
+}
+
+#[test]
+fn what_is_out_at_the_end_comes_home(rt: HostRuntime) -> Result<(), Fail> {
+    let (gave, pool) = round_of(&rt, rt.alloc(), Case::Lost)?;
+    assert_eq!(rt; gave, None);
+    assert_eq!(rt; first_two(&pool)?, (Answer::NotYet, Answer::NotYet));
+    assert_eq!(rt; pool.out(), 0);
+    Ok(())
+}
