@@ -7,7 +7,7 @@ ghost use Rattle.league_core.specs.Limits.{most_events};
 ghost use Rattle.league_core.specs.Seasons.{IsEventOf, season_after};
 ghost use Rattle.reason_core.specs.Dones.{IsFor, IsTrueDone};
 ghost use Rattle.branch_pool.specs.declared.ticket.Took.TheVariants as took;
-ghost use Rattle.branch_pool.specs.Calls.{Taking};
+ghost use Rattle.branch_pool.specs.Calls.{LeavesOver, Taking};
 ghost use Rattle.branch_pool.specs.Steps.{Gives, Changes, pool_opened, pool_shut, pool_recalled};
 ghost use Rattle.epoch_cancel.specs.Seats.{seat_of};
 ghost use Rattle.pool_lock.specs.Lends.{TakesWorkAfter, IsToldAfter};
@@ -15,7 +15,7 @@ ghost use Rattle.pool_lock.specs.Lends.{TakesWorkAfter, IsToldAfter};
 use crate::front::Front;
 use crate::job::Job;
 use crate::work_badge::WorkBadge;
-use branch_pool::{ChangeStop, Gave, Pool, Ticket, Took};
+use branch_pool::{ChangeStop, Gave, Leftover, Pool, Ticket, Took};
 use epoch_cancel::{EpochWord, Owner, seen, tell};
 use league_core::Event;
 use reason_core::Done;
@@ -103,33 +103,35 @@ impl<J: Job> Held<J> {
         let took = if self.is_busy {
             Took::Rest
         } else {
-            self.pool.take()
+            self.pool.take_with(&mut badge.spare)
         };
         self.pool.is_sound();
         seen(word, &mut self.owner, &mut badge.eye);
         took
     }
 
-    // Gives back to the pool, and shows the worker all that the pool has been told.
+    // Gives back to the pool, and shows the worker all that the pool has been told. What the pool
+    // has no use for is handed out, so that it is let go behind the lock.
     pub fn give(
         &mut self,
         word: &EpochWord,
         badge: &mut WorkBadge<J>,
         ticket: Ticket,
         done: Done,
-    ) -> Gave
+    ) -> (Gave, Leftover)
         requires word { word.now ≡ J.table }
         requires is_for { IsFor done ticket.piece }
         requires sound { IsTrueDone J.sheet done }
-        ensures gives { Gives self.old.pool ticket done result self.new.pool }
+        ensures gives { Gives self.old.pool ticket done result.0 self.new.pool }
         ensures busy { self.new.is_busy ≡ self.old.is_busy }
-        ensures told { IsToldAfter badge.new.list ticket result }
+        ensures leaves { LeavesOver self.old.pool ticket done result.0 result.1 }
+        ensures told { IsToldAfter badge.new.list ticket result.0 }
         ensures begins { IsPrefix badge.old.list badge.new.list }
         ensures seen { badge.new ≡ record badge.old { list = self.new.pool.log } }
     {
-        let gave = self.pool.give(ticket, done);
+        let (gave, left) = self.pool.give_leaving(ticket, done);
         seen(word, &mut self.owner, &mut badge.eye);
-        gave
+        (gave, left)
     }
 
     // Reports an event to the pool, announces it, and counts it; then the one who reports is busy.

@@ -110,8 +110,9 @@ impl<J: Job> PoolLock<J> {
         ensures seen { badge.new ≡ record badge.old { list = badge.new.list } }
     {
         let done = fitting(done, &ticket.piece);
-        let gave = self.held.lock(rt).give(&self.word, badge, ticket, done);
+        let (gave, left) = self.held.lock(rt).give(&self.word, badge, ticket, done);
         self.moved.notify_all();
+        badge.keep(left);
         gave
     }
 

@@ -3,8 +3,9 @@
 ghost use Rattle.std.specs.Prelude.{◌≡◌, All, IfOk};
 
 use crate::job::Job;
+use branch_pool::Leftover;
 use epoch_cancel::Eye;
-use league_core::OutOfMemory;
+use league_core::{OutOfMemory, Season};
 use std::alloc::Global;
 use std::marker::{Model, PhantomData};
 
@@ -15,6 +16,8 @@ use std::marker::{Model, PhantomData};
 #[derive(Drop)]
 pub struct WorkBadge<J: Job> {
     pub(crate) eye: Eye,
+    // The season of the ticket given back last, for the next one.
+    pub(crate) spare: Option<Season>,
     of: PhantomData<J>,
 }
 
@@ -29,6 +32,16 @@ impl<J: Job> Model for WorkBadge<J> {
     ghost invariant = { λ badge. badge.eye.table ≡ J.table };
 }
 
+impl<J: Job> WorkBadge<J> {
+    // Keeps the season of what a ticket left, and lets the rest go.
+    pub(crate) fn keep(&mut self, left: Leftover)
+        ensures { self.new ≡ self.old }
+    {
+        let Leftover { piece, .. } = left;
+        self.spare = Some(piece.season);
+    }
+}
+
 // A badge for each eye, in their order.
 pub fn badges_of<J: Job>(alloc: Global, eyes: Vec<Eye>) -> Result<Vec<WorkBadge<J>>, OutOfMemory>
     requires { All (λ eye. eye.table ≡ J.table) eyes.items }
@@ -38,6 +51,7 @@ pub fn badges_of<J: Job>(alloc: Global, eyes: Vec<Eye>) -> Result<Vec<WorkBadge<
     for eye in eyes {
         badges.push(WorkBadge {
             eye,
+            spare: None,
             of: PhantomData,
         })?;
     }
