@@ -63,7 +63,7 @@ insert_club order club [] total ranked decided =
       record { ranked = (λ other has. absurd (false≢true has), tt); has = λ other. refl },
     )
 insert_club order club (first ∷ later) total ranked decided =
-    by_first (decided first (here first))
+    by_first (decided first (here first)) (insert_club order club later total ranked.1 behind)
   where
     here : (member : ℕ) → has_club (member ∷ later) member ≡ true
     here member = or_left (eqb member member) (has_club later member)
@@ -73,27 +73,26 @@ insert_club order club (first ∷ later) total ranked decided =
     behind other has = decided other
         (or_right (eqb first other) (has_club later other) has)
 
-    by_first : OneIsFirst order club first
+    by_first : OneIsFirst order club first → (table : List ℕ) × IsInserted order club later table
         → (table : List ℕ) × IsInserted order club (first ∷ later) table
-    by_first (inl less) = (
+    by_first (inl less) rest = (
       club ∷ first ∷ later,
       record {
         ranked = (before_all order club first later total ranked less, ranked);
         has = λ other. refl;
       },
     )
-    by_first (inr more) =
-        let rest = insert_club order club later total ranked.1 behind in (
-          first ∷ rest.0,
-          record {
-            ranked = (
-              before_inserted order first club later rest.0 ranked more rest.1,
-              rest.1.ranked,
-            );
-            has = λ other. ap (λ (b : Bool). eqb first other || b) (rest.1.has other)
-                ∙ or_swap (eqb first other) (eqb club other) (has_club later other);
-          },
-        )
+    by_first (inr more) rest = (
+      first ∷ rest.0,
+      record {
+        ranked = (
+          before_inserted order first club later rest.0 ranked more rest.1,
+          rest.1.ranked,
+        );
+        has = λ other. ap (λ (b : Bool). eqb first other || b) (rest.1.has other)
+            ∙ or_swap (eqb first other) (eqb club other) (has_club later other);
+      },
+    )
 
 -- ---- all clubs
 
@@ -102,15 +101,17 @@ range_within : (from count club : ℕ) → has_club (range_with_len from count) 
     → (from ≤ club) × (club < from + count)
 range_within from zero club has = absurd (false≢true has)
 range_within from (suc count) club has =
-    by_place (or_cases (eqb from club) (has_club (range_with_len (from + 1) count) club) has)
+    by_place (range_within (from + 1) count club)
+    (or_cases (eqb from club) (has_club (range_with_len (from + 1) count) club) has)
   where
-    by_place : (eqb from club ≡ true)
-        ⊎ (has_club (range_with_len (from + 1) count) club ≡ true)
+    by_place : (has_club (range_with_len (from + 1) count) club ≡ true
+        → (from + 1 ≤ club) × (club < from + 1 + count))
+        → (eqb from club ≡ true) ⊎ (has_club (range_with_len (from + 1) count) club ≡ true)
         → (from ≤ club) × (club < from + suc count)
-    by_place (inl same) = let is = eqb-true from club same in
-        (omega (arith, is), omega (arith, is))
-    by_place (inr later) = let within = range_within (from + 1) count club later in
-        (omega (arith, within.0), omega (arith, within.1))
+    by_place behind (inl same) =
+        let is = eqb-true from club same in (omega (arith, is), omega (arith, is))
+    by_place behind (inr later) =
+        let within = behind later in (omega (arith, within.0), omega (arith, within.1))
 
 -- a ranked list of the members of a range
 pub record IsSorted (order : ℕ → ℕ → Ordering) (from count : ℕ) (table : List ℕ) : Type 0 where

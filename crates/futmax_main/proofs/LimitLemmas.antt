@@ -57,7 +57,7 @@ Fits P (Err why) = Unit {0}
 abbrev Anything : {A : Type 0} → A → Type 0
 Anything value = Unit {0}
 
-has-anything : {A : Type 0} (found : Option A) → Has (Anything {A}) found
+has-anything : {A : Type 0} (found : Option A) → Has (Anything {A = A}) found
 has-anything None = tt
 has-anything (Some value) = tt
 
@@ -419,14 +419,16 @@ lines-limits : (lines : List (ℕ × List ℕ)) (ending : Result ℕ ReadStop) (
 lines-limits [] (Ok number) draft is = tt
 lines-limits [] (Err stop) draft is = tt
 lines-limits (line ∷ lines) ending draft is =
-    by_line (content_taken draft line.1) (content-fits draft line.1 is)
+    by_line (lines-limits lines ending) (content_taken draft line.1) (content-fits draft line.1 is)
   where
-    by_line : (found : Result Progress SheetFault) → Fits IsKept found
+    by_line : ((next : Option Sheet) → Has IsDraft next
+        → GivesLimits (sheet_reading_from lines ending next).gives)
+        → (found : Result Progress SheetFault) → Fits IsKept found
         → GivesLimits (sheet_reading_by line.0 (record { lines = lines; ending = ending })
         (sheet_reading_from lines ending) found).gives
-    by_line (Ok (SoFar next)) fits = lines-limits lines ending next fits
-    by_line (Ok (Whole sheet)) fits = fits
-    by_line (Err why) fits = tt
+    by_line behind (Ok (SoFar next)) fits = behind next fits
+    by_line behind (Ok (Whole sheet)) fits = fits
+    by_line behind (Err why) fits = tt
 
 -- a sheet that contents give is within the limits
 pub sheet-limits : (contents : Contents)
