@@ -1,5 +1,5 @@
 -- Each row of an answer has its two scores, and so each season has scores.
-use Rattle.std.proofs.Common.{◌≡◌, ◌⊎◌, inl, inr, ℤ, true, List, [], ◌∷◌, map, refl, ap}
+use Rattle.std.proofs.Common.{◌≡◌, ◌⊎◌, inl, inr, ℤ, true, List, [], ◌∷◌, refl, ap}
 use Rattle.std.specs.Prelude.{All}
 use Rattle.std.proofs.lemmas.List.Elements.{All-nil, All-cons, All-head, All-tail}
 use Rattle.league_core.specs.declared.sheet.Sheet.{Sheet}
@@ -13,7 +13,7 @@ use Rattle.qual_scores.specs.declared.bound.Score2.{Score2}
 use Rattle.qual_scores.specs.declared.bound.ClubScores.{ClubScores}
 use Rattle.qual_scores.specs.Scores.{IsPossibleScore, HasNoPossibleScore}
 use Rattle.qual_scores.specs.Bounds.{IsRightBound, AreRightScores}
-use Rattle.qual_scores.specs.AllScores.{AreRightOf, AreScoresFor, AreScoresOf, scores_row}
+use Rattle.qual_scores.specs.AllScores.{AreRightOf, AreScoresFor, AreScoresOf}
 use Rattle.answer_laws.proofs.AnswerLemmas.{IsRowOf, lines_asked}
 use Rattle.answer_laws.proofs.ScoreLemmas.{possible_there, guaranteed_there}
 

@@ -1,6 +1,6 @@
 -- A list of different clubs is put in order club by club, and so each season has a table.
 use Rattle.std.proofs.Common.{◌≡◌, ◌≢◌, ◌⊎◌, inl, inr, ℕ, zero, suc, ◌+◌, ◌<◌, ◌≤◌, Bool, true}
-use Rattle.std.proofs.Common.{false, ◌||◌, eqb, List, [], ◌∷◌, length, Ordering, Less, is_lt, refl}
+use Rattle.std.proofs.Common.{false, ◌||◌, eqb, List, [], ◌∷◌, length, Ordering, Less, refl}
 use Rattle.std.proofs.Common.{sym, ap, ◌∙◌, subst, arith}
 use Rattle.std.specs.Cmp.{IsTotalOrder}
 use Rattle.std.specs.List.{range_with_len}
@@ -57,11 +57,10 @@ insert_club : (order : ℕ → ℕ → Ordering) (club : ℕ) (clubs : List ℕ)
     → AreRanked order clubs
     → ((other : ℕ) → has_club clubs other ≡ true → OneIsFirst order club other)
     → (table : List ℕ) × IsInserted order club clubs table
-insert_club order club [] total ranked decided =
-    (
-      club ∷ [],
-      record { ranked = (λ other has. absurd (false≢true has), tt); has = λ other. refl },
-    )
+insert_club order club [] total ranked decided = (
+  club ∷ [],
+  record { ranked = (λ other has. absurd (false≢true has), tt); has = λ other. refl },
+)
 insert_club order club (first ∷ later) total ranked decided =
     by_first (decided first (here first)) (insert_club order club later total ranked.1 behind)
   where
