@@ -2,14 +2,12 @@
 -- scratch, and behind it what shows it. It is said for every season, played to its end or not.
 use Rattle.std.specs.Prelude.{◌≡◌, ℕ, Bool, List, [], ◌∷◌, ◌++◌}
 use Rattle.league_core.specs.declared.sheet.Sheet.{Sheet}
-use Rattle.league_core.specs.Results.{Results}
-use Rattle.cert_text.specs.declared.proof_line.ProofLine.{ProofLine}
 use Rattle.cert_text.specs.ExampleLines.{text_of_proof_lines}
-use Rattle.verdict_run.specs.declared.word.Word.{Word}
 use Rattle.verdict_run.specs.declared.word.Verdict.{Verdict}
-use Rattle.verdict_run.specs.Items.{AnswerRow, IsItemShown, answer_rows, lines_shown}
+use Rattle.verdict_run.specs.Items.{AreVerdictsOf, lines_shown}
+use Rattle.league_core.specs.Results.{Results}
 use Rattle.ask_answers.specs.Rows.{ask_row, verdict_row}
-use Rattle.ask_answers.specs.Parts.{IsMadeOf, club_name}
+use Rattle.ask_answers.specs.Parts.{club_name}
 
 -- the item of a verdict: its row, then what shows it; refutations where proofs are asked for
 abbrev pub item_text : Bool → Sheet → Verdict → List ℕ
@@ -28,18 +26,9 @@ abbrev pub text_of_verdicts : Bool → Sheet → ℕ → List Verdict → List �
 text_of_verdicts proofs sheet epoch verdicts =
     ask_row epoch ++ text_of_items proofs sheet verdicts
 
--- the item of a line and a club as an answer has it: the row of a word that is right, and then lines
--- that show it, however many
-abbrev pub IsItemText : Bool → Sheet → Results → AnswerRow → List ℕ → Type 0
-IsItemText proofs sheet season about text =
-    (word : Word) × (lines : List ProofLine)
-    × IsItemShown proofs sheet season about.line about.club word lines
-    × (text ≡ verdict_row about.line (club_name sheet about.club) word
-    ++ text_of_proof_lines lines)
-
--- the text of the verdicts of a season, which so many events told: the row of the ask, then an item
--- for each line and club in the sheet's order, with proofs or without
+-- the text of the verdicts of a season, which so many events told, for each line and club in the
+-- sheet's order, with proofs or without
 abbrev pub AreVerdicts : Bool → Sheet → Results → ℕ → List ℕ → Type 0
 AreVerdicts proofs sheet season epoch text =
-    (items : List ℕ) × (text ≡ ask_row epoch ++ items)
-    × IsMadeOf (IsItemText proofs sheet season) (answer_rows sheet) items
+    (verdicts : List Verdict) × AreVerdictsOf sheet season verdicts
+    × (text ≡ text_of_verdicts proofs sheet epoch verdicts)

@@ -36,7 +36,6 @@ use Rattle.answer_laws.proofs.TableLemmas.{table_there}
 use Rattle.ask_answers.specs.declared.table_row.TableRow.{TableRow}
 use Rattle.ask_answers.specs.Parts.{IsMadeOf, club_name}
 use Rattle.ask_answers.specs.Rows.{ask_row, place_row, verdict_row}
-use Rattle.ask_answers.specs.Verdicts.{AreVerdicts, IsItemText}
 use Rattle.ask_answers.specs.Tables.{IsPlaceRow, IsTableRow, IsTableText, count_played}
 use Rattle.ask_answers.proofs.TableLemmas.{first_lots-range}
 use Rattle.score_answers.specs.ScoreTexts.{IsScoresText, text_of_scores}
@@ -44,7 +43,7 @@ use Rattle.futmax_main.specs.declared.session.Answering.{Answering}
 use Rattle.futmax_main.specs.declared.session.Answering.TheVariants.{Verdicts, Table, Scores}
 use Rattle.futmax_main.specs.Plays.{Played, played_behind}
 use Rattle.futmax_main.specs.Courses.{asks_in, course_behind, course_of}
-use Rattle.futmax_main.specs.Answers.{IsAnswerTo}
+use Rattle.futmax_main.specs.Answers.{IsAnswerTo, IsItemText, IsVerdictsText}
 use Rattle.futmax_main.specs.Texts.{AreAnswers}
 use Rattle.futmax_main.proofs.LimitLemmas.{GivesLimits, sheet-limits}
 
@@ -69,7 +68,7 @@ items-there proofs sheet season (item ∷ items) known =
 
 verdicts-there : (proofs : Bool) (sheet : Sheet) (season : Results) (epoch : ℕ)
     → IsLeague sheet season → are_results season ≡ true
-    → (text : List ℕ) × AreVerdicts proofs sheet season epoch text
+    → (text : List ℕ) × IsVerdictsText proofs sheet season epoch text
 verdicts-there proofs sheet season epoch league results =
     let found = season_answered proofs sheet season league results in
     let made = items-there proofs sheet season found.0 found.1.each in
