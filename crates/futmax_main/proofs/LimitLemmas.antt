@@ -33,8 +33,8 @@ use Rattle.fixture_sheet.specs.Drafts.{IsDraft, names_of}
 use Rattle.fixture_sheet.specs.Records.{and_then, budget_of, club_added, club_named, club_of}
 use Rattle.fixture_sheet.specs.Records.{club_taken, content_taken, fixture_added, fixture_of}
 use Rattle.fixture_sheet.specs.Records.{has_few_clubs, has_name, is_past_clubs, later_taken}
-use Rattle.fixture_sheet.specs.Records.{league_of, league_taken, line_added, line_taken, match_taken}
-use Rattle.fixture_sheet.specs.Records.{order_told, record_taken, record_taken_if}
+use Rattle.fixture_sheet.specs.Records.{league_of, league_taken, line_added, line_taken}
+use Rattle.fixture_sheet.specs.Records.{match_taken, order_told, record_taken, record_taken_if}
 use Rattle.fixture_sheet.specs.Records.{refusal_of_no_record, season_taken, sheet_begun, so_far}
 use Rattle.fixture_sheet.specs.Records.{whole}
 use Rattle.fixture_sheet.specs.Sheets.{SheetReading, sheet_reading_by, sheet_reading_from}
