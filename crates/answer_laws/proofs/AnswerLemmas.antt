@@ -29,7 +29,7 @@ use Rattle.answer_laws.specs.SeasonAnswers.{AnswerItem, IsKnownItem, AreItemsOf}
 use Rattle.answer_laws.proofs.DecidedLemmas.{question_decided}
 
 -- what a row is about, and its two questions are of the sheet
-abbrev IsRowOf : Sheet → AnswerRow → Type 0
+abbrev pub IsRowOf : Sheet → AnswerRow → Type 0
 IsRowOf sheet row = (claim : Claim) → IsQuestionOf sheet (full_question row.club row.line claim)
 
 -- an item about this row
@@ -128,7 +128,7 @@ clubs_asked sheet line from (suc count) few may =
     (row_asked sheet line from (omega (arith, few)) may)
     (clubs_asked sheet line (from + 1) count (omega (arith, few)) may)
 
-lines_asked : (sheet : Sheet) (lines : List ℕ)
+pub lines_asked : (sheet : Sheet) (lines : List ℕ)
     → list_all (is_line (length sheet.clubs)) lines ≡ true
     → All (IsRowOf sheet) (flat_map (answer_rows_of (length sheet.clubs)) lines)
 lines_asked sheet [] may = All-nil (IsRowOf sheet)

@@ -1,7 +1,7 @@
 -- Each club has its qualification scores for each line, and what a search for them goes by is said
 -- of the scores themselves. Each statement is the contract of a function of src/score_laws.rt that
 -- does nothing.
-use Rattle.std.specs.Prelude.{◌↔◌, ◌⊎◌, ℕ, ℤ, ◌≤ℤ◌, IsTrue}
+use Rattle.std.specs.Prelude.{◌↔◌, ◌⊎◌, ℕ, ℤ, ◌≤ℤ◌, IsTrue, List}
 use Rattle.league_core.specs.declared.sheet.Sheet.{Sheet}
 use Rattle.league_core.specs.declared.question.Claim.{Claim}
 use Rattle.league_core.specs.declared.question.Claim.TheVariants.{Inside}
@@ -11,6 +11,8 @@ use Rattle.league_core.specs.Questions.{IsQuestionOf, full_question}
 use Rattle.qual_scores.specs.Scores.{IsLeastOf, IsPossibleScore, HasNoPossibleScore}
 use Rattle.qual_scores.specs.Scores.{IsGuaranteedScore}
 use Rattle.qual_scores.specs.Ways.{HoldsOfPoints, IsNotAbove}
+use Rattle.qual_scores.specs.declared.bound.ClubScores.{ClubScores}
+use Rattle.qual_scores.specs.AllScores.{AreScoresOf}
 
 -- a club has a possible score for a line, or none
 abbrev pub PossibleScoresAreThere : Type 0
@@ -36,3 +38,9 @@ HalvingIsByTheScore =
     → IsNotAbove (HoldsOfPoints sheet season club line claim) bound
     ↔ ((number : ℤ) × IsLeastOf (HoldsOfPoints sheet season club line claim) number
     × (number ≤ℤ bound))
+
+-- so each season has right numbers for each line and club
+abbrev pub EachSeasonHasScores : Type 0
+EachSeasonHasScores =
+    (sheet : Sheet) (season : Results) → IsLeague sheet season → IsTrue (are_results season)
+    → (scores : List ClubScores) × AreScoresOf sheet season scores

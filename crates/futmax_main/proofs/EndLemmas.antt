@@ -17,10 +17,13 @@ use Rattle.futmax_main.specs.declared.session.Outcome.TheVariants.{Complete, Ref
 use Rattle.futmax_main.specs.Plays.{Played}
 use Rattle.futmax_main.specs.Courses.{Course, course_ended, with_asks}
 use Rattle.futmax_main.specs.Rows.{fault_row}
-use Rattle.futmax_main.specs.Texts.{status_of_cause}
+use Rattle.futmax_main.specs.Answers.{IsAnswerTo}
+use Rattle.futmax_main.specs.Texts.{IsFrontOf, status_of_cause}
 use Rattle.futmax_main.specs.Top.{IsWholeText, Serves}
 use Rattle.futmax_main.specs.Turns.{FaultEnds, AskEnds}
-use Rattle.futmax_main.proofs.TextLemmas.{Reached, reached-front, reached-so_far, reached-status}
+use Rattle.futmax_main.proofs.AnsweredLemmas.{answers-behind}
+use Rattle.futmax_main.proofs.TextLemmas.{Reached, front-answer, front-last, reached-answered}
+use Rattle.futmax_main.proofs.TextLemmas.{reached-front, reached-so_far, reached-status}
 use Rattle.futmax_main.proofs.TextLemmas.{reached-text}
 
 -- no fault of the input ends a run as done
@@ -88,7 +91,8 @@ fault-serves answering input written left told' old now0 now1 fault WriteFault s
     = (
       written ++ ends.0,
       written-more old now0 now1 written ends.0 before ends.2,
-      reached-front answering input written (course_ended (Refused fault)) ends.0 stopped ends.1,
+      reached-front answering input written (course_ended (Refused fault)) ends.0 stopped
+          (front-last answering (Refused fault) ends.0 ends.1),
     )
 fault-serves answering input written left told' old now0 now1 fault OutOfMemory stopped before ends
     = (
@@ -134,6 +138,17 @@ end-serves answering input written left told' old now there known none =
       ),
     )
 
+-- a front of an answer is one of the course from its ask on
+asked-front : (answering : Answering) (input written : List ℕ) (asked : Played)
+    (behind : Course) (answer part : List ℕ)
+    → Reached answering input written (with_asks (asked ∷ []) behind)
+    → IsAnswerTo answering asked answer → IsFront part answer
+    → IsFrontOf answering (with_asks (asked ∷ []) behind) part
+asked-front answering input written asked behind answer part there is front =
+    front-answer answering asked behind answer part is front
+    (answers-behind answering (asked ∷ []) behind.asks
+    (reached-answered answering input written (with_asks (asked ∷ []) behind) there))
+
 -- an ask that ends the run serves
 pub ask-serves : (answering : Answering) (input written : List ℕ) (asked : Played)
     (behind : Course) (left : Option (List ℕ)) (told' : Bool)
@@ -157,7 +172,7 @@ ask-serves answering input written asked behind left told' old now0 now1 WriteFa
       written ++ front.0,
       written-more old now0 now1 written front.0 before front.2,
       reached-front answering input written (with_asks (asked ∷ []) behind) front.0 there
-          (inl (inr (ends.0, ends.1, front.1))),
+          (asked-front answering input written asked behind ends.0 front.0 there ends.1 front.1),
     )
 ask-serves answering input written asked behind left told' old now0 now1 OutOfMemory there before
     ends = elim ends [
@@ -168,7 +183,8 @@ ask-serves answering input written asked behind left told' old now0 now1 OutOfMe
         written ++ front.0,
         written-more old now0 now1 written front.0 before front.2,
         reached-front answering input written (with_asks (asked ∷ []) behind) front.0 there
-            (inl (inr (more.0, more.1, front.1))),
+            (asked-front answering input written asked behind more.0 front.0 there more.1
+            front.1),
       )
     ]
 ask-serves answering input written asked behind left told' old now0 now1 NotProved there before ends

@@ -1,6 +1,8 @@
 pub mod CourseLemmas
 pub mod SheetLemmas
 pub mod StopLemmas
+pub mod LimitLemmas
+pub mod AnsweredLemmas
 pub mod TextLemmas
 pub mod EndLemmas
 pub mod AnswerLemmas

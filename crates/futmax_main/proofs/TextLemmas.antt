@@ -1,5 +1,5 @@
 -- Texts of a course, from answers to its first asks on.
-use Rattle.std.proofs.Common.{◌≡◌, ℕ, List, [], ◌∷◌, ◌++◌, refl, ap, sym, ◌∙◌, subst, inl, inr}
+use Rattle.std.proofs.Common.{◌≡◌, ℕ, List, [], ◌∷◌, ◌++◌, refl, ap, sym, ◌∙◌, subst}
 use Rattle.std.proofs.Common.{append-nil}
 use Rattle.std.proofs.lemmas.List.{append_assoc}
 use Rattle.port_core.specs.Ports.{IsFront}
@@ -13,9 +13,10 @@ use Rattle.futmax_main.specs.Plays.{Played}
 use Rattle.futmax_main.specs.Courses.{Course, course_ended, course_from, course_of, with_asks}
 use Rattle.futmax_main.specs.Rows.{last_row}
 use Rattle.futmax_main.specs.Answers.{IsAnswerTo}
-use Rattle.futmax_main.specs.Texts.{AreAnswers, IsFrontTo, IsTextOf, status_of_outcome}
+use Rattle.futmax_main.specs.Texts.{AreAnswers, IsFrontOf, IsTextOf, status_of_outcome}
 use Rattle.futmax_main.specs.Top.{IsText, IsTextFront, session_status}
 use Rattle.futmax_main.specs.Way.{LeadsOn}
+use Rattle.futmax_main.proofs.AnsweredLemmas.{HasAnswers, answers-behind, session-answered}
 
 -- answers and then more answers
 pub answers-append : (answering : Answering) (asks others : List Played) (written more : List ℕ)
@@ -37,26 +38,54 @@ pub answers-one : (answering : Answering) (asked : Played) (answer : List ℕ)
     → IsAnswerTo answering asked answer → AreAnswers answering (asked ∷ []) answer
 answers-one answering asked answer is = (answer, [], sym (append-nil answer), is, refl)
 
--- whole answers, and a front of what is behind them
-front-behind : (answering : Answering) (asks others : List Played) (last written more : List ℕ)
-    → AreAnswers answering asks written → IsFrontTo answering others last more
-    → IsFrontTo answering (asks ++ others) last (written ++ more)
-front-behind answering [] others last written more first front =
-    let P : List ℕ → Type 0 = λ t. IsFrontTo answering others last (t ++ more) in
-    subst P (sym first) front
-front-behind answering (asked ∷ asks) others last written more first front = inr (
-  first.0,
-  first.1 ++ more,
-  ap (λ t. t ++ more) first.2 ∙ append_assoc first.0 first.1 more,
-  first.3,
-  front-behind answering asks others last first.1 more first.4 front,
+-- answers to the first asks, and a text of what is behind them
+text-behind : (answering : Answering) (asks : List Played) (behind : Course)
+    (written text : List ℕ) → AreAnswers answering asks written → IsTextOf answering behind text
+    → IsTextOf answering (with_asks asks behind) (written ++ text)
+text-behind answering asks behind written text first whole = (
+  written ++ whole.0,
+  answers-append answering asks behind.asks written whole.0 first whole.1,
+  ap (λ t. written ++ t) whole.2 ∙ sym (append_assoc written whole.0 (last_row behind.outcome)),
 )
 
--- nothing is a front of everything
-pub front-nothing : (answering : Answering) (asks : List Played) (last : List ℕ)
-    → IsFrontTo answering asks last []
-front-nothing answering [] last = (last, refl)
-front-nothing answering (asked ∷ asks) last = inl (inl refl)
+-- the same of a front
+front-behind : (answering : Answering) (asks : List Played) (behind : Course)
+    (written more : List ℕ) → AreAnswers answering asks written → IsFrontOf answering behind more
+    → IsFrontOf answering (with_asks asks behind) (written ++ more)
+front-behind answering asks behind written more first front = (
+  written ++ front.0,
+  text-behind answering asks behind written front.0 first front.1,
+  (
+    front.2.0,
+    ap (λ t. written ++ t) front.2.1 ∙ sym (append_assoc written more front.2.0),
+  ),
+)
+
+-- ---- fronts that end at an answer, in it, or in the last row
+
+-- nothing is a front, where each ask has an answer
+pub front-nothing : (answering : Answering) (behind : Course) → HasAnswers answering behind.asks
+    → IsFrontOf answering behind []
+front-nothing answering behind answered =
+    let whole = answered.0 ++ last_row behind.outcome in
+    (whole, (answered.0, answered.1, refl), (whole, refl))
+
+-- a front of the last row, where nothing is asked any more
+pub front-last : (answering : Answering) (outcome : Outcome) (part : List ℕ)
+    → IsFront part (last_row outcome) → IsFrontOf answering (course_ended outcome) part
+front-last answering outcome part front = (last_row outcome, ([], refl, refl), front)
+
+-- a front of an answer, where each ask behind it has one
+pub front-answer : (answering : Answering) (asked : Played) (behind : Course)
+    (answer part : List ℕ) → IsAnswerTo answering asked answer → IsFront part answer
+    → HasAnswers answering behind.asks → IsFrontOf answering (with_asks (asked ∷ []) behind) part
+front-answer answering asked behind answer part is front answered =
+    let rest = answered.0 ++ last_row behind.outcome in (
+      answer ++ rest,
+      text-behind answering (asked ∷ []) behind answer rest
+          (answers-one answering asked answer is) (answered.0, answered.1, refl),
+      (front.0 ++ rest, ap (λ t. t ++ rest) front.1 ∙ append_assoc part front.0 rest),
+    )
 
 -- ---- what a run knows of its input
 
@@ -92,17 +121,22 @@ reached-as answering input written behind other there is = record {
   all = there.all ∙ ap (with_asks there.asks) is;
 }
 
+-- each ask that is left has an answer
+pub reached-answered : (answering : Answering) (input written : List ℕ) (behind : Course)
+    → Reached answering input written behind → HasAnswers answering behind.asks
+reached-answered answering input written behind there =
+    let P : Course → Type 0 = λ c. HasAnswers answering c.asks in
+    answers-behind answering there.asks behind.asks
+    (subst P there.all (session-answered answering (contents_of input)))
+
 -- a front of what is behind
 pub reached-front : (answering : Answering) (input written : List ℕ) (behind : Course)
-    (more : List ℕ) → Reached answering input written behind
-    → IsFrontTo answering behind.asks (last_row behind.outcome) more
+    (more : List ℕ) → Reached answering input written behind → IsFrontOf answering behind more
     → IsTextFront answering input (written ++ more)
 reached-front answering input written behind more there front =
-    let P : Course → Type 0 =
-    λ c. IsFrontTo answering c.asks (last_row c.outcome) (written ++ more) in
+    let P : Course → Type 0 = λ c. IsFrontOf answering c (written ++ more) in
     subst P (sym there.all)
-    (front-behind answering there.asks behind.asks (last_row behind.outcome) written more
-    there.answers front)
+    (front-behind answering there.asks behind written more there.answers front)
 
 -- what was written so far
 pub reached-so_far : (answering : Answering) (input written : List ℕ) (behind : Course)
@@ -111,7 +145,7 @@ reached-so_far answering input written behind there =
     let P : List ℕ → Type 0 = λ t. IsTextFront answering input t in
     subst P (append-nil written)
     (reached-front answering input written behind [] there
-    (front-nothing answering behind.asks (last_row behind.outcome)))
+    (front-nothing answering behind (reached-answered answering input written behind there)))
 
 -- the whole text, where nothing is asked any more
 pub reached-text : (answering : Answering) (input written : List ℕ) (outcome : Outcome)

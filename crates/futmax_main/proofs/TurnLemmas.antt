@@ -12,7 +12,8 @@ use Rattle.port_core.specs.Lines.{lines_of, HasNoLineFeed, AreEndedLines}
 use Rattle.port_core.specs.Contents.{Position, start, number_at, Contents, ended, with_lines}
 use Rattle.port_core.specs.Contents.{contents_from, contents_of}
 use Rattle.port_core.specs.Readers.{Reader, contents_behind, contents_to_come, stream_of, Passes}
-use Rattle.port_core.specs.Readers.{LeavesReader, PassesKnown, PassesTo}
+use Rattle.port_core.specs.Readers.{LeavesReader, PassesKnown, PassesTo, given_by}
+use Rattle.fixture_sheet.specs.declared.fault.SheetFault.{SheetFault}
 use Rattle.fixture_sheet.specs.declared.fault.SheetStop.{SheetStop}
 use Rattle.fixture_sheet.specs.declared.fault.SheetStop.TheVariants as sheet_stop
 use Rattle.fixture_sheet.specs.Calls.{Leads, PassesUpTo, ReadsSheet, ReadsSheetAs}
@@ -21,6 +22,7 @@ use Rattle.fixture_sheet.specs.Sheets.{sheet_reading_of}
 use Rattle.futmax_main.specs.declared.status.Status.{Status}
 use Rattle.futmax_main.specs.declared.status.Status.TheVariants.{ReadFault, OutOfMemory}
 use Rattle.futmax_main.specs.declared.session.Answering.{Answering}
+use Rattle.futmax_main.specs.declared.session.Cause.TheVariants as cause
 use Rattle.futmax_main.specs.declared.session.Fault.{Fault}
 use Rattle.futmax_main.specs.declared.session.Outcome.{Outcome}
 use Rattle.futmax_main.specs.declared.session.Outcome.TheVariants.{Complete, Refused}
@@ -295,6 +297,32 @@ sheet-fails answering reader new input left told told' found old fresh is reads 
     turn-fails_early answering input new.held left told told' new.position (passed.0 ++ []) old
     (fresh-passes reader new input left told told' (passed.0 ++ []) fresh passed.1)
     read.0 (fresh-leads reader input there read.0 fresh read.1) (subst R is leaves).0
+
+-- a refused line, or the end of the input
+pub sheet-refused : (answering : Answering) (reader new : Reader)
+    (input left : Option (List ℕ)) (told told' : Bool) (found : SheetStop) (number : ℕ)
+    (fault : SheetFault) (old now : Option (List ℕ)) (status : Status)
+    → reader ≡ record { held = []; text = []; position = start }
+    → found ≡ sheet_stop.Fault number fault
+    → ReadsSheet (contents_to_come reader input) (contents_to_come new left) (no_sheet found)
+    → PassesUpTo reader new input left told told' (sheet_answer_behind new (no_sheet found))
+    → FaultEnds (record { number = number; cause = cause.Sheet fault }) old now status
+    → Serves (Some answering) input left told' old now status
+sheet-refused answering reader new input left told told' found number fault old now status fresh is
+    reads passes ends =
+    let there : Option Contents = contents_to_come new left in
+    let refused : SheetStop = sheet_stop.Fault number fault in
+    let P : SheetStop → Type 0 =
+    λ s. ReadsSheet (contents_to_come reader input) there (no_sheet s) in
+    let Q : SheetStop → Type 0 =
+    λ s. PassesUpTo reader new input left told told' (sheet_answer_behind new (no_sheet s)) in
+    let passed = subst Q is passes in
+    let given : List (ℕ × List ℕ) =
+    passed.0 ++ given_by (sheet_answer_behind new (no_sheet refused)) new.text in
+    turn-no_sheet answering input (stream_of new left) told told' new.position given refused
+    (record { number = number; cause = cause.Sheet fault }) left old now status
+    (fresh-passes reader new input left told told' given fresh passed.1)
+    (fresh-reads reader input there (no_sheet refused) fresh (subst P is reads)) refl ends
 
 -- a line that is too long
 pub sheet-long_line : (answering : Answering) (reader new : Reader)

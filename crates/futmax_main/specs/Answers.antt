@@ -1,17 +1,39 @@
 -- The answer of an ask, by what is answered.
-use Rattle.std.specs.Prelude.{ℕ, List}
+use Rattle.std.specs.Prelude.{◌≡◌, ℕ, Bool, List, ◌++◌}
 use Rattle.league_core.specs.declared.sheet.Sheet.{Sheet}
 use Rattle.league_core.specs.Results.{Results}
-use Rattle.ask_answers.specs.Verdicts.{AreVerdicts}
+use Rattle.cert_text.specs.declared.proof_line.ProofLine.{ProofLine}
+use Rattle.cert_text.specs.ExampleLines.{text_of_proof_lines}
+use Rattle.verdict_run.specs.declared.word.Word.{Word}
+use Rattle.verdict_run.specs.Items.{AnswerRow, IsItemShown, answer_rows}
+use Rattle.ask_answers.specs.Parts.{IsMadeOf, club_name}
+use Rattle.ask_answers.specs.Rows.{ask_row, verdict_row}
 use Rattle.ask_answers.specs.Tables.{IsTableText}
 use Rattle.score_answers.specs.ScoreTexts.{IsScoresText}
 use Rattle.futmax_main.specs.declared.session.Answering.{Answering}
 use Rattle.futmax_main.specs.declared.session.Answering.TheVariants.{Verdicts, Table, Scores}
 use Rattle.futmax_main.specs.Plays.{Played}
 
+-- the item of a line and a club: the row of a word that is right, and then lines that show it,
+-- however many
+abbrev pub IsItemText : Bool → Sheet → Results → AnswerRow → List ℕ → Type 0
+IsItemText proofs sheet season about text =
+    (word : Word) × (lines : List ProofLine)
+    × IsItemShown proofs sheet season about.line about.club word lines
+    × (text ≡ verdict_row about.line (club_name sheet about.club) word
+    ++ text_of_proof_lines lines)
+
+-- the verdicts of a season, which so many events told: the row of the ask, then an item for each
+-- line and club in the sheet's order, with proofs or without
+abbrev pub IsVerdictsText : Bool → Sheet → Results → ℕ → List ℕ → Type 0
+IsVerdictsText proofs sheet season epoch text =
+    (items : List ℕ) × (text ≡ ask_row epoch ++ items)
+    × IsMadeOf (IsItemText proofs sheet season) (answer_rows sheet) items
+
 -- the text answers from a season that so many events told
 abbrev pub IsAnswerFrom : Answering → Sheet → Results → ℕ → List ℕ → Type 0
-IsAnswerFrom (Verdicts proofs) sheet season epoch text = AreVerdicts proofs sheet season epoch text
+IsAnswerFrom (Verdicts proofs) sheet season epoch text =
+    IsVerdictsText proofs sheet season epoch text
 IsAnswerFrom Table sheet season epoch text = IsTableText sheet season epoch text
 IsAnswerFrom Scores sheet season epoch text = IsScoresText sheet season epoch text
 

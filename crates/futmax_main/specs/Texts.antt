@@ -1,5 +1,5 @@
 -- The status and the texts of a course: an answer to each ask, and then the last row.
-use Rattle.std.specs.Prelude.{◌≡◌, ℕ, ◌⊎◌, List, [], ◌∷◌, ◌++◌}
+use Rattle.std.specs.Prelude.{◌≡◌, ℕ, ◌⊎◌, List, ◌++◌}
 use Rattle.port_core.specs.Ports.{IsFront}
 use Rattle.fixture_sheet.specs.declared.fault.SheetFault.{SheetFault}
 use Rattle.ask_answers.specs.Parts.{IsMadeOf}
@@ -41,22 +41,10 @@ IsTextOf answering course text =
     (answers : List ℕ) × AreAnswers answering course.asks answers
     × (text ≡ answers ++ last_row course.outcome)
 
--- the front of an answer: nothing yet, or a front of some answer
-abbrev pub IsAnswerFront : Answering → Played → List ℕ → Type 0
-IsAnswerFront answering asked text = (text ≡ [])
-    ⊎ ((answer : List ℕ) × IsAnswerTo answering asked answer × IsFront text answer)
-
--- whole answers to the first of these asks, and a front of the next answer, or of the last row
-abbrev pub IsFrontTo : Answering → List Played → List ℕ → List ℕ → Type 0
-IsFrontTo answering [] last text = IsFront text last
-IsFrontTo answering (asked ∷ asks) last text =
-    IsAnswerFront answering asked text
-    ⊎ ((answer : List ℕ) × (rest : List ℕ) × (text ≡ answer ++ rest)
-    × IsAnswerTo answering asked answer × IsFrontTo answering asks last rest)
-
--- the same of a course
+-- the text is a front of one that a session of this course writes
 abbrev pub IsFrontOf : Answering → Course → List ℕ → Type 0
-IsFrontOf answering course text = IsFrontTo answering course.asks (last_row course.outcome) text
+IsFrontOf answering course text =
+    (whole : List ℕ) × IsTextOf answering course whole × IsFront text whole
 
 -- no line is refused where the input ends at this number: it is complete there, or its sheet is not
 abbrev pub IsRefusedAtEnd : ℕ → Outcome → Type 0

@@ -25,7 +25,7 @@ session_status input = status_of_outcome (course_of (contents_of input)).outcome
 abbrev pub IsText : Answering → List ℕ → List ℕ → Type 0
 IsText answering input text = IsTextOf answering (course_of (contents_of input)) text
 
--- whole answers of the session's first asks, and a front of its next answer or row
+-- the text is a front of a text of the session of an input
 abbrev pub IsTextFront : Answering → List ℕ → List ℕ → Type 0
 IsTextFront answering input text = IsFrontOf answering (course_of (contents_of input)) text
 

@@ -20,7 +20,7 @@ pub enum Status {
     /// The sink failed.
     WriteFault,
     OutOfMemory,
-    /// A report is no proof. No mode of today answers it.
+    /// A report is no proof; only a check answers it.
     NotProved,
     /// A line, or the input, has more bytes than it may have.
     TooLong,

@@ -36,7 +36,8 @@ use Rattle.score_box.specs.Points.{IsPointsOf, IsRangeOver, left_to}
 use Rattle.score_box.specs.Totals.{AreTables, totals_at, no_totals, points_column}
 use Rattle.score_box.specs.Unplayed.{unplayed_in}
 use Rattle.score_box.proofs.EndLemmas.{IsSmall, matches_of, range_small}
-use Rattle.score_box.proofs.SplitLemmas.{IsEnd, least_end, greatest_end, end_at_fixture, KeepsPlayed}
+use Rattle.score_box.proofs.SplitLemmas.{IsEnd, least_end, greatest_end, end_at_fixture}
+use Rattle.score_box.proofs.SplitLemmas.{KeepsPlayed}
 use Rattle.score_box.proofs.SplitLemmas.{keeps_played, range_split, total_take, no_match}
 
 -- ---- one fixture after another
@@ -94,11 +95,13 @@ sum_past : (club : ℕ) → 24 ≤ club → (matches : List Fixture) (scores : L
 sum_past club past [] scores are = refl
 sum_past club past (match ∷ matches) [] are = refl
 sum_past club past (match ∷ matches) (None ∷ scores) are =
-    let rest = sum_past club past matches scores (λ i d within. are (suc i) d (omega (arith, within)))
+    let rest =
+      sum_past club past matches scores (λ i d within. are (suc i) d (omega (arith, within)))
     in
     omega (arith, ints, rest)
 sum_past club past (match ∷ matches) (Some score ∷ scores) are =
-    let rest = sum_past club past matches scores (λ i d within. are (suc i) d (omega (arith, within)))
+    let rest =
+      sum_past club past matches scores (λ i d within. are (suc i) d (omega (arith, within)))
     in
     let here = are 0 match (omega arith) in
     let none : worth_to match_points club match score ≡ pos 0 =
@@ -131,7 +134,8 @@ table_points fixtures scores rows pairs clubs matches tables =
 -- ---- both together
 
 -- an end of what is left, with what was played, is that of all fixtures
-with_played : (end : Range → ℤ) → IsEnd end → ((n : ℤ) → end (record { least = n; greatest = n }) ≡ n)
+with_played : (end : Range → ℤ) → IsEnd end
+    → ((n : ℤ) → end (record { least = n; greatest = n }) ≡ n)
     → (fixtures : List Fixture) (scores : List (Option Score)) (options : List (List Score))
     (rows pairs : List Totals) (clubs : List ℕ) → length scores ≡ length fixtures
     → length options ≡ length fixtures → All IsMatch fixtures → KeepsPlayed scores options

@@ -4,7 +4,8 @@ use Rattle.std.specs.Prelude.{slice_index_or}
 use Rattle.league_core.specs.declared.sheet.Fixture.{Fixture}
 use Rattle.league_core.specs.declared.season.Score.{Score}
 use Rattle.league_core.specs.Limits.{set_width}
-use Rattle.league_core.specs.PointRanges.{Range, range_of, points_of_sides, points_together, total_of}
+use Rattle.league_core.specs.PointRanges.{Range, range_of, points_of_sides, points_together}
+use Rattle.league_core.specs.PointRanges.{total_of}
 use Rattle.league_core.specs.PointRanges.{won_points, drawn_points, lost_points}
 use Rattle.score_box.specs.declared.cell.Cell.{Cell}
 use Rattle.score_box.specs.declared.points.PointRange.{PointRange}
@@ -40,7 +41,8 @@ pub record IsPointsOf (cell : Cell) (home away : Bool) (points : MatchPoints) : 
 -- what the options of the fixture of a number leave a set of clubs
 abbrev pub left_to : List ℕ → List Fixture → List (List Score) → ℕ → Range
 left_to clubs fixtures options number =
-    range_of (points_together clubs (slice_index_or fixtures number (record { home = 0; away = 0 })))
+    range_of (points_together clubs
+    (slice_index_or fixtures number (record { home = 0; away = 0 })))
     (slice_index_or options number [])
 
 -- the least and the most match points that the fixtures of some numbers leave a set of clubs

@@ -1,7 +1,7 @@
 use Rattle.std.proofs.Common.{◌∙◌, ap}
 use Rattle.fixture_sheet.specs.declared.fault.SheetStop.TheVariants.{Read}
 use Rattle.futmax_main.proofs.TurnLemmas.{serves-nothing, sheet-comes, sheet-fails}
-use Rattle.futmax_main.proofs.TurnLemmas.{sheet-long_input, sheet-long_line}
+use Rattle.futmax_main.proofs.TurnLemmas.{sheet-long_input, sheet-long_line, sheet-refused}
 use Rattle.futmax_main.proofs.turn.take_sheet.Goals as goal
 
 pub returns-in-Ok-clause-way : goal.returns-in-Ok-clause-way
@@ -10,6 +10,14 @@ returns-in-Ok-clause-way g c =
     (g.S.Source.left c.args.source.now) (g.S.Source.left c.read_sheet.new.source) _ _
     c.in-Ok.sheet _ c.begin_feed.result c.requires c.in-Ok.ensures.reads c.in-Ok.ensures.passes
     c.begin_feed.ensures.begins
+
+pub returns-in-Err-Fault-clause-way : goal.returns-in-Err-Fault-clause-way
+returns-in-Err-Fault-clause-way g c =
+    let stop = c.in-Err-Fault in
+    sheet-refused c.args.answering c.args.reader.now c.read_sheet.new.reader
+    (g.S.Source.left c.args.source.now) (g.S.Source.left c.read_sheet.new.source) _ _
+    stop.field-0 stop.number stop.fault _ _ c.refuse.result c.requires stop.field-0-is
+    stop.ensures.reads stop.ensures.passes c.refuse.ensures.fault
 
 pub returns-in-Err-Read-ReadFault-clause-way : goal.returns-in-Err-Read-ReadFault-clause-way
 returns-in-Err-Read-ReadFault-clause-way g c =

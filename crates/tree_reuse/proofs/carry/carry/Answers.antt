@@ -11,7 +11,8 @@ loop-part-init c =
       sheet_is = cc (ap (λ setting. setting.sheet) way);
       season_is = cc (ap (λ setting. setting.season) way);
       of_sheet = rw c.in_ok-nodes.ensures c.requires.tests;
-      walk = walk_started c.args.question.now c.args.played.now.sheet c.args.played.now.season c.args.tree.now
+      walk = walk_started c.args.question.now c.args.played.now.sheet
+          c.args.played.now.season c.args.tree.now
           c.in_ok-way.way c.in_ok-nodes.nodes.items (reverse c.push.new.self.items)
           c.new-found.result.items way c.in_ok-nodes.ensures
           (rw (c.in_ok-push.ensures.items, c.new-parts.ensures.items) refl)

@@ -1,5 +1,6 @@
 -- One club of the set more; past the table there is none.
-use Rattle.std.proofs.Common.{◌≡◌, ℕ, ◌+◌, ◌-◌, ℤ, pos, ◌+ℤ◌, cond, subst, refl, sym, ap, ◌∙◌, arith}
+use Rattle.std.proofs.Common.{◌≡◌, ℕ, ◌+◌, ◌-◌, ℤ, pos, ◌+ℤ◌, cond, subst, refl, sym, ap, ◌∙◌}
+use Rattle.std.proofs.Common.{arith}
 use mir.Syntax.{w32}
 use mir.Val.{to_z, of_z}
 use Rattle.std.proofs.lemmas.Int.{ints}
