@@ -175,8 +175,10 @@ league-has fields =
     with_budget : List ℕ → ℕ → ℕ → Option Sheet
     with_budget name goal_limit budget =
         option_map (λ order. sheet_begun name goal_limit budget order) (order_told fields)
+
     with_goals : List ℕ → ℕ → Option Sheet
     with_goals name goal_limit = option_and_then (with_budget name goal_limit) (budget_of fields)
+
     with_name : List ℕ → Option Sheet
     with_name name =
         option_and_then (with_goals name) (number_within 1 most_goal_limit (field 2 fields))
