@@ -1,5 +1,5 @@
 use Rattle.check_bounds.proofs.CornerLemmas.{only_corner}
-use Rattle.std.proofs.Common.{List, [], ◌∷◌, sym, subst}
+use Rattle.std.proofs.Common.{List, sym, subst}
 use Rattle.league_core.specs.declared.season.Score.{Score}
 use Rattle.check_bounds.specs.Corners.{AreCornersOf}
 use Rattle.check_bounds.proofs.corners.Corners.of.Goals as goal
