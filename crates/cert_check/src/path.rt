@@ -1,5 +1,5 @@
-//! The way from a tree's root to the zone that is due. A yes literal on it stands for a half that is
-//! still due, so the way is all that has to be kept.
+//! The way from a tree's root to the zone that is due. A yes literal on it stands for a half that
+//! is still due, so the way is all that has to be kept.
 
 ghost use Rattle.std.specs.Prelude.{◌≡◌, [], ◌∷◌, Bool, true, IsTrue, if◌then◌else◌, IfOk};
 ghost use Rattle.std.specs.List.{list_all};

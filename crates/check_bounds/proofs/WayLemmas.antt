@@ -29,7 +29,8 @@ use Rattle.check_bounds.proofs.ScopeLemmas.{test_within}
 use Rattle.check_bounds.proofs.MeaningLemmas.{has_reason-is}
 
 -- the last step stands first where steps are turned round
-turned-push : (steps : List Step) (step : Step) → reverse (steps ++ step ∷ []) ≡ step ∷ reverse steps
+turned-push : (steps : List Step) (step : Step)
+    → reverse (steps ++ step ∷ []) ≡ step ∷ reverse steps
 turned-push steps step = reverse-append steps (step ∷ [])
 
 -- one step more is one literal more

@@ -52,8 +52,8 @@ impl Scope {
         }
     }
 
-    /// The one score that is left where each side has one number of goals and no outcome was cut, as
-    /// of a match that was played.
+    /// The one score that is left where each side has one number of goals and no outcome was cut,
+    /// as of a match that was played.
     pub fn only_score(&self) -> Option<Score>
         ensures { IfSome result (λ only.
             (score : Score) → is_left self.now score ≡ same_score only score) }

@@ -36,4 +36,5 @@ returns-in-Some-clause-back c =
     ∙ set-get_or c.args.scopes.now c.in-Some.fixture _
 
 pub returns-in-None-clause-cut : goal.returns-in-None-clause-cut
-returns-in-None-clause-cut c = takes_mark c.args.scopes.now c.args.literal.now c.in-None.ensures.none
+returns-in-None-clause-cut c =
+    takes_mark c.args.scopes.now c.args.literal.now c.in-None.ensures.none
