@@ -1,7 +1,9 @@
 -- Corners: the scores at the ends of what is left of each outcome are among the options, and each
 -- option lies between them.
 use Rattle.std.proofs.Common.{◌≡◌, ℕ, ◌+◌, ◌<◌, ◌≤◌, ◌⊎◌, inl, inr, Bool, true, false, ◌&&◌, ◌||◌}
-use Rattle.std.proofs.Common.{List, [], ◌∷◌, ◌++◌, Option, Some, None, refl, sym, ap, ◌∙◌, arith}
+use Rattle.std.proofs.Common.{List, [], ◌∷◌, ◌++◌, Option, Some, None, refl, sym, ap, subst, ◌∙◌}
+use Rattle.std.proofs.Common.{arith}
+use Rattle.std.proofs.Math.Bool.{or-false}
 use Rattle.std.specs.Option.{MatchOption}
 use Rattle.std.specs.List.{list_all}
 use Rattle.std.proofs.lemmas.Bool.{and_parts, and_from, or_left, or_right, or_cases, lt-ltb}
@@ -12,9 +14,10 @@ use Rattle.league_core.specs.declared.season.Score.{Score}
 use Rattle.league_core.specs.Finishes.{same_score}
 use Rattle.league_core.specs.Options.{is_home_win, is_draw, is_away_win, has_score, same_outcome}
 use Rattle.league_core.specs.Options.{score_of}
-use Rattle.league_core.proofs.OptionLemmas.{each_option, same_score-itself}
+use Rattle.league_core.proofs.OptionLemmas.{each_option, same_score-itself, same_score-true}
+use Rattle.league_core.proofs.OptionLemmas.{same_score-swap}
 use Rattle.league_core.proofs.OutcomeLemmas.{same_outcome-home, same_outcome-draw}
-use Rattle.league_core.proofs.OutcomeLemmas.{same_outcome-away}
+use Rattle.league_core.proofs.OutcomeLemmas.{same_outcome-away, same_outcome-itself}
 use Rattle.check_bounds.specs.declared.scope.Scope.{Scope}
 use Rattle.check_bounds.specs.declared.corners.Wins.{Wins}
 use Rattle.check_bounds.specs.declared.corners.Draws.{Draws}
@@ -388,3 +391,31 @@ corners_are scope home away draws home_are draws_are away_are options is =
           (λ left h a won. away_between scope scope.away_win away score left away_are h a won)
           (is score ∙ there);
     }
+
+-- a score lies between itself and itself
+between_itself : (only : Score) → LiesBetween (only ∷ []) only
+between_itself only =
+    let there = first_of only [] in
+    let same = same_outcome-itself only in
+    record {
+      fewest_home = (only, there, same, omega arith);
+      most_home = (only, there, same, omega arith);
+      fewest_away = (only, there, same, omega arith);
+      most_away = (only, there, same, omega arith);
+      least_lead = (only, there, same, omega arith);
+      most_lead = (only, there, same, omega arith);
+    }
+
+-- where one score is left, it is the corners
+pub only_corner : (scope : Scope) (only : Score)
+    → ((score : Score) → is_left scope score ≡ same_score only score) → (options : List Score)
+    → IsScopeOf scope options → AreCornersOf (only ∷ []) options
+only_corner scope only left options is = record {
+  inside = λ score there.
+      sym (is score) ∙ left score ∙ same_score-swap only score
+      ∙ sym (or-false (same_score score only)) ∙ there;
+  between = λ score there.
+      let same : only ≡ score = same_score-true only score (sym (left score) ∙ is score ∙ there)
+      in
+      subst (λ (s : Score). LiesBetween (only ∷ []) s) same (between_itself only);
+}

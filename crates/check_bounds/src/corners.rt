@@ -101,8 +101,28 @@ impl Corners {
         &self.scores[..self.count]
     }
 
-    // The corners of what is left: at most ten.
+    fn only(score: Score) -> Corners
+        ensures { result ≡ score ∷ [] }
+    {
+        Corners {
+            scores: [score; 10],
+            count: 1,
+        }
+    }
+
+    /// The corners of what is left: at most ten, and one where one score is all that is left.
     pub fn of(scope: &Scope) -> Corners
+        ensures { (options : List Score) → IsScopeOf scope.now options
+            → AreCornersOf result options }
+    {
+        match scope.only_score() {
+            Some(score) => Corners::only(score),
+            None => Corners::of_outcomes(scope),
+        }
+    }
+
+    // Those of each outcome, one after the other.
+    fn of_outcomes(scope: &Scope) -> Corners
         ensures { (options : List Score) → IsScopeOf scope.now options
             → AreCornersOf result options }
     {

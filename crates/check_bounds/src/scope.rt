@@ -1,8 +1,8 @@
 //! The scores with which a fixture may still end: which outcomes, and how many goals a side.
 
-ghost use Rattle.std.specs.Prelude.{◌≡◌, ◌&&◌, ℕ, nat_le, IsTrue, Some, ◌==◌};
+ghost use Rattle.std.specs.Prelude.{◌≡◌, ◌&&◌, ℕ, nat_le, IsTrue, IfSome, Some, ◌==◌};
 ghost use Rattle.league_core.specs.declared.season.Score.{Score};
-ghost use Rattle.league_core.specs.Finishes.{may_end};
+ghost use Rattle.league_core.specs.Finishes.{may_end, same_score};
 ghost use Rattle.league_core.specs.Zones.{passes, is_as_said, is_of_score};
 ghost use Rattle.league_core.specs.Options.{is_home_win, is_draw};
 ghost use Rattle.check_bounds.specs.Scopes.{is_goals_of, is_left};
@@ -50,6 +50,29 @@ impl Scope {
             home,
             away,
         }
+    }
+
+    /// The one score that is left where each side has one number of goals and no outcome was cut,
+    /// as of a match that was played.
+    pub fn only_score(&self) -> Option<Score>
+        ensures { IfSome result (λ only.
+            (score : Score) → is_left self.now score ≡ same_score only score) }
+    {
+        if self.is_uncut() && self.home.is_one() && self.away.is_one() {
+            Some(Score {
+                home: self.home.most,
+                away: self.away.most,
+            })
+        } else {
+            None
+        }
+    }
+
+    // Every outcome is left.
+    fn is_uncut(&self) -> bool
+        ensures { result ≡ (self.now.home_win && self.now.draw && self.now.away_win) }
+    {
+        self.home_win && self.draw && self.away_win
     }
 
     /// Leaves the scores that make a literal of the fixture's score true.
@@ -115,6 +138,13 @@ impl Goals {
             least: u16::from(goals),
             most: goals,
         }
+    }
+
+    // It has one number of goals, its most.
+    fn is_one(&self) -> bool
+        ensures { result ≡ (self.now.least == self.now.most) }
+    {
+        self.least == u16::from(self.most)
     }
 
     fn up_to(limit: u8) -> Goals

@@ -11,7 +11,7 @@ use Rattle.league_core.specs.declared.season.Event.{Event}
 use Rattle.league_core.specs.declared.question.Claim.TheVariants.{Inside}
 use Rattle.league_core.specs.Results.{Results, are_results}
 use Rattle.league_core.specs.Sheets.{IsWithinLimits, clubs_of}
-use Rattle.league_core.specs.Seasons.{AreEventsOf, IsEventOf, IsLeague, season_after}
+use Rattle.league_core.specs.Seasons.{AreEventsOf, IsEventOf, IsLeague}
 use Rattle.league_core.specs.Seasons.{unplayed_season}
 use Rattle.league_core.specs.Sums.{has_club, points_of, sum_of, goal_difference, goals}
 use Rattle.league_core.specs.LotsFor.{best_place_of, worst_place_of}
@@ -28,7 +28,7 @@ use Rattle.result_log.proofs.FeedLemmas.{feed_of-log}
 use Rattle.cert_text.specs.ExampleLines.{text_of_proof_lines}
 use Rattle.final_rank.proofs.PlaceLemmas.{best_is, worst_is}
 use Rattle.final_rank.proofs.TierLemmas.{below_clubs}
-use Rattle.verdict_run.specs.Items.{AnswerRow, answer_rows}
+use Rattle.verdict_run.specs.Items.{AnswerRow}
 use Rattle.answer_laws.specs.SeasonAnswers.{AnswerItem, IsKnownItem}
 use Rattle.answer_laws.proofs.AnswerLemmas.{season_answered}
 use Rattle.answer_laws.proofs.SeasonScoreLemmas.{scores_there}

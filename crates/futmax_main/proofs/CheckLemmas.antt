@@ -1,18 +1,17 @@
 -- Checks of an input: what was written, from what the input comes to.
-use Rattle.std.proofs.Common.{◌≡◌, ℕ, List, [], Option, Some, None, Result, Ok, Err, refl, ap, sym}
-use Rattle.std.proofs.Common.{◌∙◌, subst}
-use Rattle.std.specs.Io.KnownBytes.{append_known, prepend_known, IsAtEnd}
-use Rattle.port_core.specs.Contents.{start, Contents, contents_of}
-use Rattle.port_core.specs.Readers.{Reader, contents_to_come, LeavesReader, TakesInput}
+use Rattle.std.proofs.Common.{◌≡◌, ℕ, List, [], Option, Some, None, Ok, refl, ap}
+use Rattle.std.proofs.Common.{◌∙◌}
+use Rattle.std.specs.Io.KnownBytes.{prepend_known, IsAtEnd}
+use Rattle.port_core.specs.Contents.{start, contents_of}
+use Rattle.port_core.specs.Readers.{Reader, contents_to_come, TakesInput}
 use Rattle.check_run.specs.declared.outcome.CheckOutcome.{CheckOutcome}
 use Rattle.check_run.specs.declared.outcome.CheckOutcome.TheVariants as outcome
-use Rattle.check_run.specs.Outcomes.{outcome_of}
 use Rattle.check_run.specs.Calls.{ChecksInput, LeavesCheck}
 use Rattle.futmax_main.specs.declared.status.Status.{Status}
 use Rattle.futmax_main.specs.declared.status.Status.TheVariants.{Done, BadWords, BadSheet, BadFeed}
 use Rattle.futmax_main.specs.declared.status.Status.TheVariants.{ReadFault, WriteFault, OutOfMemory}
 use Rattle.futmax_main.specs.declared.status.Status.TheVariants.{NotProved, TooLong}
-use Rattle.futmax_main.specs.Checks.{CheckEnds, ComesTo, ServesCheck, check_row, status_of_check}
+use Rattle.futmax_main.specs.Checks.{ComesTo, ServesCheck, check_row, status_of_check}
 use Rattle.futmax_main.specs.Judging.{OutcomeEnds}
 use Rattle.futmax_main.proofs.TurnLemmas.{append_known-none, fresh-contents}
 

@@ -1,8 +1,8 @@
 -- The sheet that contents give is within the limits, by the definitions alone: each record keeps a
 -- sheet so far within them, and `season` is taken only where there are two clubs.
 use Rattle.std.proofs.Common.{◌≡◌, ℕ, ◌+◌, ◌<◌, Bool, true, false, not, ◌&&◌, ◌==◌, nat_le, nat_lt}
-use Rattle.std.proofs.Common.{List, [], ◌∷◌, ◌++◌, length, map, Option, Some, None, Result, Ok, Err}
-use Rattle.std.proofs.Common.{bytes_eq, codes, refl, sym, ap, ◌∙◌, arith}
+use Rattle.std.proofs.Common.{List, [], ◌∷◌, ◌++◌, length, Option, Some, None, Result, Ok, Err}
+use Rattle.std.proofs.Common.{bytes_eq, codes, refl, ◌∙◌, arith}
 use Rattle.std.specs.Prelude.{if◌then◌else◌, option_and_then, option_map, position}
 use Rattle.std.specs.List.{list_all, list_any}
 use Rattle.std.specs.Option.{ok_or}
@@ -34,10 +34,10 @@ use Rattle.fixture_sheet.specs.Records.{and_then, budget_of, club_added, club_na
 use Rattle.fixture_sheet.specs.Records.{club_taken, content_taken, fixture_added, fixture_of}
 use Rattle.fixture_sheet.specs.Records.{has_few_clubs, has_name, is_past_clubs, later_taken}
 use Rattle.fixture_sheet.specs.Records.{league_of, league_taken, line_added, line_taken}
-use Rattle.fixture_sheet.specs.Records.{match_taken, order_told, record_taken, record_taken_if}
+use Rattle.fixture_sheet.specs.Records.{match_taken, order_told, record_taken_if}
 use Rattle.fixture_sheet.specs.Records.{refusal_of_no_record, season_taken, sheet_begun, so_far}
 use Rattle.fixture_sheet.specs.Records.{whole}
-use Rattle.fixture_sheet.specs.Sheets.{SheetReading, sheet_reading_by, sheet_reading_from}
+use Rattle.fixture_sheet.specs.Sheets.{sheet_reading_by, sheet_reading_from}
 use Rattle.fixture_sheet.specs.Sheets.{sheet_reading_of}
 use Rattle.fixture_sheet.proofs.DraftLemmas.{club-keeps, line-keeps}
 
@@ -175,8 +175,10 @@ league-has fields =
     with_budget : List ℕ → ℕ → ℕ → Option Sheet
     with_budget name goal_limit budget =
         option_map (λ order. sheet_begun name goal_limit budget order) (order_told fields)
+
     with_goals : List ℕ → ℕ → Option Sheet
     with_goals name goal_limit = option_and_then (with_budget name goal_limit) (budget_of fields)
+
     with_name : List ℕ → Option Sheet
     with_name name =
         option_and_then (with_goals name) (number_within 1 most_goal_limit (field 2 fields))

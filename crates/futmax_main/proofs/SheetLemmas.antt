@@ -1,12 +1,11 @@
 -- The reading of a sheet: it is the same whatever follows the lines that it took.
 use Rattle.std.proofs.Common.{◌≡◌, ℕ, suc, ◌<◌, List, [], ◌∷◌, ◌++◌, length, Option, Some, None}
-use Rattle.std.proofs.Common.{Result, Ok, Err, refl, ap, ap₂, sym, ◌∙◌, subst, arith}
-use Rattle.std.proofs.Common.{append-nil}
+use Rattle.std.proofs.Common.{Result, Ok, Err, ap, ap₂, sym, ◌∙◌, arith}
 use Rattle.std.specs.Prelude.{option_map}
 use Rattle.std.proofs.lemmas.List.{append_cancel_right}
 use Rattle.league_core.specs.declared.sheet.Sheet.{Sheet}
 use Rattle.port_core.specs.declared.answers.ReadStop.{ReadStop}
-use Rattle.port_core.specs.Contents.{Contents, ended, with_lines}
+use Rattle.port_core.specs.Contents.{Contents, with_lines}
 use Rattle.fixture_sheet.specs.declared.fault.SheetFault.{SheetFault}
 use Rattle.fixture_sheet.specs.declared.fault.SheetStop.{SheetStop}
 use Rattle.fixture_sheet.specs.declared.record.Progress.{Progress}

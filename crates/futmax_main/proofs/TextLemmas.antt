@@ -6,7 +6,6 @@ use Rattle.port_core.specs.Ports.{IsFront}
 use Rattle.port_core.specs.Contents.{Contents, contents_of, with_lines}
 use Rattle.league_core.specs.declared.sheet.Sheet.{Sheet}
 use Rattle.league_core.specs.declared.season.Event.{Event}
-use Rattle.futmax_main.specs.declared.status.Status.{Status}
 use Rattle.futmax_main.specs.declared.session.Answering.{Answering}
 use Rattle.futmax_main.specs.declared.session.Outcome.{Outcome}
 use Rattle.futmax_main.specs.Plays.{Played}

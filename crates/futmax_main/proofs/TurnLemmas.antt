@@ -1,14 +1,13 @@
 -- The reading of the sheet: what it gives, from what the reader gave and what was written.
-use Rattle.std.proofs.Common.{◌≡◌, ℕ, false, Bool, List, [], ◌∷◌, ◌++◌, Option, Some, None}
-use Rattle.std.proofs.Common.{Result, Ok, Err, refl, ap, sym, ◌∙◌, subst, inl, inr}
-use Rattle.std.specs.Prelude.{option_map}
+use Rattle.std.proofs.Common.{◌≡◌, ℕ, Bool, List, [], ◌∷◌, ◌++◌, Option, Some, None}
+use Rattle.std.proofs.Common.{Result, Ok, Err, refl, ap, sym, ◌∙◌, subst, inr}
 use Rattle.std.specs.Io.KnownBytes.{append_known, prepend_known}
 use Rattle.std.proofs.lemmas.List.{append-nil}
 use Rattle.league_core.specs.declared.sheet.Sheet.{Sheet}
 use Rattle.league_core.specs.declared.season.Event.{Event}
 use Rattle.port_core.specs.declared.answers.Line.TheVariants as line
 use Rattle.port_core.specs.declared.answers.ReadStop.TheVariants as stop
-use Rattle.port_core.specs.Lines.{lines_of, HasNoLineFeed, AreEndedLines}
+use Rattle.port_core.specs.Lines.{lines_of, HasNoLineFeed}
 use Rattle.port_core.specs.Contents.{Position, start, number_at, Contents, ended, with_lines}
 use Rattle.port_core.specs.Contents.{contents_from, contents_of}
 use Rattle.port_core.specs.Readers.{Reader, contents_behind, contents_to_come, stream_of, Passes}
@@ -24,19 +23,18 @@ use Rattle.futmax_main.specs.declared.status.Status.TheVariants.{ReadFault, OutO
 use Rattle.futmax_main.specs.declared.session.Answering.{Answering}
 use Rattle.futmax_main.specs.declared.session.Cause.TheVariants as cause
 use Rattle.futmax_main.specs.declared.session.Fault.{Fault}
-use Rattle.futmax_main.specs.declared.session.Outcome.{Outcome}
-use Rattle.futmax_main.specs.declared.session.Outcome.TheVariants.{Complete, Refused}
+use Rattle.futmax_main.specs.declared.session.Outcome.TheVariants.{Refused}
 use Rattle.futmax_main.specs.declared.turn.Turn.{Turn}
 use Rattle.futmax_main.specs.declared.turn.Turn.TheVariants.{GoesOn, Ends}
-use Rattle.futmax_main.specs.Courses.{Course, course_behind, course_ended, course_from, course_of}
+use Rattle.futmax_main.specs.Courses.{Course, course_ended, course_of}
 use Rattle.futmax_main.specs.Courses.{course_of_reading, input_fault, line_fault}
-use Rattle.futmax_main.specs.Courses.{outcome_at_sheet, with_asks}
-use Rattle.futmax_main.specs.Texts.{AreAnswers, AreAllAnswers, IsRefusedAtEnd}
-use Rattle.futmax_main.specs.Top.{AnswersTaken, AreAnswersIn, Serves}
-use Rattle.futmax_main.specs.Way.{LeadsOn, Path}
+use Rattle.futmax_main.specs.Courses.{outcome_at_sheet}
+use Rattle.futmax_main.specs.Texts.{AreAllAnswers}
+use Rattle.futmax_main.specs.Top.{AreAnswersIn, Serves}
+use Rattle.futmax_main.specs.Way.{Path}
 use Rattle.futmax_main.specs.Turns.{FaultEnds, TurnBegins, TurnGives}
 use Rattle.futmax_main.proofs.SheetLemmas.{same-lines, sheet-elsewhere, sheet-reading}
-use Rattle.futmax_main.proofs.TextLemmas.{Reached, reached-start}
+use Rattle.futmax_main.proofs.TextLemmas.{reached-start}
 use Rattle.futmax_main.proofs.EndLemmas.{fault-serves, memory-serves}
 
 -- nothing written leaves the sink's bytes

@@ -13,7 +13,7 @@ use Rattle.verdict_run.specs.AskedQuestions.{questions_of}
 use Rattle.ask_answers.specs.declared.output.OutputStop.{OutputStop}
 use Rattle.ask_answers.specs.declared.output.OutputStop.TheVariants as output
 use Rattle.futmax_main.specs.declared.status.Status.{Status}
-use Rattle.futmax_main.specs.declared.status.Status.TheVariants.{Done, BadWords, ReadFault}
+use Rattle.futmax_main.specs.declared.status.Status.TheVariants.{BadWords, ReadFault}
 use Rattle.futmax_main.specs.declared.status.Status.TheVariants.{WriteFault, OutOfMemory, NotProved}
 use Rattle.futmax_main.specs.declared.session.Answering.{Answering}
 use Rattle.futmax_main.specs.declared.session.Answering.TheVariants.{Verdicts, Table, Scores}

@@ -1,5 +1,5 @@
 -- What a run keeps from ask to ask: the way from the whole input to where it stands.
-use Rattle.std.specs.Prelude.{◌≡◌, ℕ, Bool, List, ◌++◌, Option, Some, None}
+use Rattle.std.specs.Prelude.{◌≡◌, ℕ, Bool, List, Option, Some, None}
 use Rattle.std.specs.Io.KnownBytes.{append_known}
 use Rattle.league_core.specs.declared.sheet.Sheet.{Sheet}
 use Rattle.league_core.specs.declared.season.Event.{Event}

@@ -96,12 +96,12 @@ sum_past club past [] scores are = refl
 sum_past club past (match ∷ matches) [] are = refl
 sum_past club past (match ∷ matches) (None ∷ scores) are =
     let rest =
-      sum_past club past matches scores (λ i d within. are (suc i) d (omega (arith, within)))
+    sum_past club past matches scores (λ i d within. are (suc i) d (omega (arith, within)))
     in
     omega (arith, ints, rest)
 sum_past club past (match ∷ matches) (Some score ∷ scores) are =
     let rest =
-      sum_past club past matches scores (λ i d within. are (suc i) d (omega (arith, within)))
+    sum_past club past matches scores (λ i d within. are (suc i) d (omega (arith, within)))
     in
     let here = are 0 match (omega arith) in
     let none : worth_to match_points club match score ≡ pos 0 =

@@ -1,4 +1,4 @@
-use Rattle.std.proofs.Common.{Some, ◌∙◌, ap, subst, sym}
+use Rattle.std.proofs.Common.{Some, ◌∙◌, subst, sym}
 use Rattle.futmax_main.specs.declared.session.Service.{Service}
 use Rattle.futmax_main.specs.Services.{IsSettledAs}
 use Rattle.futmax_main.proofs.ServiceLemmas.{service-settled, service-unproved, service-words}

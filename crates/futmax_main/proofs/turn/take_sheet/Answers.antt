@@ -17,7 +17,7 @@ returns-in-Err-Fault-clause-way g c =
     sheet-refused c.args.answering c.args.reader.now c.read_sheet.new.reader
     (g.S.Source.left c.args.source.now) (g.S.Source.left c.read_sheet.new.source) _ _
     stop.field-0 stop.number stop.fault _ _ c.refuse.result c.requires stop.field-0-is
-    stop.ensures.reads stop.ensures.passes c.refuse.ensures.fault
+    stop.ensures.reads stop.ensures.passes (rw stop.field-0-is at c.refuse.ensures.fault)
 
 pub returns-in-Err-Read-ReadFault-clause-way : goal.returns-in-Err-Read-ReadFault-clause-way
 returns-in-Err-Read-ReadFault-clause-way g c =

@@ -1,21 +1,10 @@
-use Rattle.std.proofs.Common.{List, ◌++◌, sym, subst, ap, ◌∙◌}
+use Rattle.check_bounds.proofs.CornerLemmas.{only_corner}
+use Rattle.std.proofs.Common.{List, sym, subst}
 use Rattle.league_core.specs.declared.season.Score.{Score}
-use Rattle.check_bounds.specs.Corners.{AreCornersOf, corners_if, home_corners, draw_corners}
-use Rattle.check_bounds.specs.Corners.{away_corners}
-use Rattle.check_bounds.proofs.CornerLemmas.{corners_are}
+use Rattle.check_bounds.specs.Corners.{AreCornersOf}
 use Rattle.check_bounds.proofs.corners.Corners.of.Goals as goal
 
-pub returns : goal.returns
-returns c = λ options is.
-    let scope = c.args.scope.now in
-    let At : List Score → Type 0 = λ corners. AreCornersOf corners options in
-    subst At
-    (sym (c.push_away_if.ensures.corners
-    ∙ ap (λ xs. xs ++ corners_if scope.away_win away_corners c.wins_of-2.result)
-    (c.push_draws_if.ensures.corners
-    ∙ ap (λ xs. xs ++ corners_if scope.draw draw_corners c.draws_of.result)
-    (c.push_home_if.ensures.corners
-    ∙ ap (λ xs. xs ++ corners_if scope.home_win home_corners c.wins_of.result)
-    c.none-corners.ensures))))
-    (corners_are scope c.wins_of.result c.wins_of-2.result c.draws_of.result c.wins_of.ensures
-    c.draws_of.ensures c.wins_of-2.ensures options is)
+pub returns-in-Some : goal.returns-in-Some
+returns-in-Some c = λ options is.
+    subst (λ (corners : List Score). AreCornersOf corners options) (sym c.only.ensures)
+    (only_corner c.args.scope.now c.in-Some.score c.in-Some.ensures options is)

@@ -1,0 +1,151 @@
+//! Boxes and pieces of leagues that are read from text.
+
+ghost use Rattle.std.specs.Prelude.{◌≡◌, IsTrue, length};
+ghost use Rattle.league_core.specs.declared.sheet.Sheet.{Sheet};
+ghost use Rattle.league_core.specs.Questions.{IsQuestionOf};
+ghost use Rattle.league_core.specs.Zones.{is_zone_of, is_test_of, is_of_rival, IsZoneFor};
+ghost use Rattle.league_core.specs.Zones.{marked_before, marked_after};
+
+use branch_rules::choose;
+use league_core::{Claim, Literal, OutOfMemory, Question, Sheet, Test};
+use sample_leagues::sample_of;
+use score_box::{Played, ZoneBox};
+use std::alloc::Global;
+use std::process::Abort;
+use std::test::Fail;
+
+/// A question of the first club about the first place.
+pub fn asked(claim: Claim, low: i32, high: i32) -> Question {
+    Question {
+        club: 0,
+        line: 1,
+        claim,
+        low,
+        high,
+    }
+}
+
+/// The rival is to rank before the question's club.
+pub fn ahead(club: u8) -> Literal {
+    let test = Test::Rival { club };
+    Literal { test, yes: true }
+}
+
+/// The rival is not to.
+pub fn behind(club: u8) -> Literal {
+    let test = Test::Rival { club };
+    Literal { test, yes: false }
+}
+
+/// Asserts what is chosen in a zone of a league, and that it is the same for a box of the league
+/// read once more.
+pub fn check(
+    rt: &impl Abort,
+    alloc: Global,
+    text: &[u8],
+    question: &Question,
+    zone: &[Literal],
+    wanted: Test,
+) -> Result<(), Fail> {
+    let literal = chosen(rt, alloc, text, question, zone)?;
+    let again = chosen(rt, alloc, text, question, zone)?;
+    assert_eq!(rt; literal.test, wanted);
+    assert!(rt; literal.yes && literal == again);
+    Ok(())
+}
+
+fn chosen(
+    rt: &impl Abort,
+    alloc: Global,
+    text: &[u8],
+    question: &Question,
+    zone: &[Literal],
+) -> Result<Literal, Fail> {
+    let sample = sample_of(alloc, text).ok_or("no league")?;
+    let played = Played::of(alloc, &sample.sheet, &sample.season)?;
+    let mut zone_box = ZoneBox::over(alloc, &played, &[])?;
+    for literal in zone {
+        go_on(rt, &mut zone_box, *literal)?;
+    }
+    assert!(rt; (question.club as usize) < zone_box.sheet().clubs.len());
+    assert!(rt; zone_box.has_finish());
+    assert!(rt; !zone_box.is_single());
+    Ok(choose(&zone_box, question))
+}
+
+/// Puts a literal at the end of the box's zone.
+pub fn go_on(rt: &impl Abort, zone_box: &mut ZoneBox, literal: Literal) -> Result<(), OutOfMemory> {
+    let fixtures = zone_box.sheet().fixtures.len();
+    let clubs = zone_box.sheet().clubs.len();
+    assert!(rt; is_below(&literal.test, fixtures, clubs));
+    zone_box.cut(literal)
+}
+
+/// Whether a test is of one of so many fixtures or clubs.
+fn is_below(test: &Test, fixtures: usize, clubs: usize) -> bool
+    ensures { (sheet : Sheet) → length sheet.fixtures ≡ fixtures → length sheet.clubs ≡ clubs
+        → result ≡ is_test_of sheet test.now }
+{
+    match test {
+        Test::Home { fixture }
+        | Test::Draw { fixture }
+        | Test::HomeMost { fixture, .. }
+        | Test::AwayMost { fixture, .. } => (*fixture as usize) < fixtures,
+        Test::Rival { club } => (*club as usize) < clubs,
+    }
+}
+
+/// Whether the literals name fixtures and clubs of the sheet alone.
+pub fn is_of_sheet(sheet: &Sheet, literals: &[Literal]) -> bool
+    ensures { result ≡ is_zone_of sheet.now literals.now }
+{
+    let fixtures = sheet.fixtures.len();
+    let clubs = sheet.clubs.len();
+    literals
+        .iter()
+        .all(|literal| is_below(&literal.test, fixtures, clubs))
+}
+
+fn is_rival(test: &Test, club: u8) -> bool
+    ensures { result ≡ is_of_rival club test.now }
+{
+    match test {
+        Test::Rival { club: rival } => *rival == club,
+        Test::Home { .. } | Test::Draw { .. } | Test::HomeMost { .. } | Test::AwayMost { .. } => {
+            false
+        }
+    }
+}
+
+fn marks_before(literals: &[Literal], club: u8) -> bool
+    ensures { result ≡ marked_before literals.now club }
+{
+    literals
+        .iter()
+        .any(|literal| is_rival(&literal.test, club) && literal.yes)
+}
+
+fn marks_after(literals: &[Literal], club: u8) -> bool
+    ensures { result ≡ marked_after literals.now club }
+{
+    literals
+        .iter()
+        .any(|literal| is_rival(&literal.test, club) && !literal.yes)
+}
+
+/// Whether the literals are a zone for the question.
+pub fn is_zone_for(sheet: &Sheet, question: &Question, literals: &[Literal]) -> bool
+    ensures { IsTrue result → IsZoneFor sheet.now question.now literals.now }
+{
+    is_of_sheet(sheet, literals)
+        && !marks_before(literals, question.club)
+        && !marks_after(literals, question.club)
+}
+
+/// Whether the question is one of the sheet.
+pub fn is_question_of(sheet: &Sheet, question: &Question) -> bool
+    ensures { IsTrue result → IsQuestionOf sheet.now question.now }
+{
+    let clubs = sheet.clubs.len();
+    (question.club as usize) < clubs && 1 <= question.line && (question.line as usize) < clubs
+}
