@@ -1,14 +1,15 @@
-//! What two workers do with the first two questions.
+//! What two workers do with the first two questions, and when the result is reported.
 
 ghost use Rattle.std.specs.Prelude.{◌≡◌, IfOk};
+ghost use Rattle.league_core.specs.Seasons.{IsEventOf, season_after};
 ghost use Rattle.league_core.specs.Sheets.{IsWithinLimits};
 ghost use Rattle.reason_core.specs.Dones.{IsTrueDone};
 ghost use Rattle.pool_lock.specs.Lends.{IsWorkAfter};
 
 use branch_pool::{Gave, Ticket};
 use branch_rules::work;
-use league_core::{OutOfMemory, Sheet, Zone};
-use pool_lock::{Job, LentOut, PoolLock, WorkBadge};
+use league_core::{Event, OutOfMemory, Score, Sheet, Zone};
+use pool_lock::{Front, Job, LentOut, PoolLock, WorkBadge};
 use reason_core::{Done, Piece};
 use std::alloc::Global;
 use std::sync::Wait;
@@ -22,10 +23,74 @@ pub enum Case {
     OtherPiece,
     /// Neither gives back.
     Lost,
+    /// The result comes while both tickets are out.
+    Overtaken,
+}
+
+/// The result that is reported: 0:0 where it overtakes the workers, or else 1:0.
+pub fn event_of(case: Case) -> Event {
+    let home = match case {
+        Case::Overtaken => 0,
+        Case::Worked | Case::OtherPiece | Case::Lost => 1,
+    };
+    Event::Set {
+        fixture: 0,
+        score: Score { home, away: 0 },
+    }
 }
 
 /// Plays a case, and answers what became of the two tickets, where they were given back.
-pub fn play<J: Job, R: Wait>(
+pub fn meet<J: Job, R: Wait>(
+    rt: &R,
+    alloc: Global,
+    sheet: &Sheet,
+    lock: &PoolLock<J>,
+    front: &mut Front<J>,
+    badges: Vec<WorkBadge<J>>,
+    event: Event,
+    case: Case,
+) -> Result<Option<(Gave, Gave)>, Fail>
+    requires of_job { sheet.now ≡ J.sheet }
+    requires limits { IsWithinLimits sheet.now }
+    requires may_be { IsEventOf (season_after J.sheet front.old) event }
+{
+    let mut badges = badges;
+    let mut one = badges.pop().ok_or("no badge")?;
+    let mut two = badges.pop().ok_or("no badge")?;
+    match case {
+        Case::Overtaken => be_overtaken(rt, lock, front, &mut one, &mut two, event),
+        Case::Worked | Case::OtherPiece | Case::Lost => {
+            tell(rt, lock, front, &mut one, event)?;
+            lock.rest(rt, front);
+            play(rt, alloc, sheet, lock, &mut one, &mut two, case)
+        }
+    }
+}
+
+// Reports the first event. Where memory is wanting the word is as before, and so are pool and
+// front: the event can be reported again, and is the first one.
+fn tell<J: Job, R: Wait>(
+    rt: &R,
+    lock: &PoolLock<J>,
+    front: &mut Front<J>,
+    badge: &mut WorkBadge<J>,
+    event: Event,
+) -> Result<(), Fail>
+    requires may_be { IsEventOf (season_after J.sheet front.old) event }
+{
+    if lock.report(rt, front, event).is_ok() {
+        return Ok(());
+    }
+    if lock.cancelled(badge, 0).is_some() {
+        return Err("the word tells what the pool does not know".into());
+    }
+    match lock.report(rt, front, event) {
+        Ok(1) => Ok(()),
+        _ => Err("not the first event".into()),
+    }
+}
+
+fn play<J: Job, R: Wait>(
     rt: &R,
     alloc: Global,
     sheet: &Sheet,
@@ -48,7 +113,7 @@ pub fn play<J: Job, R: Wait>(
             let gave = swap(rt, alloc, sheet, lock, one, two, first)?;
             Ok(Some(gave))
         }
-        Case::Lost => {
+        Case::Lost | Case::Overtaken => {
             lose(ticket_of(rt, lock, one)?);
             lose(ticket_of(rt, lock, two)?);
             Ok(None)
@@ -109,6 +174,46 @@ fn swap<J: Job, R: Wait>(
             Err(fail)
         }
     }
+}
+
+// The result comes while both tickets are out, and then both are given back.
+fn be_overtaken<J: Job, R: Wait>(
+    rt: &R,
+    lock: &PoolLock<J>,
+    front: &mut Front<J>,
+    one: &mut WorkBadge<J>,
+    two: &mut WorkBadge<J>,
+    event: Event,
+) -> Result<Option<(Gave, Gave)>, Fail>
+    requires may_be { IsEventOf (season_after J.sheet front.old) event }
+{
+    lock.rest(rt, front);
+    let first = ticket_of(rt, lock, one)?;
+    match ticket_of(rt, lock, two) {
+        Ok(second) => {
+            let told = lock.report(rt, front, event).is_ok();
+            let gave = give_undone(rt, lock, one, first);
+            let other = give_undone(rt, lock, two, second);
+            if told {
+                Ok(Some((gave, other)))
+            } else {
+                Err("not told".into())
+            }
+        }
+        Err(fail) => {
+            lose(first);
+            Err(fail)
+        }
+    }
+}
+
+fn give_undone<J: Job, R: Wait>(
+    rt: &R,
+    lock: &PoolLock<J>,
+    badge: &mut WorkBadge<J>,
+    ticket: Ticket,
+) -> Gave {
+    lock.back(rt, badge, ticket, Done::Undone)
 }
 
 // What is found at a ticket; nothing where memory is wanting.

@@ -1,18 +1,18 @@
-//! A pool behind its lock, by hand: two clubs and one match, which A has won. So A is first, and
-//! the questions are, in order: whether A can end inside the line (an example shows it), outside
+//! A pool behind its lock, by hand: two clubs and one match. Where A wins it, A is first, and the
+//! questions are, in order: whether A can end inside the line (an example shows it), outside
 //! (refuted), and the same of B.
 
 ghost use Rattle.std.specs.Prelude.{◌≡◌, All, IsTrue};
-ghost use Rattle.league_core.specs.Seasons.{IsEventOf};
+ghost use Rattle.league_core.specs.Seasons.{IsEventOf, season_after};
 ghost use Rattle.league_core.specs.Sheets.{IsWithinLimits};
 ghost use Rattle.branch_pool.specs.States.{out_count};
 ghost use Rattle.epoch_cancel.specs.Seats.{seat_of};
 ghost use Rattle.pool_lock.specs.Lends.{IsEyeAfter};
 
-use crate::cases::{Case, play};
+use crate::cases::{Case, event_of, meet};
 use branch_pool::{Answer, Gave, Pool};
 use epoch_cancel::{EpochWord, Eye, Front, Owner};
-use league_core::{Event, Score, Season, Sheet};
+use league_core::{Event, Season, Sheet, TreeNode};
 use pool_lock::{Job, PoolLock};
 use sample_leagues::sample_of;
 use std::alloc::Global;
@@ -23,11 +23,6 @@ use std::test::Fail;
 use verdict_run::questions;
 
 const TWO_CLUBS: &[u8] = b"league,Tiny,1\nclub,A,1\nclub,B,2\nmatch,A,B\nline,1\nseason\n";
-
-const WON: Event = Event::Set {
-    fixture: 0,
-    score: Score { home: 1, away: 0 },
-};
 
 /// The word of a pool, with the seats of its lock.
 #[derive(Drop)]
@@ -58,7 +53,7 @@ fn round_of<R: Wait>(
     round_as::<Brand, R>(rt, alloc, &sheet, Blank::new(1), seated, pool, case)
 }
 
-/// A result is reported, the workers play the case, and the feed is shut.
+/// The two workers and the one who reports meet at the lock, and then the feed is shut.
 fn round_as<J: Job, R: Wait>(
     rt: &R,
     alloc: Global,
@@ -81,30 +76,31 @@ fn round_as<J: Job, R: Wait>(
     requires questions { pool.questions ≡ J.questions }
     requires home { out_count pool.loans ≡ 0 }
 {
-    let may_be = may_be(pool.season(), &WON);
-    let _log = pool.log();
+    let event = event_of(case);
+    if !may_be_told(&pool, &event) {
+        return Err("no event of the season".into());
+    }
     let Seated {
         word,
         owner,
         front,
         eyes,
     } = seated;
-    let (lock, mut front, mut badges) = PoolLock::<J>::new(
+    let (lock, mut front, badges) = PoolLock::<J>::new(
         alloc, blank, word, owner, front, eyes, pool,
     )?;
-    if !may_be {
-        return Err("no event of the season".into());
-    }
-    if lock.report(rt, &mut front, WON).is_err() {
-        // nothing has changed, so it can be reported again
-        lock.report(rt, &mut front, WON).map_err(|_| "not told")?;
-    }
-    lock.rest(rt, &front);
-    let mut one = badges.pop().ok_or("no badge")?;
-    let mut two = badges.pop().ok_or("no badge")?;
-    let gave = play(rt, alloc, sheet, &lock, &mut one, &mut two, case)?;
+    let gave = meet(rt, alloc, sheet, &lock, &mut front, badges, event, case);
     lock.shut(rt, &mut front);
-    Ok((gave, lock.close(front)))
+    let pool = lock.close(front);
+    Ok((gave?, pool))
+}
+
+/// Whether the pool may be told the event.
+fn may_be_told(pool: &Pool, event: &Event) -> bool
+    ensures { IsTrue result → IsEventOf (season_after pool.now.sheet pool.now.log) event.now }
+{
+    let _log = pool.log();
+    may_be(pool.season(), event)
 }
 
 /// Whether the season may be told the event.
@@ -126,12 +122,26 @@ fn first_two(pool: &Pool) -> Result<(Answer, Answer), Fail> {
     Ok((pool.answer(0), pool.answer(1)))
 }
 
+/// Whether each tree is one leaf that is open.
+fn are_all_open(pool: &Pool) -> Result<bool, Fail> {
+    if pool.questions().len() != 4 {
+        return Err("other questions".into());
+    }
+    for place in 0..4u16 {
+        let nodes = pool.tree(place).nodes()?;
+        if nodes.as_slice() != [TreeNode::Open].as_slice() {
+            return Ok(false);
+        }
+    }
+    Ok(true)
+}
+
 #[test]
 fn what_is_found_comes_to_the_pool(rt: HostRuntime) -> Result<(), Fail> {
     let (gave, pool) = round_of(&rt, rt.alloc(), Case::Worked)?;
     assert_eq!(rt; gave, Some((Gave::Kept, Gave::Kept)));
     assert_eq!(rt; first_two(&pool)?, (Answer::Won, Answer::Refuted));
-    assert_eq!(rt; pool.log(), [WON].as_slice());
+    assert_eq!(rt; pool.log(), [event_of(Case::Worked)].as_slice());
     Ok(())
 }
 
@@ -150,5 +160,17 @@ fn what_is_out_at_the_end_comes_home(rt: HostRuntime) -> Result<(), Fail> {
     assert_eq!(rt; gave, None);
     assert_eq!(rt; first_two(&pool)?, (Answer::NotYet, Answer::NotYet));
     assert_eq!(rt; pool.out(), 0);
+    Ok(())
+}
+
+#[test]
+fn what_is_out_when_a_result_comes_is_stale(rt: HostRuntime) -> Result<(), Fail> {
+    let (gave, pool) = round_of(&rt, rt.alloc(), Case::Overtaken)?;
+    assert_eq!(rt;
+        gave,
+        Some((Gave::Stale { epoch: 1 }, Gave::Stale { epoch: 1 }))
+    );
+    assert_eq!(rt; pool.out(), 0);
+    assert!(rt; are_all_open(&pool)?);
     Ok(())
 }

@@ -1,14 +1,14 @@
 //! Pools of leagues, and workers that take and give.
 
-ghost use Rattle.std.specs.Prelude.{◌≡◌, IfOk, IsTrue};
+ghost use Rattle.std.specs.Prelude.{◌≡◌, IsTrue};
 ghost use Rattle.league_core.specs.Seasons.{IsEventOf};
+ghost use Rattle.league_core.specs.Sheets.{IsWithinLimits};
 ghost use Rattle.reason_core.specs.Dones.{IsFor, IsTrueDone};
-ghost use Rattle.branch_pool.specs.Calls.{IsFit};
 
+use crate::fit::done_of;
 use branch_pool::{Answer, Gave, Pool, Ticket, Took};
-use branch_rules::work;
-use league_core::{Event, OutOfMemory, Season, TreeNode, Zone};
-use reason_core::{Done, Piece};
+use league_core::{Event, OutOfMemory, Season, Sheet, TreeNode};
+use reason_core::Done;
 use sample_leagues::sample_of;
 use std::alloc::Global;
 use std::test::Fail;
@@ -17,12 +17,20 @@ use verdict_run::{finish, questions};
 /// The pool of a sheet and all that is asked of it, with nothing told.
 pub fn pool_of(alloc: Global, text: &[u8]) -> Result<Pool, Fail> {
     let sample = sample_of(alloc, text).ok_or("no league")?;
-    let asked = questions(alloc, &sample.sheet)?;
-    Ok(Pool::begin(alloc, sample.sheet, asked)?)
+    pool_of_sheet(alloc, &sample.sheet)
+}
+
+/// The pool of a sheet and all that is asked of it, with nothing told.
+pub fn pool_of_sheet(alloc: Global, sheet: &Sheet) -> Result<Pool, Fail>
+    requires { IsWithinLimits sheet.now }
+{
+    let own = sheet.copy(alloc)?;
+    let asked = questions(alloc, &own)?;
+    Ok(Pool::begin(alloc, own, asked)?)
 }
 
 /// Whether the season may be told the event.
-fn may_be(season: &Season, event: &Event) -> bool
+pub fn may_be(season: &Season, event: &Event) -> bool
     ensures { IsTrue result → IsEventOf season.now event.now }
 {
     match event {
@@ -52,10 +60,7 @@ pub fn finished(alloc: Global, pool: Pool) -> Result<Pool, Fail> {
     Ok(finish(alloc, pool)?)
 }
 
-/// Takes a ticket.
-pub fn taken(pool: &mut Pool) -> Result<Ticket, Fail>
-    ensures { IfOk result (IsFit pool.new) }
-{
+fn taken(pool: &mut Pool) -> Result<Ticket, Fail> {
     match pool.take() {
         Took::Lent(ticket) => Ok(ticket),
         Took::Rest | Took::Over | Took::OutOfMemory => Err("no ticket".into()),
@@ -68,7 +73,7 @@ pub fn two_taken(pool: &mut Pool) -> Result<(Ticket, Ticket), Fail> {
     match taken(pool) {
         Ok(two) => Ok((one, two)),
         Err(fail) => {
-            pool.give(one, Done::Undone);
+            give_undone(pool, one);
             Err(fail)
         }
     }
@@ -80,41 +85,36 @@ pub fn is_over(pool: &mut Pool) -> bool {
         Took::Over => true,
         Took::Rest | Took::OutOfMemory => false,
         Took::Lent(ticket) => {
-            pool.give(ticket, Done::Undone);
+            give_undone(pool, ticket);
             false
         }
     }
 }
 
-/// Works on a ticket, and gives it back with what was found.
-pub fn worked(alloc: Global, pool: &mut Pool, ticket: Ticket) -> Gave
-    requires { IsFit pool.old ticket }
+/// Gives a ticket back without work.
+pub fn give_undone(pool: &mut Pool, ticket: Ticket) -> Gave {
+    pool.give(ticket, Done::Undone)
+}
+
+/// Takes a ticket, works on it, and gives it back with what was found.
+pub fn work_next(alloc: Global, pool: &mut Pool) -> Result<Gave, Fail> {
+    let ticket = taken(pool)?;
+    Ok(worked(alloc, pool, ticket))
+}
+
+fn worked(alloc: Global, pool: &mut Pool, ticket: Ticket) -> Gave {
+    let done = found_in(alloc, pool, &ticket);
+    pool.give(ticket, done)
+}
+
+fn found_in(alloc: Global, pool: &Pool, ticket: &Ticket) -> Done
+    ensures is_for { IsFor result ticket.now.piece }
+    ensures sound { IsTrueDone pool.now.sheet result }
 {
-    match done_of(alloc, pool, &ticket) {
-        Ok(done) => pool.give(ticket, done),
-        Err(OutOfMemory) => pool.give(ticket, Done::Undone),
+    match done_of(alloc, pool.sheet(), &ticket.piece) {
+        Ok(done) => done,
+        Err(OutOfMemory) => Done::Undone,
     }
-}
-
-fn done_of(alloc: Global, pool: &Pool, ticket: &Ticket) -> Result<Done, OutOfMemory>
-    requires { IsFit pool.now ticket.now }
-    ensures is_for { IfOk result (λ done. IsFor done ticket.now.piece) }
-    ensures sound { IfOk result (IsTrueDone pool.now.sheet) }
-{
-    let piece = copied(alloc, &ticket.piece)?;
-    work(alloc, pool.sheet(), piece)
-}
-
-fn copied(alloc: Global, piece: &Piece) -> Result<Piece, OutOfMemory>
-    ensures { IfOk result (λ copy. copy ≡ piece.now) }
-{
-    let season = piece.season.copy(alloc)?;
-    let literals = piece.zone.literals.copy(alloc)?;
-    Ok(Piece {
-        season,
-        question: piece.question,
-        zone: Zone { literals },
-    })
 }
 
 /// How far the question at a place is; none where there is no question.

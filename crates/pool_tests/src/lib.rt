@@ -1,9 +1,27 @@
-//! Worked rows of the pool: tests alone.
+//! Worked rows of the pool, and drawn lists of steps: tests alone.
 //!
-//! `help` makes pools of leagues, and works on what is lent; `rows` has the cases.
+//! `help` makes pools of leagues, and works on what is lent; `rows` has the cases. `drawn` has
+//! the lists of steps, `pairs` a pool and a plain one that make them; the plain one is in `plain`,
+//! `plain_change` and `carried`, what is given back in `held`, what can be worked on in `fit`.
 #![tactic(auto)]
 
 #[cfg(test)]
+mod carried;
+#[cfg(test)]
+mod drawn;
+#[cfg(test)]
+mod fit;
+#[cfg(test)]
+mod held;
+#[cfg(test)]
 mod help;
 #[cfg(test)]
+mod pairs;
+#[cfg(test)]
+mod plain;
+#[cfg(test)]
+mod plain_change;
+#[cfg(test)]
 mod rows;
+#[cfg(test)]
+mod seen;

@@ -1,11 +1,11 @@
 //! Rows worked by hand.
 
 use crate::help::{
-    answer_at, finished, is_over, nodes_at, pool_of, taken, tell, two_taken, units_at, worked,
+    answer_at, finished, give_undone, is_over, nodes_at, pool_of, tell, two_taken, units_at,
+    work_next,
 };
 use branch_pool::{Answer, Gave, Pool};
 use league_core::{Event, Reason, Score, TreeNode};
-use reason_core::Done;
 use std::alloc::Global;
 use std::test::Fail;
 
@@ -40,64 +40,72 @@ fn all_leaves_are_open(pool: &Pool) -> Result<bool, Fail> {
     Ok(true)
 }
 
+fn are_all_won(pool: &Pool) -> bool {
+    for place in 0..4u16 {
+        if answer_at(pool, place) != Some(Answer::Won) {
+            return false;
+        }
+    }
+    true
+}
+
 #[test]
 fn tickets_are_worked_until_over(rt: HostRuntime) -> Result<(), Fail> {
     let mut pool = pool_of(rt.alloc(), TWO_CLUBS)?;
     pool.shut();
     for _ in 0..4 {
-        let ticket = taken(&mut pool)?;
-        assert_eq!(rt; worked(rt.alloc(), &mut pool, ticket), Gave::Kept);
+        assert_eq!(rt; work_next(rt.alloc(), &mut pool)?, Gave::Kept);
     }
     assert!(rt; is_over(&mut pool));
-    for place in 0..4u16 {
-        assert_eq!(rt; answer_at(&pool, place), Some(Answer::Won), "at {place}");
-    }
+    assert!(rt; are_all_won(&pool));
     Ok(())
 }
 
 #[test]
 fn one_unit_is_the_whole_budget(rt: HostRuntime) -> Result<(), Fail> {
     let mut pool = pool_of(rt.alloc(), IDLE)?;
-    let ticket = taken(&mut pool)?;
-    let place = ticket.place;
-    let gave = worked(rt.alloc(), &mut pool, ticket);
-    assert_eq!(rt; (place, gave), (0, Gave::Kept));
+    assert_eq!(rt; work_next(rt.alloc(), &mut pool)?, Gave::Kept);
     assert_eq!(rt; answer_at(&pool, 0), Some(Answer::Spent));
     assert_eq!(rt; units_at(&pool, 0), Some(1));
     Ok(())
 }
 
-#[test]
-fn what_is_recalled_comes_back_stale(rt: HostRuntime) -> Result<(), Fail> {
-    let mut pool = pool_of(rt.alloc(), TWO_CLUBS)?;
-    let (one, two) = two_taken(&mut pool)?;
+/// Takes two tickets, and gives them back after a recall: what became of them, and how many numbers
+/// were out before it, after it and at the end.
+fn recalled(pool: &mut Pool) -> Result<([Gave; 2], [u64; 3]), Fail> {
+    let (one, two) = two_taken(pool)?;
     let out = pool.out();
     pool.recall();
     let recalled = pool.out();
-    let first = pool.give(one, Done::Undone);
-    let second = pool.give(two, Done::Undone);
-    assert_eq!(rt; (out, recalled, pool.out()), (2, 0, 0));
-    assert_eq!(rt;
-        (first, second),
-        (Gave::Stale { epoch: 0 }, Gave::Stale { epoch: 0 })
-    );
+    let gave = [give_undone(pool, one), give_undone(pool, two)];
+    Ok((gave, [out, recalled, pool.out()]))
+}
+
+#[test]
+fn what_is_recalled_comes_back_stale(rt: HostRuntime) -> Result<(), Fail> {
+    let mut pool = pool_of(rt.alloc(), TWO_CLUBS)?;
+    let (gave, out) = recalled(&mut pool)?;
+    assert!(rt; out == [2, 0, 0]);
+    assert!(rt; gave == [Gave::Stale { epoch: 0 }, Gave::Stale { epoch: 0 }]);
     assert!(rt; all_leaves_are_open(&pool)?);
     Ok(())
+}
+
+/// Takes two tickets, and gives them back after a result: what became of them, and the epoch and
+/// how many numbers are out at the end.
+fn overtaken(pool: &mut Pool) -> Result<([Gave; 2], [u64; 2]), Fail> {
+    let (one, two) = two_taken(pool)?;
+    let told = tell(pool, result(0, 0, 0));
+    let gave = [give_undone(pool, one), give_undone(pool, two)];
+    Ok((gave, [told?, pool.out()]))
 }
 
 #[test]
 fn what_is_out_when_a_result_comes_is_stale(rt: HostRuntime) -> Result<(), Fail> {
     let mut pool = pool_of(rt.alloc(), TWO_CLUBS)?;
-    let (one, two) = two_taken(&mut pool)?;
-    let told = tell(&mut pool, result(0, 0, 0));
-    let first = pool.give(one, Done::Undone);
-    let second = pool.give(two, Done::Undone);
-    assert_eq!(rt; told?, 1);
-    assert_eq!(rt;
-        (first, second),
-        (Gave::Stale { epoch: 1 }, Gave::Stale { epoch: 1 })
-    );
-    assert_eq!(rt; pool.out(), 0);
+    let (gave, end) = overtaken(&mut pool)?;
+    assert!(rt; end == [1, 0]);
+    assert!(rt; gave == [Gave::Stale { epoch: 1 }, Gave::Stale { epoch: 1 }]);
     assert!(rt; all_leaves_are_open(&pool)?);
     Ok(())
 }
@@ -110,9 +118,11 @@ fn sixteen(alloc: Global) -> Result<Pool, Fail> {
     finished(alloc, pool)
 }
 
+type Kinds = (u32, u32, u32, u32);
+
 /// How many nodes of a tree are splits, leaves refuted by a set that ends below, leaves refuted by
 /// count, and open leaves.
-fn kinds(nodes: &[TreeNode]) -> (u32, u32, u32, u32) {
+fn kinds(nodes: &[TreeNode]) -> Kinds {
     let mut kinds = (0u32, 0u32, 0u32, 0u32);
     for node in nodes {
         match node {
@@ -132,19 +142,23 @@ fn kinds(nodes: &[TreeNode]) -> (u32, u32, u32, u32) {
     kinds
 }
 
+/// The kinds of the nodes of the second tree, how far its question is, and its units.
+fn second(pool: &Pool) -> Result<(Kinds, Option<Answer>, Option<u32>), Fail> {
+    let nodes = nodes_at(pool, OUTSIDE_OF_THE_FIRST)?;
+    let answer = answer_at(pool, OUTSIDE_OF_THE_FIRST);
+    let units = units_at(pool, OUTSIDE_OF_THE_FIRST);
+    Ok((kinds(nodes.as_slice()), answer, units))
+}
+
 #[test]
 fn a_corrected_score_without_new_points_keeps_the_tree(rt: HostRuntime) -> Result<(), Fail> {
     let mut pool = sixteen(rt.alloc())?;
-    let before = nodes_at(&pool, OUTSIDE_OF_THE_FIRST)?;
-    assert_eq!(rt; kinds(before.as_slice()), (15, 15, 1, 0));
+    let (before, _, _) = second(&pool)?;
+    assert_eq!(rt; before, (15, 15, 1, 0));
     tell(&mut pool, result(0, 2, 0))?;
-    let after = nodes_at(&pool, OUTSIDE_OF_THE_FIRST)?;
-    assert_eq!(rt; kinds(after.as_slice()), (15, 15, 1, 0));
-    assert_eq!(rt;
-        answer_at(&pool, OUTSIDE_OF_THE_FIRST),
-        Some(Answer::Refuted)
-    );
-    assert_eq!(rt; units_at(&pool, OUTSIDE_OF_THE_FIRST), Some(0));
+    let (after, answer, units) = second(&pool)?;
+    assert_eq!(rt; after, (15, 15, 1, 0));
+    assert_eq!(rt; (answer, units), (Some(Answer::Refuted), Some(0)));
     Ok(())
 }
 
@@ -152,12 +166,8 @@ fn a_corrected_score_without_new_points_keeps_the_tree(rt: HostRuntime) -> Resul
 fn a_corrected_score_opens_what_no_longer_holds(rt: HostRuntime) -> Result<(), Fail> {
     let mut pool = sixteen(rt.alloc())?;
     tell(&mut pool, result(0, 0, 1))?;
-    let after = nodes_at(&pool, OUTSIDE_OF_THE_FIRST)?;
-    assert_eq!(rt; kinds(after.as_slice()), (15, 0, 1, 15));
-    assert_eq!(rt;
-        answer_at(&pool, OUTSIDE_OF_THE_FIRST),
-        Some(Answer::NotYet)
-    );
-    assert_eq!(rt; units_at(&pool, OUTSIDE_OF_THE_FIRST), Some(0));
+    let (after, answer, units) = second(&pool)?;
+    assert_eq!(rt; after, (15, 0, 1, 15));
+    assert_eq!(rt; (answer, units), (Some(Answer::NotYet), Some(0)));
     Ok(())
 }

@@ -1,0 +1,44 @@
+//! Runs of the program in memory.
+
+use futmax_main::{Status, futmax};
+use port_core::{MemSink, Sink, Source};
+use std::alloc::Global;
+use std::sync::Wait;
+use std::test::Fail;
+use std::thread::Threads;
+use worker_gate::Gate;
+
+/// Two clubs and one match, which is open.
+pub const TWO_CLUBS: &[u8] = b"league,Tiny,1\nclub,A,1\nclub,B,2\nmatch,A,B\nline,1\nseason\nask\n";
+
+/// The same, where the match ended 0:0, so that the fixed rank decides.
+pub const DRAWN: &[u8] =
+    b"league,Tiny,1\nclub,A,1\nclub,B,2\nmatch,A,B\nline,1\nseason\nresult,1,0,0\nask\n";
+
+/// The answer to it.
+pub const DRAWN_ROWS: &[u8] = b"ask,1\nverdict,1,A,clinched\nverdict,1,B,lost\n";
+
+/// A sink in memory, of 4,096 bytes.
+pub fn sink_of(alloc: Global) -> Result<MemSink, Fail> {
+    MemSink::new(alloc, 4096, 4096, Vec::new(alloc)).map_err(|_| "no room".into())
+}
+
+/// Whether a run of the mode `verdicts` with so many workers answers all asks.
+pub fn is_answered<
+    R: Threads + Wait + Sync + Alloc<A = Global>,
+    S: Source + Send,
+    K: Sink,
+    G: Gate + Sync,
+>(rt: &R, workers: &str, source: &mut S, sink: &mut K, gate: &G) -> Result<bool, Fail> {
+    let words = words_of(rt.alloc(), &["futmax", "verdicts", "--workers", workers])?;
+    let status = futmax(rt, rt.alloc(), words, source, sink, gate);
+    Ok(status == Status::Done)
+}
+
+fn words_of(alloc: Global, words: &[&str]) -> Result<Vec<String>, Fail> {
+    let mut list = Vec::new(alloc);
+    for word in words {
+        list.push(String::from_str(alloc, word)?)?;
+    }
+    Ok(list)
+}

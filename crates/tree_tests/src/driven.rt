@@ -1,0 +1,203 @@
+//! Both bodies of a tree, driven by one drawn list of calls.
+
+use crate::counts::{may_lend, times_lent};
+use boxed_trees::{BoxedTree, Given};
+use league_core::{ClubSet, Reason, Test, Zone};
+use sample_leagues::Draws;
+use std::alloc::Global;
+use std::test::Fail;
+use tree_reuse::Tree;
+
+/// A tree with more nodes gives way to a new one.
+const MANY: usize = 500;
+
+/// The tree in an arena, the same in boxes, and the numbers that are lent.
+#[derive(Drop)]
+struct Pair {
+    arena: Tree,
+    boxed: BoxedTree,
+    lent: Vec<u64>,
+}
+
+fn begin(alloc: Global) -> Result<Pair, Fail> {
+    Ok(Pair {
+        arena: Tree::root(alloc)?,
+        boxed: BoxedTree::Open,
+        lent: Vec::new(alloc),
+    })
+}
+
+fn same(is_same: bool, what: &'static str) -> Result<(), Fail> {
+    if is_same { Ok(()) } else { Err(what.into()) }
+}
+
+/// The arena lends a leaf of its choice, and the boxes lend the same one.
+fn lend(pair: &mut Pair, number: u64) -> Result<(), Fail> {
+    match arena_lends(&mut pair.arena, number)? {
+        Some(zone) => {
+            let is_open = pair.boxed.lend(zone.literals.as_slice(), number);
+            pair.lent.push(number)?;
+            same(is_open, "a leaf was lent that is not open")
+        }
+        None => same(!pair.boxed.has_open(), "no leaf was lent, and one is open"),
+    }
+}
+
+fn arena_lends(arena: &mut Tree, number: u64) -> Result<Option<Zone>, Fail> {
+    if !may_lend(arena) || times_lent(arena, number)? != 0 {
+        return Err("the number is lent, or the tree is full".into());
+    }
+    Ok(arena.lend(number)?)
+}
+
+/// The leaf of a number comes back to both.
+fn put(alloc: Global, pair: &mut Pair, number: u64, given: Given) -> Result<(), Fail> {
+    arena_takes(&mut pair.arena, number, given)?;
+    pair.boxed.put(alloc, number, given)?;
+    Ok(())
+}
+
+fn arena_takes(arena: &mut Tree, number: u64, given: Given) -> Result<(), Fail> {
+    if times_lent(arena, number)? != 1 {
+        return Err("the number is not lent once".into());
+    }
+    match given {
+        Given::Opened => arena.reopen(number),
+        Given::Refuted(reason) => arena.refute(number, reason),
+        Given::Split(test) => arena.split(number, test),
+    }
+    Ok(())
+}
+
+fn drawn_test(draws: &mut Draws) -> Test {
+    let club = draws.below(24);
+    let fixture = u16::from(draws.below(200));
+    let most = draws.below(20);
+    match draws.below(5) {
+        0 => Test::Home { fixture },
+        1 => Test::Draw { fixture },
+        2 => Test::HomeMost { fixture, most },
+        3 => Test::AwayMost { fixture, most },
+        _ => Test::Rival { club },
+    }
+}
+
+fn drawn_reason(draws: &mut Draws) -> Reason {
+    match draws.below(5) {
+        0 => Reason::Count,
+        1 => Reason::Window,
+        2 => Reason::Low(ClubSet::empty()),
+        3 => Reason::High(ClubSet::empty()),
+        _ => Reason::Tie,
+    }
+}
+
+/// More often a split than a reason, so that trees grow.
+fn drawn_given(draws: &mut Draws) -> Given {
+    match draws.below(9) {
+        0 | 1 => Given::Opened,
+        2 | 3 | 4 => Given::Refuted(drawn_reason(draws)),
+        _ => Given::Split(drawn_test(draws)),
+    }
+}
+
+/// One of the numbers that are lent, which is lent no more.
+fn drawn_number(draws: &mut Draws, lent: &mut Vec<u64>) -> Option<u64> {
+    let count = lent.len();
+    if count == 0 || 255 < count {
+        return None;
+    }
+    let place = draws.below(count as u8);
+    Some(lent.swap_remove(place as usize))
+}
+
+fn open_all(pair: &mut Pair) {
+    pair.arena.reopen_all();
+    pair.boxed.open_all();
+    pair.lent.clear();
+}
+
+/// One call on both.
+fn call(alloc: Global, draws: &mut Draws, pair: &mut Pair, number: u64) -> Result<(), Fail> {
+    match draws.below(40) {
+        0 => {
+            open_all(pair);
+            Ok(())
+        }
+        1..18 => lend(pair, number),
+        _ => match drawn_number(draws, &mut pair.lent) {
+            Some(lent) => {
+                let given = drawn_given(draws);
+                put(alloc, pair, lent, given)
+            }
+            None => lend(pair, number),
+        },
+    }
+}
+
+fn have_same_nodes(alloc: Global, pair: &Pair) -> Result<(), Fail> {
+    let arena = pair.arena.nodes()?;
+    let boxed = pair.boxed.nodes(alloc)?;
+    same(arena.as_slice() == boxed.as_slice(), "other nodes")?;
+    same(
+        pair.arena.node_count() == boxed.len(),
+        "another number of nodes",
+    )?;
+    same(pair.arena.has_open() == pair.boxed.has_open(), "has_open")?;
+    same(
+        pair.arena.is_refuted() == pair.boxed.is_refuted(),
+        "is_refuted",
+    )
+}
+
+fn are_same_zones(zones: &[Zone], others: &[Zone]) -> bool {
+    if zones.len() != others.len() {
+        return false;
+    }
+    for place in 0..zones.len() {
+        if zones[place].literals.as_slice() != others[place].literals.as_slice() {
+            return false;
+        }
+    }
+    true
+}
+
+fn have_same_leaves(alloc: Global, pair: &Pair) -> Result<(), Fail> {
+    let arena = pair.arena.leaves()?;
+    let boxed = pair.boxed.leaves(alloc)?;
+    same(
+        are_same_zones(arena.as_slice(), boxed.as_slice()),
+        "other leaves",
+    )
+}
+
+/// A hundred calls, and a look at all nodes and leaves.
+fn call_hundred(alloc: Global, draws: &mut Draws, pair: &mut Pair, from: u64) -> Result<(), Fail> {
+    for place in 0..100u64 {
+        call(
+            alloc,
+            draws,
+            pair,
+            from.wrapping_mul(100).wrapping_add(place),
+        )?;
+    }
+    have_same_nodes(alloc, pair)?;
+    have_same_leaves(alloc, pair)
+}
+
+#[test]
+fn both_bodies_do_the_same_calls(rt: HostRuntime) -> Result<(), Fail> {
+    let mut draws = Draws::new(20);
+    let mut pair = begin(rt.alloc())?;
+    let mut most = 0;
+    for hundred in 0..100u64 {
+        call_hundred(rt.alloc(), &mut draws, &mut pair, hundred)?;
+        let count = pair.arena.node_count();
+        most = most.max(count);
+        if MANY < count || pair.arena.is_refuted() {
+            pair = begin(rt.alloc())?;
+        }
+    }
+    assert!(rt; MANY < most, "{most}");
+    Ok(())
+}

@@ -1,0 +1,12 @@
+//! The tree in its arena beside the tree in boxes, and trees one node below the other: tests alone.
+//!
+//! `counts` tells a test what a call asks of it; `driven` has both bodies do the same calls; `rows`
+//! has trees worked by hand.
+#![tactic(auto)]
+
+#[cfg(test)]
+mod counts;
+#[cfg(test)]
+mod driven;
+#[cfg(test)]
+mod rows;
