@@ -1,9 +1,9 @@
 -- A box along a path: one literal more or less, and the fixtures that are not played.
-use Rattle.std.proofs.Common.{◌≡◌, ◌≢◌, ◌⊎◌, ℕ, ◌+◌, ◌<◌, Bool, true, false, not}
+use Rattle.std.proofs.Common.{◌≡◌, ◌≢◌, ◌⊎◌, ℕ, ◌+◌, ◌<◌, true, false, not}
 use Rattle.std.proofs.Common.{◌&&◌, ◌||◌, ◌==◌, List, [], ◌∷◌}
 use Rattle.std.proofs.Common.{◌++◌, length, get_or, set, take, cond}
 use Rattle.std.proofs.Common.{Option, None, refl, sym, ap, ◌∙◌, subst, inl, inr, arith}
-use Rattle.std.proofs.lemmas.Bool.{false≢true, and_parts, and_from, cases_eq, ne_eqb}
+use Rattle.std.proofs.lemmas.Bool.{and_parts, and_from, cases_eq, ne_eqb}
 use Rattle.std.proofs.lemmas.List.{length-set, get_or-set_same, get_or-set_other, map-id}
 use Rattle.std.proofs.lemmas.List.{take_more, ext_get_or, get_or_past}
 use Rattle.std.proofs.lemmas.List.Elements.{filter_agree}
@@ -17,25 +17,24 @@ use Rattle.std.proofs.Math.Seq.{take-append_seam}
 use Rattle.std.proofs.Math.Bool.{and-true}
 use Rattle.league_core.specs.declared.sheet.Sheet.{Sheet}
 use Rattle.league_core.specs.declared.season.Score.{Score}
-use Rattle.league_core.specs.declared.zone.Test.{Test}
-use Rattle.league_core.specs.declared.zone.Test.TheVariants.{Home, Draw, HomeMost, AwayMost, Rival}
 use Rattle.league_core.specs.declared.zone.Literal.{Literal}
 use Rattle.league_core.specs.declared.club_set.ClubSet.{ClubSet}
 use Rattle.league_core.specs.Results.{Results}
 use Rattle.league_core.specs.Sums.{has_club}
 use Rattle.league_core.specs.ClubSets.{clubs_in}
-use Rattle.league_core.specs.Zones.{is_on, is_of_rival, is_of_score, is_test_of, is_zone_of}
-use Rattle.league_core.specs.Zones.{marked_before, marked_after}
+use Rattle.league_core.specs.Zones.{is_on, is_of_rival, is_test_of, is_zone_of}
 use Rattle.league_core.specs.Options.{meets_literal, options_of, options_from}
 use Rattle.league_core.specs.Options.{has_score}
-use Rattle.league_core.proofs.OptionLemmas.{length-options_from, has_score-with}
+use Rattle.league_core.proofs.OptionLemmas.{length-options_from}
 use Rattle.score_box.specs.declared.cell.Cell.{Cell}
 use Rattle.score_box.specs.Cells.{allows, IsCellOf}
 use Rattle.score_box.specs.Unplayed.{is_unplayed, unplayed_below}
 use Rattle.score_box.specs.Boxes.{AreCellsOf, IsSetOf}
 use Rattle.score_box.specs.declared.ends.Ends.{Ends}
 use Rattle.score_box.specs.Ends.{AreEnds}
-use Rattle.score_box.specs.Stages.{IsBoxOf}
+use Rattle.score_box.specs.declared.trail.Undo.{Undo}
+use Rattle.score_box.specs.Stages.{IsBoxOf, IsUndoOf}
+use Rattle.score_box.proofs.TrailLemmas.{trail_more, trail_less}
 use Rattle.score_box.specs.declared.totals.Totals.{Totals}
 use Rattle.score_box.proofs.EndLemmas.{set_is}
 use Rattle.score_box.proofs.BoxLemmas.{options_at, options_at-with, meets-other}
@@ -75,23 +74,27 @@ zone_without sheet zone literal all =
 
 -- a box with one literal more
 pub box_with : (sheet : Sheet) (season : Results) (zone : List Literal) (literal : Literal)
-    (unplayed : List ℕ) (old new : List Cell) (before after before_new after_new : ClubSet)
-    (ends ends_new : Ends) (clubs pairs : List Totals)
-    → IsBoxOf (record { sheet = sheet; season = season; zone = zone }) unplayed old before after
-    ends clubs pairs → is_test_of sheet literal.test ≡ true
+    (trail : List Undo) (undo : Undo) (unplayed : List ℕ) (old new : List Cell)
+    (before after before_new after_new : ClubSet) (ends ends_new : Ends)
+    (clubs pairs : List Totals)
+    → IsBoxOf (record { sheet = sheet; season = season; zone = zone }) trail unplayed old before
+    after ends clubs pairs → is_test_of sheet literal.test ≡ true
+    → IsUndoOf sheet.goal_limit season.scores zone literal undo
     → AreCellsOf new (options_in sheet season (zone ++ literal ∷ []))
     → AreEnds sheet.fixtures (options_in sheet season (zone ++ literal ∷ [])) ends_new
     → IsSetOf before_new (λ club. has_club (clubs_in before) club
     || (is_of_rival club literal.test && literal.yes))
     → IsSetOf after_new (λ club. has_club (clubs_in after) club
     || (is_of_rival club literal.test && not literal.yes))
-    → IsBoxOf (record { sheet = sheet; season = season; zone = zone ++ literal ∷ [] }) unplayed new
-    before_new after_new ends_new clubs pairs
-box_with sheet season zone literal unplayed old new before after before_new after_new ends ends_new
-    clubs pairs is here cells ends_are marks_before marks_after = record {
+    → IsBoxOf (record { sheet = sheet; season = season; zone = zone ++ literal ∷ [] })
+    (trail ++ undo ∷ []) unplayed new before_new after_new ends_new clubs pairs
+box_with sheet season zone literal trail undo unplayed old new before after before_new after_new
+    ends ends_new clubs pairs is here stood cells ends_are marks_before marks_after = record {
       league = is.league;
       open_fixtures = is.open_fixtures;
       of_zone = zone_with sheet zone literal is.of_zone here;
+      trail_is = trail_more sheet.goal_limit season.scores zone trail literal undo is.trail_is
+          stood;
       options = cells;
       marks_before = λ club.
           marks_before club
@@ -107,54 +110,28 @@ box_with sheet season zone literal unplayed old new before after before_new afte
 
 -- and without its last
 pub box_without : (sheet : Sheet) (season : Results) (zone : List Literal) (last : Literal)
-    (unplayed : List ℕ) (old new : List Cell) (before after before_new after_new : ClubSet)
-    (ends ends_new : Ends) (clubs pairs : List Totals)
-    → IsBoxOf (record { sheet = sheet; season = season; zone = zone ++ last ∷ [] }) unplayed old
-    before after ends clubs pairs → AreCellsOf new (options_in sheet season zone)
+    (trail : List Undo) (undo : Undo) (unplayed : List ℕ) (old new : List Cell)
+    (before after : ClubSet) (ends ends_new : Ends) (clubs pairs : List Totals)
+    → IsBoxOf (record { sheet = sheet; season = season; zone = zone ++ last ∷ [] })
+    (trail ++ undo ∷ []) unplayed old before after ends clubs pairs
+    → AreCellsOf new (options_in sheet season zone)
     → AreEnds sheet.fixtures (options_in sheet season zone) ends_new
-    → IsSetOf before_new (marked_before zone) → IsSetOf after_new (marked_after zone)
-    → IsBoxOf (record { sheet = sheet; season = season; zone = zone }) unplayed new before_new
-    after_new ends_new clubs pairs
-box_without sheet season zone last unplayed old new before after before_new after_new ends ends_new
-    clubs pairs is cells ends_are marks_before marks_after = record {
+    → IsBoxOf (record { sheet = sheet; season = season; zone = zone }) trail unplayed new
+    undo.marks.before undo.marks.after ends_new clubs pairs
+box_without sheet season zone last trail undo unplayed old new before after ends ends_new clubs
+    pairs is cells ends_are =
+    let less = trail_less sheet.goal_limit season.scores zone trail last undo is.trail_is in
+    record {
       league = is.league;
       open_fixtures = is.open_fixtures;
       of_zone = (zone_without sheet zone last is.of_zone).0;
+      trail_is = less.0;
       options = cells;
-      marks_before = marks_before;
-      marks_after = marks_after;
+      marks_before = less.1.before;
+      marks_after = less.1.after;
       ends_are = ends_are;
       tables = is.tables;
     }
-
--- a test of a score marks no rival
-no_rival : (test : Test) (club : ℕ) → is_of_score test ≡ true → is_of_rival club test ≡ false
-no_rival (Home fixture) club is = refl
-no_rival (Draw fixture) club is = refl
-no_rival (HomeMost fixture most) club is = refl
-no_rival (AwayMost fixture most) club is = refl
-no_rival (Rival rival) club is = absurd (false≢true is)
-
-or_none : (a b c : Bool) → b ≡ false → (a || (b && c)) ≡ a
-or_none true b c none = refl
-or_none false b c none = ap (λ x. x && c) none
-
--- so a zone marks the same without it
-pub marked_before-same : (zone : List Literal) (literal : Literal) (club : ℕ)
-    → is_of_score literal.test ≡ true
-    → marked_before (zone ++ literal ∷ []) club ≡ marked_before zone club
-marked_before-same zone literal club is =
-    marked_before-push zone literal club
-    ∙ or_none (marked_before zone club) (is_of_rival club literal.test) literal.yes
-    (no_rival literal.test club is)
-
-pub marked_after-same : (zone : List Literal) (literal : Literal) (club : ℕ)
-    → is_of_score literal.test ≡ true
-    → marked_after (zone ++ literal ∷ []) club ≡ marked_after zone club
-marked_after-same zone literal club is =
-    marked_after-push zone literal club
-    ∙ or_none (marked_after zone club) (is_of_rival club literal.test) (not literal.yes)
-    (no_rival literal.test club is)
 
 -- a literal of another fixture takes nothing away, and so gives nothing back
 options_without : (limit : ℕ) (zone : List Literal) (last : Literal) (scores : List (Option Score))
@@ -227,21 +204,6 @@ gives_cell limit zone last scores cells fixture cell on in_range is are = record
 -- cells that were written through a slice of them all
 pub written : {X : Type 0} (n : ℕ) (xs ys : List X) → length xs ≡ n → take n (xs ++ ys) ≡ xs
 written n xs ys many = subst (λ m. take m (xs ++ ys) ≡ xs) many (take-append_seam xs ys)
-
--- the cell of the literals so far, cut by the next one
-pub cell_more : (limit : ℕ) (zone : List Literal) (i fixture : ℕ) (played : Option Score)
-    (old new : Cell) (d : Literal) → i < length zone
-    → IsCellOf old (options_of limit (take i zone) fixture played)
-    → ((score : Score) → allows new score
-    ≡ (allows old score && meets_literal fixture score (get_or zone i d)))
-    → IsCellOf new (options_of limit (take (i + 1) zone) fixture played)
-cell_more limit zone i fixture played old new d within is cut score =
-    let literal = get_or zone i d in
-    cut score
-    ∙ ap (λ b. b && meets_literal fixture score literal) (is score)
-    ∙ sym (has_score-with limit (take i zone) literal fixture played score)
-    ∙ ap (λ z. has_score (options_of limit z fixture played) score)
-    (sym (take_more zone i d within))
 
 -- a literal that is not on a fixture leaves its options as they are
 pub options_but : (limit : ℕ) (zone : List Literal) (literal : Literal)

@@ -150,13 +150,13 @@ most_given wins draws losses home away some =
     ]
 
 -- a score of the cell of an outcome, where the cell has one
-has_outcome : (cell : Cell) (test : Score → Bool) (goals : Option Goals) → Says cell test goals
+pub has_outcome : (cell : Cell) (test : Score → Bool) (goals : Option Goals) → Says cell test goals
     → is_some goals ≡ true → (score : Score) × IsAllowed cell test score
 has_outcome cell test None says some = absurd (false≢true some)
 has_outcome cell test (Some goals) says some = (says.home_most.0, says.home_most.1)
 
 -- and where a score has the outcome, the cell has one
-some_outcome : (cell : Cell) (test : Score → Bool) (goals : Option Goals) (score : Score)
+pub some_outcome : (cell : Cell) (test : Score → Bool) (goals : Option Goals) (score : Score)
     → Says cell test goals → allows cell score ≡ true → test score ≡ true → is_some goals ≡ true
 some_outcome cell test None score says allowed passed =
     absurd (says score (record { allowed = allowed; passed = passed }))

@@ -1,6 +1,5 @@
 -- Cells: the scores that are still open for one fixture, kept as a set of outcomes and a range of
--- goals
--- for each side, and seen as the set of those scores.
+-- goals for each side, and seen as the set of those scores.
 use Rattle.std.specs.Prelude.{◌≡◌, ℕ, ◌≤◌, Bool, true, false, not, ◌&&◌, nat_le, if◌then◌else◌}
 use Rattle.std.specs.Prelude.{IsTrue}
 use Rattle.std.specs.Prelude.{List}

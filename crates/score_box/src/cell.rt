@@ -9,12 +9,11 @@ ghost use Rattle.score_box.specs.Cells.{allows, is_within, keeps_outcome, IsEmpt
 
 mod goals;
 
-pub use goals::Goals;
+pub use goals::{Goals, at_most_one};
 use league_core::{Literal, Score, Test};
 
 /// A set of scores: those whose outcome is kept and whose goals are in the two ranges. Contracts
-/// see
-/// the set.
+/// see the set.
 #[derive(Clone, Copy, Debug)]
 pub struct Cell {
     home_win: bool,

@@ -6,14 +6,16 @@ ghost use Rattle.std.specs.Prelude.{List, [], length, slice_set, slice_index_or,
 ghost use Rattle.std.specs.List.{All};
 ghost use Rattle.league_core.specs.declared.season.Score.{Score};
 ghost use Rattle.league_core.specs.Limits.{most_fixtures};
+ghost use Rattle.score_box.specs.declared.cell.Cell.{Cell};
 ghost use Rattle.score_box.specs.Cells.{IsCellOf};
+ghost use Rattle.score_box.specs.Points.{AreOutcomesLeft};
 ghost use Rattle.score_box.specs.Boxes.{AreCellsOf, HasOptions, open_outcomes_in};
 ghost use Rattle.score_box.specs.Ends.{AreSpans, AreEnds, HasEndsOfCells};
 ghost use Rattle.score_box.specs.Ends.{HasEndsAt, IsMatch, MovesSpans};
 ghost use Rattle.score_box.specs.Ends.{end_at, empty_in};
 
 use crate::cell::Cell;
-use crate::points::MatchPoints;
+use crate::points::OutcomesLeft;
 use league_core::Fixture;
 
 /// The least and the most match points of each club, by the clubs' numbers; how many fixtures have
@@ -61,9 +63,11 @@ fn add_all(lows: &mut [i32], highs: &mut [i32], fixtures: &[Fixture], cells: &[C
     ensures { (options : List (List Score)) → AreCellsOf cells.now options
         → AreSpans fixtures.now options lows.new highs.new }
 {
-    let none = Cell::none();
+    let empty = Cell::none();
+    let none = OutcomesLeft::of(&empty);
     for i in 0..fixtures.len() {
-        move_spans(lows, highs, fixtures[i], &none, &cells[i]);
+        let left = OutcomesLeft::of(&cells[i]);
+        move_spans(lows, highs, fixtures[i], none, left);
     }
 }
 
@@ -117,15 +121,17 @@ fn move_ends(ends: &mut Ends, fixtures: &[Fixture], number: u16, was: &Cell, now
         → IsCellOf was.now (slice_index_or options number []) → IsCellOf now.now after
         → AreEnds fixtures.now (slice_set options number after) ends.new }
 {
+    let before = OutcomesLeft::of(was);
+    let after = OutcomesLeft::of(now);
     move_spans(
         &mut ends.lows,
         &mut ends.highs,
         fixtures[number as usize],
-        was,
-        now,
+        before,
+        after,
     );
-    ends.empty = moved_count(ends.empty, was.is_empty(), now.is_empty());
-    ends.several = moved_count(ends.several, !was.has_one_outcome(), !now.has_one_outcome());
+    ends.empty = moved_count(ends.empty, before.are_none(), after.are_none());
+    ends.several = moved_count(ends.several, !before.are_one(), !after.are_one());
 }
 
 /// A count with one thing more or less, by whether it counted and whether it counts now.
@@ -143,8 +149,14 @@ fn one_if(counts: bool) -> usize
     if counts { 1 } else { 0 }
 }
 
-/// Moves the numbers of a match's two clubs.
-fn move_spans(lows: &mut [i32], highs: &mut [i32], fixture: Fixture, was: &Cell, now: &Cell)
+/// Moves the numbers of a match's two clubs, where its cell had some outcomes and has others now.
+fn move_spans(
+    lows: &mut [i32],
+    highs: &mut [i32],
+    fixture: Fixture,
+    before: OutcomesLeft,
+    after: OutcomesLeft,
+)
     requires fixture { IsMatch fixture }
     requires lows { length lows.old ≡ 24 }
     requires highs { length highs.old ≡ 24 }
@@ -152,12 +164,13 @@ fn move_spans(lows: &mut [i32], highs: &mut [i32], fixture: Fixture, was: &Cell,
         × (end_at lows.old club ≤ℤ pos 1800) }
     requires high { (club : ℕ) → (pos 0 ≤ℤ end_at highs.old club)
         × (end_at highs.old club ≤ℤ pos 1800) }
-    ensures { MovesSpans fixture was.now now.now lows.old lows.new highs.old highs.new }
+    ensures { (was now : Cell) → AreOutcomesLeft was before → AreOutcomesLeft now after
+        → MovesSpans fixture was now lows.old lows.new highs.old highs.new }
 {
-    let home_was = MatchPoints::left(was, true, false);
-    let away_was = MatchPoints::left(was, false, true);
-    let home_now = MatchPoints::left(now, true, false);
-    let away_now = MatchPoints::left(now, false, true);
+    let home_was = before.points(true, false);
+    let away_was = before.points(false, true);
+    let home_now = after.points(true, false);
+    let away_now = after.points(false, true);
     move_one(lows, fixture.home, home_was.least, home_now.least);
     move_one(lows, fixture.away, away_was.least, away_now.least);
     move_one(highs, fixture.home, home_was.most, home_now.most);

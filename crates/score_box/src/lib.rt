@@ -14,6 +14,7 @@ mod played;
 mod points;
 mod tables;
 mod totals;
+mod trail;
 mod zone_box;
 
 pub use cell::{Cell, Goals};

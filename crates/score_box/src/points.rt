@@ -11,10 +11,12 @@ ghost use Rattle.league_core.specs.PointRanges.{total_of};
 ghost use Rattle.score_box.specs.Cells.{IsEmptyCell};
 ghost use Rattle.score_box.specs.Points.{IsPointsOf, IsRangeOver, most_taken_off};
 
+mod left;
 mod outcomes;
 
 use crate::cell::Cell;
 use league_core::{ClubSet, Fixture};
+pub use left::OutcomesLeft;
 pub use outcomes::MatchPoints;
 
 /// The least and the most points that a set of clubs can have together.

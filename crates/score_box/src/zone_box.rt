@@ -25,7 +25,8 @@ use crate::marks::Marks;
 use crate::played::Played;
 use crate::points::{self, PointRange};
 use crate::tables::Tables;
-pub use build::season_cells;
+use crate::trail::Undo;
+pub use build::{fixture_of, season_cells};
 use league_core::{ClubSet, Literal, OutOfMemory, Score, Season, Sheet, Zone};
 use std::alloc::Global;
 use std::marker::Model;
@@ -37,6 +38,7 @@ pub struct ZoneBox<'a> {
     sheet: &'a Sheet,
     season: &'a Season,
     zone: Vec<Literal>,
+    trail: Vec<Undo>,
     unplayed: Vec<u16>,
     cells: Vec<Cell>,
     marks: Marks,
@@ -59,7 +61,7 @@ impl<'a> Model for ZoneBox<'a> {
 
     ghost invariant = { λ b. IsBoxOf
         (record { sheet = b.sheet.now; season = b.season.now; zone = b.zone.items })
-        b.unplayed.items b.cells.items b.marks.before b.marks.after b.ends
+        b.trail.items b.unplayed.items b.cells.items b.marks.before b.marks.after b.ends
         b.tables.clubs.items b.tables.pairs.items };
 }
 
@@ -119,6 +121,7 @@ impl<'a> ZoneBox<'a> {
             sheet,
             season,
             zone: Vec::new(alloc),
+            trail: Vec::new(alloc),
             unplayed,
             cells,
             marks: Marks::none(),

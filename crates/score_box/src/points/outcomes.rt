@@ -32,21 +32,10 @@ impl MatchPoints {
 }
 
 impl MatchPoints {
-    const NONE: MatchPoints = MatchPoints { least: 0, most: 0 };
-
-    /// What any cell leaves to them; nothing where no score is left.
-    pub fn left(cell: &Cell, home: bool, away: bool) -> MatchPoints
-        ensures { IsPointsOf cell.now home away result }
-    {
-        if cell.is_empty() {
-            MatchPoints::NONE
-        } else {
-            MatchPoints::of(cell, home, away)
-        }
-    }
+    pub(super) const NONE: MatchPoints = MatchPoints { least: 0, most: 0 };
 }
 
-fn least_of(wins: bool, draws: bool, losses: bool, home: bool, away: bool) -> u8
+pub(super) fn least_of(wins: bool, draws: bool, losses: bool, home: bool, away: bool) -> u8
     ensures { result ≡ least_of_three wins draws losses home away }
 {
     points_if(wins, win_points(home), 3)
@@ -54,7 +43,7 @@ fn least_of(wins: bool, draws: bool, losses: bool, home: bool, away: bool) -> u8
         .min(points_if(losses, win_points(away), 3))
 }
 
-fn most_of(wins: bool, draws: bool, losses: bool, home: bool, away: bool) -> u8
+pub(super) fn most_of(wins: bool, draws: bool, losses: bool, home: bool, away: bool) -> u8
     ensures { result ≡ most_of_three wins draws losses home away }
 {
     points_if(wins, win_points(home), 0)

@@ -25,9 +25,11 @@ loop-i-preserved c =
     let in_fixtures : i < length fixtures = c.loop-i-test.true in
     let in_cells : i < length cells = omega (arith, c.requires.many) in
     let some = c.requires.some in
-    let small = moved_small fixtures i _ c.none-none.result _ (get_or some.0 i []) c.loop-i.lows
-    c.move_spans.new.lows c.loop-i.highs c.move_spans.new.highs c.move_spans.ensures
-    c.none-none.ensures (some.1.each i _ in_cells) c.loop-i.invariant.1 c.loop-i.invariant.2 in (
+    let moves = c.move_spans.ensures c.none-empty.result (get_or cells i _) c.of-none.ensures
+    c.of-left.ensures in
+    let small = moved_small fixtures i _ c.none-empty.result _ (get_or some.0 i []) c.loop-i.lows
+    c.move_spans.new.lows c.loop-i.highs c.move_spans.new.highs moves
+    c.none-empty.ensures (some.1.each i _ in_cells) c.loop-i.invariant.1 c.loop-i.invariant.2 in (
       λ options front.
           let before = set options i [] in
           let are = c.loop-i.invariant.0 before (front_less i cells options in_cells front) in
@@ -36,15 +38,15 @@ loop-i-preserved c =
             c.requires.many,
             (front_less i cells options in_cells front).many,
           ) in
-          let None : List Score → Type 0 = λ scores. IsCellOf c.none-none.result scores in
+          let None : List Score → Type 0 = λ scores. IsCellOf c.none-empty.result scores in
           let none_is = subst None (sym (get_or-set_same options i [] []
-          (omega (arith, front.many)))) c.none-none.ensures in
+          (omega (arith, front.many)))) c.none-empty.ensures in
           let Of : List (List Score) → Type 0 = λ o. AreSpans fixtures o c.move_spans.new.lows
           c.move_spans.new.highs in
           subst Of (front_back i cells options in_cells front.many)
-          (spans_moved fixtures before i _ c.none-none.result _ (get_or options i []) c.loop-i.lows
+          (spans_moved fixtures before i _ c.none-empty.result _ (get_or options i []) c.loop-i.lows
           c.move_spans.new.lows c.loop-i.highs c.move_spans.new.highs in_fixtures many are
-          c.move_spans.ensures none_is (front.before i _ (omega arith) in_cells)
+          moves none_is (front.before i _ (omega arith) in_cells)
           c.move_spans.auto.lows c.move_spans.auto.highs),
       λ club. (small club).0,
       λ club. (small club).1,

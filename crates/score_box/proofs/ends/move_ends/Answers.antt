@@ -1,9 +1,36 @@
 -- The numbers of the match's clubs and the two counts move on, each by what the two cells have.
-use Rattle.std.proofs.Common.{◌≡◌, ℕ, ◌<◌, not, cond, [], length, get_or, ap, arith}
+use Rattle.std.proofs.Common.{◌≡◌, ℕ, ◌<◌, Bool, not, ◌||◌, cond, List, [], length, get_or, sym, ap}
+use Rattle.std.proofs.Common.{◌∙◌, arith}
+use Rattle.league_core.specs.declared.season.Score.{Score}
 use Rattle.league_core.specs.Options.{has_option, has_one_outcome}
+use Rattle.score_box.specs.declared.cell.Cell.{Cell}
+use Rattle.score_box.specs.declared.points.left.OutcomesLeft.{OutcomesLeft}
+use Rattle.score_box.specs.Cells.{IsCellOf, at_most_one}
+use Rattle.score_box.specs.Points.{AreOutcomesLeft}
+use Rattle.score_box.proofs.LeftLemmas.{none_left, left_none, one_left, left_one}
 use Rattle.score_box.proofs.EndLemmas.{spans_small, spans_moved, empty_set, several_set}
 use Rattle.score_box.proofs.EndLemmas.{empty_counts, several_counts, empty_is, outcome_is}
 use Rattle.score_box.proofs.ends.move_ends.Goals as goal
+
+-- where none is left, the options count as none
+empty_counted : (cell : Cell) (left : OutcomesLeft) (options : List Score) (none : Bool)
+    → AreOutcomesLeft cell left → IsCellOf cell options
+    → none ≡ not (left.home_win || left.draw || left.away_win)
+    → ◌≡◌ {A = ℕ} (cond none 1 0) (cond (not (has_option options)) 1 0)
+empty_counted cell left options none are is same =
+    ap (λ b. cond b 1 0) (empty_is cell options none is
+    (λ e. none_left cell left are (sym same ∙ e))
+    (λ empty. same ∙ left_none cell left are empty))
+
+-- and where several are, as several
+several_counted : (cell : Cell) (left : OutcomesLeft) (options : List Score) (one : Bool)
+    → AreOutcomesLeft cell left → IsCellOf cell options
+    → one ≡ at_most_one left.home_win left.draw left.away_win
+    → ◌≡◌ {A = ℕ} (cond (not one) 1 0) (cond (not (has_one_outcome options)) 1 0)
+several_counted cell left options one are is same =
+    ap (λ b. cond (not b) 1 0) (outcome_is cell options one is
+    (λ e. one_left cell left are (sym same ∙ e))
+    (λ has. same ∙ left_one cell left are has))
 
 pub move_spans-requires-clause-low : goal.move_spans-requires-clause-low
 move_spans-requires-clause-low c = λ club.
@@ -20,10 +47,8 @@ moved_count-ends-requires-clause-counted c =
     let options = c.requires.ends.0 in
     let number = c.args.number in
     let within : number < length options = omega (arith, c.requires.ends.1, c.requires.in_range) in
-    let same : ◌≡◌ {A = ℕ} (cond c.is_empty.result 1 0)
-    (cond (not (has_option (get_or options number []))) 1 0) =
-    ap (λ b. cond b 1 0) (empty_is c.args.was.now (get_or options number []) c.is_empty.result
-    c.requires.ends.3 c.is_empty.ensures.0 c.is_empty.ensures.1) in
+    let same = empty_counted c.args.was.now c.of-before.result (get_or options number [])
+    c.are_none.result c.of-before.ensures c.requires.ends.3 c.are_none.ensures in
     omega (arith, same, empty_counts options number within, c.requires.ends.2.empty)
 
 pub moved_count-ends-requires-2-clause-counted : goal.moved_count-ends-requires-2-clause-counted
@@ -31,11 +56,8 @@ moved_count-ends-requires-2-clause-counted c =
     let options = c.requires.ends.0 in
     let number = c.args.number in
     let within : number < length options = omega (arith, c.requires.ends.1, c.requires.in_range) in
-    let same : ◌≡◌ {A = ℕ} (cond (not c.has_one_outcome.result) 1 0)
-    (cond (not (has_one_outcome (get_or options number []))) 1 0) =
-    ap (λ b. cond (not b) 1 0) (outcome_is c.args.was.now (get_or options number [])
-    c.has_one_outcome.result c.requires.ends.3 c.has_one_outcome.ensures.0
-    c.has_one_outcome.ensures.1) in
+    let same = several_counted c.args.was.now c.of-before.result (get_or options number [])
+    c.are_one.result c.of-before.ensures c.requires.ends.3 c.are_one.ensures in
     omega (arith, same, several_counts options number within, c.requires.ends.2.several)
 
 pub returns : goal.returns
@@ -43,25 +65,20 @@ returns c options after many are was_is now_is =
     let number = c.args.number in
     let before = get_or options number [] in
     let within : number < length options = omega (arith, many, c.requires.in_range) in
-    let was_empty : ◌≡◌ {A = ℕ} (cond c.is_empty.result 1 0) (cond (not (has_option before)) 1 0) =
-    ap (λ b. cond b 1 0) (empty_is c.args.was.now before c.is_empty.result was_is
-    c.is_empty.ensures.0 c.is_empty.ensures.1) in
-    let now_empty : ◌≡◌ {A = ℕ} (cond c.is_empty-2.result 1 0) (cond (not (has_option after)) 1 0) =
-    ap (λ b. cond b 1 0) (empty_is c.args.now.now after c.is_empty-2.result now_is
-    c.is_empty-2.ensures.0 c.is_empty-2.ensures.1) in
-    let was_one : ◌≡◌ {A = ℕ} (cond (not c.has_one_outcome.result) 1 0)
-    (cond (not (has_one_outcome before)) 1 0) =
-    ap (λ b. cond (not b) 1 0) (outcome_is c.args.was.now before c.has_one_outcome.result was_is
-    c.has_one_outcome.ensures.0 c.has_one_outcome.ensures.1) in
-    let now_one : ◌≡◌ {A = ℕ} (cond (not c.has_one_outcome-2.result) 1 0)
-    (cond (not (has_one_outcome after)) 1 0) =
-    ap (λ b. cond (not b) 1 0) (outcome_is c.args.now.now after c.has_one_outcome-2.result now_is
-    c.has_one_outcome-2.ensures.0 c.has_one_outcome-2.ensures.1) in
+    let was_empty = empty_counted c.args.was.now c.of-before.result before c.are_none.result
+    c.of-before.ensures was_is c.are_none.ensures in
+    let now_empty = empty_counted c.args.now.now c.of-after.result after c.are_none-2.result
+    c.of-after.ensures now_is c.are_none-2.ensures in
+    let was_one = several_counted c.args.was.now c.of-before.result before c.are_one.result
+    c.of-before.ensures was_is c.are_one.ensures in
+    let now_one = several_counted c.args.now.now c.of-after.result after c.are_one-2.result
+    c.of-after.ensures now_is c.are_one-2.ensures in
     record {
       spans = spans_moved c.args.fixtures.now options number _ c.args.was.now c.args.now.now after
           c.args.ends.now.lows c.move_spans.new.lows c.args.ends.now.highs c.move_spans.new.highs
-          c.requires.in_range many are.spans c.move_spans.ensures was_is now_is
-          c.move_spans.auto.lows c.move_spans.auto.highs;
+          c.requires.in_range many are.spans
+          (c.move_spans.ensures c.args.was.now c.args.now.now c.of-before.ensures
+          c.of-after.ensures) was_is now_is c.move_spans.auto.lows c.move_spans.auto.highs;
       empty = omega (
         arith,
         c.moved_count-ends.ensures,

@@ -1,6 +1,7 @@
 -- The literal is of the sheet, so it is of one of the cells or marks a club; and the cells, the
 -- ends and the marks take it.
-use Rattle.std.proofs.Common.{◌≡◌, true, List, length, drop, subst, refl, sym, ap}
+use Rattle.std.proofs.Common.{◌≡◌, true, List, [], ◌∷◌, ◌++◌, length, get_or, drop, subst}
+use Rattle.std.proofs.Common.{refl, sym, ap}
 use Rattle.std.proofs.Common.{◌∙◌, arith}
 use Rattle.league_core.specs.declared.sheet.Fixture.{Fixture}
 use Rattle.league_core.specs.declared.zone.Literal.{Literal}
@@ -10,9 +11,11 @@ use Rattle.score_box.specs.declared.cell.Cell.{Cell}
 use Rattle.score_box.specs.Settings.{Setting}
 use Rattle.score_box.specs.Ends.{HasEndsOfCells, IsMatch}
 use Rattle.std.specs.List.{All}
-use Rattle.score_box.specs.Stages.{IsBoxOf, TakesOneMore}
+use Rattle.score_box.specs.declared.trail.Undo.{Undo}
+use Rattle.score_box.specs.Stages.{IsBoxOf, IsUndoOf, TakesOneMore}
 use Rattle.score_box.proofs.BoxLemmas.{cells_of_season, test_below}
 use Rattle.score_box.proofs.EndLemmas.{matches_of}
+use Rattle.score_box.proofs.TrailLemmas.{cell_before}
 use Rattle.score_box.proofs.PathLemmas.{box_with, written}
 use Rattle.score_box.proofs.zone_box.ZoneBox.cut.Goals as goal
 
@@ -45,6 +48,19 @@ take_one-requires c =
         c.self.invariant.ends_are,
       ));
     }
+
+pub cell_on-requires : goal.cell_on-requires
+cell_on-requires c =
+    let box = c.self.inside in
+    let is : is_test_of box.sheet.now c.args.literal.test ≡ true =
+    ap (λ (s : Setting). is_test_of s.sheet c.args.literal.test) c.self.view_is ∙ c.requires in
+    let many : length box.sheet.now.fixtures ≡ length c.deref.result.now =
+    sym c.self.invariant.league.of_sheet.scores
+    ∙ sym (cells_of_season box.sheet.now box.season.now box.zone.items box.cells.items
+    c.self.invariant.options)
+    ∙ sym (ap length c.deref.ensures.value) in
+    test_below box.sheet.now (length c.deref.result.now) c.args.literal.test many
+    (omega (arith, c.self.invariant.league.limits.most_clubs)) is
 
 pub with-self-inside-requires : goal.with-self-inside-requires
 with-self-inside-requires c =
@@ -81,21 +97,44 @@ invariant_of-self-2 c =
     (subst Over_fixtures c.as_slice-fixtures.ensures c.take_one.ensures) in
     let more = takes box.sheet.now.goal_limit box.zone.items box.season.now.scores
     c.self.invariant.options c.self.invariant.ends_are in
+    let undo : Undo = record { cell = c.cell_on.result; marks = box.marks } in
+    let below = test_below box.sheet.now (length box.cells.items) literal.test
+    (sym c.self.invariant.league.of_sheet.scores
+    ∙ sym (cells_of_season box.sheet.now box.season.now box.zone.items box.cells.items
+    c.self.invariant.options))
+    (omega (arith, c.self.invariant.league.limits.most_clubs)) is in
+    let stood : IsUndoOf box.sheet.now.goal_limit box.season.now.scores box.zone.items literal undo
+    = record {
+      cell = λ number on. cell_before box.sheet.now.goal_limit box.zone.items
+          box.season.now.scores box.cells.items literal c.cell_on.result
+          c.self.invariant.options below
+          (λ n d is_on_it. c.cell_on.ensures n d is_on_it
+          ∙ ap (λ (cs : List Cell). get_or cs n d) c.deref.ensures.value) number on;
+      before = c.self.invariant.marks_before;
+      after = c.self.invariant.marks_after;
+    } in
     let With_cells : List Cell → Type 0 = λ cells. IsBoxOf (record {
       sheet = box.sheet.now;
       season = box.season.now;
-      zone = c.push.new.self.items;
-    }) box.unplayed.items cells before after ends
+      zone = c.push_both.new.zone.items;
+    }) c.push_both.new.trail.items box.unplayed.items cells before after ends
     box.tables.clubs.items box.tables.pairs.items in
     let With_zone : List Literal → Type 0 = λ zone. IsBoxOf (record {
       sheet = box.sheet.now;
       season = box.season.now;
       zone = zone;
-    }) box.unplayed.items new before after ends
+    }) c.push_both.new.trail.items box.unplayed.items new before after ends
+    box.tables.clubs.items box.tables.pairs.items in
+    let With_trail : List Undo → Type 0 = λ trail. IsBoxOf (record {
+      sheet = box.sheet.now;
+      season = box.season.now;
+      zone = box.zone.items ++ literal ∷ [];
+    }) trail box.unplayed.items new before after ends
     box.tables.clubs.items box.tables.pairs.items in
     subst With_cells (sym all)
-    (subst With_zone (sym c.in_ok-push.ensures.items)
-    (box_with box.sheet.now box.season.now box.zone.items literal box.unplayed.items
-    box.cells.items new box.marks.before box.marks.after before after box.ends ends
-    box.tables.clubs.items box.tables.pairs.items c.self.invariant is more.0 more.1
-    c.with-self-inside.ensures.before c.with-self-inside.ensures.after))
+    (subst With_zone (sym c.in_ok-push_both.ensures.zone)
+    (subst With_trail (sym c.in_ok-push_both.ensures.trail)
+    (box_with box.sheet.now box.season.now box.zone.items literal box.trail.items undo
+    box.unplayed.items box.cells.items new box.marks.before box.marks.after before after box.ends
+    ends box.tables.clubs.items box.tables.pairs.items c.self.invariant is stood more.0 more.1
+    c.with-self-inside.ensures.before c.with-self-inside.ensures.after)))

@@ -1,0 +1,60 @@
+//! Which outcomes a cell has left, looked up once for all that rests on them.
+
+ghost use Rattle.std.specs.Prelude.{◌≡◌, ◌||◌, not};
+ghost use Rattle.score_box.specs.declared.cell.Cell.{Cell};
+ghost use Rattle.score_box.specs.Cells.{at_most_one};
+ghost use Rattle.score_box.specs.Points.{AreOutcomesLeft, IsPointsOf};
+
+use super::outcomes::{MatchPoints, least_of, most_of};
+use crate::cell::{Cell, at_most_one};
+
+/// Whether a cell has a home win, a draw, an away win.
+#[derive(Clone, Copy)]
+pub struct OutcomesLeft {
+    pub home_win: bool,
+    pub draw: bool,
+    pub away_win: bool,
+}
+
+impl OutcomesLeft {
+    pub fn of(cell: &Cell) -> OutcomesLeft
+        ensures { AreOutcomesLeft cell.now result }
+    {
+        let home_win = cell.home_wins().is_some();
+        let draw = cell.draws().is_some();
+        let away_win = cell.away_wins().is_some();
+        OutcomesLeft {
+            home_win,
+            draw,
+            away_win,
+        }
+    }
+
+    /// The cell has no score.
+    pub fn are_none(self) -> bool
+        ensures { result ≡ not (self.home_win || self.draw || self.away_win) }
+    {
+        !(self.home_win || self.draw || self.away_win)
+    }
+
+    /// The cell's scores have one outcome, or it has none.
+    pub fn are_one(self) -> bool
+        ensures { result ≡ at_most_one self.home_win self.draw self.away_win }
+    {
+        at_most_one(self.home_win, self.draw, self.away_win)
+    }
+
+    /// What the cell leaves to the sides that count; nothing where no score is left.
+    pub fn points(self, home: bool, away: bool) -> MatchPoints
+        ensures { (cell : Cell) → AreOutcomesLeft cell self → IsPointsOf cell home away result }
+    {
+        if self.are_none() {
+            MatchPoints::NONE
+        } else {
+            MatchPoints {
+                least: least_of(self.home_win, self.draw, self.away_win, home, away),
+                most: most_of(self.home_win, self.draw, self.away_win, home, away),
+            }
+        }
+    }
+}
