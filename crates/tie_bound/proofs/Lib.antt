@@ -12,4 +12,5 @@ pub mod AnswerLemmas
 pub mod RoundLemmas
 pub mod TakenLemmas
 pub mod RivalLemmas
+pub mod RefuteLemmas
 pub mod GivenLemmas

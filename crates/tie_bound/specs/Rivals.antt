@@ -1,22 +1,40 @@
--- The rivals of a club as sets: all of them, and those that are marked and judged.
-use Rattle.std.specs.Prelude.{◌≡◌, ℕ, ◌<◌, length}
-use Rattle.league_core.specs.Sums.{has_club}
+-- The rivals of a club as sets: all of them and those that are marked; and what refutes a question
+-- by who is above the club and who is below it.
+use Rattle.std.specs.Prelude.{◌≡◌, ℕ, Bool, ◌&&◌, ◌||◌}
+use Rattle.std.specs.List.{list_any}
+use Rattle.league_core.specs.declared.question.Question.{Question}
 use Rattle.league_core.specs.ClubSets.{clubs_in}
 use Rattle.league_core.specs.Zones.{rivals_of, marked_before, marked_after}
-use Rattle.league_core.specs.SureOrder.{sure_order, is_above, is_below}
+use Rattle.league_core.specs.Reasons.{too_many, is_surely_above, is_surely_below}
 use Rattle.score_box.specs.Boxes.{IsSetOf}
 use Rattle.score_box.specs.Settings.{Setting}
 use Rattle.tie_bound.specs.declared.rivals.Rivals.{Rivals}
 
--- these sets are those of the club's rivals in the box; of the clubs of the sheet the two last have
--- those that are surely above the club and below it
+-- these sets are those of the club's rivals in the box
 pub record AreRivalsIn (box : Setting) (club : ℕ) (rivals : Rivals) : Type 0 where
   pub all : clubs_in rivals.all ≡ rivals_of box.sheet club
   pub before : IsSetOf rivals.before (marked_before box.zone)
   pub after : IsSetOf rivals.after (marked_after box.zone)
-  pub above : (rival : ℕ) → rival < length box.sheet.clubs
-      → has_club (clubs_in rivals.above) rival ≡ is_above
-      (sure_order box.sheet box.season box.zone rival club)
-  pub below : (rival : ℕ) → rival < length box.sheet.clubs
-      → has_club (clubs_in rivals.below) rival ≡ is_below
-      (sure_order box.sheet box.season box.zone rival club)
+
+-- with these clubs above and those below, too many rivals are on the other side
+abbrev pub are_too_many_with : Setting → Question → (ℕ → Bool) → (ℕ → Bool) → Bool
+are_too_many_with box question above below =
+    too_many box.sheet question (λ rival. marked_before box.zone rival || above rival)
+    (λ rival. marked_after box.zone rival || below rival) question.claim
+
+-- a rival that is above is marked after the club, or one that is below before it
+abbrev pub is_wrong_with : Setting → (ℕ → Bool) → (ℕ → Bool) → ℕ → Bool
+is_wrong_with box above below rival =
+    (marked_after box.zone rival && above rival) || (marked_before box.zone rival && below rival)
+
+-- either refutes the question
+abbrev pub refutes_with : Setting → Question → (ℕ → Bool) → (ℕ → Bool) → Bool
+refutes_with box question above below =
+    are_too_many_with box question above below
+    || list_any (is_wrong_with box above below) (rivals_of box.sheet question.club)
+
+-- the sure order refutes it
+abbrev pub refutes_surely : Setting → Question → Bool
+refutes_surely box question =
+    refutes_with box question (is_surely_above box.sheet box.season question box.zone)
+    (is_surely_below box.sheet box.season question box.zone)

@@ -9,12 +9,14 @@ ghost use Rattle.league_core.specs.Sums.{has_club, worth_to};
 ghost use Rattle.league_core.specs.Ahead.{rank_of};
 ghost use Rattle.league_core.specs.ClubSets.{clubs_in};
 ghost use Rattle.league_core.specs.PointRanges.{one_value, added};
-ghost use Rattle.league_core.specs.SureOrder.{sure_by_points, sure_by_ranges, is_level, is_apart};
+ghost use Rattle.league_core.specs.SureOrder.{sure_by_points, sure_by_ranges, sure_then};
+ghost use Rattle.league_core.specs.SureOrder.{is_level, is_apart};
 ghost use Rattle.tie_bound.specs.Spans.{as_range, IsSpanNear};
 ghost use Rattle.tie_bound.specs.Sums.{sums_at};
 ghost use Rattle.tie_bound.specs.Boxes.{options_in_box};
 ghost use Rattle.tie_bound.specs.Tables.{AreSums};
-ghost use Rattle.tie_bound.specs.Answers.{ranges_of, by_table, by_overall_table, is_sure_by};
+ghost use Rattle.tie_bound.specs.Answers.{ranges_of, overall_spans_of, by_table};
+ghost use Rattle.tie_bound.specs.Answers.{by_overall_table, is_sure_by};
 ghost use Rattle.tie_bound.specs.Answers.{answer_at, is_answer, StepDecides};
 
 use crate::order::{are_apart, by_overall, by_parts, by_span, is_answer, then};
@@ -67,8 +69,20 @@ pub fn take_parts(answers: &mut [Sure], parts: Parts, table: &[Sums], club: u8)
 {
     let own = sums_at(table, club);
     for rival in 0..answers.len() {
-        let next = by_parts(parts, &sums_at(table, rival as u8), &own);
-        answers[rival] = then(answers[rival], next);
+        answers[rival] = then_parts(answers[rival], parts, table, rival as u8, &own);
+    }
+}
+
+/// The answer, where it decides; else what these parts say.
+fn then_parts(answer: Sure, parts: Parts, table: &[Sums], rival: u8, own: &Sums) -> Sure
+    ensures { result ≡ sure_then answer
+        (sure_by_ranges (ranges_of parts (sums_at table.now rival)) (ranges_of parts own.now)) }
+{
+    match answer {
+        Sure::Above => Sure::Above,
+        Sure::Below => Sure::Below,
+        Sure::Level => by_parts(parts, &sums_at(table, rival), own),
+        Sure::Unknown => Sure::Unknown,
     }
 }
 
@@ -80,9 +94,31 @@ pub fn take_overall(answers: &mut [Sure], sheet: &Sheet, overall: &[Sums], club:
     let own = sums_at(overall, club);
     let own_rank = rank_of(sheet, club);
     for rival in 0..answers.len() {
-        let rank = rank_of(sheet, rival as u8);
-        let next = by_overall(&sums_at(overall, rival as u8), &own, rank, own_rank);
-        answers[rival] = then(answers[rival], next);
+        answers[rival] = then_overall(answers[rival], sheet, overall, rival as u8, &own, own_rank);
+    }
+}
+
+/// The answer, where it decides; else what the sums over all matches say, and the ranks.
+fn then_overall(
+    answer: Sure,
+    sheet: &Sheet,
+    overall: &[Sums],
+    rival: u8,
+    own: &Sums,
+    own_rank: u16,
+) -> Sure
+    ensures { result ≡ sure_then answer
+        (sure_by_ranges (overall_spans_of (sums_at overall.now rival) (rank_of sheet.now rival))
+        (overall_spans_of own.now own_rank)) }
+{
+    match answer {
+        Sure::Above => Sure::Above,
+        Sure::Below => Sure::Below,
+        Sure::Level => {
+            let rank = rank_of(sheet, rival);
+            by_overall(&sums_at(overall, rival), own, rank, own_rank)
+        }
+        Sure::Unknown => Sure::Unknown,
     }
 }
 

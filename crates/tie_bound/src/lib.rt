@@ -8,6 +8,7 @@
 
 mod against;
 mod answers;
+mod apart;
 mod fixtures;
 mod given;
 mod order;

@@ -2,22 +2,27 @@
 //! put too many rivals on the other side of the club, or a rival where the zone says that it is
 //! not.
 
-ghost use Rattle.std.specs.Prelude.{◌≡◌, ◌||◌, IsTrue, length};
+ghost use Rattle.std.specs.Prelude.{◌≡◌, IsTrue, IfSome};
 ghost use Rattle.std.specs.List.{list_any};
 ghost use Rattle.league_core.specs.declared.zone.Reason.TheVariants.{Tie};
+ghost use Rattle.league_core.specs.Sums.{has_club};
+ghost use Rattle.league_core.specs.ClubSets.{clubs_in};
 ghost use Rattle.league_core.specs.Zones.{rivals_of};
 ghost use Rattle.league_core.specs.Options.{has_finish};
-ghost use Rattle.league_core.specs.Reasons.{has_reason, are_too_many_sure, is_surely_wrong};
+ghost use Rattle.league_core.specs.Reasons.{has_reason};
+ghost use Rattle.score_box.specs.Settings.{HasFinish};
 ghost use Rattle.tie_bound.specs.Boxes.{have_one_outcome};
-ghost use Rattle.tie_bound.specs.Rivals.{AreRivalsIn};
+ghost use Rattle.tie_bound.specs.Rivals.{AreRivalsIn, are_too_many_with, is_wrong_with};
+ghost use Rattle.tie_bound.specs.Rivals.{refutes_with, refutes_surely};
 
+use crate::apart::Apart;
 use crate::outcomes::has_one_outcome;
 use crate::rivals::Rivals;
 use league_core::{Claim, Question};
 use score_box::ZoneBox;
 
-/// The question holds nowhere in the zone by points and criteria: the reason `Tie`. Takes one walk
-/// over the fixtures for their outcomes, and stops there at the first that is open.
+/// The question holds nowhere in the zone by points and criteria: the reason `Tie`. Nothing is
+/// looked at where an outcome is open, and the criteria only where points alone leave it open.
 pub fn tie_reason(zone_box: &ZoneBox, question: &Question) -> bool
     requires { IsTrue (has_finish zone_box.now.sheet zone_box.now.season zone_box.now.zone) }
     ensures { result
@@ -27,44 +32,83 @@ pub fn tie_reason(zone_box: &ZoneBox, question: &Question) -> bool
 }
 
 fn is_refuted(zone_box: &ZoneBox, question: &Question) -> bool
-    requires { IsTrue (have_one_outcome zone_box.now) }
-    ensures { result
-        ≡ (are_too_many_sure zone_box.now.sheet zone_box.now.season question.now zone_box.now.zone
-        || list_any
-        (is_surely_wrong zone_box.now.sheet zone_box.now.season question.now zone_box.now.zone)
-        (rivals_of zone_box.now.sheet question.now.club)) }
+    requires outcomes { IsTrue (have_one_outcome zone_box.now) }
+    requires has_finish { HasFinish zone_box.now }
+    ensures { result ≡ refutes_surely zone_box.now question.now }
 {
     let rivals = Rivals::of(zone_box, question.club);
-    are_too_many(zone_box, question, &rivals) || is_one_wrong(zone_box, question, &rivals)
+    match by_points(zone_box, question, &rivals) {
+        Some(refuted) => refuted,
+        None => by_criteria(zone_box, question, &rivals),
+    }
 }
 
-/// Too many rivals are marked, or surely stand, on the other side.
-fn are_too_many(zone_box: &ZoneBox, question: &Question, rivals: &Rivals) -> bool
+/// What points alone tell: whether the question is refuted whoever the criteria put in front, or
+/// not refuted at all.
+fn by_points(zone_box: &ZoneBox, question: &Question, rivals: &Rivals) -> Option<bool>
+    requires has_finish { HasFinish zone_box.now }
+    requires rivals { AreRivalsIn zone_box.now question.now.club rivals.now }
+    ensures { IfSome result (λ refuted. refuted ≡ refutes_surely zone_box.now question.now) }
+{
+    let clubs = zone_box.sheet().clubs.len() as u8;
+    if clubs <= question.club {
+        return None;
+    }
+    let apart = Apart::by_points(zone_box, question.club);
+    if refutes(zone_box, question, rivals, apart) {
+        return Some(true);
+    }
+    if refutes(zone_box, question, rivals, apart.widened(clubs)) {
+        return None;
+    }
+    Some(false)
+}
+
+fn by_criteria(zone_box: &ZoneBox, question: &Question, rivals: &Rivals) -> bool
+    requires outcomes { IsTrue (have_one_outcome zone_box.now) }
+    requires rivals { AreRivalsIn zone_box.now question.now.club rivals.now }
+    ensures { result ≡ refutes_surely zone_box.now question.now }
+{
+    let apart = Apart::by_criteria(zone_box, question.club);
+    refutes(zone_box, question, rivals, apart)
+}
+
+/// Who is above and who is below refutes the question.
+fn refutes(zone_box: &ZoneBox, question: &Question, rivals: &Rivals, apart: Apart) -> bool
     requires { AreRivalsIn zone_box.now question.now.club rivals.now }
-    ensures { result
-        ≡ are_too_many_sure zone_box.now.sheet zone_box.now.season question.now zone_box.now.zone }
+    ensures { result ≡ refutes_with zone_box.now question.now (has_club (clubs_in apart.above))
+        (has_club (clubs_in apart.below)) }
+{
+    are_too_many(zone_box, question, rivals, apart)
+        || is_one_wrong(zone_box, question, rivals, apart)
+}
+
+/// Too many rivals are marked, or stand, on the other side.
+fn are_too_many(zone_box: &ZoneBox, question: &Question, rivals: &Rivals, apart: Apart) -> bool
+    requires { AreRivalsIn zone_box.now question.now.club rivals.now }
+    ensures { result ≡ are_too_many_with zone_box.now question.now
+        (has_club (clubs_in apart.above)) (has_club (clubs_in apart.below)) }
 {
     match question.claim {
         Claim::Inside => {
-            let front = rivals.all.intersection(rivals.before.union(rivals.above));
+            let front = rivals.all.intersection(rivals.before.union(apart.above));
             question.line <= front.len()
         }
         Claim::Outside => {
-            let back = rivals.all.intersection(rivals.after.union(rivals.below));
+            let back = rivals.all.intersection(rivals.after.union(apart.below));
             let clubs = zone_box.sheet().clubs.len() as u8;
             clubs.saturating_sub(question.line) <= back.len()
         }
     }
 }
 
-/// A rival surely stands where the zone says that it does not.
-fn is_one_wrong(zone_box: &ZoneBox, question: &Question, rivals: &Rivals) -> bool
+/// A rival stands where the zone says that it does not.
+fn is_one_wrong(zone_box: &ZoneBox, question: &Question, rivals: &Rivals, apart: Apart) -> bool
     requires { AreRivalsIn zone_box.now question.now.club rivals.now }
-    ensures { result ≡ list_any
-        (is_surely_wrong zone_box.now.sheet zone_box.now.season question.now zone_box.now.zone)
-        (rivals_of zone_box.now.sheet question.now.club) }
+    ensures { result ≡ list_any (is_wrong_with zone_box.now (has_club (clubs_in apart.above))
+        (has_club (clubs_in apart.below))) (rivals_of zone_box.now.sheet question.now.club) }
 {
-    let ahead = rivals.after.intersection(rivals.above);
-    let behind = rivals.before.intersection(rivals.below);
+    let ahead = rivals.after.intersection(apart.above);
+    let behind = rivals.before.intersection(apart.below);
     !rivals.all.intersection(ahead.union(behind)).is_empty()
 }

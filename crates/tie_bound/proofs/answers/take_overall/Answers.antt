@@ -1,7 +1,10 @@
-use Rattle.std.proofs.Common.{◌<◌, length, ◌∙◌, arith}
+use Rattle.std.proofs.Common.{◌<◌, length, refl, arith}
 use Rattle.league_core.specs.declared.sure.Sure.TheVariants.{Unknown}
+use Rattle.league_core.specs.Ahead.{rank_of}
+use Rattle.league_core.specs.SureOrder.{sure_by_ranges}
 use Rattle.std.proofs.lemmas.List.{get_or_default}
-use Rattle.tie_bound.specs.Answers.{by_overall_table, answer_at}
+use Rattle.tie_bound.specs.Sums.{sums_at}
+use Rattle.tie_bound.specs.Answers.{overall_spans_of, by_overall_table, answer_at}
 use Rattle.tie_bound.proofs.AnswerLemmas.{gone_on_more, by_overall_table-read, next_is}
 use Rattle.tie_bound.proofs.answers.take_overall.Goals as goal
 
@@ -12,13 +15,14 @@ loop-rival-preserved c =
     let club = c.args.club in
     let now = c.loop-rival.answers in
     let rival = c.loop-rival.rival in
+    let own = c.sums_at-own.result in
+    let own_rank = c.rank_of-own_rank.result in
     let within : rival < length now = omega arith in
-    let next = c.by_overall-next.ensures
-    ∙ by_overall_table-read sheet table club rival c.sums_at.result c.sums_at-own.result
-    c.rank_of-rank.result c.rank_of-own_rank.result c.sums_at.ensures c.sums_at-own.ensures
-    c.rank_of-rank.ensures c.rank_of-own_rank.ensures in
-    gone_on_more (by_overall_table sheet table club) c.args.answers.now now rival c.then.result
-    within c.loop-rival.invariant
-    (next_is (answer_at now) (by_overall_table sheet table club) c.then.result _
-    c.by_overall-next.result rival c.then.ensures (get_or_default now rival _ Unknown within)
-    next)
+    let next = by_overall_table-read sheet table club rival (sums_at table rival) own
+    (rank_of sheet rival) own_rank refl c.sums_at-own.ensures refl c.rank_of-own_rank.ensures in
+    gone_on_more (by_overall_table sheet table club) c.args.answers.now now rival
+    c.then_overall.result within c.loop-rival.invariant
+    (next_is (answer_at now) (by_overall_table sheet table club) c.then_overall.result _
+    (sure_by_ranges (overall_spans_of (sums_at table rival) (rank_of sheet rival))
+    (overall_spans_of own own_rank)) rival c.then_overall.ensures
+    (get_or_default now rival _ Unknown within) next)

@@ -3,7 +3,7 @@ use Rattle.league_core.specs.declared.sheet.Sheet.{Sheet}
 use Rattle.league_core.specs.Sums.{has_club}
 use Rattle.league_core.specs.ClubSets.{clubs_in}
 use Rattle.league_core.specs.Zones.{marked_before, marked_after}
-use Rattle.league_core.specs.Reasons.{too_many, is_surely_above, is_surely_below}
+use Rattle.league_core.specs.Reasons.{too_many}
 use Rattle.tie_bound.proofs.RivalLemmas.{common-is, count-is}
 use Rattle.tie_bound.proofs.tie.are_too_many.Goals as goal
 
@@ -12,16 +12,16 @@ returns-in-Inside c =
     let box = c.args.zone_box.now in
     let question = c.args.question.now in
     let rivals = c.args.rivals.now in
-    let front = λ (rival : ℕ). marked_before box.zone rival || is_surely_above box.sheet box.season
-    question box.zone rival in
-    let back = λ (rival : ℕ). marked_after box.zone rival || is_surely_below box.sheet box.season
-    question box.zone rival in
+    let apart = c.args.apart in
+    let front = λ (rival : ℕ). marked_before box.zone rival || has_club (clubs_in apart.above) rival
+    in
+    let back = λ (rival : ℕ). marked_after box.zone rival || has_club (clubs_in apart.below) rival
+    in
     let found = common-is box.sheet question.club rivals.all.bits c.intersection-front.result.bits
     (has_club (clubs_in c.union.result)) front c.requires.all c.intersection-front.ensures
     (λ x within.
     c.union.ensures x
-    ∙ ap (λ b. b || has_club (clubs_in rivals.above) x) (c.requires.before x)
-    ∙ ap (λ b. marked_before box.zone x || b) (c.requires.above x within)) in
+    ∙ ap (λ b. b || has_club (clubs_in apart.above) x) (c.requires.before x)) in
     ap (nat_le question.line) (c.len.ensures
     ∙ count-is box.sheet question.club c.intersection-front.result.bits front found)
     ∙ sym (ap (too_many box.sheet question front back) c.in-Inside.is)
@@ -31,16 +31,16 @@ returns-in-Outside c =
     let box = c.args.zone_box.now in
     let question = c.args.question.now in
     let rivals = c.args.rivals.now in
-    let front = λ (rival : ℕ). marked_before box.zone rival || is_surely_above box.sheet box.season
-    question box.zone rival in
-    let back = λ (rival : ℕ). marked_after box.zone rival || is_surely_below box.sheet box.season
-    question box.zone rival in
+    let apart = c.args.apart in
+    let front = λ (rival : ℕ). marked_before box.zone rival || has_club (clubs_in apart.above) rival
+    in
+    let back = λ (rival : ℕ). marked_after box.zone rival || has_club (clubs_in apart.below) rival
+    in
     let found = common-is box.sheet question.club rivals.all.bits c.intersection-back.result.bits
     (has_club (clubs_in c.union-in-Outside.result)) back c.requires.all c.intersection-back.ensures
     (λ x within.
     c.union-in-Outside.ensures x
-    ∙ ap (λ b. b || has_club (clubs_in rivals.below) x) (c.requires.after x)
-    ∙ ap (λ b. marked_after box.zone x || b) (c.requires.below x within)) in
+    ∙ ap (λ b. b || has_club (clubs_in apart.below) x) (c.requires.after x)) in
     let left : c.saturating_sub.result ≡ length box.sheet.clubs - question.line =
     c.saturating_sub.ensures ∙ ap (λ n. n - question.line)
     (c.len-clubs.ensures ∙ ap (λ (s : Sheet). length s.clubs) c.sheet.ensures.sheet) in

@@ -1,0 +1,268 @@
+-- More clubs that are above or below refute no less.
+use Rattle.std.proofs.Common.{◌≡◌, ◌≢◌, ◌⊎◌, ℕ, ◌+◌, ◌-◌, ◌<◌, ◌≤◌, Bool, true, false, not}
+use Rattle.std.proofs.Common.{◌&&◌, ◌||◌, cond, nat_le, nat_lt, ◌==◌, List, [], ◌∷◌, length}
+use Rattle.std.proofs.Common.{count_by, refl, sym, ap, ◌∙◌, inl, inr, arith}
+use Rattle.std.specs.List.{list_any}
+use Rattle.std.proofs.lemmas.Bool.{false≢true, eq-eqb, or_right, and_parts, and_from}
+use Rattle.std.proofs.lemmas.List.Sums.{sum_by-cons}
+use Rattle.league_core.proofs.ClubLemmas.{one_at_most}
+use Rattle.std.proofs.lemmas.Bool.{leb-true, le-leb, lt-ltb, le-ltb, ne_eqb}
+use Rattle.std.proofs.lemmas.Bool.{false_from_ne_true, cases_lt, cases_eq}
+use Rattle.league_core.specs.declared.question.Claim.{Claim}
+use Rattle.league_core.specs.declared.question.Claim.TheVariants.{Inside, Outside}
+use Rattle.league_core.specs.declared.question.Question.{Question}
+use Rattle.league_core.specs.declared.sure.Sure.{Sure}
+use Rattle.league_core.specs.declared.sure.Sure.TheVariants.{Above, Below, Level, Unknown}
+use Rattle.league_core.specs.Sums.{has_club}
+use Rattle.league_core.specs.Zones.{rivals_of, marked_before, marked_after}
+use Rattle.league_core.specs.Reasons.{too_many, is_surely_above, is_surely_below}
+use Rattle.league_core.specs.SureOrder.{sure_then, sure_by_points}
+use Rattle.league_core.specs.SureOrder.{sure_order, is_above, is_below}
+use Rattle.score_box.specs.Settings.{Setting}
+use Rattle.tie_bound.specs.Boxes.{options_in_box}
+use Rattle.tie_bound.specs.Rivals.{are_too_many_with, is_wrong_with, refutes_with, refutes_surely}
+use Rattle.tie_bound.proofs.RivalLemmas.{rival_below}
+
+-- a test that passes wherever another does
+abbrev Passes : List ℕ → (ℕ → Bool) → (ℕ → Bool) → Type 0
+Passes clubs test more = (x : ℕ) → has_club clubs x ≡ true → test x ≡ true → more x ≡ true
+
+passes_later : (club : ℕ) (clubs : List ℕ) (test more : ℕ → Bool) → Passes (club ∷ clubs) test more
+    → Passes clubs test more
+passes_later club clubs test more passes x has =
+    passes x (or_right (club == x) (has_club clubs x) has)
+
+passes_first : (club : ℕ) (clubs : List ℕ) (test more : ℕ → Bool) → Passes (club ∷ clubs) test more
+    → test club ≡ true → more club ≡ true
+passes_first club clubs test more passes =
+    passes club (ap (λ b. b || has_club clubs club) (eq-eqb club club refl))
+
+count_more : (test more : ℕ → Bool) (clubs : List ℕ) → Passes clubs test more
+    → count_by test clubs ≤ count_by more clubs
+count_more test more [] passes = omega arith
+count_more test more (club ∷ clubs) passes =
+    let rest = count_more test more clubs (passes_later club clubs test more passes) in
+    let here = one_at_most (test club) (more club)
+    (passes_first club clubs test more passes) in
+    let few = sum_by-cons (λ (x : ℕ). cond (test x) 1 0) club clubs in
+    let many = sum_by-cons (λ (x : ℕ). cond (more x) 1 0) club clubs in
+    omega arith
+
+or_both : (here later more rest : Bool) → (here ≡ true → more ≡ true)
+    → (later ≡ true → rest ≡ true) → (here || later) ≡ true → (more || rest) ≡ true
+or_both true later more rest first second some = ap (λ b. b || rest) (first refl)
+or_both false later more rest first second some = or_right more rest (second some)
+
+any_more : (test more : ℕ → Bool) (clubs : List ℕ) → Passes clubs test more
+    → list_any test clubs ≡ true → list_any more clubs ≡ true
+any_more test more [] passes some = some
+any_more test more (club ∷ clubs) passes some =
+    or_both (test club) (list_any test clubs) (more club) (list_any more clubs)
+    (passes_first club clubs test more passes)
+    (any_more test more clubs (passes_later club clubs test more passes)) some
+
+or_more : (a b c : Bool) → (b ≡ true → c ≡ true) → (a || b) ≡ true → (a || c) ≡ true
+or_more true b c more some = refl
+or_more false b c more some = more some
+
+and_more : (a b c : Bool) → (b ≡ true → c ≡ true) → (a && b) ≡ true → (a && c) ≡ true
+and_more true b c more both = more both
+and_more false b c more both = both
+
+at_least_more : (line few many : ℕ) → few ≤ many → nat_le line few ≡ true → nat_le line many ≡ true
+at_least_more line few many more is =
+    let low = leb-true line few is in le-leb line many (omega arith)
+
+pub refutes_more : (box : Setting) (question : Question)
+    (above below above_too below_too : ℕ → Bool)
+    → ((x : ℕ) → x < length box.sheet.clubs → above x ≡ true → above_too x ≡ true)
+    → ((x : ℕ) → x < length box.sheet.clubs → below x ≡ true → below_too x ≡ true)
+    → refutes_with box question above below ≡ true
+    → refutes_with box question above_too below_too ≡ true
+refutes_more box question above below above_too below_too more_above more_below =
+    or_both (are_too_many_with box question above below)
+    (list_any (is_wrong_with box above below) rivals)
+    (are_too_many_with box question above_too below_too)
+    (list_any (is_wrong_with box above_too below_too) rivals)
+    (by_claim question.claim)
+    (any_more (is_wrong_with box above below) (is_wrong_with box above_too below_too) rivals
+    (λ x has.
+    or_both (marked_after box.zone x && above x) (marked_before box.zone x && below x)
+    (marked_after box.zone x && above_too x) (marked_before box.zone x && below_too x)
+    (and_more (marked_after box.zone x) (above x) (above_too x)
+    (more_above x (rival_below box.sheet question.club x has)))
+    (and_more (marked_before box.zone x) (below x) (below_too x)
+    (more_below x (rival_below box.sheet question.club x has)))))
+  where
+    rivals : List ℕ
+    rivals = rivals_of box.sheet question.club
+
+    front : (ℕ → Bool) → ℕ → Bool
+    front test rival = marked_before box.zone rival || test rival
+
+    back : (ℕ → Bool) → ℕ → Bool
+    back test rival = marked_after box.zone rival || test rival
+
+    by_claim : (claim : Claim)
+        → too_many box.sheet question (front above) (back below) claim ≡ true
+        → too_many box.sheet question (front above_too) (back below_too) claim ≡ true
+    by_claim Inside =
+        at_least_more question.line (count_by (front above) rivals)
+        (count_by (front above_too) rivals)
+        (count_more (front above) (front above_too) rivals
+        (λ x has. or_more (marked_before box.zone x) (above x) (above_too x)
+        (more_above x (rival_below box.sheet question.club x has))))
+    by_claim Outside =
+        at_least_more (length box.sheet.clubs - question.line) (count_by (back below) rivals)
+        (count_by (back below_too) rivals)
+        (count_more (back below) (back below_too) rivals
+        (λ x has. or_more (marked_after box.zone x) (below x) (below_too x)
+        (more_below x (rival_below box.sheet question.club x has))))
+
+-- where the same clubs of the sheet are above and below, the same is refuted
+both_true : (a b : Bool) → (a ≡ true → b ≡ true) → (b ≡ true → a ≡ true) → a ≡ b
+both_true true b gives from = sym (gives refl)
+both_true false true gives from = from refl
+both_true false false gives from = refl
+
+pub refutes_same : (box : Setting) (question : Question)
+    (above below above_too below_too : ℕ → Bool)
+    → ((x : ℕ) → x < length box.sheet.clubs → above x ≡ above_too x)
+    → ((x : ℕ) → x < length box.sheet.clubs → below x ≡ below_too x)
+    → refutes_with box question above below ≡ refutes_with box question above_too below_too
+refutes_same box question above below above_too below_too same_above same_below =
+    both_true (refutes_with box question above below)
+    (refutes_with box question above_too below_too)
+    (refutes_more box question above below above_too below_too
+    (λ x within is. sym (same_above x within) ∙ is)
+    (λ x within is. sym (same_below x within) ∙ is))
+    (refutes_more box question above_too below_too above below
+    (λ x within is. same_above x within ∙ is)
+    (λ x within is. same_below x within ∙ is))
+
+-- ---- points come first
+
+above_first : (first next : Sure) → is_above first ≡ true → is_above (sure_then first next) ≡ true
+above_first Above next is = refl
+above_first Below next is = absurd (false≢true is)
+above_first Level next is = absurd (false≢true is)
+above_first Unknown next is = absurd (false≢true is)
+
+below_first : (first next : Sure) → is_below first ≡ true → is_below (sure_then first next) ≡ true
+below_first Above next is = absurd (false≢true is)
+below_first Below next is = refl
+below_first Level next is = absurd (false≢true is)
+below_first Unknown next is = absurd (false≢true is)
+
+not_below : (first next : Sure) → is_above (sure_then first next) ≡ true → is_below first ≡ false
+not_below Above next is = refl
+not_below Below next is = absurd (false≢true is)
+not_below Level next is = refl
+not_below Unknown next is = refl
+
+not_above : (first next : Sure) → is_below (sure_then first next) ≡ true → is_above first ≡ false
+not_above Above next is = absurd (false≢true is)
+not_above Below next is = refl
+not_above Level next is = refl
+not_above Unknown next is = refl
+
+-- points that put a club above or below are not overruled
+pub refuted_by_points : (box : Setting) (question : Question) (above below : ℕ → Bool)
+    → ((x : ℕ) → above x ≡ (nat_lt x (length box.sheet.clubs) && is_above (sure_by_points box.sheet
+    box.season (options_in_box box) x question.club)))
+    → ((x : ℕ) → below x ≡ (nat_lt x (length box.sheet.clubs) && is_below (sure_by_points box.sheet
+    box.season (options_in_box box) x question.club)))
+    → refutes_with box question above below ≡ true → true ≡ refutes_surely box question
+unfolding sure_order
+refuted_by_points box question above below above_is below_is refuted =
+    sym (refutes_more box question above below
+    (is_surely_above box.sheet box.season question box.zone)
+    (is_surely_below box.sheet box.season question box.zone)
+    (λ x within is. above_first
+    (sure_by_points box.sheet box.season (options_in_box box) x question.club) _
+    (and_parts (nat_lt x (length box.sheet.clubs)) _ (sym (above_is x) ∙ is)).1)
+    (λ x within is. below_first
+    (sure_by_points box.sheet box.season (options_in_box box) x question.club) _
+    (and_parts (nat_lt x (length box.sheet.clubs)) _ (sym (below_is x) ∙ is)).1)
+    refuted)
+
+-- and where all that points leave open would not refute, nothing does
+pub open_by_points : (box : Setting) (question : Question) (above below most_above most_below : ℕ
+    → Bool)
+    → ((x : ℕ) → above x ≡ (nat_lt x (length box.sheet.clubs) && is_above (sure_by_points box.sheet
+    box.season (options_in_box box) x question.club)))
+    → ((x : ℕ) → below x ≡ (nat_lt x (length box.sheet.clubs) && is_below (sure_by_points box.sheet
+    box.season (options_in_box box) x question.club)))
+    → ((x : ℕ) → most_above x ≡ (nat_lt x (length box.sheet.clubs) && not (below x)))
+    → ((x : ℕ) → most_below x ≡ (nat_lt x (length box.sheet.clubs) && not (above x)))
+    → refutes_with box question most_above most_below ≡ false
+    → false ≡ refutes_surely box question
+unfolding sure_order
+open_by_points box question above below most_above most_below above_is below_is most_above_is
+    most_below_is open_still =
+    sym (false_from_ne_true (refutes_surely box question) (λ refuted.
+    false≢true (sym open_still
+    ∙ refutes_more box question (is_surely_above box.sheet box.season question box.zone)
+    (is_surely_below box.sheet box.season question box.zone) most_above most_below
+    (λ x within is.
+    most_above_is x
+    ∙ and_from (nat_lt x (length box.sheet.clubs)) (not (below x)) (lt-ltb x _ within)
+    (ap not (below_is x ∙ ap (λ b. nat_lt x (length box.sheet.clubs) && b) (not_below
+    (sure_by_points box.sheet box.season (options_in_box box) x question.club) _ is)
+    ∙ and_false (nat_lt x (length box.sheet.clubs)))))
+    (λ x within is.
+    most_below_is x
+    ∙ and_from (nat_lt x (length box.sheet.clubs)) (not (above x)) (lt-ltb x _ within)
+    (ap not (above_is x ∙ ap (λ b. nat_lt x (length box.sheet.clubs) && b) (not_above
+    (sure_by_points box.sheet box.season (options_in_box box) x question.club) _ is)
+    ∙ and_false (nat_lt x (length box.sheet.clubs)))))
+    refuted)))
+  where
+    and_false : (b : Bool) → (b && false) ≡ false
+    and_false true = refl
+    and_false false = refl
+
+-- ---- a set that takes one club after another
+
+pub one_more_club : (old new : ℕ → Bool) (test : ℕ → Bool) (keep : Bool) (club : ℕ)
+    → ((x : ℕ) → old x ≡ (nat_lt x club && test x))
+    → ((x : ℕ) → new x ≡ (old x || (keep && (club == x)))) → keep ≡ test club
+    → (x : ℕ) → new x ≡ (nat_lt x (club + 1) && test x)
+one_more_club old new test keep club old_is new_is keep_is x =
+    new_is x ∙ ap (λ b. b || (keep && (club == x))) (old_is x) ∙ at (cases_lt x club)
+  where
+    at : (x < club) ⊎ (club ≤ x)
+        → ((nat_lt x club && test x) || (keep && (club == x))) ≡ (nat_lt x (club + 1) && test x)
+    at (inl below) =
+        ap (λ b. (b && test x) || (keep && (club == x))) (lt-ltb x club below)
+        ∙ ap (λ b. test x || (keep && b)) (ne_eqb club x (λ same. absurd (omega arith)))
+        ∙ neither (test x) keep
+        ∙ ap (λ b. b && test x) (sym (lt-ltb x (club + 1) (omega arith)))
+      where
+        neither : (a b : Bool) → (a || (b && false)) ≡ a
+        neither true b = refl
+        neither false true = refl
+        neither false false = refl
+    at (inr past) =
+        ap (λ b. (b && test x) || (keep && (club == x))) (le-ltb x club past)
+        ∙ here (cases_eq club x)
+      where
+        and_true : (b : Bool) → (b && true) ≡ b
+        and_true true = refl
+        and_true false = refl
+
+        and_false : (b : Bool) → (b && false) ≡ false
+        and_false true = refl
+        and_false false = refl
+
+        here : (club ≡ x) ⊎ (club ≢ x) → (keep && (club == x)) ≡ (nat_lt x (club + 1) && test x)
+        here (inl same) =
+            ap (λ b. keep && b) (eq-eqb club x same) ∙ and_true keep ∙ keep_is ∙ ap test same
+            ∙ ap (λ b. b && test x) (sym (lt-ltb x (club + 1) (omega arith)))
+        here (inr other) =
+            ap (λ b. keep && b) (ne_eqb club x other) ∙ and_false keep
+            ∙ ap (λ b. b && test x)
+            (sym (le-ltb x (club + 1) (omega (arith, beyond past other))))
+          where
+            beyond : club ≤ x → club ≢ x → club + 1 ≤ x
+            beyond above other = omega arith

@@ -1,0 +1,18 @@
+-- The sets are those of the sure order.
+use Rattle.std.proofs.Common.{◌∙◌}
+use Rattle.league_core.specs.Sums.{has_club}
+use Rattle.league_core.specs.ClubSets.{clubs_in}
+use Rattle.league_core.specs.Reasons.{is_surely_above, is_surely_below}
+use Rattle.tie_bound.proofs.RefuteLemmas.{refutes_same}
+use Rattle.tie_bound.proofs.tie.by_criteria.Goals as goal
+
+pub returns : goal.returns
+returns c =
+    let box = c.args.zone_box.now in
+    let question = c.args.question.now in
+    let apart = c.by_criteria-apart.result in
+    c.refutes.ensures
+    ∙ refutes_same box question (has_club (clubs_in apart.above)) (has_club (clubs_in apart.below))
+    (is_surely_above box.sheet box.season question box.zone)
+    (is_surely_below box.sheet box.season question box.zone) c.by_criteria-apart.ensures.above
+    c.by_criteria-apart.ensures.below
