@@ -169,7 +169,7 @@ no_worth : (club : ℕ) (match : Fixture) (score : Score) → match.home ≢ clu
 no_worth club match score home away =
     rw (ne_eqb match.home club home, ne_eqb match.away club away) (omega (arith, ints))
 
-nothing_of : (options : List Score) → range_of (λ score. pos 0) options ≡ one_value (pos 0)
+pub nothing_of : (options : List Score) → range_of (λ score. pos 0) options ≡ one_value (pos 0)
 nothing_of [] = refl
 nothing_of (score ∷ []) = refl
 nothing_of (score ∷ other ∷ options) =

@@ -9,6 +9,8 @@ pub mod SetLemmas
 pub mod ChoiceLemmas
 pub mod WorthLemmas
 pub mod FixtureLemmas
+pub mod PairsLemmas
 pub mod ChosenLemmas
+pub mod NeededLemmas
 pub mod CutLemmas
 pub mod WorkedCuts

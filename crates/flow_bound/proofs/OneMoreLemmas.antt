@@ -13,7 +13,7 @@ abbrev pub with_club : (ℕ → Bool) → ℕ → ℕ → Bool
 with_club side club other = side other || eqb club other
 
 -- the entries are those of the side and the club's own
-clubs_more : (table : List ℤ) (side : ℕ → Bool) (club : ℕ) → club < 32 → side club ≡ false
+pub clubs_more : (table : List ℤ) (side : ℕ → Bool) (club : ℕ) → club < 32 → side club ≡ false
     → sum_of_side table (with_club side club) ≡ sum_of_side table side +ℤ entry table club
 clubs_more table side club within out =
     sum_below-same 32 (λ x. cond (with_club side club x) (entry table x) (pos 0))

@@ -1,14 +1,16 @@
 -- Clubs that add nothing are no loss, and what is best among the rest is best among all.
-use Rattle.std.proofs.Common.{◌≡◌, ℕ, ◌+◌, ◌≤◌, ℤ, pos, ◌+ℤ◌, ◌≤ℤ◌, Bool, true, false, not, ◌&&◌}
-use Rattle.std.proofs.Common.{cond, List, [], ◌∷◌, refl, sym, ap, ◌∙◌, arith}
+use Rattle.std.proofs.Common.{◌≡◌, ◌≢◌, ◌⊎◌, ℕ, ◌+◌, ◌<◌, ◌≤◌, ℤ, pos, ◌+ℤ◌, ◌≤ℤ◌, ◌<ℤ◌, Bool}
+use Rattle.std.proofs.Common.{true, false, not, ◌&&◌, cond, eqb, List, [], ◌∷◌, refl, sym, ap, ◌∙◌}
+use Rattle.std.proofs.Common.{inl, inr, arith}
 use Rattle.std.specs.Prelude.{int_lt}
 use Rattle.std.proofs.lemmas.Int.{ints}
-use Rattle.std.proofs.lemmas.Bool.{false≢true, and_parts}
+use Rattle.std.proofs.lemmas.Bool.{false≢true, and_parts, cases_eq, ne_eqb}
 use Rattle.flow_bound.specs.declared.tally.Pair.{Pair}
 use Rattle.flow_bound.specs.Parts.{entry, sum_of_side, sum_of_pairs, has_both, excess_in, in_both}
-use Rattle.flow_bound.specs.Parts.{IsPartOf, HasNoExcess, KeepsExcess, IsLeastBest}
+use Rattle.flow_bound.specs.Parts.{EachAdds, IsPartOf, HasNoExcess, KeepsExcess, IsLeastBest}
 use Rattle.flow_bound.specs.Network.{has_home_in, has_away_in}
 use Rattle.flow_bound.proofs.PartLemmas.{sum_below-same, sum_below-plus, sum_below-low}
+use Rattle.flow_bound.proofs.PartLemmas.{sum_below-one}
 use Rattle.flow_bound.proofs.PartLemmas.{sum_of_pairs-cons, excess_in-same, excess_in-empty}
 
 -- the clubs of a side that are in the part and not kept
@@ -173,3 +175,44 @@ best_of_all table pairs whole rest best keeps is = record {
       let inside = is.contained (in_both other rest) (in_rest other rest) (omega (arith, ints)) in
       (and_parts (other club) (rest club) (inside club among)).0;
 }
+
+-- a side without a club needs none
+pub EachAdds-empty : (table : List ℤ) (pairs : List Pair) (side : ℕ → Bool)
+    → ((club : ℕ) → side club ≡ false) → EachAdds table pairs side
+EachAdds-empty table pairs side none club among = absurd (false≢true (sym (none club) ∙ among))
+
+-- the sum of a side of one club
+sum_of_side-one : (table : List ℤ) (club : ℕ) → club < 32
+    → sum_of_side table (eqb club) ≡ entry table club
+sum_of_side-one table club within =
+    sum_below-same 32 (λ x. cond (eqb club x) (entry table x) (pos 0))
+    (λ x. cond (eqb club x) (entry table club) (pos 0)) (λ x below. at x (cases_eq club x))
+    ∙ sum_below-one 32 club (entry table club) within
+  where
+    at : (x : ℕ) → (club ≡ x) ⊎ (club ≢ x)
+        → cond (eqb club x) (entry table x) (pos 0) ≡ cond (eqb club x) (entry table club) (pos 0)
+    at x (inl same) = ap (λ (n : ℕ). cond (eqb club x) (entry table n) (pos 0)) (sym same)
+    at x (inr apart) =
+        ap (λ b. cond b (entry table x) (pos 0)) (ne_eqb club x apart)
+        ∙ sym (ap (λ b. cond b (entry table club) (pos 0)) (ne_eqb club x apart))
+
+-- where a round drops no club, each adds something
+pub EachAdds-kept : (table reach : List ℤ) (pairs : List Pair) (rest next : ℕ → Bool)
+    → ((part : ℕ → Bool) → sum_of_side reach part ≡ sum_of_side table part
+    +ℤ pos (sum_of_pairs (has_home_in rest part) pairs)
+    +ℤ pos (sum_of_pairs (has_away_in rest part) pairs))
+    → ((club : ℕ) → next club ≡ (rest club && int_lt (pos 0) (entry reach club)))
+    → ((club : ℕ) → rest club ≡ true → club < 32) → IsPartOf rest next
+    → EachAdds table pairs rest
+EachAdds-kept table reach pairs rest next reaches is_next low kept club among =
+    let within = low club among in
+    let above = (and_parts (rest club) (int_lt (pos 0) (entry reach club))
+    (sym (is_next club) ∙ kept club among)).1 in
+    let own = sum_of_side-one table club within in
+    let all = sum_of_side-one reach club within in
+    let sum = reaches (eqb club) in
+    let over = positive_is (entry reach club) above in
+    omega (arith, ints, own, all, sum, over)
+  where
+    positive_is : (n : ℤ) → int_lt (pos 0) n ≡ true → pos 0 <ℤ n
+    positive_is n is = grind (arith, ints)

@@ -1,7 +1,7 @@
 -- Cuts: how far a set of rivals goes beyond what the club's own points allow, and which of the sets
 -- that do so is answered. Where many sets would do, the choice is this project's own.
-use Rattle.std.specs.Prelude.{◌≡◌, ℕ, ◌<◌, ℤ, pos, ◌-ℤ◌, ◌≤ℤ◌, ◌<ℤ◌, Bool, true, IsTrue, List, []}
-use Rattle.std.specs.Prelude.{◌∷◌}
+use Rattle.std.specs.Prelude.{◌≡◌, ◌≢◌, ℕ, ◌<◌, ℤ, pos, ◌-ℤ◌, ◌≤ℤ◌, ◌<ℤ◌, Bool, true, not, ◌&&◌}
+use Rattle.std.specs.Prelude.{◌==◌, IsTrue, List, [], ◌∷◌}
 use Rattle.std.specs.List.{list_all}
 use Rattle.league_core.specs.declared.sheet.Sheet.{Sheet}
 use Rattle.league_core.specs.declared.question.Question.{Question}
@@ -63,3 +63,21 @@ pub record IsChosen (marked : ℕ → Bool) (excess : List ℕ → ℤ) (set : C
   pub alone : (club : ℕ) → IsFirstAlone marked excess club → clubs_in set ≡ club ∷ []
   pub together : NoneAlone marked excess → IsLeastOfGreatest marked excess set
   pub contained : IsInEachGreatest marked excess set
+
+-- the clubs of the set but one
+abbrev pub IsSetWithout : ClubSet → ℕ → ClubSet → Type 0
+IsSetWithout set club other =
+    (member : ℕ) → has_club (clubs_in other) member
+    ≡ (has_club (clubs_in set) member && not (club == member))
+
+-- marked clubs, one at least, of which each adds something to the excess of them all
+pub record AreEachNeeded (marked : ℕ → Bool) (excess : List ℕ → ℤ) (set : ClubSet) : Type 0 where
+  pub all_marked : AreMarked marked set
+  pub some : clubs_in set ≢ []
+  pub needed : (club : ℕ) (other : ClubSet) → has_club (clubs_in set) club ≡ true
+      → IsSetWithout set club other → excess (clubs_in other) <ℤ excess (clubs_in set)
+
+-- what neither a club alone decides nor that clubs which add nothing are dropped
+pub record IsLeftOpen (marked : ℕ → Bool) (excess : List ℕ → ℤ) : Type 0 where
+  pub none_alone : NoneAlone marked excess
+  pub needed : (set : ClubSet) × AreEachNeeded marked excess set

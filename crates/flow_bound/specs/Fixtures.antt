@@ -1,6 +1,6 @@
 -- What a fixture adds to the excess of a set, by the sides that are in the set.
-use Rattle.std.specs.Prelude.{◌≡◌, ℕ, ℤ, pos, ◌+ℤ◌, ◌-ℤ◌, ◌≤ℤ◌, neg_ℤ, ◌≤◌, Bool, ◌&&◌}
-use Rattle.std.specs.Prelude.{if◌then◌else◌, List, [], ◌∷◌}
+use Rattle.std.specs.Prelude.{◌≡◌, ℕ, ℤ, pos, negsuc, ◌+ℤ◌, ◌-ℤ◌, ◌≤ℤ◌, neg_ℤ, ◌≤◌, Bool, true}
+use Rattle.std.specs.Prelude.{false, ◌&&◌, if◌then◌else◌, List, [], ◌∷◌, map, slice_index_or}
 use Rattle.league_core.specs.declared.sheet.Fixture.{Fixture}
 use Rattle.league_core.specs.declared.sheet.Sheet.{Sheet}
 use Rattle.league_core.specs.declared.season.Score.{Score}
@@ -14,6 +14,9 @@ use Rattle.score_box.specs.declared.cell.Cell.{Cell}
 use Rattle.score_box.specs.Cells.{IsCellOf}
 use Rattle.flow_bound.specs.declared.cut.Cut.{Cut}
 use Rattle.flow_bound.specs.declared.cut.Cut.TheVariants.{Floor, Ceiling}
+use Rattle.score_box.specs.Settings.{Setting}
+use Rattle.score_box.specs.Unplayed.{unplayed_in}
+use Rattle.flow_bound.specs.declared.tally.Pair.{Pair}
 use Rattle.flow_bound.specs.declared.worth.Worth.{Worth}
 
 -- the end of a range that a cut looks at, counted
@@ -61,3 +64,30 @@ abbrev pub excess_over : Cut → Sheet → Results → List Literal → ℤ → 
 excess_over cut sheet season zone level clubs =
     end_of cut (points_range sheet season (options_in sheet season zone) clubs)
     +ℤ times clubs level
+
+-- a number that is above 0, or else 0
+abbrev pub above_nothing : ℤ → ℕ
+above_nothing (pos number) = number
+above_nothing (negsuc number) = 0
+
+-- what the options of a match add to both sides together, beyond what they add to each alone
+unfoldable pub surplus_in : Cut → List Score → ℕ
+surplus_in cut options =
+    above_nothing (end_of cut (range_of (points_of_sides true true) options)
+    -ℤ end_of cut (range_of (points_of_sides true false) options)
+    -ℤ end_of cut (range_of (points_of_sides false true) options))
+
+-- the clubs of the match of a number, and its surplus
+abbrev pub pair_at : Cut → Setting → ℕ → Pair
+pair_at cut box number =
+    let match = slice_index_or box.sheet.fixtures number (record { home = 0; away = 0 }) in
+    record {
+      home = match.home;
+      away = match.away;
+      surplus = surplus_in cut
+          (slice_index_or (options_in box.sheet box.season box.zone) number []);
+    }
+
+-- the pairs of a box: one for each match that is not played
+unfoldable pub pairs_in : Cut → Setting → List Pair
+pairs_in cut box = map (pair_at cut box) (unplayed_in box.season.scores)

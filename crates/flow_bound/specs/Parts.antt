@@ -1,8 +1,8 @@
 -- The excess of a set in parts: what each club adds alone, and what each two clubs add that still
 -- meet, where both are in the set. Sets are tests of clubs here, and clubs are numbered below 32.
 use Rattle.std.specs.Prelude.{◌≡◌, ◌≢◌, ◌⊎◌, ℕ, zero, suc, ◌+◌, ◌*◌, ◌<◌, ◌≤◌, ℤ, pos, neg_ℤ, ◌+ℤ◌}
-use Rattle.std.specs.Prelude.{◌≤ℤ◌, ◌<ℤ◌, Bool, true, ◌&&◌, if◌then◌else◌, List, [], ◌∷◌, length}
-use Rattle.std.specs.Prelude.{sum_by, slice_index_or}
+use Rattle.std.specs.Prelude.{◌≤ℤ◌, ◌<ℤ◌, Bool, true, ◌&&◌, ◌==◌, if◌then◌else◌, List, [], ◌∷◌}
+use Rattle.std.specs.Prelude.{length, sum_by, slice_index_or}
 use Rattle.std.specs.List.{All}
 use Rattle.league_core.specs.Limits.{most_fixtures, set_width}
 use Rattle.league_core.specs.declared.club_set.ClubSet.{ClubSet}
@@ -83,6 +83,14 @@ pub record KeepsExcess (table : List ℤ) (pairs : List Pair) (whole rest : ℕ 
   pub kept : (side : ℕ → Bool) → IsPartOf side whole
       → excess_in table pairs side ≤ℤ excess_in table pairs (in_both side rest)
 
+-- each club of a side adds something to it: its own entry and its pairs there come to more than 0
+abbrev pub EachAdds : List ℤ → List Pair → (ℕ → Bool) → Type 0
+EachAdds table pairs side =
+    (club : ℕ) → side club ≡ true
+    → pos 0 <ℤ (entry table club
+    +ℤ pos (sum_of_pairs (λ pair. has_both side pair && (club == pair.home)) pairs)
+    +ℤ pos (sum_of_pairs (λ pair. has_both side pair && (club == pair.away)) pairs))
+
 -- a part that has an excess: no other has a greater one, and all that have the same have these
 -- clubs among them
 pub record IsLeastBest (table : List ℤ) (pairs : List Pair) (whole side : ℕ → Bool) : Type 0 where
@@ -109,3 +117,11 @@ abbrev pub IsAnsweredSet : List ℤ → List Pair → (ℕ → Bool) → ClubSet
 IsAnsweredSet table pairs whole set =
     ((club : ℕ) × IsFirstOver table whole club × (clubs_in set ≡ club ∷ []))
     ⊎ (NoneOver table whole × IsLeastBest table pairs whole (side_of set))
+
+-- no club of the whole decides alone, and of some of its clubs each adds something to them
+pub record IsLeftOpenIn (table : List ℤ) (pairs : List Pair) (whole : ℕ → Bool) : Type 0 where
+  pub none_over : NoneOver table whole
+  pub rest : ClubSet
+  pub part : IsPartOf (side_of rest) whole
+  pub some : clubs_in rest ≢ []
+  pub adds : EachAdds table pairs (side_of rest)

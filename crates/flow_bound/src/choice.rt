@@ -1,49 +1,68 @@
 //! Which set is answered: a club alone where one is enough, otherwise the least best set.
 
-ghost use Rattle.std.specs.Prelude.{◌≡◌, ℕ, pos, ◌≤ℤ◌, MatchOption, IfOk};
-ghost use Rattle.league_core.specs.Limits.{most_fixtures};
-ghost use Rattle.flow_bound.specs.Parts.{ArePairs, HasNoExcess, IsAnsweredSet, IsClubTable};
-ghost use Rattle.flow_bound.specs.Parts.{IsFirstOver};
-ghost use Rattle.flow_bound.specs.Parts.{NoneOver};
+ghost use Rattle.std.specs.Prelude.{◌≡◌, ℕ, pos, ◌≤ℤ◌, MatchOption, IfOk, OnErr};
+ghost use Rattle.score_box.specs.Settings.{HasFinish};
+ghost use Rattle.flow_bound.specs.Parts.{HasNoExcess, IsAnsweredSet, IsClubTable};
+ghost use Rattle.flow_bound.specs.Parts.{IsFirstOver, IsLeftOpenIn, NoneOver};
 ghost use Rattle.flow_bound.specs.Parts.{most_credits, side_of};
+ghost use Rattle.flow_bound.specs.Fixtures.{pairs_in};
 
-use crate::tally::Tally;
+use crate::cut::Cut;
+use crate::network::greatest;
+use crate::peel::peel;
+use crate::table::{Table, is_over};
+use crate::tally::pairs_of;
 use league_core::limits::SET_WIDTH;
 use league_core::{ClubSet, OutOfMemory};
+use score_box::ZoneBox;
 use std::alloc::Global;
 
-impl Tally {
-    /// A set of these clubs that has an excess, or none where no set has. Takes memory only where
-    /// the clubs alone and the peel leave it open.
-    pub fn choose(&self, alloc: Global, marked: ClubSet) -> Result<Option<ClubSet>, OutOfMemory>
-        requires alone { IsClubTable most_credits self.now.alone }
-        requires pairs { ArePairs most_fixtures self.now.pairs.items }
-        ensures { IfOk result (λ answer. MatchOption answer
-            (HasNoExcess self.now.alone self.now.pairs.items (side_of marked))
-            (IsAnsweredSet self.now.alone self.now.pairs.items (side_of marked))) }
-    {
-        if let Some(club) = self.first_over(marked) {
-            return Ok(Some(ClubSet::single(club)));
-        }
-        let rest = self.peel(marked);
-        if rest.is_empty() {
-            return Ok(None);
-        }
-        let found = self.greatest(alloc, rest)?;
-        Ok(found)
+/// A set of marked clubs that has an excess, or none where no set has. Takes memory only where
+/// the clubs alone and the peel leave it open.
+pub fn choose(
+    alloc: Global,
+    zone_box: &ZoneBox,
+    cut: Cut,
+    alone: &Table,
+    marked: ClubSet,
+) -> Result<Option<ClubSet>, OutOfMemory>
+    requires has_finish { HasFinish zone_box.now }
+    requires sized { IsClubTable most_credits alone.now }
+    ensures answer { IfOk result (λ answer. MatchOption answer
+        (HasNoExcess alone.now (pairs_in cut zone_box.now) (side_of marked))
+        (IsAnsweredSet alone.now (pairs_in cut zone_box.now) (side_of marked))) }
+    ensures spared { OnErr result
+        (IsLeftOpenIn alone.now (pairs_in cut zone_box.now) (side_of marked)) }
+{
+    if let Some(club) = first_over(alone, marked) {
+        return Ok(Some(ClubSet::single(club)));
     }
+    let rest = peel(zone_box, cut, alone, marked);
+    if rest.is_empty() {
+        return Ok(None);
+    }
+    let pairs = pairs_of(alloc, zone_box, cut, rest)?;
+    let found = greatest(alloc, alone, pairs.as_slice(), rest)?;
+    Ok(found)
+}
 
-    /// The first club of a set whose own entry is above 0.
-    fn first_over(&self, marked: ClubSet) -> Option<u8>
-        requires { IsClubTable most_credits self.now.alone }
-        ensures { MatchOption result (NoneOver self.now.alone (side_of marked))
-            (IsFirstOver self.now.alone (side_of marked)) }
-    {
-        for club in 0..SET_WIDTH {
-            if marked.has(club) && self.alone[club as usize] > 0 {
-                return Some(club);
-            }
+/// The first club of a set whose own entry is above 0.
+fn first_over(alone: &Table, marked: ClubSet) -> Option<u8>
+    requires { IsClubTable most_credits alone.now }
+    ensures { MatchOption result (NoneOver alone.now (side_of marked))
+        (IsFirstOver alone.now (side_of marked)) }
+{
+    let mut left = marked;
+    for _step in 0..SET_WIDTH {
+        if left.is_empty() {
+            return None;
         }
-        None
+        let club = left.first_club();
+        if is_over(alone, club) {
+            return Some(club);
+        }
+        let others = left.without(ClubSet::single(club));
+        left = others;
     }
+    None
 }

@@ -2,7 +2,7 @@
 //! turned; all else is the same.
 
 ghost use Rattle.std.specs.Prelude.{◌≡◌, ◌<◌, ◌≤ℤ◌, pos, neg_ℤ, false, None};
-ghost use Rattle.std.specs.Prelude.{IfOk, IfSome, IsTrue, length};
+ghost use Rattle.std.specs.Prelude.{IfOk, IfSome, IsTrue, OnErr, length};
 ghost use Rattle.league_core.specs.declared.club_set.ClubSet.{ClubSet};
 ghost use Rattle.league_core.specs.declared.zone.Reason.TheVariants.{Low, High};
 ghost use Rattle.league_core.specs.Limits.{most_points};
@@ -11,9 +11,10 @@ ghost use Rattle.score_box.specs.Settings.{HasFinish, HasReason};
 ghost use Rattle.league_core.specs.PointRanges.{own_least, own_most};
 ghost use Rattle.league_core.specs.Reasons.{has_reason};
 ghost use Rattle.league_core.specs.Zones.{marked_after, marked_before};
-ghost use Rattle.flow_bound.specs.Excess.{IsChosen, ceiling_excess, floor_excess};
+ghost use Rattle.flow_bound.specs.Excess.{IsChosen, IsLeftOpen, ceiling_excess, floor_excess};
 
-use crate::tally::Tally;
+use crate::choice::choose;
+use crate::tally::own_entries;
 use league_core::{ClubSet, OutOfMemory, Question};
 use score_box::ZoneBox;
 use std::alloc::Global;
@@ -31,7 +32,8 @@ pub enum Cut {
 ///
 /// Where rivals make one alone, the first of them in the sheet is answered. Otherwise the set is
 /// the least of those with the greatest excess. Either way each set of greatest excess has its
-/// clubs.
+/// clubs. Memory is wanted only where neither a rival alone decides, nor that rivals which add
+/// nothing are dropped.
 pub fn low_cut(
     alloc: Global,
     zone_box: &ZoneBox,
@@ -47,14 +49,16 @@ pub fn low_cut(
     ensures chosen { IfOk result (λ answer. IfSome answer
         (IsChosen (marked_after zone_box.now.zone)
         (floor_excess zone_box.now.sheet zone_box.now.season question.now zone_box.now.zone))) }
+    ensures spared { OnErr result (IsLeftOpen (marked_after zone_box.now.zone)
+        (floor_excess zone_box.now.sheet zone_box.now.season question.now zone_box.now.zone)) }
 {
     let rivals = zone_box.after();
     if rivals.is_empty() {
         return Ok(None);
     }
     let most = own_most(zone_box, question);
-    let tally = Tally::of(zone_box, rivals, Cut::Floor, -i64::from(most));
-    let chosen = tally.choose(alloc, rivals)?;
+    let alone = own_entries(zone_box, Cut::Floor, -i64::from(most));
+    let chosen = choose(alloc, zone_box, Cut::Floor, &alone, rivals)?;
     Ok(chosen)
 }
 
@@ -75,14 +79,16 @@ pub fn high_cut(
     ensures chosen { IfOk result (λ answer. IfSome answer
         (IsChosen (marked_before zone_box.now.zone)
         (ceiling_excess zone_box.now.sheet zone_box.now.season question.now zone_box.now.zone))) }
+    ensures spared { OnErr result (IsLeftOpen (marked_before zone_box.now.zone)
+        (ceiling_excess zone_box.now.sheet zone_box.now.season question.now zone_box.now.zone)) }
 {
     let rivals = zone_box.before();
     if rivals.is_empty() {
         return Ok(None);
     }
     let least = own_least(zone_box, question);
-    let tally = Tally::of(zone_box, rivals, Cut::Ceiling, i64::from(least));
-    let chosen = tally.choose(alloc, rivals)?;
+    let alone = own_entries(zone_box, Cut::Ceiling, i64::from(least));
+    let chosen = choose(alloc, zone_box, Cut::Ceiling, &alone, rivals)?;
     Ok(chosen)
 }
 

@@ -22,51 +22,58 @@ ghost use Rattle.flow_bound.specs.Network.{IsNumbering, has_home_in, parts_pair_
 
 use crate::places::{Places, places_of};
 use crate::table::{Table, WIDTH, credit};
-use crate::tally::{Pair, Tally};
+use crate::tally::Pair;
 use flow_net::Net;
 use league_core::limits::SET_WIDTH;
 use league_core::{ClubSet, OutOfMemory};
 use std::alloc::Global;
 
-impl Tally {
-    /// The least of the sets of greatest excess among these clubs, or none where no set has any.
-    pub fn greatest(&self, alloc: Global, rest: ClubSet) -> Result<Option<ClubSet>, OutOfMemory>
-        requires alone { IsClubTable most_credits self.now.alone }
-        requires pairs { ArePairs most_fixtures self.now.pairs.items }
-        ensures { IfOk result (λ answer. MatchOption answer
-            (HasNoExcess self.now.alone self.now.pairs.items (side_of rest))
-            (λ set. IsLeastBest self.now.alone self.now.pairs.items (side_of rest) (side_of set))) }
-    {
-        let places = places_of(rest);
-        let source = u16::from(rest.len());
-        let mut net = Net::new(alloc, source + 2, WIDTH + self.pairs.len())?;
-        let goal = add_clubs(&mut net, &self.weights(rest), rest, &places, source);
-        add_pairs(&mut net, self.pairs.as_slice(), rest, &places);
-        let flow = net.max_flow(alloc, source, source + 1)?;
-        if flow.value < goal {
-            Ok(Some(clubs_of(&flow.source_side, rest, &places)))
-        } else {
-            Ok(None)
-        }
+/// The least of the sets of greatest excess among these clubs, or none where no set has any.
+pub fn greatest(
+    alloc: Global,
+    alone: &Table,
+    pairs: &[Pair],
+    rest: ClubSet,
+) -> Result<Option<ClubSet>, OutOfMemory>
+    requires sized { IsClubTable most_credits alone.now }
+    requires pairs { ArePairs most_fixtures pairs.now }
+    ensures { IfOk result (λ answer. MatchOption answer
+        (HasNoExcess alone.now pairs.now (side_of rest))
+        (λ set. IsLeastBest alone.now pairs.now (side_of rest) (side_of set))) }
+{
+    let places = places_of(rest);
+    let source = u16::from(rest.len());
+    let mut net = Net::new(alloc, source + 2, WIDTH + pairs.len())?;
+    let goal = add_clubs(
+        &mut net,
+        &weights_of(alone, pairs, rest),
+        rest,
+        &places,
+        source,
+    );
+    add_pairs(&mut net, pairs, rest, &places);
+    let flow = net.max_flow(alloc, source, source + 1)?;
+    if flow.value < goal {
+        Ok(Some(clubs_of(&flow.source_side, rest, &places)))
+    } else {
+        Ok(None)
     }
+}
 
-    /// Each club's own entry with the surplus of its pairs at home, where only clubs of `rest`
-    /// count.
-    fn weights(&self, rest: ClubSet) -> Table
-        requires alone { IsClubTable most_credits self.now.alone }
-        requires pairs { ArePairs most_fixtures self.now.pairs.items }
-        ensures sums { (side : ℕ → Bool) → sum_of_side result side
-            ≡ sum_of_side self.now.alone side
-            +ℤ pos (sum_of_pairs (has_home_in (side_of rest) side) self.now.pairs.items) }
-        ensures sized { IsClubTable 1800 result }
-    {
-        let mut weights = self.alone;
-        let pairs = self.pairs.as_slice();
-        for pair in pairs {
-            credit_home(&mut weights, *pair, rest);
-        }
-        weights
+/// Each club's own entry with the surplus of its pairs at home, where only clubs of `rest` count.
+fn weights_of(alone: &Table, pairs: &[Pair], rest: ClubSet) -> Table
+    requires sized { IsClubTable most_credits alone.now }
+    requires pairs { ArePairs most_fixtures pairs.now }
+    ensures sums { (side : ℕ → Bool) → sum_of_side result side
+        ≡ sum_of_side alone.now side
+        +ℤ pos (sum_of_pairs (has_home_in (side_of rest) side) pairs.now) }
+    ensures sized { IsClubTable 1800 result }
+{
+    let mut weights = *alone;
+    for pair in pairs {
+        credit_home(&mut weights, *pair, rest);
     }
+    weights
 }
 
 /// Adds the surplus of a pair of the set to the entry of its home club.

@@ -1,58 +1,93 @@
 //! Clubs that no set of greatest excess needs are dropped, while that goes on.
 //!
 //! A club whose own entry and all its pairs together add nothing is no loss to any set. Without it
-//! others may add nothing. Where none is left no set has an excess, and no flow is needed.
+//! others may add nothing. Where none is left no set has an excess, and no flow is needed. The
+//! pairs are read off from the box, so that no memory is taken.
 
 ghost use Rattle.std.specs.Prelude.{◌≡◌, ℕ, ◌+◌, ◌*◌, ◌<◌, ◌≤◌, ◌+ℤ◌, ◌&&◌, if◌then◌else◌, pos};
-ghost use Rattle.std.specs.Prelude.{int_lt, Bool};
+ghost use Rattle.std.specs.Prelude.{int_lt, Bool, IsTrue, length, ◌↔◌};
+ghost use Rattle.league_core.specs.ClubSets.{clubs_in};
 ghost use Rattle.league_core.specs.Limits.{most_fixtures};
+ghost use Rattle.score_box.specs.Settings.{HasFinish};
 ghost use Rattle.flow_bound.specs.Parts.{most_credits};
-ghost use Rattle.flow_bound.specs.Parts.{ArePairs, IsClubTable, KeepsExcess, IsPartOf, entry};
+ghost use Rattle.flow_bound.specs.Parts.{EachAdds, IsClubTable, KeepsExcess, entry};
 ghost use Rattle.flow_bound.specs.Parts.{side_of};
 ghost use Rattle.flow_bound.specs.Parts.{sum_of_side, sum_of_pairs};
 ghost use Rattle.flow_bound.specs.Network.{has_away_in, has_home_in};
+ghost use Rattle.flow_bound.specs.Fixtures.{pair_at, pairs_in};
 
-use crate::table::{Table, credit};
-use crate::tally::{Pair, Tally};
+use crate::cut::Cut;
+use crate::table::{Table, credit, is_over};
+use crate::tally::{Pair, pair_within};
 use league_core::ClubSet;
 use league_core::limits::SET_WIDTH;
+use score_box::ZoneBox;
 
-impl Tally {
-    /// The clubs that may be needed.
-    pub fn peel(&self, marked: ClubSet) -> ClubSet
-        requires alone { IsClubTable most_credits self.now.alone }
-        requires pairs { ArePairs most_fixtures self.now.pairs.items }
-        ensures { KeepsExcess self.now.alone self.now.pairs.items (side_of marked)
-            (side_of result) }
-    {
-        let mut rest = marked;
-        // Each round but the last drops a club, and a set has no more than `SET_WIDTH`.
-        for _round in 0..SET_WIDTH {
-            let next = positive(&self.reach(rest), rest);
-            if next == rest {
-                return rest;
-            }
-            rest = next;
+/// The clubs that may be needed.
+pub fn peel(zone_box: &ZoneBox, cut: Cut, alone: &Table, marked: ClubSet) -> ClubSet
+    requires has_finish { HasFinish zone_box.now }
+    requires sized { IsClubTable most_credits alone.now }
+    ensures kept { KeepsExcess alone.now (pairs_in cut zone_box.now) (side_of marked)
+        (side_of result) }
+    ensures needed { EachAdds alone.now (pairs_in cut zone_box.now) (side_of result) }
+{
+    let mut rest = marked;
+    // Each round but the last drops a club, and a set has no more than `SET_WIDTH`.
+    for _round in 0..SET_WIDTH {
+        let next = positive(&reach(zone_box, cut, alone, rest), rest);
+        if next.is_empty() {
+            return next;
         }
-        rest
+        if are_as_many(next, rest) {
+            return rest;
+        }
+        rest = next;
     }
+    rest
+}
 
-    /// What each club can add at most where only clubs of `rest` are taken: its own entry, and all
-    /// its pairs there.
-    fn reach(&self, rest: ClubSet) -> Table
-        requires alone { IsClubTable most_credits self.now.alone }
-        requires pairs { ArePairs most_fixtures self.now.pairs.items }
-        ensures { (side : ℕ → Bool) → sum_of_side result side
-            ≡ sum_of_side self.now.alone side
-            +ℤ pos (sum_of_pairs (has_home_in (side_of rest) side) self.now.pairs.items)
-            +ℤ pos (sum_of_pairs (has_away_in (side_of rest) side) self.now.pairs.items) }
-    {
-        let mut reach = self.alone;
-        let pairs = self.pairs.as_slice();
-        for pair in pairs {
-            credit_both(&mut reach, *pair, rest);
-        }
-        reach
+fn are_as_many(set: ClubSet, other: ClubSet) -> bool
+    ensures { IsTrue result ↔ (length (clubs_in set) ≡ length (clubs_in other)) }
+{
+    set.len() == other.len()
+}
+
+/// What each club can add at most where only clubs of `rest` are taken: its own entry, and all
+/// its pairs there.
+fn reach(zone_box: &ZoneBox, cut: Cut, alone: &Table, rest: ClubSet) -> Table
+    requires has_finish { HasFinish zone_box.now }
+    requires sized { IsClubTable most_credits alone.now }
+    ensures { (side : ℕ → Bool) → sum_of_side result side
+        ≡ sum_of_side alone.now side
+        +ℤ pos (sum_of_pairs (has_home_in (side_of rest) side) (pairs_in cut zone_box.now))
+        +ℤ pos (sum_of_pairs (has_away_in (side_of rest) side) (pairs_in cut zone_box.now)) }
+{
+    let mut reach = *alone;
+    let unplayed = zone_box.unplayed();
+    let _sheet = zone_box.sheet();
+    let _season = zone_box.season();
+    for i in 0..unplayed.len() {
+        credit_match(&mut reach, zone_box, cut, unplayed[i], rest);
+    }
+    reach
+}
+
+/// Adds the surplus of a match to the entries of both its clubs, where both are in the set.
+fn credit_match(table: &mut Table, zone_box: &ZoneBox, cut: Cut, number: u16, set: ClubSet)
+    requires has_finish { HasFinish zone_box.now }
+    requires in_range { number < length zone_box.now.season.scores }
+    requires sized { (credits : ℕ) × (credits < 5 * most_fixtures) × IsClubTable credits table.old }
+    ensures sums { (side : ℕ → Bool) → sum_of_side table.new side
+        ≡ sum_of_side table.old side
+        +ℤ pos (if has_home_in (side_of set) side (pair_at cut zone_box.now number)
+        then (pair_at cut zone_box.now number).surplus else 0)
+        +ℤ pos (if has_away_in (side_of set) side (pair_at cut zone_box.now number)
+        then (pair_at cut zone_box.now number).surplus else 0) }
+    ensures sized { (credits : ℕ) → IsClubTable credits table.old
+        → IsClubTable (credits + 2) table.new }
+{
+    if let Some(pair) = pair_within(zone_box, cut, number, set) {
+        credit_both(table, pair, set);
     }
 }
 
@@ -81,9 +116,16 @@ fn positive(table: &Table, set: ClubSet) -> ClubSet
         ≡ (side_of set club && int_lt (pos 0) (entry table.now club)) }
 {
     let mut found = ClubSet::empty();
-    for club in 0..SET_WIDTH {
-        let keep = set.has(club) && table[club as usize] > 0;
-        found = found.with_if(keep, club);
+    let mut left = set;
+    for _step in 0..SET_WIDTH {
+        if left.is_empty() {
+            return found;
+        }
+        let club = left.first_club();
+        let more = found.with_if(is_over(table, club), club);
+        let others = left.without(ClubSet::single(club));
+        found = more;
+        left = others;
     }
     found
 }

@@ -1,6 +1,7 @@
 //! A table with an entry for each club that a set can have.
 
-ghost use Rattle.std.specs.Prelude.{◌≡◌, ℕ, ◌^◌, ◌<◌, ◌+ℤ◌, ◌≤ℤ◌, pos, neg_ℤ, slice_set, length};
+ghost use Rattle.std.specs.Prelude.{◌≡◌, ℕ, ◌^◌, ◌<◌, ◌+ℤ◌, ◌≤ℤ◌, pos, neg_ℤ, int_lt};
+ghost use Rattle.std.specs.Prelude.{slice_set, length};
 ghost use Rattle.league_core.specs.Limits.{set_width};
 ghost use Rattle.score_box.specs.Points.{most_taken_off};
 ghost use Rattle.score_box.specs.Settings.{HasFinish};
@@ -47,6 +48,14 @@ fn end_of(zone_box: &ZoneBox, cut: Cut, club: u8) -> i64
         Cut::Floor => i64::from(zone_box.low(club)),
         Cut::Ceiling => -i64::from(zone_box.high(club)),
     }
+}
+
+/// The club's entry is above 0.
+pub fn is_over(table: &Table, club: u8) -> bool
+    requires { club < set_width }
+    ensures { result ≡ int_lt (pos 0) (entry table.now club) }
+{
+    table[club as usize] > 0
 }
 
 /// Adds to a club's entry.

@@ -1,26 +1,25 @@
-//! The excess of every set in parts: what each club adds alone, and what each two clubs that still
-//! meet add beyond that where both are in the set.
+//! The parts of the excess of every set: what each club adds alone, and what each two clubs that
+//! still meet add beyond that where both are in the set.
 
 ghost use Rattle.std.specs.Prelude.{◌≡◌, ◌≢◌, ℕ, ◌+◌, ◌^◌, ◌<◌, ◌≤◌, ◌+ℤ◌, ◌≤ℤ◌, pos, neg_ℤ, Bool};
-ghost use Rattle.std.specs.Prelude.{◌&&◌, List, if◌then◌else◌};
-ghost use Rattle.league_core.specs.declared.season.Score.{Score};
+ghost use Rattle.std.specs.Prelude.{◌&&◌, List, false, true, length, if◌then◌else◌, is_ok};
+ghost use Rattle.std.specs.Prelude.{IfOk, MatchOption};
+ghost use Rattle.std.specs.List.{All};
 ghost use Rattle.league_core.specs.declared.club_set.ClubSet.{ClubSet};
 ghost use Rattle.league_core.specs.ClubSets.{clubs_in};
 ghost use Rattle.league_core.specs.Limits.{most_fixtures};
-ghost use Rattle.score_box.specs.Cells.{IsCellOf, IsEmptyCell};
 ghost use Rattle.score_box.specs.Points.{most_taken_off};
 ghost use Rattle.score_box.specs.Settings.{HasFinish};
 ghost use Rattle.flow_bound.specs.Parts.{ArePairs, IsPartOf, IsClubTable, excess_in, most_credits};
 ghost use Rattle.flow_bound.specs.Parts.{has_both, side_of, sum_of_pairs};
-ghost use Rattle.flow_bound.specs.Fixtures.{beyond_in, beyond_over, excess_over};
+ghost use Rattle.flow_bound.specs.Fixtures.{excess_over, pair_at, pairs_in};
 
 use crate::cut::Cut;
 use crate::table::{Table, alone_table};
 use crate::worth::Worth;
-use arrayvec::ArrayVec;
-use league_core::limits::MOST_FIXTURES;
-use league_core::{ClubSet, Fixture};
-use score_box::{Cell, ZoneBox};
+use league_core::{ClubSet, Fixture, OutOfMemory};
+use score_box::ZoneBox;
+use std::alloc::Global;
 
 /// Two clubs that still meet, and what their match adds where both are in the set, beyond what it
 /// adds to each alone.
@@ -31,83 +30,43 @@ pub struct Pair {
     pub surplus: u8,
 }
 
-/// The pairs of a sheet: at most one for each fixture.
-pub type Pairs = ArrayVec<Pair, MOST_PAIRS>;
-
-const MOST_PAIRS: usize = MOST_FIXTURES as usize;
-
-/// What each club adds to the excess of a set alone, and what its pairs add.
-#[derive(Drop)]
-pub struct Tally {
-    pub alone: Table,
-    pub pairs: Pairs,
-}
-
-impl Tally {
-    /// The parts of the excess over a level, for the sets of marked clubs. A look for each club,
-    /// and one walk over the fixtures that are not played.
-    pub fn of(zone_box: &ZoneBox, marked: ClubSet, cut: Cut, level: i64) -> Tally
-        requires has_finish { HasFinish zone_box.now }
-        requires least { neg_ℤ most_taken_off ≤ℤ level }
-        requires most { level ≤ℤ pos (2 ^ 31) }
-        ensures excess { (set : ClubSet) → IsPartOf (side_of set) (side_of marked)
-            → excess_in result.alone result.pairs.items (side_of set)
-            ≡ excess_over cut zone_box.now.sheet zone_box.now.season zone_box.now.zone level
-            (clubs_in set) }
-        ensures alone { IsClubTable most_credits result.alone }
-        ensures pairs { ArePairs most_fixtures result.pairs.items }
-    {
-        Tally {
-            alone: alone_table(zone_box, cut, level),
-            pairs: pairs_of(zone_box, marked, cut),
-        }
-    }
-}
-
-/// The pairs of marked clubs that still meet. A match that is played adds nothing beyond what it
-/// adds to each club alone.
-fn pairs_of(zone_box: &ZoneBox, marked: ClubSet, cut: Cut) -> Pairs
+/// What each club adds to the excess over a level alone. With the pairs of the box it is the
+/// excess of every set.
+pub fn own_entries(zone_box: &ZoneBox, cut: Cut, level: i64) -> Table
     requires has_finish { HasFinish zone_box.now }
-    ensures sums { (set : ClubSet) → IsPartOf (side_of set) (side_of marked)
-        → pos (sum_of_pairs (has_both (side_of set)) result.items)
-        ≡ beyond_over cut zone_box.now.sheet zone_box.now.season zone_box.now.zone
+    requires least { neg_ℤ most_taken_off ≤ℤ level }
+    requires most { level ≤ℤ pos (2 ^ 31) }
+    ensures excess { (set : ClubSet)
+        → excess_in result (pairs_in cut zone_box.now) (side_of set)
+        ≡ excess_over cut zone_box.now.sheet zone_box.now.season zone_box.now.zone level
         (clubs_in set) }
-    ensures pairs { ArePairs most_fixtures result.items }
+    ensures apart { All (λ pair. pair.home ≢ pair.away) (pairs_in cut zone_box.now) }
+    ensures sized { IsClubTable most_credits result }
 {
-    let mut pairs = ArrayVec::new();
-    let fixtures = zone_box.sheet().fixtures.as_slice();
-    let unplayed = zone_box.unplayed();
-    let _scores = zone_box.season().scores();
-    for i in 0..unplayed.len() {
-        let number = unplayed[i];
-        let cell = zone_box.cell(number);
-        add_pair(&mut pairs, fixtures[number as usize], cell, marked, cut);
-    }
-    pairs
+    let _sheet = zone_box.sheet();
+    let _season = zone_box.season();
+    alone_table(zone_box, cut, level)
 }
 
-/// Adds the pair of a match, where both its clubs are marked.
-fn add_pair(pairs: &mut Pairs, fixture: Fixture, cell: &Cell, marked: ClubSet, cut: Cut)
-    requires apart { fixture.home ≢ fixture.away }
-    requires some { ¬ IsEmptyCell cell.now }
-    requires room { (fixtures : ℕ) × (fixtures < most_fixtures)
-        × ArePairs fixtures pairs.old.items }
-    ensures sums { (set : ClubSet) → IsPartOf (side_of set) (side_of marked)
-        → (options : List Score) → IsCellOf cell.now options
-        → pos (sum_of_pairs (has_both (side_of set)) pairs.new.items)
-        ≡ pos (sum_of_pairs (has_both (side_of set)) pairs.old.items)
-        +ℤ beyond_in cut (clubs_in set) fixture options }
-    ensures pairs { (fixtures : ℕ) → ArePairs fixtures pairs.old.items
-        → ArePairs (fixtures + 1) pairs.new.items }
+/// The pair of a match that is not played, where both its clubs are in the set.
+pub fn pair_within(zone_box: &ZoneBox, cut: Cut, number: u16, set: ClubSet) -> Option<Pair>
+    requires has_finish { HasFinish zone_box.now }
+    requires in_range { number < length zone_box.now.season.scores }
+    ensures { MatchOption result
+        (has_both (side_of set) (pair_at cut zone_box.now number) ≡ false)
+        (λ pair. (pair ≡ pair_at cut zone_box.now number)
+        × (has_both (side_of set) pair ≡ true) × (pair.home ≢ pair.away) × (pair.surplus ≤ 3)) }
 {
-    if are_both(marked, fixture) {
-        let pair = Pair {
-            home: fixture.home,
-            away: fixture.away,
-            surplus: Worth::of(cell, cut).surplus,
-        };
-        push_pair(pairs, pair);
+    let _season = zone_box.season();
+    let fixture = zone_box.sheet().fixtures.as_slice()[number as usize];
+    if !are_both(set, fixture) {
+        return None;
     }
+    Some(Pair {
+        home: fixture.home,
+        away: fixture.away,
+        surplus: Worth::of(zone_box.cell(number), cut).surplus,
+    })
 }
 
 /// The set has both clubs of the match.
@@ -117,20 +76,49 @@ fn are_both(set: ClubSet, fixture: Fixture) -> bool
     set.has(fixture.home) && set.has(fixture.away)
 }
 
-/// Adds a pair, where its match adds something.
-fn push_pair(pairs: &mut Pairs, pair: Pair)
-    requires apart { pair.home ≢ pair.away }
-    requires small { pair.surplus ≤ 3 }
-    requires room { (fixtures : ℕ) × (fixtures < most_fixtures)
-        × ArePairs fixtures pairs.old.items }
-    ensures sums { (side : ℕ → Bool) → sum_of_pairs (has_both side) pairs.new.items
-        ≡ sum_of_pairs (has_both side) pairs.old.items
-        + (if has_both side pair then pair.surplus else 0) }
-    ensures pairs { (fixtures : ℕ) → ArePairs fixtures pairs.old.items
-        → ArePairs (fixtures + 1) pairs.new.items }
+/// The pairs of the clubs of a set, in memory.
+pub fn pairs_of(
+    alloc: Global,
+    zone_box: &ZoneBox,
+    cut: Cut,
+    set: ClubSet,
+) -> Result<Vec<Pair>, OutOfMemory>
+    requires has_finish { HasFinish zone_box.now }
+    ensures sums { IfOk result (λ pairs. (side : ℕ → Bool) → IsPartOf side (side_of set)
+        → sum_of_pairs (has_both side) pairs.items
+        ≡ sum_of_pairs (has_both side) (pairs_in cut zone_box.now)) }
+    ensures pairs { IfOk result (λ pairs. ArePairs most_fixtures pairs.items) }
 {
-    if pair.surplus == 0 {
-        return;
+    let unplayed = zone_box.unplayed();
+    let _sheet = zone_box.sheet();
+    let _season = zone_box.season();
+    let mut pairs = Vec::new(alloc);
+    for i in 0..unplayed.len() {
+        push_pair(&mut pairs, zone_box, cut, unplayed[i], set)?;
     }
-    pairs.push(pair);
+    Ok(pairs)
+}
+
+/// Adds the pair of a match, where both its clubs are in the set.
+fn push_pair(
+    pairs: &mut Vec<Pair>,
+    zone_box: &ZoneBox,
+    cut: Cut,
+    number: u16,
+    set: ClubSet,
+) -> Result<(), OutOfMemory>
+    requires has_finish { HasFinish zone_box.now }
+    requires in_range { number < length zone_box.now.season.scores }
+    ensures sums { IfOk result (λ _. (side : ℕ → Bool) → IsPartOf side (side_of set)
+        → sum_of_pairs (has_both side) pairs.new.items
+        ≡ sum_of_pairs (has_both side) pairs.old.items
+        + (if has_both side (pair_at cut zone_box.now number)
+        then (pair_at cut zone_box.now number).surplus else 0)) }
+    ensures pairs { IfOk result (λ _. (fixtures : ℕ) → ArePairs fixtures pairs.old.items
+        → ArePairs (fixtures + 1) pairs.new.items) }
+{
+    if let Some(pair) = pair_within(zone_box, cut, number, set) {
+        pairs.push(pair)?;
+    }
+    Ok(())
 }

@@ -6,10 +6,14 @@ use Rattle.std.proofs.lemmas.Int.{ints}
 use Rattle.league_core.specs.ClubSets.{clubs_in}
 use Rattle.league_core.specs.PointRanges.{own_most}
 use Rattle.league_core.specs.Zones.{marked_after}
+use Rattle.flow_bound.specs.declared.cut.Cut.TheVariants.{Floor}
 use Rattle.flow_bound.specs.Excess.{floor_excess}
+use Rattle.flow_bound.specs.Fixtures.{pairs_in}
 use Rattle.flow_bound.proofs.ChosenLemmas.{GivesExcess}
 use Rattle.flow_bound.proofs.CutLemmas.{chosen_found, floor_excess-is, floor_fails, floor_found}
 use Rattle.flow_bound.proofs.CutLemmas.{nothing_exceeds, floor_unmarked}
+use Rattle.flow_bound.proofs.ChoiceLemmas.{on_error}
+use Rattle.flow_bound.proofs.NeededLemmas.{left_open_is}
 use Rattle.flow_bound.proofs.SetLemmas.{no_club_left}
 use Rattle.flow_bound.proofs.cut.low_cut.Goals as goal
 
@@ -20,18 +24,18 @@ returns-clause-found c =
     let value : c.own_most-most.result ≡ own = c.own_most-most.ensures.value in
     let level : to_z w64 (of_z w64 (pos 0 -ℤ to_z w64 (of_z w64 c.from.result))) ≡ pos 0 -ℤ own =
     omega (arith, ints, c.from.ensures, c.own_most-most.ensures.within) in
-    let gives : GivesExcess c.of-tally.result.alone c.of-tally.result.pairs.items
+    let gives : GivesExcess c.own_entries-alone.result (pairs_in Floor c.args.zone_box.now)
     c.after-rivals.result (marked_after box.zone) (floor_excess box.sheet box.season
     c.args.question.now box.zone) = record {
       marks = c.after-rivals.ensures;
-      apart = c.of-tally.ensures.pairs.apart;
-      sums = λ set part. c.of-tally.ensures.excess set part
+      apart = c.own_entries-alone.ensures.apart;
+      sums = λ set part. c.own_entries-alone.ensures.excess set
           ∙ floor_excess-is box.sheet box.season c.args.question.now box.zone _ (clubs_in set)
           level;
     } in
-    floor_found box.sheet box.season c.args.question.now box.zone c.of-tally.result.alone
-    c.of-tally.result.pairs.items c.after-rivals.result c.in_ok-chosen.chosen gives
-    c.requires.has_finish c.in_ok-chosen.ensures
+    floor_found box.sheet box.season c.args.question.now box.zone c.own_entries-alone.result
+    (pairs_in Floor c.args.zone_box.now) c.after-rivals.result c.in_ok-chosen.chosen gives
+    c.requires.has_finish c.in_ok-chosen.ensures.answer
 
 pub returns-clause-absent : goal.returns-clause-absent
 returns-clause-absent c none set =
@@ -40,19 +44,20 @@ returns-clause-absent c none set =
     let value : c.own_most-most.result ≡ own = c.own_most-most.ensures.value in
     let level : to_z w64 (of_z w64 (pos 0 -ℤ to_z w64 (of_z w64 c.from.result))) ≡ pos 0 -ℤ own =
     omega (arith, ints, c.from.ensures, c.own_most-most.ensures.within) in
-    let gives : GivesExcess c.of-tally.result.alone c.of-tally.result.pairs.items
+    let gives : GivesExcess c.own_entries-alone.result (pairs_in Floor c.args.zone_box.now)
     c.after-rivals.result (marked_after box.zone) (floor_excess box.sheet box.season
     c.args.question.now box.zone) = record {
       marks = c.after-rivals.ensures;
-      apart = c.of-tally.ensures.pairs.apart;
-      sums = λ set part. c.of-tally.ensures.excess set part
+      apart = c.own_entries-alone.ensures.apart;
+      sums = λ set part. c.own_entries-alone.ensures.excess set
           ∙ floor_excess-is box.sheet box.season c.args.question.now box.zone _ (clubs_in set)
           level;
     } in
     floor_fails box.sheet box.season c.args.question.now box.zone set
-    (nothing_exceeds c.of-tally.result.alone c.of-tally.result.pairs.items c.after-rivals.result
-    (marked_after box.zone) (floor_excess box.sheet box.season c.args.question.now box.zone)
-    c.in_ok-chosen.chosen gives c.in_ok-chosen.ensures none set)
+    (nothing_exceeds c.own_entries-alone.result (pairs_in Floor c.args.zone_box.now)
+    c.after-rivals.result (marked_after box.zone)
+    (floor_excess box.sheet box.season c.args.question.now box.zone)
+    c.in_ok-chosen.chosen gives c.in_ok-chosen.ensures.answer none set)
 
 pub returns-clause-chosen : goal.returns-clause-chosen
 returns-clause-chosen c =
@@ -61,18 +66,40 @@ returns-clause-chosen c =
     let value : c.own_most-most.result ≡ own = c.own_most-most.ensures.value in
     let level : to_z w64 (of_z w64 (pos 0 -ℤ to_z w64 (of_z w64 c.from.result))) ≡ pos 0 -ℤ own =
     omega (arith, ints, c.from.ensures, c.own_most-most.ensures.within) in
-    let gives : GivesExcess c.of-tally.result.alone c.of-tally.result.pairs.items
+    let gives : GivesExcess c.own_entries-alone.result (pairs_in Floor c.args.zone_box.now)
     c.after-rivals.result (marked_after box.zone) (floor_excess box.sheet box.season
     c.args.question.now box.zone) = record {
       marks = c.after-rivals.ensures;
-      apart = c.of-tally.ensures.pairs.apart;
-      sums = λ set part. c.of-tally.ensures.excess set part
+      apart = c.own_entries-alone.ensures.apart;
+      sums = λ set part. c.own_entries-alone.ensures.excess set
           ∙ floor_excess-is box.sheet box.season c.args.question.now box.zone _ (clubs_in set)
           level;
     } in
-    chosen_found c.of-tally.result.alone c.of-tally.result.pairs.items c.after-rivals.result
-    (marked_after box.zone) (floor_excess box.sheet box.season c.args.question.now box.zone)
-    c.in_ok-chosen.chosen gives c.in_ok-chosen.ensures
+    chosen_found c.own_entries-alone.result (pairs_in Floor c.args.zone_box.now)
+    c.after-rivals.result (marked_after box.zone)
+    (floor_excess box.sheet box.season c.args.question.now box.zone)
+    c.in_ok-chosen.chosen gives c.in_ok-chosen.ensures.answer
+
+pub returns-in_err-chosen-clause-spared : goal.returns-in_err-chosen-clause-spared
+returns-in_err-chosen-clause-spared c =
+    let box = c.args.zone_box.now in
+    let own = own_most box.sheet box.season c.args.question.now box.zone in
+    let value : c.own_most-most.result ≡ own = c.own_most-most.ensures.value in
+    let level : to_z w64 (of_z w64 (pos 0 -ℤ to_z w64 (of_z w64 c.from.result))) ≡ pos 0 -ℤ own =
+    omega (arith, ints, c.from.ensures, c.own_most-most.ensures.within) in
+    let gives : GivesExcess c.own_entries-alone.result (pairs_in Floor c.args.zone_box.now)
+    c.after-rivals.result (marked_after box.zone) (floor_excess box.sheet box.season
+    c.args.question.now box.zone) = record {
+      marks = c.after-rivals.ensures;
+      apart = c.own_entries-alone.ensures.apart;
+      sums = λ set part. c.own_entries-alone.ensures.excess set
+          ∙ floor_excess-is box.sheet box.season c.args.question.now box.zone _ (clubs_in set)
+          level;
+    } in
+    on_error _ _ (left_open_is c.own_entries-alone.result (pairs_in Floor c.args.zone_box.now)
+    c.after-rivals.result (marked_after box.zone)
+    (floor_excess box.sheet box.season c.args.question.now box.zone)
+    gives c.in_err-chosen.ensures.spared)
 
 pub returns-then-is_empty-clause-absent : goal.returns-then-is_empty-clause-absent
 returns-then-is_empty-clause-absent c none set =

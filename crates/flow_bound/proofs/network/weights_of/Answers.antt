@@ -5,12 +5,12 @@ use Rattle.std.proofs.lemmas.List.Sums.{sum_by_more}
 use Rattle.flow_bound.specs.declared.tally.Pair.{Pair}
 use Rattle.flow_bound.specs.Parts.{IsClubTable, side_of}
 use Rattle.flow_bound.specs.Network.{has_home_in}
-use Rattle.flow_bound.proofs.tally.Tally.weights.Goals as goal
+use Rattle.flow_bound.proofs.network.weights_of.Goals as goal
 
 pub loop-pair-preserved : goal.loop-pair-preserved
 loop-pair-preserved c = record {
   sums = λ side.
-      let pairs = c.as_slice-pairs.result.now in
+      let pairs = c.args.pairs.now in
       let i = c.loop-pair.pair-index in
       let part = side_of c.args.rest in
       let blank : Pair = record { home = 0; away = 0; surplus = 0 } in
