@@ -49,7 +49,21 @@ pub fn find(nodes: &[Node], lent: &[u32], number: u64) -> usize
     unreachable!()
 }
 
-/// The zone of the leaf that is lent under the number, from the leaf up.
+// How many splits stand above a node.
+fn depth_of(nodes: &[Node], node: u32) -> usize
+    requires linked { IsLinked nodes.now }
+    requires within { node < length nodes.now }
+{
+    let mut depth = 0usize;
+    let mut at = node as usize;
+    while at > 0 {
+        depth += 1;
+        at = nodes[at].parent as usize;
+    }
+    depth
+}
+
+/// The zone of the leaf that is lent under the number.
 pub fn way_to(
     alloc: Global,
     nodes: &[Node],
@@ -63,7 +77,7 @@ pub fn way_to(
     ensures { IfOk result (λ way. IsWayTo number (tree_below nodes.now 0) way.items) }
 {
     let leaf = lent[find(nodes, lent, number)];
-    let mut way = Vec::new(alloc);
+    let mut way = Vec::with_capacity(alloc, depth_of(nodes, leaf))?;
     let mut at = leaf as usize;
     while at > 0 {
         let node = nodes[at];

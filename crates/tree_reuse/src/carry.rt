@@ -1,7 +1,7 @@
 //! A tree's list of nodes, carried over to another season one node after the other.
 
 ghost use Rattle.std.specs.Prelude.{◌≡◌, ◌<◌, ◌≤◌, IsTrue, [], ◌∷◌, ◌++◌, length, reverse, IfOk};
-ghost use Rattle.std.specs.Prelude.{Some};
+ghost use Rattle.std.specs.Prelude.{OnOk, Some};
 ghost use Rattle.league_core.specs.Zones.{is_test_of};
 ghost use Rattle.league_core.specs.Options.{has_finish};
 ghost use Rattle.league_core.specs.Reasons.{has_reason};
@@ -18,9 +18,9 @@ ghost use Rattle.tree_reuse.specs.Calls.{AreTestsOf};
 
 use crate::halves::Halves;
 use crate::tree::Tree;
-use crate::way::{back_to, root_box};
+use crate::way::back_to;
 use league_core::{Literal, OutOfMemory, Question, Reason, Test, TreeNode};
-use score_box::{Played, ZoneBox};
+use score_box::ZoneBox;
 use std::alloc::Global;
 use tie_bound::holds;
 
@@ -218,29 +218,31 @@ fn take_part(
     }
 }
 
-/// The list of what the season leaves of a tree, whatever its length. One look at each node.
+/// The list of what the season of the box leaves of a tree, whatever its length. One look at each
+/// node. The box is one without a literal, and so it is again.
 pub fn carry(
     alloc: Global,
-    played: &Played,
+    way: &mut ZoneBox,
     question: &Question,
     tree: &Tree,
 ) -> Result<Vec<TreeNode>, OutOfMemory>
-    requires club { question.now.club < length played.now.sheet.clubs }
-    requires tests { AreTestsOf played.now.sheet tree.now }
-    ensures { IfOk result (λ found. found.items
-        ≡ preorder
-        (retargeted_from played.now.sheet played.now.season question.now [] tree.now)) }
+    requires root { way.old.zone ≡ [] }
+    requires club { question.now.club < length way.old.sheet.clubs }
+    requires tests { AreTestsOf way.old.sheet tree.now }
+    ensures found { IfOk result (λ found. found.items
+        ≡ preorder (retargeted_from way.old.sheet way.old.season question.now [] tree.now)) }
+    ensures same { OnOk result (way.new ≡ way.old) }
 {
     let nodes = tree.nodes()?;
-    let mut way = root_box(alloc, played)?;
     let mut parts = Vec::new(alloc);
     let literal = None;
     parts.push(Part::Kept { depth: 0, literal })?;
     let mut found = Vec::new(alloc);
     let mut at = 0;
     while let Some(part) = parts.pop() {
-        take_part(&mut way, question, part, nodes[at], &mut parts, &mut found)?;
+        take_part(way, question, part, nodes[at], &mut parts, &mut found)?;
         at += 1;
     }
+    back_to(way, 0);
     Ok(found)
 }

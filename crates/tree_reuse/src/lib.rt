@@ -21,6 +21,6 @@ mod zones;
 
 pub use halves::MOST_KEPT;
 pub use laws::retargeting_keeps_what_holds;
-pub use retargeting::{retarget, retarget_over};
+pub use retargeting::{retarget, retarget_by, retarget_over};
 pub use stop::TreeStop;
 pub use tree::{MOST_NODES, Tree};

@@ -1,6 +1,6 @@
 //! A tree carried over to another season.
 
-ghost use Rattle.std.specs.Prelude.{◌≡◌, ◌<◌, length, IfOk};
+ghost use Rattle.std.specs.Prelude.{◌≡◌, ◌<◌, [], length, IfOk, OnOk};
 ghost use Rattle.league_core.specs.Seasons.{IsLeague};
 ghost use Rattle.tree_reuse.specs.Calls.{AreTestsOf};
 ghost use Rattle.tree_reuse.specs.Retargets.{retargeted};
@@ -9,8 +9,9 @@ use crate::carry::carry;
 use crate::halves::MOST_KEPT;
 use crate::stop::TreeStop;
 use crate::tree::Tree;
+use crate::way::root_box;
 use league_core::{OutOfMemory, Question, Season, Sheet};
-use score_box::Played;
+use score_box::{Played, ZoneBox};
 use std::alloc::Global;
 
 /// What the season leaves of a tree: refuted leaves whose reasons still hold, and the splits above
@@ -50,7 +51,26 @@ pub fn retarget_over(
     if tree.is_one_open_leaf() {
         return Tree::root(alloc);
     }
-    let found = carry(alloc, played, question, tree)?;
+    let mut way = root_box(alloc, played)?;
+    retarget_by(alloc, &mut way, question, tree)
+}
+
+/// What the season of this box leaves of a tree. The box is one without a literal, and so it is
+/// again: it serves any number of trees.
+pub fn retarget_by(
+    alloc: Global,
+    way: &mut ZoneBox,
+    question: &Question,
+    tree: &Tree,
+) -> Result<Tree, OutOfMemory>
+    requires root { way.old.zone ≡ [] }
+    requires club { question.now.club < length way.old.sheet.clubs }
+    requires tests { AreTestsOf way.old.sheet tree.now }
+    ensures tree { IfOk result (λ new.
+        new ≡ retargeted way.old.sheet way.old.season question.now tree.now) }
+    ensures same { OnOk result (way.new ≡ way.old) }
+{
+    let found = carry(alloc, way, question, tree)?;
     if found.len() > MOST_KEPT as usize {
         return Tree::root(alloc);
     }

@@ -9,7 +9,7 @@ loop-at-init c = record {
   within = c.find.ensures.in_nodes;
   way = way_starts c.args.number c.args.nodes.now c.args.lent.now c.find.result
       (get_or c.args.lent.now c.find.result 0) (record { kind = Open; parent = 0; yes = false })
-      c.new-way.result.items c.find.ensures c.new-way.ensures.items;
+      c.in_ok-way.way.items c.find.ensures c.in_ok-way.ensures.items;
 }
 
 pub loop-at-preserved : goal.loop-at-preserved

@@ -1,23 +1,22 @@
-use Rattle.std.proofs.Common.{◌<◌, ap, arith, reverse, length, refl}
+use Rattle.std.proofs.Common.{◌<◌, List, ap, arith, reverse, length, refl}
+use Rattle.league_core.specs.declared.zone.Literal.{Literal}
 use Rattle.tree_reuse.specs.Calls.{IsNodeOf}
 use Rattle.tree_reuse.proofs.CarryLemmas.{walk_started, walk_within, walk_on}
 use Rattle.tree_reuse.proofs.carry.carry.Goals as goal
 
 pub loop-part-init : goal.loop-part-init
-loop-part-init c =
-    let way = c.in_ok-way.ensures in
-    record {
-      within = omega arith;
-      sheet_is = cc (ap (λ setting. setting.sheet) way);
-      season_is = cc (ap (λ setting. setting.season) way);
-      of_sheet = rw c.in_ok-nodes.ensures c.requires.tests;
-      walk = walk_started c.args.question.now c.args.played.now.sheet
-          c.args.played.now.season c.args.tree.now
-          c.in_ok-way.way c.in_ok-nodes.nodes.items (reverse c.push.new.self.items)
-          c.new-found.result.items way c.in_ok-nodes.ensures
-          (rw (c.in_ok-push.ensures.items, c.new-parts.ensures.items) refl)
-          c.new-found.ensures.items;
-    }
+loop-part-init c = record {
+  within = omega arith;
+  sheet_is = refl;
+  season_is = refl;
+  of_sheet = rw c.in_ok-nodes.ensures c.requires.tests;
+  walk = walk_started c.args.question.now c.args.way.now.sheet c.args.way.now.season
+      c.args.tree.now c.args.way.now c.in_ok-nodes.nodes.items
+      (reverse c.push.new.self.items) c.new-found.result.items
+      (ap (λ (zone : List Literal). record c.args.way.now { zone = zone }) c.requires.root)
+      c.in_ok-nodes.ensures (rw (c.in_ok-push.ensures.items, c.new-parts.ensures.items) refl)
+      c.new-found.ensures.items;
+}
 
 pub loop-part-preserved : goal.loop-part-preserved
 loop-part-preserved c =
