@@ -1,6 +1,7 @@
 pub mod SlotLemmas
 pub mod SeatLemmas
 pub mod LoanLemmas
+pub mod UncutLemmas
 pub mod CarriedLemmas
 pub mod StepLemmas
 pub mod GoodLemmas

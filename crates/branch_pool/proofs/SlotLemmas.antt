@@ -151,6 +151,17 @@ each_step f xs ys i x y within so_far is new =
         let tail : ys ≡ map f (take i xs) ++ drop i xs = cc in
         rw head (ap (λ rest. f z ∷ rest) (steps f xs ys i x y (omega arith) tail is new))
 
+-- what stands at a place before which all is changed is as it was
+pub still_there : {X : Type 0} (f : X → X) (xs ys : List X) (i : ℕ) (d : X) → i < length xs
+    → ys ≡ map f (take i xs) ++ drop i xs → get_or ys i d ≡ get_or xs i d
+still_there f [] ys i d within so_far = absurd (omega arith)
+still_there f (z ∷ xs) [] zero d within so_far = cc
+still_there f (z ∷ xs) (first ∷ ys) zero d within so_far = cc
+still_there f (z ∷ xs) [] (suc i) d within so_far = cc
+still_there f (z ∷ xs) (first ∷ ys) (suc i) d within so_far =
+    let tail : ys ≡ map f (take i xs) ++ drop i xs = cc in
+    still_there f xs ys i d (omega arith) tail
+
 -- what stands behind a place does not see what is written there
 pub drop_written : {X : Type 0} (xs : List X) (i : ℕ) (x : X)
     → drop (i + 1) (set xs i x) ≡ drop (i + 1) xs

@@ -3,6 +3,7 @@
 use Rattle.std.specs.Prelude.{◌≡◌, ◌<◌, ◌≤◌, ◌+◌, ◌^◌, ℕ, zero, suc, true, List, [], ◌∷◌, length}
 use Rattle.std.specs.Prelude.{Option, Some, None}
 use Rattle.league_core.specs.declared.sheet.Sheet.{Sheet}
+use Rattle.league_core.specs.declared.question.Question.{Question}
 use Rattle.league_core.specs.declared.zone.Zone.{Zone}
 use Rattle.league_core.specs.declared.zone.Literal.{Literal}
 use Rattle.league_core.specs.Trees.{Tree, open_leaf, refuted_leaf, branch, has_open, node_count}
@@ -31,9 +32,18 @@ pub record MayBeCarried (sheet : Sheet) (seat : Seat) : Type 0 where
   pub club : seat.question.club < length sheet.clubs
   pub tests : AreTestsOf sheet seat.tree
 
--- its tree for another season
-abbrev pub tree_for : Sheet → Results → Seat → Tree
-tree_for sheet season seat = retargeted sheet season seat.question seat.tree
+-- its tree is one open leaf
+abbrev pub IsUncut : Seat → Type 0
+IsUncut seat = seat.tree ≡ open_leaf
+
+-- what a season leaves of a tree, where that is to be made: one open leaf stays as it is
+abbrev pub tree_left : Sheet → Results → Question → Tree → Option Tree
+tree_left sheet season question open_leaf = None
+tree_left sheet season question tree = Some (retargeted sheet season question tree)
+
+-- its tree for another season, where that is to be made
+abbrev pub tree_for : Sheet → Results → Seat → Option Tree
+tree_for sheet season seat = tree_left sheet season seat.question seat.tree
 
 -- what a question needs so that a leaf of it may be lent under a number
 pub record MayLend (number : ℕ) (seat : Seat) : Type 0 where

@@ -5,13 +5,18 @@
 //! it, `specs/Goodness.antt` what all of them keep.
 #![tactic(auto)]
 
+mod change;
+mod give;
 mod laws;
 mod leftover;
 mod loans;
+mod next;
 mod pool;
 mod seat;
 mod seats;
+mod take;
 mod ticket;
+mod work;
 
 pub use laws::{pools_stay_good, work_comes_to_an_end};
 pub use leftover::Leftover;

@@ -1,38 +1,22 @@
-//! The pool: what may be taken, given back and reported, and what it knows.
+//! The pool: questions about a season while it is played, and what it knows of them.
 
-ghost use Rattle.std.specs.Prelude.{◌≡◌, ◌≢◌, ◌++◌, ◌∷◌, [], None, ◌<◌, ◌≤◌, ◌+◌, ◌↔◌, length, map};
-ghost use Rattle.std.specs.Prelude.{All, IfOk, OnErr, OnOk, Err, IsTrue, IfNone};
-ghost use Rattle.std.specs.Prelude.{IfSome, Some, true, false, slice_set, position};
+ghost use Rattle.std.specs.Prelude.{◌≡◌, ◌<◌, ◌≤◌, length, All, IfOk, IsTrue, Some};
 ghost use Rattle.std.specs.List.{slice_get};
-ghost use Rattle.reason_core.specs.Dones.{IsFor, IsTrueDone};
 ghost use Rattle.league_core.specs.Limits.{most_events};
 ghost use Rattle.league_core.specs.Sheets.{IsWithinLimits};
-ghost use Rattle.league_core.specs.Seasons.{AreEventsOf, IsEventOf, IsSeasonOf, season_after};
+ghost use Rattle.league_core.specs.Seasons.{AreEventsOf, IsSeasonOf, season_after};
 ghost use Rattle.league_core.specs.Codes.{has_code};
 ghost use Rattle.league_core.specs.Questions.{IsQuestionOf};
-ghost use Rattle.branch_pool.specs.States.{new_seat, pool_begun, present_epoch, out_count};
-ghost use Rattle.branch_pool.specs.States.{free_number, has_work, is_workable, loan_at, with_loan};
-ghost use Rattle.branch_pool.specs.Steps.{pool_opened, pool_shut, pool_recalled, seat_recalled};
-ghost use Rattle.branch_pool.specs.Steps.{IsOwnTicket, IsPresent, ComesHome, Keeps, Gives};
-ghost use Rattle.branch_pool.specs.Steps.{MayBeGiven, loan_of, Changes, pool_changed};
+ghost use Rattle.branch_pool.specs.States.{pool_begun, present_epoch, out_count};
+ghost use Rattle.branch_pool.specs.Steps.{pool_opened, pool_shut, pool_recalled};
 ghost use Rattle.branch_pool.specs.Goodness.{IsGood, IsSoundPool};
-ghost use Rattle.branch_pool.specs.Calls.{Taking, IsFit, IsFitIfLent, LendsNext, IsTold};
-ghost use Rattle.branch_pool.specs.Calls.{may_go_on, IsSpareUsed, LeavesSpare, LeavesOver};
-ghost use Rattle.branch_pool.specs.Calls.{piece_done, IsExampleLeft};
-ghost use Rattle.branch_pool.specs.declared.ticket.Gave.TheVariants.{Kept};
-ghost use Rattle.branch_pool.specs.Calls.{pool_answer, example_at, is_untouched, next_place};
-ghost use Rattle.branch_pool.specs.Calls.{tree_at};
+ghost use Rattle.branch_pool.specs.Calls.{pool_answer, example_at, tree_at};
 ghost use Rattle.branch_pool.specs.Looks.{seen_example};
-ghost use Rattle.branch_pool.specs.Runs.{IsSameButSeats, TakesTurn, WorksNext};
 
-use crate::leftover::{Leftover, parts_of};
-use crate::loans::{free_number, is_loan_of, keep_slot, put_loan};
-use crate::seat::{Example, Loan, MOST_QUESTIONS, Seat};
-use crate::seats::{change_seats, new_seats, recall_seats, trees_for};
-use crate::ticket::{Answer, ChangeStop, Gave, Ticket, Took, Turn};
-use league_core::limits::MOST_EVENTS;
-use league_core::{Event, Finish, Literal, Lots, OutOfMemory, Question, RoomyList, Season, Sheet};
-use reason_core::{Done, Piece, Solver};
+use crate::seat::{Loan, MOST_QUESTIONS, Seat};
+use crate::seats::{new_seats, recall_seats};
+use crate::ticket::Answer;
+use league_core::{Event, Finish, Lots, OutOfMemory, Question, RoomyList, Season, Sheet};
 use std::alloc::Global;
 use std::marker::Model;
 use tree_reuse::Tree;
@@ -43,14 +27,14 @@ use tree_reuse::Tree;
 /// given back, an event is reported, or all is recalled.
 #[derive(Drop)]
 pub struct Pool {
-    alloc: Global,
-    sheet: Sheet,
-    questions: Vec<Question>,
-    season: Season,
-    log: Vec<Event>,
-    seats: Vec<Seat>,
-    loans: RoomyList<Option<Loan>>,
-    is_open: bool,
+    pub(crate) alloc: Global,
+    pub(crate) sheet: Sheet,
+    pub(crate) questions: Vec<Question>,
+    pub(crate) season: Season,
+    pub(crate) log: Vec<Event>,
+    pub(crate) seats: Vec<Seat>,
+    pub(crate) loans: RoomyList<Option<Loan>>,
+    pub(crate) is_open: bool,
 }
 
 impl Model for Pool {
@@ -223,350 +207,4 @@ impl Pool {
         recall_seats(&mut self.seats);
         self.loans = RoomyList::new(self.alloc);
     }
-
-    /// Lends an open leaf of the question that comes next: questions go in order, one of which
-    /// nothing is out before one of which something is. It takes the room that `give` will need.
-    pub fn take(&mut self) -> Took
-        ensures taking { Taking self.old result self.new }
-        ensures fit { IsFitIfLent self.new result }
-        ensures sheet { self.new.sheet ≡ self.old.sheet }
-        ensures questions { self.new.questions ≡ self.old.questions }
-        ensures log { self.new.log ≡ self.old.log }
-    {
-        let mut spare = None;
-        self.take_with(&mut spare)
-    }
-
-    /// As `take`, but a ticket carries the spare season where that is the pool's season: then none
-    /// is copied, and none is spare any more. Else the pool's season is copied, and the spare one
-    /// stays.
-    pub fn take_with(&mut self, spare: &mut Option<Season>) -> Took
-        ensures taking { Taking self.old result self.new }
-        ensures fit { IsFitIfLent self.new result }
-        ensures spare { LeavesSpare self.old.season result spare.old spare.new }
-        ensures sheet { self.new.sheet ≡ self.old.sheet }
-        ensures questions { self.new.questions ≡ self.old.questions }
-        ensures log { self.new.log ≡ self.old.log }
-    {
-        let Some(place) = self.next_place() else {
-            return if self.may_go_on() {
-                Took::Rest
-            } else {
-                Took::Over
-            };
-        };
-        match self.lend_next(place, spare) {
-            Ok(ticket) => Took::Lent(ticket),
-            Err(OutOfMemory) => Took::OutOfMemory,
-        }
-    }
-
-    // Work may come.
-    fn may_go_on(&self) -> bool
-        ensures { result ≡ may_go_on self.now }
-    {
-        self.is_open || self.out() > 0
-    }
-
-    // Lends a leaf of the question at a place, with the spare season where that is the pool's.
-    fn lend_next(&mut self, place: u16, spare: &mut Option<Season>) -> Result<Ticket, OutOfMemory>
-        requires next { next_place self.old ≡ Some place }
-        ensures ok { IfOk result (λ ticket. LendsNext self.old ticket self.new) }
-        ensures fit { IfOk result (IsFit self.new) }
-        ensures spare { OnOk result (IsSpareUsed self.old.season spare.old spare.new) }
-        ensures err { OnErr result (self.new ≡ self.old) }
-        ensures same { OnErr result (spare.new ≡ spare.old) }
-    {
-        if self.is_season(spare) {
-            return self.lend_at(place, spare);
-        }
-        let mut copied = Some(self.season.copy(self.alloc)?);
-        self.lend_at(place, &mut copied)
-    }
-
-    // The spare season is the pool's.
-    fn is_season(&self, spare: &Option<Season>) -> bool
-        ensures { IsTrue result ↔ (spare.now ≡ Some self.now.season) }
-    {
-        match spare {
-            Some(season) => season.equals(&self.season),
-            None => false,
-        }
-    }
-
-    // Lends a leaf of the question at a place with this season, and writes it down.
-    fn lend_at(&mut self, place: u16, season: &mut Option<Season>) -> Result<Ticket, OutOfMemory>
-        requires next { next_place self.old ≡ Some place }
-        requires season { season.old ≡ Some self.old.season }
-        ensures ok { IfOk result (λ ticket. LendsNext self.old ticket self.new) }
-        ensures fit { IfOk result (IsFit self.new) }
-        ensures none { OnOk result (season.new ≡ None) }
-        ensures err { OnErr result (self.new ≡ self.old) }
-        ensures same { OnErr result (season.new ≡ season.old) }
-    {
-        let number = free_number(self.loans.as_slice());
-        self.loans.reserve(1)?;
-        let epoch = self.log.len() as u64;
-        let seat = &mut self.seats[place as usize];
-        let question = seat.question;
-        let (zone, kept) = seat.lend(self.alloc, number as u64)?;
-        let loan = Loan {
-            epoch,
-            place,
-            zone: kept,
-        };
-        put_loan(&mut self.loans, number, loan);
-        let Some(season) = season.take() else {
-            unreachable!()
-        };
-        Ok(Ticket {
-            number: number as u64,
-            epoch,
-            place,
-            piece: Piece {
-                season,
-                question,
-                zone,
-            },
-        })
-    }
-
-    /// One turn of work without a ticket: what `take` would lend is solved in its place, and what
-    /// was found is put where `give` would put it. The worker is one for the pool's sheet and
-    /// season.
-    pub fn work_next<W: Solver>(&mut self, worker: &mut W) -> Turn
-        requires sheet { W.sheet worker.old ≡ self.old.sheet }
-        requires season { W.season worker.old ≡ self.old.season }
-        ensures turn { TakesTurn self.old result self.new }
-        ensures rest { IsSameButSeats self.old self.new }
-        ensures same_sheet { W.sheet worker.new ≡ W.sheet worker.old }
-        ensures same_season { W.season worker.new ≡ W.season worker.old }
-    {
-        let Some(place) = self.next_place() else {
-            return Turn::Nothing;
-        };
-        match self.work_at(place, worker) {
-            Ok(()) => Turn::Worked,
-            Err(OutOfMemory) => Turn::OutOfMemory,
-        }
-    }
-
-    fn work_at<W: Solver>(&mut self, place: u16, worker: &mut W) -> Result<(), OutOfMemory>
-        requires next { next_place self.old ≡ Some place }
-        requires sheet { W.sheet worker.old ≡ self.old.sheet }
-        requires season { W.season worker.old ≡ self.old.season }
-        ensures ok { OnOk result (WorksNext self.old self.new) }
-        ensures rest { IsSameButSeats self.old self.new }
-        ensures err { OnErr result (self.new ≡ self.old) }
-        ensures same_sheet { W.sheet worker.new ≡ W.sheet worker.old }
-        ensures same_season { W.season worker.new ≡ W.season worker.old }
-    {
-        let number = free_number(self.loans.as_slice());
-        self.loans.reserve(1)?;
-        let seat = &mut self.seats[place as usize];
-        seat.work(number as u64, worker)?;
-        keep_slot(&mut self.loans, number);
-        Ok(())
-    }
-
-    /// Gives a ticket back with what was done, which is about its piece. What was done is kept
-    /// exactly where the ticket is the pool's own and of the present epoch.
-    pub fn give(&mut self, ticket: Ticket, done: Done) -> Gave
-        requires is_for { IsFor done ticket.piece }
-        requires sound { IsTrueDone self.old.sheet done }
-        ensures gives { Gives self.old ticket done result self.new }
-        ensures epoch { IsTold self.new ticket result }
-        ensures sheet { self.new.sheet ≡ self.old.sheet }
-        ensures questions { self.new.questions ≡ self.old.questions }
-        ensures log { self.new.log ≡ self.old.log }
-    {
-        let (gave, _) = self.give_leaving(ticket, done);
-        gave
-    }
-
-    /// As `give`, and answers what the pool has no use for, of which nothing was let go.
-    pub fn give_leaving(&mut self, ticket: Ticket, done: Done) -> (Gave, Leftover)
-        requires is_for { IsFor done ticket.piece }
-        requires sound { IsTrueDone self.old.sheet done }
-        ensures gives { Gives self.old ticket done result.0 self.new }
-        ensures epoch { IsTold self.new ticket result.0 }
-        ensures leaves { LeavesOver self.old ticket done result.0 result.1 }
-        ensures sheet { self.new.sheet ≡ self.old.sheet }
-        ensures questions { self.new.questions ≡ self.old.questions }
-        ensures log { self.new.log ≡ self.old.log }
-    {
-        let (gave, done, example) = self.give_back(&ticket, done);
-        let Ticket {
-            number: _,
-            epoch: _,
-            place: _,
-            piece,
-        } = ticket;
-        (
-            gave,
-            Leftover {
-                piece,
-                done,
-                example,
-            },
-        )
-    }
-
-    fn give_back(&mut self, ticket: &Ticket, done: Done) -> (Gave, Option<Piece>, Option<Example>)
-        requires is_for { IsFor done ticket.now.piece }
-        requires sound { IsTrueDone self.old.sheet done }
-        ensures gives { Gives self.old ticket.now done result.0 self.new }
-        ensures piece { result.1 ≡ piece_done done }
-        ensures example { IsExampleLeft self.old ticket.now done result.0 result.2 }
-    {
-        let epoch = self.epoch();
-        if !self.is_own(ticket) {
-            let (piece, example) = parts_of(done);
-            return (Gave::Stale { epoch }, piece, example);
-        }
-        if ticket.epoch != epoch {
-            self.come_home(ticket);
-            let (piece, example) = parts_of(done);
-            return (Gave::Stale { epoch }, piece, example);
-        }
-        let (piece, example) = self.keep(ticket, done);
-        (Gave::Kept, piece, example)
-    }
-
-    // The ticket is one of the pool's.
-    fn is_own(&self, ticket: &Ticket) -> bool
-        ensures { IsTrue result ↔ IsOwnTicket self.now ticket.now }
-    {
-        self.is_out(ticket) && (ticket.epoch != self.epoch() || self.is_present(ticket))
-    }
-
-    fn is_out(&self, ticket: &Ticket) -> bool
-        ensures { IsTrue result
-            ↔ (loan_at self.now.loans ticket.now.number ≡ Some (loan_of ticket.now)) }
-    {
-        let loans = self.loans.as_slice();
-        let number = ticket.number as usize;
-        if number >= loans.len() {
-            return false;
-        }
-        match &loans[number] {
-            Some(loan) => is_loan_of(loan, ticket),
-            None => false,
-        }
-    }
-
-    fn is_present(&self, ticket: &Ticket) -> bool
-        requires out { loan_at self.now.loans ticket.now.number ≡ Some (loan_of ticket.now) }
-        requires epoch { ticket.now.epoch ≡ present_epoch self.now }
-        ensures { IsTrue result ↔ IsPresent self.now ticket.now }
-    {
-        let seat = &self.seats[ticket.place as usize];
-        is_same_question(seat.question, ticket.piece.question)
-            && self.season.equals(&ticket.piece.season)
-    }
-
-    // The number of a ticket of an earlier epoch comes home.
-    fn come_home(&mut self, ticket: &Ticket)
-        requires own { IsOwnTicket self.old ticket.now }
-        requires earlier { ticket.now.epoch ≢ present_epoch self.old }
-        ensures { ComesHome self.old ticket.now self.new }
-    {
-        let _home = self.loans.replace(ticket.number as usize, None);
-    }
-
-    // What was done comes in place of the leaf that is lent with the ticket.
-    fn keep(&mut self, ticket: &Ticket, done: Done) -> (Option<Piece>, Option<Example>)
-        requires own { IsOwnTicket self.old ticket.now }
-        requires epoch { ticket.now.epoch ≡ present_epoch self.old }
-        requires given { MayBeGiven self.old ticket.now done }
-        ensures keeps { Keeps self.old ticket.now done self.new }
-        ensures piece { result.0 ≡ piece_done done }
-        ensures example { IsExampleLeft self.old ticket.now done Kept result.1 }
-    {
-        let seat = &mut self.seats[ticket.place as usize];
-        let left = seat.give(ticket.number, done);
-        let _home = self.loans.replace(ticket.number as usize, None);
-        left
-    }
-
-    /// Reports an event, and answers the new epoch. Each tree is carried over to the new season,
-    /// and an example stays where it is one. After a refusal the pool is as before.
-    pub fn change(&mut self, event: Event) -> Result<u64, ChangeStop>
-        requires may_be { IsEventOf self.old.season event }
-        ensures ok { OnOk result (Changes self.old event self.new) }
-        ensures epoch { IfOk result (λ epoch. epoch ≡ length self.new.log) }
-        ensures log { OnOk result (self.new.log ≡ self.old.log ++ event ∷ []) }
-        ensures full { (result ≡ Err ChangeStop.LogFull) ↔ (length self.old.log ≡ most_events) }
-        ensures err { OnErr result (self.new ≡ self.old) }
-        ensures sheet { self.new.sheet ≡ self.old.sheet }
-        ensures questions { self.new.questions ≡ self.old.questions }
-    {
-        if self.is_full() {
-            return Err(ChangeStop::LogFull);
-        }
-        match self.report(event) {
-            Ok(()) => Ok(self.epoch()),
-            Err(OutOfMemory) => Err(ChangeStop::OutOfMemory),
-        }
-    }
-
-    // No more events fit into the log.
-    fn is_full(&self) -> bool
-        ensures full { IsTrue result ↔ (length self.now.log ≡ most_events) }
-        ensures within { length self.now.log ≤ most_events }
-    {
-        self.log.len() == MOST_EVENTS as usize
-    }
-
-    fn report(&mut self, event: Event) -> Result<(), OutOfMemory>
-        requires room { length self.old.log < most_events }
-        requires may_be { IsEventOf self.old.season event }
-        ensures ok { OnOk result (self.new ≡ pool_changed event self.old) }
-        ensures err { OnErr result (self.new ≡ self.old) }
-    {
-        let mut season = self.season.copy(self.alloc)?;
-        season.apply(&event);
-        let mut trees = trees_for(self.alloc, &self.sheet, &season, self.seats.as_slice())?;
-        self.log.push(event)?;
-        change_seats(&self.sheet, &season, &mut trees, &mut self.seats);
-        self.season = season;
-        Ok(())
-    }
-
-    // The question that comes next.
-    #[tactic(auto, using(crate::proofs::CallLemmas::none_passes))]
-    fn next_place(&self) -> Option<u16>
-        ensures next { result ≡ next_place self.now }
-        ensures none { IfNone result (has_work self.now ≡ false) }
-    {
-        if let Some(place) = self.first_untouched() {
-            return Some(place as u16);
-        }
-        match self.first_workable() {
-            Some(place) => Some(place as u16),
-            None => None,
-        }
-    }
-
-    fn first_untouched(&self) -> Option<usize>
-        ensures place { result ≡ position (is_untouched self.now.sheet) self.now.seats }
-        ensures within { IfSome result (λ place. place < MOST_QUESTIONS) }
-    {
-        let sheet = &self.sheet;
-        self.seats.iter().position(|seat| seat.is_untouched(sheet))
-    }
-
-    fn first_workable(&self) -> Option<usize>
-        ensures place { result ≡ position (is_workable self.now.sheet) self.now.seats }
-        ensures within { IfSome result (λ place. place < MOST_QUESTIONS) }
-    {
-        let sheet = &self.sheet;
-        self.seats.iter().position(|seat| seat.is_workable(sheet))
-    }
-}
-
-fn is_same_question(question: Question, other: Question) -> bool
-    ensures { IsTrue result ↔ (question ≡ other) }
-{
-    question == other
 }

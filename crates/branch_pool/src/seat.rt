@@ -19,7 +19,6 @@ use crate::ticket::Answer;
 use league_core::{Finish, Lots, OutOfMemory, Question, Season, Sheet, Zone};
 use reason_core::{Done, Finding, Piece, Solver};
 use std::alloc::Global;
-use std::mem;
 use tree_reuse::{MOST_NODES, Tree};
 
 /// A pool has at most so many questions.
@@ -201,13 +200,38 @@ impl Seat {
         self.lent = 0;
     }
 
-    /// Goes on in another season with the tree that was made for it; an example stays where it is
-    /// one there.
-    pub fn change(&mut self, sheet: &Sheet, season: &Season, tree: &mut Tree)
+    /// Goes on in another season with the tree that was made for it, if one was; an example stays
+    /// where it is one there.
+    #[tactic(auto, using(crate::proofs::UncutLemmas::is_left, crate::proofs::UncutLemmas::stays))]
+    pub fn change(&mut self, sheet: &Sheet, season: &Season, tree: &mut Option<Tree>)
         requires { tree.old ≡ tree_for sheet.now season.now self.old }
         ensures { self.new ≡ seat_changed sheet.now season.now self.old }
     {
-        mem::swap(&mut self.tree, tree);
+        match tree.take() {
+            Some(tree) => self.tree = tree,
+            None => {}
+        }
+        self.begin_anew(sheet, season);
+    }
+
+    /// Goes on in another season with its tree as it is, which is one open leaf; an example stays
+    /// where it is one there.
+    #[tactic(auto, using(crate::proofs::UncutLemmas::uncut_stays))]
+    pub fn change_uncut(&mut self, sheet: &Sheet, season: &Season)
+        requires { self.old.tree ≡ open_leaf }
+        ensures { self.new ≡ seat_changed sheet.now season.now self.old }
+    {
+        self.begin_anew(sheet, season);
+    }
+
+    // No unit is used and no leaf is lent, and an example stays where it is one.
+    fn begin_anew(&mut self, sheet: &Sheet, season: &Season)
+        ensures { self.new ≡ record self.old {
+          units = 0;
+          lent = 0;
+          example = example_kept sheet.now season.now self.old.example;
+        } }
+    {
         self.units = 0;
         self.lent = 0;
         if !is_kept(sheet, season, &self.example) {

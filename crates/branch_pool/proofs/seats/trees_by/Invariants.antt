@@ -2,6 +2,10 @@ use Rattle.std.proofs.Common.{◌≡◌, map, take}
 use Rattle.branch_pool.specs.Seats.{tree_for}
 use Rattle.branch_pool.proofs.seats.trees_by.Given as goal
 
--- one tree for each seat so far
+-- one tree for each seat so far, and the box stands at the root
 abbrev pub invariant-loop-seat : goal.invariant-loop-seat
-invariant-loop-seat l = l.trees.items ≡ map (tree_for l.sheet l.season) (take l.seat-index l.seats)
+invariant-loop-seat l = record {
+  trees : l.trees.items
+      ≡ map (tree_for l.fn.way.sheet l.fn.way.season) (take l.seat-index l.seats);
+  same : l.way ≡ l.fn.way;
+}

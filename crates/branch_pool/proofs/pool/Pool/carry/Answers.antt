@@ -8,7 +8,7 @@ use Rattle.branch_pool.specs.Seats.{MayBeCarried}
 use Rattle.branch_pool.specs.Views.{state_of}
 use Rattle.branch_pool.proofs.GoodLemmas.{seats_ready, sound_season}
 use Rattle.branch_pool.proofs.StepLemmas.{changed_sound}
-use Rattle.branch_pool.proofs.pool.Pool.report.Goals as goal
+use Rattle.branch_pool.proofs.pool.Pool.carry.Goals as goal
 
 pub trees_for-requires-clause-league : goal.trees_for-requires-clause-league
 trees_for-requires-clause-league c =

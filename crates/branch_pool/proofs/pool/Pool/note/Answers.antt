@@ -1,0 +1,17 @@
+use Rattle.std.proofs.Common.{◌<◌, length, sym, subst}
+use Rattle.league_core.specs.Limits.{most_events}
+use Rattle.league_core.specs.Seasons.{IsEventOf}
+use Rattle.branch_pool.specs.States.{PoolState}
+use Rattle.branch_pool.specs.Views.{state_of}
+use Rattle.branch_pool.proofs.StepLemmas.{changed_sound}
+use Rattle.branch_pool.proofs.pool.Pool.note.Goals as goal
+
+pub invariant_of-self-2 : goal.invariant_of-self-2
+invariant_of-self-2 c =
+    let pool : PoolState = state_of c.self.inside in
+    let room = subst (λ (p : PoolState). length p.log < most_events) (sym c.self.view_is)
+    c.requires.room in
+    let may_be = subst (λ (p : PoolState). IsEventOf p.season c.args.event) (sym c.self.view_is)
+    c.requires.may_be in
+    rw (c.change_uncut.ensures, c.in_ok-push.ensures.items, c.apply.ensures)
+    (changed_sound pool c.args.event c.self.invariant room may_be)

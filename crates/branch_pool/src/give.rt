@@ -1,0 +1,145 @@
+//! A ticket is given back, with what was done.
+
+ghost use Rattle.std.specs.Prelude.{◌≡◌, ◌≢◌, ◌↔◌, IsTrue, Some};
+ghost use Rattle.reason_core.specs.Dones.{IsFor, IsTrueDone};
+ghost use Rattle.branch_pool.specs.States.{present_epoch, loan_at};
+ghost use Rattle.branch_pool.specs.Steps.{IsOwnTicket, IsPresent, ComesHome, Keeps, Gives};
+ghost use Rattle.branch_pool.specs.Steps.{MayBeGiven, loan_of};
+ghost use Rattle.branch_pool.specs.Calls.{IsTold, LeavesOver, piece_done, IsExampleLeft};
+ghost use Rattle.branch_pool.specs.declared.ticket.Gave.TheVariants.{Kept};
+
+use crate::leftover::{Leftover, parts_of};
+use crate::loans::is_loan_of;
+use crate::pool::Pool;
+use crate::seat::Example;
+use crate::ticket::{Gave, Ticket};
+use league_core::Question;
+use reason_core::{Done, Piece};
+
+impl Pool {
+    /// Gives a ticket back with what was done, which is about its piece. What was done is kept
+    /// exactly where the ticket is the pool's own and of the present epoch.
+    pub fn give(&mut self, ticket: Ticket, done: Done) -> Gave
+        requires is_for { IsFor done ticket.piece }
+        requires sound { IsTrueDone self.old.sheet done }
+        ensures gives { Gives self.old ticket done result self.new }
+        ensures epoch { IsTold self.new ticket result }
+        ensures sheet { self.new.sheet ≡ self.old.sheet }
+        ensures questions { self.new.questions ≡ self.old.questions }
+        ensures log { self.new.log ≡ self.old.log }
+    {
+        let (gave, _) = self.give_leaving(ticket, done);
+        gave
+    }
+
+    /// As `give`, and answers what the pool has no use for, of which nothing was let go.
+    pub fn give_leaving(&mut self, ticket: Ticket, done: Done) -> (Gave, Leftover)
+        requires is_for { IsFor done ticket.piece }
+        requires sound { IsTrueDone self.old.sheet done }
+        ensures gives { Gives self.old ticket done result.0 self.new }
+        ensures epoch { IsTold self.new ticket result.0 }
+        ensures leaves { LeavesOver self.old ticket done result.0 result.1 }
+        ensures sheet { self.new.sheet ≡ self.old.sheet }
+        ensures questions { self.new.questions ≡ self.old.questions }
+        ensures log { self.new.log ≡ self.old.log }
+    {
+        let (gave, done, example) = self.give_back(&ticket, done);
+        let Ticket {
+            number: _,
+            epoch: _,
+            place: _,
+            piece,
+        } = ticket;
+        (
+            gave,
+            Leftover {
+                piece,
+                done,
+                example,
+            },
+        )
+    }
+
+    fn give_back(&mut self, ticket: &Ticket, done: Done) -> (Gave, Option<Piece>, Option<Example>)
+        requires is_for { IsFor done ticket.now.piece }
+        requires sound { IsTrueDone self.old.sheet done }
+        ensures gives { Gives self.old ticket.now done result.0 self.new }
+        ensures piece { result.1 ≡ piece_done done }
+        ensures example { IsExampleLeft self.old ticket.now done result.0 result.2 }
+    {
+        let epoch = self.epoch();
+        if !self.is_own(ticket) {
+            let (piece, example) = parts_of(done);
+            return (Gave::Stale { epoch }, piece, example);
+        }
+        if ticket.epoch != epoch {
+            self.come_home(ticket);
+            let (piece, example) = parts_of(done);
+            return (Gave::Stale { epoch }, piece, example);
+        }
+        let (piece, example) = self.keep(ticket, done);
+        (Gave::Kept, piece, example)
+    }
+
+    // The ticket is one of the pool's.
+    fn is_own(&self, ticket: &Ticket) -> bool
+        ensures { IsTrue result ↔ IsOwnTicket self.now ticket.now }
+    {
+        self.is_out(ticket) && (ticket.epoch != self.epoch() || self.is_present(ticket))
+    }
+
+    fn is_out(&self, ticket: &Ticket) -> bool
+        ensures { IsTrue result
+            ↔ (loan_at self.now.loans ticket.now.number ≡ Some (loan_of ticket.now)) }
+    {
+        let loans = self.loans.as_slice();
+        let number = ticket.number as usize;
+        if number >= loans.len() {
+            return false;
+        }
+        match &loans[number] {
+            Some(loan) => is_loan_of(loan, ticket),
+            None => false,
+        }
+    }
+
+    fn is_present(&self, ticket: &Ticket) -> bool
+        requires out { loan_at self.now.loans ticket.now.number ≡ Some (loan_of ticket.now) }
+        requires epoch { ticket.now.epoch ≡ present_epoch self.now }
+        ensures { IsTrue result ↔ IsPresent self.now ticket.now }
+    {
+        let seat = &self.seats[ticket.place as usize];
+        is_same_question(seat.question, ticket.piece.question)
+            && self.season.equals(&ticket.piece.season)
+    }
+
+    // The number of a ticket of an earlier epoch comes home.
+    fn come_home(&mut self, ticket: &Ticket)
+        requires own { IsOwnTicket self.old ticket.now }
+        requires earlier { ticket.now.epoch ≢ present_epoch self.old }
+        ensures { ComesHome self.old ticket.now self.new }
+    {
+        let _home = self.loans.replace(ticket.number as usize, None);
+    }
+
+    // What was done comes in place of the leaf that is lent with the ticket.
+    fn keep(&mut self, ticket: &Ticket, done: Done) -> (Option<Piece>, Option<Example>)
+        requires own { IsOwnTicket self.old ticket.now }
+        requires epoch { ticket.now.epoch ≡ present_epoch self.old }
+        requires given { MayBeGiven self.old ticket.now done }
+        ensures keeps { Keeps self.old ticket.now done self.new }
+        ensures piece { result.0 ≡ piece_done done }
+        ensures example { IsExampleLeft self.old ticket.now done Kept result.1 }
+    {
+        let seat = &mut self.seats[ticket.place as usize];
+        let left = seat.give(ticket.number, done);
+        let _home = self.loans.replace(ticket.number as usize, None);
+        left
+    }
+}
+
+fn is_same_question(question: Question, other: Question) -> bool
+    ensures { IsTrue result ↔ (question ≡ other) }
+{
+    question == other
+}
