@@ -1,5 +1,5 @@
 -- The proposed finish as an example or not, and zones that have to be split.
-use Rattle.std.proofs.Common.{◌≡◌, ◌<◌, inl, inr, ℕ, true, false, IsTrue, List}
+use Rattle.std.proofs.Common.{◌≡◌, ◌<◌, inl, inr, ℕ, true, false, List}
 use Rattle.std.proofs.Common.{Result, Ok, Err, IfOk, length, take, drop, refl, sym, ap, subst, ◌∙◌}
 use Rattle.std.specs.List.{list_all}
 use Rattle.std.proofs.lemmas.Bool.{false≢true, cases_Bool, and_parts}
@@ -11,16 +11,13 @@ use Rattle.league_core.specs.declared.zone.Literal.{Literal}
 use Rattle.league_core.specs.declared.zone.Reason.{Reason}
 use Rattle.league_core.specs.declared.zone.Reason.TheVariants.{Window, Tie}
 use Rattle.league_core.specs.Results.{Results}
-use Rattle.league_core.specs.Sheets.{IsWithinLimits}
-use Rattle.league_core.specs.Seasons.{IsSeasonOf, IsLeague}
-use Rattle.league_core.specs.Questions.{IsQuestionOf, IsExample, holds_at}
-use Rattle.league_core.specs.Ranking.{are_lots}
+use Rattle.league_core.specs.Seasons.{IsSeasonOf}
+use Rattle.league_core.specs.Questions.{IsQuestionOf, IsExample}
 use Rattle.league_core.specs.LotsFor.{lots_for_claim}
 use Rattle.league_core.specs.Zones.{is_zone_of, is_test_of}
 use Rattle.league_core.specs.Options.{is_single, has_finish}
 use Rattle.league_core.specs.Proposals.{proposed_finish}
 use Rattle.league_core.specs.Reasons.{has_reason}
-use Rattle.league_core.proofs.FinishLemmas.{finish_is_of}
 use Rattle.league_core.proofs.ProposalLemmas.{proposed_in_box, proposed_is_finish}
 use Rattle.reason_laws.proofs.DecidedLemmas.{single_decided_by_two}
 use Rattle.league_core.specs.declared.memory.OutOfMemory.{OutOfMemory}

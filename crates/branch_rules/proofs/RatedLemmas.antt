@@ -34,6 +34,18 @@ none_so_far result best found P xs i both before here is j below =
       | inr earlier ↦ before none.0 j earlier
     ]
 
+-- and where the next one is looked at only if it matters
+pub none_with_this : (result best : Option Rated) (P : ℕ → Type 0) (xs : List ℕ) (i : ℕ)
+    → (result ≡ None → (best ≡ None) × P (get_or xs i 0))
+    → (best ≡ None → (j : ℕ) → j < i → P (get_or xs j 0))
+    → result ≡ None → (j : ℕ) → j < i + 1 → P (get_or xs j 0)
+none_with_this result best P xs i both before is j below =
+    let none = both is in
+    elim (eq-or-lt_of_le {n = j} {m = i} (omega arith)) as (λ _. P (get_or xs j 0)) [
+      | inl same ↦ subst (λ (n : ℕ). P (get_or xs n 0)) (sym same) none.1
+      | inr earlier ↦ before none.0 j earlier
+    ]
+
 -- the test of what is rated
 pub test_of_none : (rated : Option Rated) (result : Option Test) (P : Type 0)
     → MatchOption rated (result ≡ None) (λ one. result ≡ Some one.test) → (rated ≡ None → P)

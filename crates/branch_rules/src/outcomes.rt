@@ -1,6 +1,7 @@
 //! The tests of outcomes that split a zone.
 
 ghost use Rattle.std.specs.Prelude.{◌≡◌, ◌<◌, ◌&&◌, ◌||◌, false, IfNone, IfSome, IsTrue, length};
+ghost use Rattle.std.specs.Prelude.{None};
 ghost use Rattle.league_core.specs.Seasons.{IsSeasonOf};
 ghost use Rattle.league_core.specs.Options.{has_one_outcome};
 ghost use Rattle.league_core.specs.Splits.{are_outcomes_fixed};
@@ -27,14 +28,33 @@ pub fn outcome_test(zone_box: &ZoneBox, question: &Question, totals: &Totals) ->
     let unplayed = zone_box.unplayed();
     let mut best = None;
     for i in 0..unplayed.len() {
-        best = better(best, rated_outcome(zone_box, question, &rater, unplayed[i]));
-        if let Some(rated) = best {
-            if rater.is_greatest(rated.rate) {
-                return Some(rated.test);
-            }
-        }
+        best = better_of(zone_box, question, &rater, best, unplayed[i]);
     }
     test_of(best)
+}
+
+/// The best test so far, or a test of a fixture's outcome that is rated higher. Where no such test
+/// can be, the fixture's options are not looked at.
+fn better_of(
+    zone_box: &ZoneBox,
+    question: &Question,
+    rater: &Rater,
+    best: Option<Rated>,
+    fixture: u16,
+) -> Option<Rated>
+    requires has_finish { HasFinish zone_box.now }
+    requires in_range { fixture < length zone_box.now.season.scores }
+    requires splits { IfSome best (λ one. IsOutcomeSplit zone_box.now question.now one.test) }
+    ensures some { IfSome result (λ one. IsOutcomeSplit zone_box.now question.now one.test) }
+    ensures none { result ≡ None → (best ≡ None)
+        × IsTrue (has_one_outcome (options_at_fixture zone_box.now fixture)) }
+{
+    if let Some(rated) = best {
+        if rater.is_unbeaten(rated.rate, sides_of(zone_box, fixture)) {
+            return best;
+        }
+    }
+    better(best, rated_outcome(zone_box, question, rater, fixture))
 }
 
 /// The better of the two tests of a fixture's outcome; none where it has one outcome.

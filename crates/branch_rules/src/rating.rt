@@ -9,12 +9,16 @@
 ghost use Rattle.std.specs.Prelude.{pos, neg_ℤ, ◌≤ℤ◌};
 
 use crate::left::Outcomes;
+use crate::pressure::Pressure;
 use crate::totals::Totals;
 use league_core::{Claim, ClubSet, Fixture, Question};
 use score_box::ZoneBox;
 
 /// The rating of a test of which one half is refuted at once.
-pub const REFUTES_A_HALF: i32 = 8;
+const REFUTES_A_HALF: i32 = 8;
+
+/// The rating of a home win, where the match brings no marked rival to its bound.
+const UNFELT_HOME_WIN: i32 = 5;
 
 /// The least rating of the club's own matches where its points may miss the window.
 const OWN_MATCH: i32 = 100_000;
@@ -23,26 +27,10 @@ const OWN_MATCH: i32 = 100_000;
 #[derive(Clone, Copy)]
 pub struct Rater<'a> {
     question: &'a Question,
-    totals: &'a Totals,
+    pressure: Pressure<'a>,
     before: ClubSet,
     after: ClubSet,
-    most: i32,
-    least: i32,
     excess: i32,
-}
-
-/// What becomes of the marked rivals in a half.
-#[derive(Clone, Copy)]
-struct Outlook {
-    breaks: bool,
-    levels: bool,
-}
-
-/// The bounds of the points of the clubs in a half.
-#[derive(Clone, Copy)]
-struct Bounds {
-    most: i32,
-    least: i32,
 }
 
 impl<'a> Rater<'a> {
@@ -53,18 +41,20 @@ impl<'a> Rater<'a> {
         };
         Rater {
             question,
-            totals,
+            pressure: Pressure::of(zone_box, question, totals),
             before: zone_box.before(),
             after: zone_box.after(),
-            most: totals.own_most(question),
-            least: totals.own_least(question),
             excess,
         }
     }
 
-    /// The rating is the greatest that a test of this zone can have.
-    pub fn is_greatest(&self, rate: i32) -> bool {
-        self.excess <= 0 && rate == REFUTES_A_HALF
+    /// No test of a match between these is rated higher.
+    pub fn is_unbeaten(&self, rate: i32, sides: Fixture) -> bool {
+        if REFUTES_A_HALF <= rate {
+            !self.counts_own(sides)
+        } else {
+            UNFELT_HOME_WIN <= rate && !self.pressure.is_felt(sides)
+        }
     }
 
     /// The rating of a test that leaves these outcomes where it holds, and those where not.
@@ -76,19 +66,23 @@ impl<'a> Rater<'a> {
         no: Outcomes,
         is_home: bool,
     ) -> i32 {
-        if self.excess > 0 && self.plays_in(sides) {
+        if self.counts_own(sides) {
             return self.rate_own(sides, left, yes);
         }
-        let first = self.outlook(sides, left, yes);
-        let second = self.outlook(sides, left, no);
+        if !self.pressure.is_felt(sides) {
+            return UNFELT_HOME_WIN - points_if(!is_home, 1);
+        }
+        let first = self.pressure.outlook(sides, left, yes);
+        let second = self.pressure.outlook(sides, left, no);
         if first.breaks || second.breaks {
             return REFUTES_A_HALF;
         }
         points_if(!first.levels, 4) + points_if(second.levels, 2) + points_if(is_home, 1)
     }
 
-    fn plays_in(&self, sides: Fixture) -> bool {
-        sides.home == self.question.club || sides.away == self.question.club
+    /// The match is the club's own, and its points may miss the window.
+    fn counts_own(&self, sides: Fixture) -> bool {
+        self.excess > 0 && self.pressure.is_own(sides)
     }
 }
 
@@ -129,116 +123,6 @@ impl<'a> Rater<'a> {
             },
         }
     }
-
-    fn outlook(&self, sides: Fixture, left: Outcomes, half: Outcomes) -> Outlook {
-        let home = Bounds {
-            most: moved(
-                self.totals.most_of(sides.home),
-                left.home_most(),
-                half.home_most(),
-            ),
-            least: moved(
-                self.totals.least_of(sides.home),
-                left.home_least(),
-                half.home_least(),
-            ),
-        };
-        let away = Bounds {
-            most: moved(
-                self.totals.most_of(sides.away),
-                left.away_most(),
-                half.away_most(),
-            ),
-            least: moved(
-                self.totals.least_of(sides.away),
-                left.away_least(),
-                half.away_least(),
-            ),
-        };
-        let own = self.own_bounds(sides, home, away);
-        let first = self.seen(sides.home, home, own);
-        let second = self.seen(sides.away, away, own);
-        let both = first.and(second);
-        if own.most != self.most || own.least != self.least {
-            both.and(self.seen_of_others(sides, own))
-        } else {
-            both
-        }
-    }
-
-    /// The bounds of the question's club in a half that leaves its two sides these.
-    fn own_bounds(&self, sides: Fixture, home: Bounds, away: Bounds) -> Bounds {
-        if sides.home == self.question.club {
-            self.in_window(home)
-        } else if sides.away == self.question.club {
-            self.in_window(away)
-        } else {
-            Bounds {
-                most: self.most,
-                least: self.least,
-            }
-        }
-    }
-
-    fn in_window(&self, bounds: Bounds) -> Bounds {
-        Bounds {
-            most: bounds.most.min(self.question.high),
-            least: bounds.least.max(self.question.low),
-        }
-    }
-
-    /// What becomes of one rival, whose points these are, beside the club's own.
-    fn seen(&self, rival: u8, bounds: Bounds, own: Bounds) -> Outlook {
-        if rival == self.question.club {
-            return Outlook {
-                breaks: false,
-                levels: false,
-            };
-        }
-        let after = self.after.has(rival);
-        let before = self.before.has(rival);
-        let is_pressed = match self.question.claim {
-            Claim::Inside => after && bounds.least == own.most,
-            Claim::Outside => before && bounds.most == own.least,
-        };
-        Outlook {
-            breaks: (after && own.most < bounds.least) || (before && bounds.most < own.least),
-            levels: is_pressed,
-        }
-    }
-
-    /// What becomes of the rivals that do not play in the match, where the club's bounds move.
-    fn seen_of_others(&self, sides: Fixture, own: Bounds) -> Outlook {
-        let marked = self.before.union(self.after);
-        let mut all = Outlook {
-            breaks: false,
-            levels: false,
-        };
-        for rival in 0..32 {
-            if marked.has(rival) && rival != sides.home && rival != sides.away {
-                let bounds = Bounds {
-                    most: self.totals.most_of(rival),
-                    least: self.totals.least_of(rival),
-                };
-                all = all.and(self.seen(rival, bounds, own));
-            }
-        }
-        all
-    }
-}
-
-impl Outlook {
-    fn and(self, other: Outlook) -> Outlook {
-        Outlook {
-            breaks: self.breaks || other.breaks,
-            levels: self.levels || other.levels,
-        }
-    }
-}
-
-/// The points, where a match gives these in place of those.
-fn moved(points: i32, before: i32, after: i32) -> i32 {
-    points.wrapping_sub(before).wrapping_add(after)
 }
 
 fn points_if(counts: bool, points: i32) -> i32

@@ -47,9 +47,14 @@ fn best_rival(rivals: ClubSet, question: &Question, totals: &Totals) -> u8
     ensures { IsTrue (has_club (clubs_in rivals) result) }
 {
     let mut best = rivals.first_club();
+    let mut highest = totals.rank_of(question, best);
     for club in 0..32 {
-        if rivals.has(club) && totals.is_sooner(question, club, best) {
-            best = club;
+        if rivals.has(club) {
+            let rank = totals.rank_of(question, club);
+            if highest < rank {
+                best = club;
+                highest = rank;
+            }
         }
     }
     best

@@ -48,14 +48,14 @@ impl Totals {
         question.low.max(self.least_of(question.club))
     }
 
-    /// The rival is tried sooner than another: it alone cannot be on one of the two sides of the
-    /// question's club, or both can and it has more points at the least and at the most together.
-    pub fn is_sooner(&self, question: &Question, rival: u8, other: u8) -> bool {
-        let decided = self.is_decided(question, rival);
-        if decided != self.is_decided(question, other) {
-            return decided;
+    /// The greater, the sooner a rival is tried: first those that alone cannot be on one of the two
+    /// sides of the question's club, then by points at the least and at the most together.
+    pub fn rank_of(&self, question: &Question, rival: u8) -> i32 {
+        if self.is_decided(question, rival) {
+            i32::MAX
+        } else {
+            self.reach_of(rival)
         }
-        !decided && self.reach_of(other) < self.reach_of(rival)
     }
 
     fn is_decided(&self, question: &Question, rival: u8) -> bool {
@@ -68,7 +68,8 @@ impl Totals {
     }
 }
 
-fn place_of(club: u8) -> usize
+/// Where the table of a club that a set has room for has it.
+pub fn place_of(club: u8) -> usize
     ensures { result < 32 }
 {
     usize::from(club % 32)

@@ -1,26 +1,20 @@
 -- Comparisons by tables of sums are the comparisons of the criteria.
-use Rattle.std.proofs.Common.{◌≡◌, ℕ, ◌<◌, ℤ, pos, ◌-ℤ◌, neg_ℤ, List, [], ◌∷◌, length, slice_index}
-use Rattle.std.proofs.Common.{refl, sym, ap, ◌∙◌, true}
-use Rattle.std.specs.declared.cmp.Ordering.{Ordering}
-use Rattle.std.specs.declared.cmp.Ordering.TheVariants.{Less, Equal, Greater}
-use Rattle.std.specs.Ordering.{ordering_then}
+use Rattle.std.proofs.Common.{◌≡◌, ℕ, ◌<◌, pos, neg_ℤ, List, [], ◌∷◌, length}
+use Rattle.std.proofs.Common.{refl, true}
 use Rattle.league_core.specs.declared.sheet.Sheet.{Sheet}
 use Rattle.league_core.specs.declared.question.Question.{Question}
 use Rattle.league_core.specs.declared.zone.Literal.{Literal}
 use Rattle.league_core.specs.Results.{Results}
-use Rattle.league_core.specs.Sums.{has_club, sum_of, sum_among, points_of}
-use Rattle.league_core.specs.HeadToHead.{greater_first, by_first_difference, by_head_to_head}
+use Rattle.league_core.specs.Sums.{has_club}
+use Rattle.league_core.specs.HeadToHead.{by_first_difference, by_head_to_head}
 use Rattle.league_core.specs.Ahead.{by_overall, by_first_sums, rank_of}
 use Rattle.league_core.specs.Proposals.{proposed_finish}
 use Rattle.score_box.specs.declared.totals.Totals.{Totals}
-use Rattle.score_box.specs.Totals.{AreTotals, totals_at, points_column, difference_column}
+use Rattle.score_box.specs.Totals.{points_column, difference_column}
 use Rattle.score_box.specs.Totals.{goals_column, away_goals_column, wins_column, away_wins_column}
-use Rattle.final_rank.proofs.TierLemmas.{by_points}
-use Rattle.example_finish.specs.declared.criterion.Criterion.TheVariants.{Points, Record}
+use Rattle.example_finish.specs.declared.criterion.Criterion.TheVariants.{Record}
 use Rattle.example_finish.specs.declared.criterion.Criterion.TheVariants.{Goals, Overall}
-use Rattle.example_finish.specs.ProposalViews.{Asked, sheet_asked, season_asked, finish_asked}
 use Rattle.example_finish.specs.ProposedTotals.{AreTotalsAmong, AreTotalsOver, by_criterion}
-use Rattle.example_finish.specs.ProposedTotals.{numbers_by}
 
 -- nothing is taken off in the proposed finish but what is taken off in the season
 pub deductions_stay : (sheet : Sheet) (season : Results) (question : Question)
@@ -68,36 +62,3 @@ by_record_is sheet other season finish group table club rival are has has_rival 
     (λ i. by_first_difference (mine points_column i ∷ mine difference_column i ∷ mine goals_column
     i ∷ [])
     (theirs points_column i ∷ theirs difference_column i ∷ theirs goals_column i ∷ []))
-
-then_none : (o : Ordering) → ordering_then o Equal ≡ o
-then_none Less = refl
-then_none Equal = refl
-then_none Greater = refl
-
--- the points
-pub by_points_is : (sheet other : Sheet) (season finish : Results) (table : List Totals)
-    (club rival : ℕ) → finish.deductions ≡ season.deductions → AreTotalsOver sheet finish table
-    → club < length sheet.clubs → rival < length sheet.clubs
-    → by_criterion Points other season table club rival ≡ by_points sheet finish club rival
-by_points_is sheet other season finish table club rival same are below rival_below =
-    let mine = are club below in
-    let theirs = are rival rival_below in
-    then_none (greater_first
-    ((totals_at table club).points -ℤ pos (slice_index season.deductions club))
-    ((totals_at table rival).points -ℤ pos (slice_index season.deductions rival)))
-    ∙ (λ i. greater_first (mine points_column i -ℤ pos (slice_index (sym same i) club))
-    (theirs points_column i -ℤ pos (slice_index (sym same i) rival)))
-
--- points less those taken off are the club's points in the proposed finish
-pub points_left_is : (asked : Asked) (season : Results) (table : List Totals) (club : ℕ)
-    (totals : Totals) (points : ℤ) → season ≡ season_asked asked
-    → AreTotalsOver (sheet_asked asked) (finish_asked asked) table
-    → club < length (sheet_asked asked).clubs → totals ≡ totals_at table club
-    → points ≡ (totals.points -ℤ pos (slice_index season.deductions club))
-    → points ≡ points_of (sheet_asked asked) (finish_asked asked) club
-points_left_is asked season table club totals points same are below row is =
-    let won = ap (λ (t : Totals). t.points) row ∙ are club below points_column in
-    let off = ap (λ (s : Results). s.deductions) same
-    ∙ sym (deductions_stay asked.setting.sheet asked.setting.season asked.question
-    asked.setting.zone) in
-    is ∙ (λ i. won i -ℤ pos (slice_index (off i) club))

@@ -1,14 +1,16 @@
 -- Where a club stands in a group, step by step: by one order, and within the clubs that it leaves
 -- level by the next one.
-use Rattle.std.proofs.Common.{◌≡◌, ◌≢◌, ◌⊎◌, inl, inr, ℕ, ◌<◌, ◌≤◌, Bool, true, false, ◌&&◌, ◌||◌}
-use Rattle.std.proofs.Common.{◌==◌, nat_lt, cond, List, length, filter, refl, sym, ap, ◌∙◌, subst}
+use Rattle.std.proofs.Common.{◌≡◌, ℕ, ◌<◌, ◌≤◌, Bool, true, false, ◌&&◌, ◌||◌}
+use Rattle.std.proofs.Common.{◌==◌, nat_lt, List, [], ◌∷◌, length, filter, refl, sym, ap}
+use Rattle.std.proofs.Common.{◌∙◌}
 use Rattle.std.proofs.Common.{arith}
 use Rattle.std.specs.declared.cmp.Ordering.{Ordering}
 use Rattle.std.specs.declared.cmp.Ordering.TheVariants.{Less, Equal, Greater}
 use Rattle.std.specs.Ordering.{is_eq, is_lt, int_eq, ordering_then}
 use Rattle.std.specs.Cmp.{IsTotalOrder}
 use Rattle.std.specs.Int.{bit_at}
-use Rattle.std.proofs.lemmas.Bool.{cases_Bool, eq-eqb, ne_eqb, and_from, and_parts, lt-ltb}
+use Rattle.std.proofs.lemmas.Bool.{and_from, and_parts}
+use Rattle.std.proofs.lemmas.Bool.{eqb-true, false≢true}
 use Rattle.std.proofs.lemmas.Cmp.{eq_by_cmp_equiv, tied_itself, int_cmp_total}
 use Rattle.league_core.specs.declared.sheet.Sheet.{Sheet}
 use Rattle.league_core.specs.declared.sheet.Order.TheVariants.{OverallFirst}
@@ -17,13 +19,14 @@ use Rattle.league_core.specs.Results.{Results}
 use Rattle.league_core.specs.Sheets.{clubs_of}
 use Rattle.league_core.specs.Sums.{has_club, points_of}
 use Rattle.league_core.specs.ClubSets.{clubs_in}
-use Rattle.league_core.specs.HeadToHead.{greater_first, by_head_to_head, are_level_in, level_with}
-use Rattle.league_core.specs.Ahead.{by_overall, lead_in, by_first_sums, are_level_overall}
+use Rattle.league_core.specs.HeadToHead.{by_head_to_head, level_with}
+use Rattle.league_core.specs.Ahead.{lead_in, by_first_sums}
 use Rattle.league_core.specs.Ahead.{level_overall, standing_by, standing_in}
 use Rattle.league_core.specs.Ranking.{tied_group_of}
 use Rattle.league_core.specs.LotsFor.{order_without_lots}
 use Rattle.league_core.proofs.OrderingLemmas.{then_agree}
 use Rattle.league_core.proofs.StandingLemmas.{by_head_to_head_total, by_first_sums_total}
+use Rattle.league_core.proofs.StandingLemmas.{lead_within_total}
 use Rattle.league_core.proofs.StandingLemmas.{level_with-tied, level_overall-tied}
 use Rattle.league_core.proofs.TimesLemmas.{lead_in-again, level_with-le}
 use Rattle.league_core.proofs.ClubSetLemmas.{clubs_below-filter, clubs_below-filter_range}
@@ -102,6 +105,53 @@ standing_then first next whole group club outer inner ahead is_first is_next is_
           ∙ level_in_two (has_club group x) (first x club) (next x club) (whole x club) (is_whole
           x);
     }
+
+-- a club that is the whole group stands alone
+pub standing_alone : (order : ℕ → ℕ → Ordering) → IsTotalOrder order → (group : ClubSet) (club : ℕ)
+    (standing : Standing) → length (clubs_in group) ≡ 1 → has_club (clubs_in group) club ≡ true
+    → clubs_in standing.ahead ≡ [] → standing.level ≡ group
+    → IsStandingOf order (clubs_in group) club standing
+standing_alone order total group club standing one has none same = record {
+  ahead = λ x.
+      ap (λ (xs : List ℕ). has_club xs x) none
+      ∙ sym (none_before (has_club (clubs_in group) x) (order x club) (tied x));
+  level = λ x.
+      ap (λ (set : ClubSet). has_club (clubs_in set) x) same
+      ∙ sym (all_level (has_club (clubs_in group) x) (order x club) (tied x));
+}
+  where
+    itself : (b : Bool) → (b || false) ≡ true → b ≡ true
+    itself true is = refl
+    itself false is = is
+
+    only : (xs : List ℕ) (x y : ℕ) → length xs ≡ 1 → has_club xs x ≡ true → has_club xs y ≡ true
+        → x ≡ y
+    only [] x y long first second = absurd (false≢true first)
+    only (z ∷ []) x y long first second =
+        sym (eqb-true z x (itself (z == x) first)) ∙ eqb-true z y (itself (z == y) second)
+    only (z ∷ w ∷ ws) x y long first second = absurd (omega arith)
+
+    tied : (x : ℕ) → has_club (clubs_in group) x ≡ true → order x club ≡ Equal
+    tied x h =
+        ap (λ (n : ℕ). order n club) (only (clubs_in group) x club one h has)
+        ∙ tied_itself total club
+
+    none_before : (b : Bool) (o : Ordering) → (b ≡ true → o ≡ Equal) → (b && is_lt o) ≡ false
+    none_before false o is = refl
+    none_before true o is = ap is_lt (is refl)
+
+    all_level : (b : Bool) (o : Ordering) → (b ≡ true → o ≡ Equal) → (b && is_eq o) ≡ b
+    all_level false o is = refl
+    all_level true o is = ap is_eq (is refl)
+
+-- so it does by who leads
+pub alone_in_lead : (sheet : Sheet) (season : Results) (group : ClubSet) (club : ℕ)
+    (standing : Standing) → length (clubs_in group) ≡ 1 → has_club (clubs_in group) club ≡ true
+    → clubs_in standing.ahead ≡ [] → standing.level ≡ group
+    → IsStandingOf (lead_in sheet season (clubs_in group)) (clubs_in group) club standing
+alone_in_lead sheet season group club standing =
+    standing_alone (lead_in sheet season (clubs_in group))
+    (lead_within_total (length (clubs_in group)) sheet season (clubs_in group)) group club standing
 
 -- the clubs of a set that an order leaves level with a club, as a list
 level_list : (order : ℕ → ℕ → Ordering) (group : ClubSet) (club : ℕ) (standing : Standing)

@@ -7,3 +7,4 @@ pub mod PlaceLemmas
 pub mod UnplayedLemmas
 pub mod ProposedTotalLemmas
 pub mod CriterionLemmas
+pub mod ProposedPointLemmas

@@ -1,12 +1,12 @@
 -- The place of a club, by where it stands before the lots, and by its points alone.
-use Rattle.std.proofs.Common.{◌≡◌, ◌≢◌, ◌⊎◌, inl, inr, ℕ, zero, suc, ◌+◌, ◌<◌, ◌≤◌, Bool, true}
+use Rattle.std.proofs.Common.{◌≡◌, inl, inr, ℕ, zero, suc, ◌+◌, ◌<◌, ◌≤◌, Bool, true}
 use Rattle.std.proofs.Common.{false, ◌&&◌, ◌||◌, cond, nat_le, nat_cmp, List, length, count_by}
 use Rattle.std.proofs.Common.{refl, sym, ap, ◌∙◌, arith}
 use Rattle.std.specs.List.{range_with_len}
 use Rattle.std.specs.declared.cmp.Ordering.{Ordering}
 use Rattle.std.specs.declared.cmp.Ordering.TheVariants.{Less, Equal, Greater}
 use Rattle.std.specs.Ordering.{is_eq, is_lt, ordering_then}
-use Rattle.std.proofs.lemmas.Bool.{false≢true, cases_Bool, cases_eq, or_left, or_right, le-leb}
+use Rattle.std.proofs.lemmas.Bool.{false≢true, cases_eq, or_right}
 use Rattle.std.proofs.lemmas.Bool.Decides.{nat_tests}
 use Rattle.std.proofs.lemmas.Cmp.{tied_itself}
 use Rattle.std.proofs.lemmas.List.Sums.{length-filter}
@@ -18,7 +18,7 @@ use Rattle.league_core.specs.Sheets.{IsWithinLimits, clubs_of}
 use Rattle.league_core.specs.Sums.{has_club}
 use Rattle.league_core.specs.ClubSets.{clubs_in}
 use Rattle.league_core.specs.Ahead.{standing_in}
-use Rattle.league_core.specs.Ranking.{ranks_before, place_of, is_inside, tied_group_of, lot_of}
+use Rattle.league_core.specs.Ranking.{ranks_before, place_of, tied_group_of, lot_of}
 use Rattle.league_core.specs.LotsFor.{lots_for_claim, order_without_lots}
 use Rattle.league_core.proofs.ClubSetLemmas.{clubs_below-filter_range, has_club-range}
 use Rattle.league_core.proofs.RankingLemmas.{ranks_before-itself}

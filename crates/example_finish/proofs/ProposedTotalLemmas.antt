@@ -1,7 +1,7 @@
 -- What the matches of the proposed finish add up to: what was played, and what is proposed for the
 -- matches that are not.
 use Rattle.std.proofs.Common.{◌≡◌, ℕ, zero, suc, ◌+◌, ◌*◌, ◌<◌, ◌≤◌, ℤ, pos, ◌+ℤ◌, ◌&&◌, Bool, true}
-use Rattle.std.proofs.Common.{false, cond, List, [], ◌∷◌, ◌++◌, length, get_or, take, Option, Some}
+use Rattle.std.proofs.Common.{false, cond, List, [], ◌∷◌, length, get_or, take, Option, Some}
 use Rattle.std.proofs.Common.{None, ◌≢◌, inl, inr, set, refl, sym, ap, ◌∙◌, subst, arith}
 use Rattle.std.proofs.lemmas.Bool.{true≢false, cases_eq}
 use Rattle.std.specs.List.{range_with_len}
@@ -11,8 +11,6 @@ use Rattle.std.proofs.lemmas.List.{take_more, take_all, get_or-set_same, get_or-
 use Rattle.league_core.specs.declared.sheet.Sheet.{Sheet}
 use Rattle.league_core.specs.declared.sheet.Fixture.{Fixture}
 use Rattle.league_core.specs.declared.season.Score.{Score}
-use Rattle.league_core.specs.declared.question.Question.{Question}
-use Rattle.league_core.specs.declared.zone.Literal.{Literal}
 use Rattle.league_core.specs.Results.{Results}
 use Rattle.league_core.specs.Seasons.{IsSeasonOf}
 use Rattle.league_core.specs.Sheets.{IsWithinLimits, clubs_of}

@@ -3,5 +3,6 @@
 pub mod Firsts
 pub mod Wished
 pub mod ProposalViews
+pub mod ProposedPoints
 pub mod ProposedTotals
 pub mod GroupStandings

@@ -1,7 +1,7 @@
 -- What matches add up to for clubs, kept by the clubs' numbers, and the comparisons of clubs by
 -- these sums.
-use Rattle.std.specs.Prelude.{◌<◌, ℕ, ℤ, pos, neg_ℤ, ◌-ℤ◌, IsTrue, List, [], ◌∷◌, length}
-use Rattle.std.specs.Prelude.{slice_index, slice_index_or, None}
+use Rattle.std.specs.Prelude.{◌<◌, ℕ, ℤ, pos, neg_ℤ, IsTrue, List, [], ◌∷◌, length}
+use Rattle.std.specs.Prelude.{slice_index_or, None}
 use Rattle.std.specs.declared.cmp.Ordering.{Ordering}
 use Rattle.league_core.specs.declared.sheet.Sheet.{Sheet}
 use Rattle.league_core.specs.Results.{Results}
@@ -13,7 +13,7 @@ use Rattle.score_box.specs.declared.totals.Totals.{Totals}
 use Rattle.score_box.specs.Totals.{AreTotals, AreTotalsNear, totals_at}
 use Rattle.example_finish.specs.ProposalViews.{Asked, sheet_asked, finish_asked}
 use Rattle.example_finish.specs.declared.criterion.Criterion.{Criterion}
-use Rattle.example_finish.specs.declared.criterion.Criterion.TheVariants.{Points, Record}
+use Rattle.example_finish.specs.declared.criterion.Criterion.TheVariants.{Record}
 use Rattle.example_finish.specs.declared.criterion.Criterion.TheVariants.{Goals, Overall}
 
 -- each club of the group has what the matches of the group add up to for it
@@ -39,11 +39,9 @@ worth_proposed asked group club fixture worth =
     (slice_index_or (sheet_asked asked).fixtures fixture (record { home = 0; away = 0 }))
     (slice_index_or (finish_asked asked).scores fixture None)
 
--- the numbers by which clubs are compared: points less those taken off; the record of points,
--- difference and goals; difference and goals alone; or all that decides after the records
+-- the numbers by which clubs are compared: the record of points, difference and goals; difference
+-- and goals alone; or all that decides after the records
 abbrev pub numbers_by : Criterion → Sheet → Results → List Totals → ℕ → List ℤ
-numbers_by Points sheet season table club =
-    ((totals_at table club).points -ℤ pos (slice_index season.deductions club)) ∷ []
 numbers_by Record sheet season table club =
     (totals_at table club).points
     ∷ (totals_at table club).difference

@@ -1,8 +1,6 @@
 //! What clubs are compared by, and the comparison.
 
-ghost use Rattle.std.specs.Prelude.{◌≡◌, ◌-ℤ◌, ◌≤ℤ◌, pos, neg_ℤ, slice_index};
-ghost use Rattle.std.specs.Prelude.{[], ◌∷◌};
-ghost use Rattle.league_core.specs.HeadToHead.{by_first_difference};
+ghost use Rattle.std.specs.Prelude.{◌≡◌};
 ghost use Rattle.league_core.specs.Ahead.{rank_of};
 ghost use Rattle.score_box.specs.Totals.{totals_at};
 ghost use Rattle.example_finish.specs.ProposedTotals.{by_criterion};
@@ -15,8 +13,6 @@ use tie_criteria::{Tail, Triple};
 /// What two clubs are compared by, the greater first.
 #[derive(Clone, Copy)]
 pub enum Criterion {
-    /// Points over the matches, less those taken off.
-    Points,
     /// Points, then difference, then goals.
     Record,
     /// Difference, then goals.
@@ -43,10 +39,6 @@ impl<'a> Comparison<'a> {
         let one = totals_at(self.table, club);
         let two = totals_at(self.table, other);
         match self.criterion {
-            Criterion::Points => {
-                let points = points_left(self.season, &one, club);
-                by_points(points, points_left(self.season, &two, other))
-            }
             Criterion::Record => record_of(&one).order(&record_of(&two)),
             Criterion::Goals => record_of(&one).order_by_goals(&record_of(&two)),
             Criterion::Overall => {
@@ -62,30 +54,6 @@ pub fn totals_at(table: &[Totals], club: u8) -> Totals
     ensures { result ≡ totals_at table.now club }
 {
     table.get(club as usize).copied().unwrap_or(Totals::NONE)
-}
-
-/// The club's points less those taken off.
-pub fn points_left(season: &Season, totals: &Totals, club: u8) -> i64
-    ensures value { result ≡ (totals.now.points -ℤ pos (slice_index season.now.deductions club)) }
-    ensures least { neg_ℤ (pos 3000000000) ≤ℤ result }
-    ensures most { result ≤ℤ pos 3000000000 }
-{
-    i64::from(totals.points) - taken_off(season.deductions(), club)
-}
-
-/// `Less` where the first of two numbers is the greater.
-fn by_points(points: i64, other: i64) -> Ordering
-    ensures { result ≡ by_first_difference (points ∷ []) (other ∷ []) }
-{
-    other.cmp(&points).then(Ordering::Equal)
-}
-
-/// The points that are taken off the club; none off a number that is no club's.
-fn taken_off(deductions: &[u8], club: u8) -> i64
-    ensures value { result ≡ pos (slice_index deductions.now club) }
-    ensures small { result ≤ℤ pos 255 }
-{
-    i64::from(deductions.get(club as usize).copied().unwrap_or(0))
 }
 
 fn record_of(totals: &Totals) -> Triple

@@ -10,14 +10,13 @@ ghost use Rattle.league_core.specs.Sums.{points_of};
 ghost use Rattle.league_core.specs.Proposals.{proposed_finish};
 ghost use Rattle.score_box.specs.Settings.{HasFinish};
 ghost use Rattle.example_finish.specs.ProposalViews.{sheet_asked, finish_asked};
-ghost use Rattle.example_finish.specs.ProposedTotals.{AreTotalsOver};
+ghost use Rattle.example_finish.specs.ProposedPoints.{ArePointsOver, ArePointsNear};
 
-use crate::criterion::{points_left, totals_at};
 use crate::lead::{stand_by_points, stand_in};
 use crate::proposed::Proposed;
 use final_rank::{lots_for, place, points};
 use league_core::{Claim, Finish, Lots, OutOfMemory, Question, Season, Sheet};
-use score_box::{Totals, ZoneBox};
+use score_box::ZoneBox;
 use std::alloc::Global;
 
 /// Lots with which the question holds at the finish; none exactly where it holds with no lots.
@@ -85,47 +84,46 @@ pub fn is_example(zone_box: &ZoneBox, question: &Question) -> bool
         question.now.claim) }
 {
     let proposed = Proposed::of(zone_box, question);
-    let all = proposed.totals_over();
-    has_points_in_window(&proposed, &all) && is_on_side(is_inside(&proposed, &all), question.claim)
+    let points = proposed.points_over();
+    has_points_in_window(&proposed, &points)
+        && is_on_side(is_inside(&proposed, &points), question.claim)
 }
 
-/// The club's points are in the question's window. The table has the sums over all matches.
-fn has_points_in_window(proposed: &Proposed, all: &[Totals]) -> bool
-    requires { AreTotalsOver (sheet_asked proposed.now) (finish_asked proposed.now) all.now }
+/// The club's points are in the question's window.
+fn has_points_in_window(proposed: &Proposed, points: &[i32]) -> bool
+    requires long { length points.now ≡ 24 }
+    requires near { ArePointsNear 1000000 points.now }
+    requires points { ArePointsOver (sheet_asked proposed.now) (finish_asked proposed.now)
+        points.now }
     ensures { result ≡ is_in_window proposed.now.question
         (points_of (sheet_asked proposed.now) (finish_asked proposed.now)
         proposed.now.question.club) }
 {
+    let _sheet = proposed.sheet();
     let question = proposed.question();
-    let totals = totals_at(all, question.club);
-    let points = points_left(proposed.season(), &totals, question.club);
-    lies_in_window(question, points)
-}
-
-fn lies_in_window(question: &Question, points: i64) -> bool
-    ensures { result ≡ is_in_window question.now points }
-{
-    i64::from(question.low) <= points && points <= i64::from(question.high)
+    is_in_window(question, points[question.club as usize])
 }
 
 /// The club is inside the line, with the lots that favour the claim. Where its points alone say so,
 /// nothing else is looked at.
-fn is_inside(proposed: &Proposed, all: &[Totals]) -> bool
-    requires { AreTotalsOver (sheet_asked proposed.now) (finish_asked proposed.now) all.now }
+fn is_inside(proposed: &Proposed, points: &[i32]) -> bool
+    requires long { length points.now ≡ 24 }
+    requires points { ArePointsOver (sheet_asked proposed.now) (finish_asked proposed.now)
+        points.now }
     ensures { result ≡ is_inside (sheet_asked proposed.now) (finish_asked proposed.now)
         (lots_for_claim (length (sheet_asked proposed.now).clubs) proposed.now.question.club
         proposed.now.question.claim) proposed.now.question.club proposed.now.question.line }
 {
     let _sheet = proposed.sheet();
     let question = proposed.question();
-    let tier = stand_by_points(proposed, all);
+    let tier = stand_by_points(proposed, points);
     if question.line <= tier.ahead.len() {
         return false;
     }
     if tier.ahead.union(tier.level).len() <= question.line {
         return true;
     }
-    let near = stand_in(proposed, all, tier.level, question.club);
+    let near = stand_in(proposed, tier.level, question.club);
     tier.then(near).place(question.claim) <= question.line
 }
 

@@ -47,6 +47,7 @@ fn take_options(season: &mut Season, zone_box: &ZoneBox, wishes: Wishes)
 }
 
 /// The first option of one fixture, whose sides these are.
+#[inline(always)]
 pub fn option_of(zone_box: &ZoneBox, wishes: Wishes, fixture: u16, sides: Fixture) -> Score
     requires has_finish { HasFinish zone_box.now }
     requires in_range { fixture < length zone_box.now.season.scores }

@@ -3,17 +3,25 @@ use Rattle.league_core.specs.Options.{has_one_outcome}
 use Rattle.league_core.specs.Splits.{are_outcomes_fixed}
 use Rattle.branch_rules.specs.Choices.{options_at_fixture}
 use Rattle.example_finish.proofs.UnplayedLemmas.{unplayed_in_range}
-use Rattle.branch_rules.proofs.RatedLemmas.{test_of_none}
+use Rattle.branch_rules.proofs.RatedLemmas.{test_of_none, none_with_this}
 use Rattle.branch_rules.proofs.OutcomeTestLemmas.{outcomes_fixed}
 use Rattle.branch_rules.proofs.outcomes.outcome_test.Goals as goal
 
-pub rated_outcome-requires-clause-in_range : goal.rated_outcome-requires-clause-in_range
-rated_outcome-requires-clause-in_range c =
+pub better_of-best-requires-clause-in_range : goal.better_of-best-requires-clause-in_range
+better_of-best-requires-clause-in_range c =
     let scores = c.args.zone_box.now.season.scores in
     let i = c.loop-i.i in
     subst (λ (xs : List ℕ). get_or xs i 0 < length scores) (sym c.unplayed-unplayed.ensures)
     (unplayed_in_range scores i
     (subst (λ (xs : List ℕ). i < length xs) c.unplayed-unplayed.ensures c.loop-i-test.true))
+
+pub loop-i-preserved : goal.loop-i-preserved
+loop-i-preserved c = (
+  c.better_of-best.ensures.some,
+  none_with_this c.better_of-best.result c.loop-i.best
+      (λ fixture. IsTrue (has_one_outcome (options_at_fixture c.args.zone_box.now fixture)))
+      c.unplayed-unplayed.result.now c.loop-i.i c.better_of-best.ensures.none c.loop-i.invariant.1,
+)
 
 pub returns-clause-none : goal.returns-clause-none
 returns-clause-none c =

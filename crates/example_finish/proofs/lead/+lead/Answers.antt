@@ -1,13 +1,12 @@
-use Rattle.std.proofs.Common.{ℕ, ◌≤◌, length, sym, ap, subst, arith, true}
+use Rattle.std.proofs.Common.{sym, subst, arith}
 use Rattle.league_core.specs.declared.club_set.ClubSet.{ClubSet}
 use Rattle.league_core.specs.ClubSets.{clubs_in}
 use Rattle.league_core.specs.HeadToHead.{by_head_to_head}
 use Rattle.league_core.specs.Ahead.{lead_in}
-use Rattle.league_core.proofs.TimesLemmas.{level_with-le}
 use Rattle.example_finish.specs.ProposalViews.{sheet_asked, finish_asked}
 use Rattle.example_finish.specs.GroupStandings.{IsStandingOf}
 use Rattle.example_finish.proofs.GroupStandingLemmas.{standing_in_lead, itself_by_record}
-use Rattle.example_finish.proofs.GroupStandingLemmas.{level_in_group}
+use Rattle.example_finish.proofs.GroupStandingLemmas.{level_in_group, alone_in_lead}
 use Rattle.example_finish.proofs.GroupStandingLemmas.{few_by_record}
 use Rattle.example_finish.proofs.lead.+lead.Goals as goal
 
@@ -26,10 +25,16 @@ lead-after_record-inner-requires t c =
         (
           itself_by_record sheet finish c.args.group c.args.club outer c.requires.among
               c.by_record-outer.ensures,
-          (few, c.requires.totals),
+          few,
         ),
       ),
     )
+
+pub lead-returns-then-len-eq1 : goal.lead-returns-then-len-eq1
+lead-returns-then-len-eq1 t c =
+    alone_in_lead (sheet_asked c.args.proposed.now) (finish_asked c.args.proposed.now) c.args.group
+    c.args.club c.alone.result (omega (arith, c.len.ensures)) c.requires.among c.alone.ensures.ahead
+    c.alone.ensures.level
 
 pub lead-returns : goal.lead-returns
 lead-returns t c =

@@ -1,4 +1,4 @@
-use Rattle.std.proofs.Common.{suc, ◌+◌, ◌*◌, length}
+use Rattle.std.proofs.Common.{◌+◌, ◌*◌, length}
 use Rattle.league_core.specs.ClubSets.{clubs_in}
 use Rattle.example_finish.proofs.lead.+lead.Given as goal
 

@@ -12,9 +12,10 @@ returns c =
     let sheet = sheet_asked c.args.proposed.now in
     let finish = finish_asked c.args.proposed.now in
     let group = clubs_in c.args.group in
-    standing_agrees (by_criterion Goals c.sheet.result.now c.season.result.now c.args.all.now)
+    standing_agrees
+    (by_criterion Goals c.sheet.result.now c.season.result.now c.totals_over-all.result)
     (by_first_sums sheet finish) group c.args.club c.by.result
-    (λ x has. by_goals_is sheet c.sheet.result.now c.season.result.now finish c.args.all.now x
-    c.args.club c.requires.totals (c.requires.of_group x has)
+    (λ x has. by_goals_is sheet c.sheet.result.now c.season.result.now finish
+    c.totals_over-all.result x c.args.club c.totals_over-all.ensures (c.requires.of_group x has)
     (c.requires.of_group c.args.club c.requires.among))
     c.by.ensures

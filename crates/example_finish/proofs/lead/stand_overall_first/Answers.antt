@@ -2,11 +2,10 @@ use Rattle.std.proofs.Common.{sym, subst}
 use Rattle.league_core.specs.declared.club_set.ClubSet.{ClubSet}
 use Rattle.league_core.specs.declared.sheet.Order.TheVariants.{OverallFirst}
 use Rattle.league_core.specs.ClubSets.{clubs_in}
-use Rattle.league_core.specs.Ahead.{by_first_sums, standing_by}
+use Rattle.league_core.specs.Ahead.{standing_by}
 use Rattle.example_finish.specs.ProposalViews.{sheet_asked, finish_asked}
 use Rattle.example_finish.specs.GroupStandings.{IsStandingOf}
-use Rattle.example_finish.proofs.GroupStandingLemmas.{standing_overall_first, itself_by_first_sums}
-use Rattle.example_finish.proofs.GroupStandingLemmas.{level_in_group}
+use Rattle.example_finish.proofs.GroupStandingLemmas.{standing_overall_first}
 use Rattle.example_finish.proofs.lead.stand_overall_first.Goals as goal
 
 pub returns : goal.returns

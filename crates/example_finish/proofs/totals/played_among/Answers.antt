@@ -1,10 +1,9 @@
-use Rattle.std.proofs.Common.{◌≡◌, ◌<◌, ◌≤◌, ℕ, IsTrue, inl, inr, length, set, sym, ap, ◌∙◌, subst}
+use Rattle.std.proofs.Common.{ℕ, IsTrue, inl, inr, sym, ◌∙◌, subst}
 use Rattle.std.proofs.Common.{arith}
 use Rattle.std.proofs.Math.Nat.{eq-or-lt_of_le}
 use Rattle.league_core.specs.Sums.{has_club, sum_among}
 use Rattle.league_core.specs.ClubSets.{clubs_in}
-use Rattle.score_box.specs.declared.totals.Totals.{Totals}
-use Rattle.score_box.specs.Totals.{AreTotals, AreTotalsNear, totals_at}
+use Rattle.score_box.specs.Totals.{AreTotals, totals_at}
 use Rattle.example_finish.proofs.ProposedTotalLemmas.{none_near}
 use Rattle.example_finish.proofs.totals.played_among.Goals as goal
 

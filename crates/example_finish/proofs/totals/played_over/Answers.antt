@@ -1,9 +1,8 @@
-use Rattle.std.proofs.Common.{◌≡◌, ◌<◌, ◌≤◌, ℕ, inl, inr, length, set, sym, ap, ◌∙◌, subst, arith}
+use Rattle.std.proofs.Common.{◌<◌, ℕ, inl, inr, length, set, sym, ◌∙◌, subst, arith}
 use Rattle.std.proofs.lemmas.List.{length-set}
 use Rattle.std.proofs.Math.Nat.{eq-or-lt_of_le}
 use Rattle.league_core.specs.Sums.{sum_of}
-use Rattle.score_box.specs.declared.totals.Totals.{Totals}
-use Rattle.score_box.specs.Totals.{AreTotals, AreTotalsNear, totals_at}
+use Rattle.score_box.specs.Totals.{AreTotals, totals_at}
 use Rattle.score_box.proofs.TotalLemmas.{near_wider}
 use Rattle.example_finish.proofs.ProposedTotalLemmas.{all_near_set, row_set, row_kept, none_near}
 use Rattle.example_finish.proofs.totals.played_over.Goals as goal

@@ -1,6 +1,5 @@
-use Rattle.std.proofs.Common.{◌≡◌, ◌<◌, ◌≤◌, ◌*◌, ◌+◌, ℕ, List, length, get_or, refl, sym, ap, ◌∙◌}
+use Rattle.std.proofs.Common.{◌≡◌, ◌<◌, ◌*◌, ◌+◌, ℕ, List, length, get_or, sym, ap, ◌∙◌}
 use Rattle.std.proofs.Common.{subst, arith}
-use Rattle.league_core.specs.Results.{Results}
 use Rattle.league_core.specs.Seasons.{IsSeasonOf}
 use Rattle.league_core.specs.Sheets.{IsWithinLimits}
 use Rattle.league_core.specs.ClubSets.{clubs_in}

@@ -1,5 +1,4 @@
 -- The rows have what was played, and what the matches before this one add.
-use Rattle.std.proofs.Common.{length}
 use Rattle.league_core.specs.ClubSets.{clubs_in}
 use Rattle.score_box.specs.Unplayed.{unplayed_in}
 use Rattle.example_finish.specs.ProposalViews.{season_asked}

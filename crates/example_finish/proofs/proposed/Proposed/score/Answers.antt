@@ -1,6 +1,5 @@
 use Rattle.std.proofs.Common.{◌≡◌, ◌<◌, Some, None, length, get_or, ap, sym, ◌∙◌, subst}
 use Rattle.league_core.specs.declared.sheet.Fixture.{Fixture}
-use Rattle.league_core.specs.Results.{Results}
 use Rattle.league_core.specs.Seasons.{IsSeasonOf}
 use Rattle.example_finish.specs.ProposalViews.{Asked, sheet_asked, season_asked, finish_asked}
 use Rattle.example_finish.proofs.ProposedLemmas.{taken_in_finish, option_at}

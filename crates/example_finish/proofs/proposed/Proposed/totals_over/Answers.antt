@@ -1,5 +1,5 @@
-use Rattle.std.proofs.Common.{◌≡◌, ◌<◌, ℕ, IsTrue, List, length, sym, ap, ◌∙◌, subst}
-use Rattle.league_core.specs.Sheets.{IsWithinLimits, clubs_of}
+use Rattle.std.proofs.Common.{ℕ, List, sym, subst}
+use Rattle.league_core.specs.Sheets.{IsWithinLimits}
 use Rattle.league_core.specs.ClubSets.{clubs_in}
 use Rattle.score_box.specs.Settings.{Setting}
 use Rattle.example_finish.specs.ProposalViews.{sheet_asked, season_asked, finish_asked}

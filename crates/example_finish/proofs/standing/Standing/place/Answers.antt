@@ -1,6 +1,5 @@
-use Rattle.std.proofs.Common.{◌≡◌, ◌+◌, ℕ, length, sym, ap, ◌∙◌, arith}
+use Rattle.std.proofs.Common.{◌+◌, ℕ, length, sym, ap, ◌∙◌, arith}
 use Rattle.league_core.specs.declared.question.Claim.{Claim}
-use Rattle.league_core.specs.ClubSets.{clubs_in}
 use Rattle.league_core.specs.Ranking.{place_of}
 use Rattle.league_core.specs.LotsFor.{lots_for_claim}
 use Rattle.final_rank.proofs.SpanLemmas.{few_clubs}

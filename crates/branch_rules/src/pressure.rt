@@ -1,0 +1,157 @@
+//! What becomes of the rivals that a zone marks where a match has fewer outcomes. It stands in no
+//! clause.
+
+use crate::left::Outcomes;
+use crate::rooms::Rooms;
+use crate::totals::Totals;
+use league_core::{Claim, Fixture, Question};
+use score_box::ZoneBox;
+
+/// By how many points a match can move a bound of a club.
+const MOST_OF_A_MATCH: i32 = 3;
+
+/// The bounds of the club's points, and by how many points the least of each rival marked after it
+/// may rise, and the most of each marked before it may fall, until it meets them.
+#[derive(Clone, Copy)]
+pub struct Pressure<'a> {
+    question: &'a Question,
+    totals: &'a Totals,
+    rises: Rooms,
+    falls: Rooms,
+    most: i32,
+    least: i32,
+}
+
+/// What becomes of the marked rivals in a half.
+#[derive(Clone, Copy)]
+pub struct Outlook {
+    pub breaks: bool,
+    pub levels: bool,
+}
+
+/// By how many points a half raises the least of a club and lowers its most.
+#[derive(Clone, Copy)]
+struct Step {
+    rise: i32,
+    fall: i32,
+}
+
+impl<'a> Pressure<'a> {
+    pub fn of(zone_box: &ZoneBox, question: &'a Question, totals: &'a Totals) -> Pressure<'a> {
+        let most = totals.own_most(question);
+        let least = totals.own_least(question);
+        let (before, after) = (zone_box.before(), zone_box.after());
+        let mut rises = Rooms::ample();
+        let mut falls = Rooms::ample();
+        for club in 0..zone_box.sheet().clubs.len() as u8 {
+            if after.has(club) && club != question.club {
+                rises.put(club, most.wrapping_sub(totals.least_of(club)));
+            }
+            if before.has(club) && club != question.club {
+                falls.put(club, totals.most_of(club).wrapping_sub(least));
+            }
+        }
+        Pressure {
+            question,
+            totals,
+            rises,
+            falls,
+            most,
+            least,
+        }
+    }
+
+    /// The question's club plays in the match.
+    pub fn is_own(&self, sides: Fixture) -> bool {
+        sides.home == self.question.club || sides.away == self.question.club
+    }
+
+    /// The match can bring a marked rival to its bound or past it.
+    pub fn is_felt(&self, sides: Fixture) -> bool {
+        self.is_own(sides) || self.is_near(sides.home) || self.is_near(sides.away)
+    }
+
+    fn is_near(&self, rival: u8) -> bool {
+        self.rises.of(rival) <= MOST_OF_A_MATCH || self.falls.of(rival) <= MOST_OF_A_MATCH
+    }
+
+    /// What becomes of the rivals where of the outcomes that are left these remain. Where one
+    /// breaks its bound, it does not matter whether another is level.
+    pub fn outlook(&self, sides: Fixture, left: Outcomes, half: Outcomes) -> Outlook {
+        let home = Step::between(
+            (left.home_least(), left.home_most()),
+            (half.home_least(), half.home_most()),
+        );
+        let away = Step::between(
+            (left.away_least(), left.away_most()),
+            (half.away_least(), half.away_most()),
+        );
+        if sides.home == self.question.club {
+            self.own_outlook(home, sides.away, away)
+        } else if sides.away == self.question.club {
+            self.own_outlook(away, sides.home, home)
+        } else {
+            let first = self.seen(sides.home, home);
+            first.and(self.seen(sides.away, away))
+        }
+    }
+
+    /// The same in a match of the question's club against a rival.
+    fn own_outlook(&self, own: Step, rival: u8, step: Step) -> Outlook {
+        let club = self.question.club;
+        let most = self.totals.most_of(club).wrapping_sub(own.fall);
+        let least = self.totals.least_of(club).wrapping_add(own.rise);
+        let moved = Step {
+            rise: self.most.wrapping_sub(most.min(self.question.high)),
+            fall: least.max(self.question.low).wrapping_sub(self.least),
+        };
+        let seen = self.seen(rival, step.and(moved));
+        if moved.rise == 0 && moved.fall == 0 {
+            seen
+        } else {
+            let rise = self.rises.beside(rival);
+            seen.and(self.outlook_of(rise, self.falls.beside(rival), moved))
+        }
+    }
+
+    /// What becomes of one rival, which this step brings nearer to its bounds.
+    fn seen(&self, rival: u8, step: Step) -> Outlook {
+        self.outlook_of(self.rises.of(rival), self.falls.of(rival), step)
+    }
+
+    fn outlook_of(&self, rise: i32, fall: i32, step: Step) -> Outlook {
+        Outlook {
+            breaks: rise < step.rise || fall < step.fall,
+            levels: match self.question.claim {
+                Claim::Inside => rise == step.rise,
+                Claim::Outside => fall == step.fall,
+            },
+        }
+    }
+}
+
+impl Outlook {
+    fn and(self, other: Outlook) -> Outlook {
+        Outlook {
+            breaks: self.breaks || other.breaks,
+            levels: self.levels || other.levels,
+        }
+    }
+}
+
+impl Step {
+    /// From the least and the most points that a side had left to those of a half.
+    fn between(left: (i32, i32), half: (i32, i32)) -> Step {
+        Step {
+            rise: half.0.wrapping_sub(left.0),
+            fall: left.1.wrapping_sub(half.1),
+        }
+    }
+
+    fn and(self, other: Step) -> Step {
+        Step {
+            rise: self.rise.wrapping_add(other.rise),
+            fall: self.fall.wrapping_add(other.fall),
+        }
+    }
+}

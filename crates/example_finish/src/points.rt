@@ -1,0 +1,123 @@
+//! The points of the clubs in the proposed finish, which come before all sums of goals.
+
+ghost use Rattle.std.specs.Prelude.{◌≡◌, ◌≢◌, ℕ, ◌<◌, pos, neg_ℤ, ◌+ℤ◌, ◌≤ℤ◌, false, length};
+ghost use Rattle.std.specs.Prelude.{if◌then◌else◌, ◌==◌};
+ghost use Rattle.league_core.specs.Sums.{match_points, points_of, worth_to};
+ghost use Rattle.score_box.specs.Ends.{end_at};
+ghost use Rattle.example_finish.specs.ProposalViews.{sheet_asked, season_asked, finish_asked};
+ghost use Rattle.example_finish.specs.ProposedPoints.{ArePointsOver, ArePointsNear};
+ghost use Rattle.example_finish.specs.ProposedPoints.{points_proposed};
+
+use crate::proposed::Proposed;
+use league_core::{Fixture, Score};
+use score_box::ZoneBox;
+
+impl<'a> Proposed<'a> {
+    /// The points of each club, less those taken off, by the clubs' numbers.
+    pub fn points_over(&self) -> [i32; 24]
+        ensures points { ArePointsOver (sheet_asked self.now) (finish_asked self.now) result }
+        ensures near { ArePointsNear 1000000 result }
+        ensures long { length result ≡ 24 }
+    {
+        let mut points = points_so_far(self.zone_box());
+        self.add_points(&mut points);
+        points
+    }
+
+    /// Adds the points of the matches that are not played.
+    fn add_points(&self, points: &mut [i32])
+        requires long { length points.old ≡ 24 }
+        requires near { ArePointsNear 200000 points.old }
+        requires played { ArePointsOver (sheet_asked self.now) (season_asked self.now)
+            points.old }
+        ensures points { ArePointsOver (sheet_asked self.now) (finish_asked self.now) points.new }
+        ensures near { ArePointsNear 1000000 points.new }
+    {
+        let _season = self.season();
+        let _sheet = self.sheet();
+        let unplayed = self.zone_box.unplayed();
+        for i in 0..unplayed.len() {
+            self.add_points_of(points, unplayed[i]);
+        }
+    }
+
+    /// Adds the points of one match.
+    fn add_points_of(&self, points: &mut [i32], fixture: u16)
+        requires in_range { fixture < length (season_asked self.now).scores }
+        requires long { length points.old ≡ 24 }
+        requires near { ArePointsNear 1000000 points.old }
+        ensures { (club : ℕ) → end_at points.new club
+            ≡ (end_at points.old club +ℤ points_proposed self.now club fixture) }
+    {
+        let sides = self.sides(fixture);
+        add(points, sides, self.score(fixture));
+    }
+}
+
+/// Adds what a match is worth to its two clubs.
+fn add(points: &mut [i32], sides: Fixture, score: Score)
+    requires different { sides.home ≢ sides.away }
+    requires home { sides.home < length points.old }
+    requires away { sides.away < length points.old }
+    requires near { ArePointsNear 1000000 points.old }
+    ensures { (club : ℕ) → end_at points.new club
+        ≡ (end_at points.old club +ℤ worth_to match_points club sides score) }
+{
+    raise(points, sides.home, points_for(score.home, score.away));
+    raise(points, sides.away, points_for(score.away, score.home));
+}
+
+/// Adds points to those of one club.
+fn raise(points: &mut [i32], club: u8, by: i32)
+    requires in_range { club < length points.old }
+    requires near { ArePointsNear 2000000 points.old }
+    requires small { (pos 0 ≤ℤ by) × (by ≤ℤ pos 3) }
+    ensures { (other : ℕ) → end_at points.new other
+        ≡ (end_at points.old other +ℤ (if club == other then by else pos 0)) }
+{
+    points[club as usize] += by;
+}
+
+/// Three for a win, one for a draw.
+fn points_for(scored: u8, conceded: u8) -> i32
+    ensures value { result ≡ match_points scored conceded false }
+    ensures within { (pos 0 ≤ℤ result) × (result ≤ℤ pos 3) }
+{
+    if conceded < scored {
+        3
+    } else if scored == conceded {
+        1
+    } else {
+        0
+    }
+}
+
+/// The points of each club from the matches that are played.
+fn points_so_far(zone_box: &ZoneBox) -> [i32; 24]
+    ensures points { ArePointsOver zone_box.now.sheet zone_box.now.season result }
+    ensures near { ArePointsNear 200000 result }
+    ensures long { length result ≡ 24 }
+{
+    let mut points = no_points();
+    for club in 0..zone_box.sheet().clubs.len() as u8 {
+        points[club as usize] = points_of(zone_box, club);
+    }
+    points
+}
+
+/// A table of clubs without a point.
+fn no_points() -> [i32; 24]
+    ensures none { (club : ℕ) → end_at result club ≡ pos 0 }
+    ensures long { length result ≡ 24 }
+{
+    [0; 24]
+}
+
+fn points_of(zone_box: &ZoneBox, club: u8) -> i32
+    requires { club < length zone_box.now.sheet.clubs }
+    ensures value { result ≡ points_of zone_box.now.sheet zone_box.now.season club }
+    ensures near { (neg_ℤ (pos 200000) ≤ℤ result) × (result ≤ℤ pos 200000) }
+{
+    let off = i32::from(zone_box.season().deducted(club));
+    zone_box.totals(club).points - off
+}
