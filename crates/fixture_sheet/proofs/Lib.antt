@@ -10,3 +10,4 @@ pub mod GivenLemmas
 pub mod CommaLemmas
 pub mod PaddingLemmas
 pub mod CutLemmas
+pub mod LastReadLemmas

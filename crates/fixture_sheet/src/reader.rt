@@ -7,6 +7,7 @@ ghost use Rattle.port_core.specs.Readers.{LeavesReader, PassesTo, TakesInput, co
 ghost use Rattle.port_core.specs.Readers.{given_by};
 ghost use Rattle.fixture_sheet.specs.Calls.{CountsSheet, GivesSheet, Leads, PassesUpTo, ReadsSheet};
 ghost use Rattle.fixture_sheet.specs.Calls.{StepMoves, StepReads, sheet_answer_behind};
+ghost use Rattle.fixture_sheet.specs.LastReads.{StopsAtSheet, StopsAtSheetLine};
 ghost use Rattle.fixture_sheet.specs.Sheets.{fault_at_end};
 
 use crate::draft::Draft;
@@ -36,6 +37,9 @@ pub fn read_sheet<S: Source>(
     ensures leaves { LeavesReader reader.new (S.left source.new)
         (sheet_answer_behind reader.new result) }
     ensures takes { TakesInput reader.old reader.new (S.left source.old) (S.left source.new) }
+
+    // Reading stops at the read that completes the answer.
+    ensures last { StopsAtSheet S.left S.reads reader.old reader.new source.old source.new result }
     ensures cause { CountsSheet (S.faults source.old) (S.faults source.new) result }
 {
     let mut draft = None;
@@ -66,6 +70,8 @@ fn next_record<S: Source>(
     ensures leaves { LeavesReader reader.new (S.left source.new)
         (sheet_answer_behind reader.new result) }
     ensures takes { TakesInput reader.old reader.new (S.left source.old) (S.left source.new) }
+    ensures last { StopsAtSheetLine S.left S.reads reader.old reader.new source.old source.new
+        result }
     ensures cause { CountsSheet (S.faults source.old) (S.faults source.new) result }
 {
     match reader.next(source) {

@@ -28,7 +28,7 @@ with_lines-none None = refl
 with_lines-none (Some contents) = refl
 
 -- some lines and then others are all of them
-with_lines-append : (first second : List (ℕ × List ℕ)) (before mid after : Option Contents)
+pub with_lines-append : (first second : List (ℕ × List ℕ)) (before mid after : Option Contents)
     → before ≡ option_map (with_lines first) mid → mid ≡ option_map (with_lines second) after
     → before ≡ option_map (with_lines (first ++ second)) after
 with_lines-append first second before mid None front behind =

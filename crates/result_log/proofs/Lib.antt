@@ -5,3 +5,4 @@ pub mod RoundLemmas
 pub mod CallLemmas
 pub mod WorkedFeeds
 pub mod PassedLemmas
+pub mod LastReadLemmas

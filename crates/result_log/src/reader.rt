@@ -10,6 +10,7 @@ ghost use Rattle.result_log.specs.Calls.{MovesToRecord, ReadsEntry, ReadsRecord}
 ghost use Rattle.result_log.specs.Calls.{entry_answer_behind};
 ghost use Rattle.result_log.specs.Calls.{answer_there};
 ghost use Rattle.result_log.specs.Feeds.{entry_in};
+ghost use Rattle.result_log.specs.LastReads.{StopsAtEntry, StopsAtRecord};
 ghost use Rattle.result_log.specs.Records.{IsEntryAt};
 
 use crate::content::read_content;
@@ -51,6 +52,10 @@ pub fn next_entry<S: Source>(
         (entry_answer_behind reader.new result) }
     ensures takes { TakesInput reader.old reader.new (S.left source.old) (S.left source.new) }
     ensures moves { MovesToEntry reader.old reader.new result }
+
+    // Reading stops at the read that completes the answer.
+    ensures last { StopsAtEntry S.left S.reads (entry_in sheet.now season.now events proofs)
+        reader.old reader.new source.old source.new result }
     ensures cause { CountsEntry (S.faults source.old) (S.faults source.new) result }
 {
     'records: loop {
@@ -87,6 +92,7 @@ fn take_line<S: Source>(
         (answer_there reader.new result) }
     ensures takes { TakesInput reader.old reader.new (S.left source.old) (S.left source.new) }
     ensures moves { MovesToRecord reader.old reader.new result }
+    ensures last { StopsAtRecord S.left S.reads reader.old reader.new source.old source.new result }
     ensures cause { CountsRecord (S.faults source.old) (S.faults source.new) result }
 {
     match reader.next(source) {

@@ -2,6 +2,7 @@ use Rattle.std.proofs.Common.{Ok, sym, ap, ◌∙◌}
 use Rattle.port_core.specs.declared.answers.Line.TheVariants.{Text, End}
 use Rattle.fixture_sheet.specs.Records.{content_taken}
 use Rattle.fixture_sheet.specs.Calls.{refused_before}
+use Rattle.fixture_sheet.proofs.LastReadLemmas.{line-stops}
 use Rattle.fixture_sheet.proofs.PassedLemmas.{leaves-as, passes-as, refused-end, refused-line}
 use Rattle.fixture_sheet.proofs.ReadingLemmas.{line-taken, line-steps, line-refused, stop-reads}
 use Rattle.fixture_sheet.proofs.reader.next_record.Goals as goal
@@ -76,3 +77,7 @@ returns-in-Ok-End-clause-leaves g c =
     leaves-as c.next.new.self _ (Ok (End c.in-Ok-End.number))
     (Ok (refused_before c.next.new.self.position c.in-Ok-End.number))
     (ap Ok (refused-end c.next.new.self.position c.in-Ok-End.number leaves.0)) leaves
+
+pub returns-in-Err-clause-last : goal.returns-in-Err-clause-last
+returns-in-Err-clause-last g c =
+    line-stops _ _ c.args.reader.now c.next.new.self _ _ c.in-Err.stop c.in-Err.ensures.last

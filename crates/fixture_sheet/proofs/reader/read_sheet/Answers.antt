@@ -1,8 +1,9 @@
-use Rattle.std.proofs.Common.{Ok, Err, refl, ◌∙◌}
+use Rattle.std.proofs.Common.{Ok, Err, inl, refl, ◌∙◌}
 use Rattle.port_core.specs.Readers.{contents_to_come}
 use Rattle.port_core.proofs.TakingLemmas.{TakesInput-more, TakesInput-none}
 use Rattle.fixture_sheet.specs.declared.record.Progress.{Progress}
 use Rattle.fixture_sheet.specs.Calls.{sheet_answer_behind}
+use Rattle.fixture_sheet.proofs.LastReadLemmas.{sheet-further, sheet-stops}
 use Rattle.fixture_sheet.proofs.ReadingLemmas.{leads-nothing}
 use Rattle.fixture_sheet.proofs.PassedLemmas.{PassesLines-more, PassesLines-none, PassesUpTo-behind}
 use Rattle.fixture_sheet.proofs.reader.read_sheet.Goals as goal
@@ -12,6 +13,7 @@ records-init g c = record {
   leads = leads-nothing (contents_to_come c.args.reader.now (g.S.Source.left c.args.source.now));
   passes = PassesLines-none c.args.reader.now (g.S.Source.left c.args.source.now) _;
   takes = TakesInput-none c.args.reader.now (g.S.Source.left c.args.source.now);
+  last = inl (refl, refl);
   counts = refl;
 }
 
@@ -25,6 +27,9 @@ records-preserved g c =
           c.records.invariant.passes c.in-Ok-SoFar.ensures.passes;
       takes = TakesInput-more c.args.reader.now c.records.reader c.next_record.new.reader _ _ _
           c.records.invariant.takes c.next_record.ensures.takes;
+      last = sheet-further _ _ c.args.reader.now c.records.reader c.next_record.new.reader _ _ _
+          c.records.draft c.records.invariant.leads c.records.invariant.takes
+          c.records.invariant.last c.in-Ok-SoFar.ensures.last;
       counts = c.in-Ok-SoFar.ensures.cause ∙ c.records.invariant.counts;
     }
 
@@ -57,3 +62,15 @@ pub returns-in-Err-clause-takes : goal.returns-in-Err-clause-takes
 returns-in-Err-clause-takes g c =
     TakesInput-more c.args.reader.now c.records.reader c.next_record.new.reader _ _ _
     c.records.invariant.takes c.next_record.ensures.takes
+
+pub returns-in-Ok-Whole-clause-last : goal.returns-in-Ok-Whole-clause-last
+returns-in-Ok-Whole-clause-last g c =
+    sheet-further _ _ c.args.reader.now c.records.reader c.next_record.new.reader _ _ _
+    c.records.draft c.records.invariant.leads c.records.invariant.takes c.records.invariant.last
+    c.in-Ok-Whole.ensures.last
+
+pub returns-in-Err-clause-last : goal.returns-in-Err-clause-last
+returns-in-Err-clause-last g c =
+    sheet-stops _ _ c.args.reader.now c.records.reader c.next_record.new.reader _ _ _
+    c.records.draft c.in-Err.stop c.records.invariant.leads c.records.invariant.takes
+    c.records.invariant.last c.in-Err.ensures.last

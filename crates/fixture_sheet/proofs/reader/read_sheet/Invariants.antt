@@ -2,9 +2,11 @@ use Rattle.std.proofs.Common.{◌≡◌, ◌-◌}
 use Rattle.port_core.specs.Contents.{input_limit}
 use Rattle.port_core.specs.Readers.{TakesInput, contents_to_come}
 use Rattle.fixture_sheet.specs.Calls.{Leads, PassesLines}
+use Rattle.fixture_sheet.specs.LastReads.{LeadsToDraft, ReadsOnWay}
 use Rattle.fixture_sheet.proofs.reader.read_sheet.Given as goal
 
--- the lines so far led to this draft, they were passed whole, and the count of faults stayed
+-- the lines so far led to this draft, they were passed whole, the last read came on the way to it,
+-- and the count of faults stayed
 abbrev pub invariant-records : goal.invariant-records
 invariant-records g l = record {
   leads : Leads (contents_to_come l.fn.reader (g.S.Source.left l.fn.source))
@@ -12,6 +14,8 @@ invariant-records g l = record {
   passes : PassesLines l.fn.reader l.reader (g.S.Source.left l.fn.source)
       (g.S.Source.left l.source) (g.S.Source.ended l.fn.source) (g.S.Source.ended l.source);
   takes : TakesInput l.fn.reader l.reader (g.S.Source.left l.fn.source) (g.S.Source.left l.source);
+  last : ReadsOnWay g.S.Source.left g.S.Source.reads LeadsToDraft l.fn.reader l.reader
+      l.fn.source l.source;
   counts : g.S.Source.faults l.source ≡ g.S.Source.faults l.fn.source;
 }
 

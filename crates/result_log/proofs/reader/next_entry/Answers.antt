@@ -1,11 +1,12 @@
 -- A line more held no record, or the answer came behind those that held none.
-use Rattle.std.proofs.Common.{arith, refl, ◌∙◌}
+use Rattle.std.proofs.Common.{arith, inl, refl, ◌∙◌}
 use Rattle.port_core.specs.Readers.{contents_to_come}
 use Rattle.port_core.proofs.TakingLemmas.{TakesInput-more, TakesInput-none}
 use Rattle.result_log.specs.Feeds.{entry_in}
 use Rattle.result_log.proofs.CallLemmas.{blank-none, blank-more, entry-behind, MovesToEntry-from}
 use Rattle.result_log.proofs.CallLemmas.{PassesBareLines-more, PassesBareLines-none}
 use Rattle.result_log.proofs.CallLemmas.{ReadsEntry-behind}
+use Rattle.result_log.proofs.LastReadLemmas.{blank-further, entry-stops}
 use Rattle.result_log.proofs.reader.next_entry.Goals as goal
 
 pub records-init : goal.records-init
@@ -18,6 +19,7 @@ records-init g c = record {
       c.args.reader.now _ _;
   takes = TakesInput-none c.args.reader.now (g.S.Source.left c.args.source.now);
   passed = omega arith;
+  last = inl (refl, refl);
   counts = refl;
 }
 
@@ -37,6 +39,11 @@ records-preserved g c = record {
   takes = TakesInput-more c.args.reader.now c.records.reader c.take_line.new.reader _ _ _
       c.records.invariant.takes c.take_line.ensures.takes;
   passed = omega (arith, c.records.invariant.passed, c.in_default.ensures.moves);
+  last = blank-further _ _
+      (entry_in c.args.sheet.now c.args.season.now c.args.events c.args.proofs)
+      c.args.reader.now c.records.reader c.take_line.new.reader _ _ _ _ _
+      c.records.invariant.passes c.records.invariant.takes c.records.invariant.last
+      c.in_default.ensures.last;
   counts = c.in_default.ensures.cause ∙ c.records.invariant.counts;
 }
 
@@ -65,3 +72,10 @@ pub returns-in-Some-clause-moves : goal.returns-in-Some-clause-moves
 returns-in-Some-clause-moves g c =
     MovesToEntry-from c.args.reader.now c.records.reader c.take_line.new.reader c.in-Some.result
     c.records.invariant.passed c.in-Some.ensures.moves
+
+pub returns-in-Some-clause-last : goal.returns-in-Some-clause-last
+returns-in-Some-clause-last g c =
+    entry-stops _ _ (entry_in c.args.sheet.now c.args.season.now c.args.events c.args.proofs)
+    c.args.reader.now c.records.reader c.take_line.new.reader _ _ _ _ _ c.in-Some.result
+    c.records.invariant.passes c.records.invariant.takes c.records.invariant.last
+    c.in-Some.ensures.last

@@ -2,10 +2,13 @@ use Rattle.std.proofs.Common.{◌≡◌, ◌-◌, ◌≤◌}
 use Rattle.port_core.specs.Contents.{input_limit}
 use Rattle.port_core.specs.Readers.{TakesInput, contents_to_come}
 use Rattle.result_log.specs.Calls.{PassesBareLines, PassesBlank}
+use Rattle.fixture_sheet.specs.LastReads.{ReadsOnWay}
 use Rattle.result_log.specs.Feeds.{entry_in}
+use Rattle.result_log.specs.LastReads.{GivesBlank}
 use Rattle.result_log.proofs.reader.next_entry.Given as goal
 
--- the lines so far held no record, and they were passed whole
+-- the lines so far held no record, they were passed whole, and the last read came on the way
+-- over them
 abbrev pub invariant-records : goal.invariant-records
 invariant-records g l = record {
   reads : PassesBareLines (entry_in l.sheet l.season l.events l.proofs)
@@ -16,6 +19,9 @@ invariant-records g l = record {
       (g.S.Source.ended l.source);
   takes : TakesInput l.fn.reader l.reader (g.S.Source.left l.fn.source) (g.S.Source.left l.source);
   passed : l.fn.reader.position.bytes ≤ l.reader.position.bytes;
+  last : ReadsOnWay g.S.Source.left g.S.Source.reads
+      (GivesBlank (entry_in l.sheet l.season l.events l.proofs)) l.fn.reader l.reader
+      l.fn.source l.source;
   counts : g.S.Source.faults l.source ≡ g.S.Source.faults l.fn.source;
 }
 

@@ -6,6 +6,7 @@ use Rattle.fixture_sheet.proofs.PassedLemmas.{leaves-as, passes-as}
 use Rattle.result_log.specs.Calls.{AnswersLine, answer_there}
 use Rattle.result_log.specs.Feeds.{entry_in}
 use Rattle.result_log.proofs.CallLemmas.{Text-reads, comes-of}
+use Rattle.result_log.proofs.LastReadLemmas.{stop-stops, text-stops}
 use Rattle.result_log.proofs.PassedLemmas.{content_is_no_end, line-behind}
 use Rattle.result_log.proofs.reader.take_line.Goals as goal
 
@@ -61,3 +62,12 @@ returns-in-Ok-Text-clause-comes g c =
     c.text.ensures c.entry_in.ensures.answer)
     (content_is_no_end c.args.sheet.now c.args.season.now c.args.events c.args.proofs
     c.next.new.self.text)
+
+pub returns-in-Ok-Text-clause-last : goal.returns-in-Ok-Text-clause-last
+returns-in-Ok-Text-clause-last g c =
+    text-stops _ _ c.args.reader.now c.next.new.self _ _ c.in-Ok-Text.number _ c.entry_in.result
+    c.entry_in.ensures.answer c.in-Ok-Text.ensures.last
+
+pub returns-in-Err-clause-last : goal.returns-in-Err-clause-last
+returns-in-Err-clause-last g c =
+    stop-stops _ _ c.args.reader.now c.next.new.self _ _ c.in-Err.stop c.in-Err.ensures.last
