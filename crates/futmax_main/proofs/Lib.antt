@@ -8,6 +8,7 @@ pub mod EndLemmas
 pub mod AnswerLemmas
 pub mod TurnLemmas
 pub mod RoundLemmas
+pub mod LastReadLemmas
 pub mod EarnedLemmas
 pub mod CheckLemmas
 pub mod CheckedLemmas

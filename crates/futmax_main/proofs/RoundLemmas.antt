@@ -48,7 +48,7 @@ use Rattle.futmax_main.proofs.TurnLemmas.{all-contents, answers-in, turn-untold}
 -- ---- on from line to line
 
 -- these lines and those behind them, in front of the same contents
-lines-joined : (first second : List (ℕ × List ℕ)) (rest : Contents)
+pub lines-joined : (first second : List (ℕ × List ℕ)) (rest : Contents)
     → with_lines (first ++ second) rest ≡ with_lines first (with_lines second rest)
 lines-joined first second rest =
     ap (λ lines. record { lines = lines; ending = rest.ending })
@@ -67,7 +67,7 @@ leads-told answering taken lines written sheet log log' way told = record {
 }
 
 -- more asks behind the first ones
-asks-joined : (asks others : List Played) (course : Course)
+pub asks-joined : (asks others : List Played) (course : Course)
     → with_asks asks (with_asks others course) ≡ with_asks (asks ++ others) course
 asks-joined asks others course =
     ap (λ all. record { asks = all; outcome = course.outcome })

@@ -89,7 +89,7 @@ elsewhere-from (line ∷ given) draft there rest sheet is =
     (content_taken draft line.1) is
 
 -- what is behind an option, where it is there
-abbrev known : {A : Type 0} → A → Option A → A
+abbrev pub known : {A : Type 0} → A → Option A → A
 known value None = value
 known value (Some other) = other
 

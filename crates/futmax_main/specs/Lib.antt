@@ -1,6 +1,7 @@
 -- Read in this order: it is the order in which the notions rest on each other. What the public call
 -- promises comes first, from Statuses to SampleRows, and Services, by what its words ask for; what
--- the inner functions promise each other stands in Way, Turns and Judging.
+-- the inner functions promise each other stands in Way, Turns and Judging. LastReads has both, of
+-- where reading stops.
 pub mod Statuses
 pub mod Plays
 pub mod Courses
@@ -12,5 +13,6 @@ pub mod Checks
 pub mod SampleRows
 pub mod Way
 pub mod Turns
+pub mod LastReads
 pub mod Services
 pub mod Judging

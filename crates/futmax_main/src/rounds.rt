@@ -4,7 +4,10 @@ ghost use Rattle.std.specs.Prelude.{◌≡◌, ◌<◌, ◌≤◌, ℕ, Bool, Li
 ghost use Rattle.league_core.specs.Seasons.{season_after};
 ghost use Rattle.port_core.specs.Readers.{stream_of};
 ghost use Rattle.branch_pool.specs.States.{out_count};
+ghost use Rattle.fixture_sheet.specs.LastReads.{ReadsOnWay};
+ghost use Rattle.worker_gate.specs.LastReads.{GivesEvents, StopsAtClose};
 ghost use Rattle.worker_gate.specs.Rounds.{EndsRound, close_of};
+ghost use Rattle.futmax_main.specs.LastReads.{RoundsStop};
 ghost use Rattle.futmax_main.specs.Way.{Path};
 ghost use Rattle.futmax_main.specs.Top.{Counts, Serves};
 ghost use Rattle.futmax_main.specs.Turns.{IsLive, MayEndSession};
@@ -40,6 +43,8 @@ pub fn run_rounds<R: Threads + Wait + Sync, S: Source + Send, K: Sink, G: Gate +
         (S.ended source.old) reader.old.position pool.sheet pool.log old (K.holds sink.old)
         → Serves (Some answering) input (S.left source.new) (S.ended source.new) old
         (K.holds sink.new) result }
+    ensures last { RoundsStop S.left S.reads pool.sheet pool.log reader.old source.old source.new
+        result }
     ensures counts { Counts (S.faults source.old) (S.faults source.new)
         (K.faults sink.old) (K.faults sink.new) result }
     ensures status { MayEndSession result }
@@ -93,6 +98,10 @@ pub fn next_round<R: Threads + Wait + Sync, S: Source + Send, G: Gate + Sync>(
           ended = S.ended source.new;
           faults = S.faults source.new;
         }) (close_of round.end)) }
+    ensures last { IfOk result (λ round. StopsAtClose S.left S.reads pool.sheet pool.log
+        reader.old reader.new source.old source.new (close_of round.end)) }
+    ensures err_last { OnErr result (ReadsOnWay S.left S.reads (GivesEvents pool.sheet pool.log)
+        reader.old reader.new source.old source.new) }
     ensures spared { OnErr result (S.faults source.new ≡ S.faults source.old) }
 {
     match answering {

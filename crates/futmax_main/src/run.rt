@@ -1,6 +1,7 @@
 //! A run of one session, from the first line to the end.
 
 ghost use Rattle.std.specs.Prelude.{◌<◌, ◌≤◌, Some};
+ghost use Rattle.futmax_main.specs.LastReads.{StopsSession};
 ghost use Rattle.futmax_main.specs.Top.{Counts, Serves};
 ghost use Rattle.futmax_main.specs.Turns.{MayEndSession};
 
@@ -28,6 +29,7 @@ pub fn run<R: Threads + Wait + Sync, S: Source + Send, K: Sink, G: Gate + Sync>(
     requires few { workers ≤ 8 }
     ensures serves { Serves (Some answering) (S.left source.old) (S.left source.new)
         (S.ended source.new) (K.holds sink.old) (K.holds sink.new) result }
+    ensures last { StopsSession S.left S.reads source.old source.new result }
     ensures counts { Counts (S.faults source.old) (S.faults source.new)
         (K.faults sink.old) (K.faults sink.new) result }
     ensures status { MayEndSession result }

@@ -1,6 +1,7 @@
 //! What the program does for a command.
 
 ghost use Rattle.std.specs.Prelude.{◌≡◌, ◌<◌, ◌≤◌, Some};
+ghost use Rattle.futmax_main.specs.LastReads.{StopsAs};
 ghost use Rattle.futmax_main.specs.Services.{MayEndAs, ReadsNothing, ServesAs, service_of};
 ghost use Rattle.futmax_main.specs.Top.{Counts};
 
@@ -44,6 +45,7 @@ pub fn run_service<R: Threads + Wait + Sync, S: Source + Send, K: Sink, G: Gate 
     requires few { workers ≤ 8 }
     ensures serves { ServesAs (Some service) (S.left source.old) (S.left source.new)
         (S.ended source.new) (K.holds sink.old) (K.holds sink.new) result }
+    ensures last { StopsAs S.left S.reads (Some service) source.old source.new result }
     ensures counts { Counts (S.faults source.old) (S.faults source.new)
         (K.faults sink.old) (K.faults sink.new) result }
     ensures status { MayEndAs service result }

@@ -2,6 +2,7 @@
 
 ghost use Rattle.std.specs.Prelude.{◌≡◌, ◌≢◌, ◌<◌, ◌≤◌, None, Some, false, map, string_bytes};
 ghost use Rattle.futmax_main.specs.declared.session.Service.TheVariants.{Checks};
+ghost use Rattle.futmax_main.specs.LastReads.{StopsAs};
 ghost use Rattle.futmax_main.specs.Services.{IsSettledAs, ReadsNothing, ServesAs, service_for};
 ghost use Rattle.futmax_main.specs.Services.{service_of};
 ghost use Rattle.futmax_main.specs.Top.{Counts, Serves};
@@ -35,6 +36,10 @@ pub fn futmax<R: Threads + Wait + Sync, S: Source + Send, K: Sink, G: Gate + Syn
     // What was written, and what is left of the input, by the status.
     ensures serves { ServesAs (service_for (map string_bytes words.items)) (S.left source.old)
         (S.left source.new) (S.ended source.new) (K.holds sink.old) (K.holds sink.new) result }
+
+    // Reading stops at the read that completes the line at which a session ends.
+    ensures last { StopsAs S.left S.reads (service_for (map string_bytes words.items))
+        source.old source.new result }
 
     // A fault of a device is answered only where its count rose, and else the counts stay.
     ensures counts { Counts (S.faults source.old) (S.faults source.new)
@@ -72,6 +77,8 @@ fn run_command<R: Threads + Wait + Sync, S: Source + Send, K: Sink, G: Gate + Sy
     requires few { command.workers ≤ 8 }
     ensures serves { ServesAs (Some (service_of command)) (S.left source.old) (S.left source.new)
         (S.ended source.new) (K.holds sink.old) (K.holds sink.new) result }
+    ensures last { StopsAs S.left S.reads (Some (service_of command)) source.old source.new
+        result }
     ensures counts { Counts (S.faults source.old) (S.faults source.new)
         (K.faults sink.old) (K.faults sink.new) result }
     ensures settled { result ≢ Status.ReadFault → result ≢ Status.WriteFault

@@ -5,6 +5,7 @@ ghost use Rattle.league_core.specs.Sheets.{IsWithinLimits};
 ghost use Rattle.port_core.specs.Contents.{start};
 ghost use Rattle.port_core.specs.Readers.{stream_of};
 ghost use Rattle.futmax_main.specs.Way.{Path};
+ghost use Rattle.futmax_main.specs.LastReads.{RoundStops, TurnStops};
 ghost use Rattle.futmax_main.specs.Turns.{AskGives, CountsTurn, IsLive, TurnCounts, TurnGives};
 ghost use Rattle.futmax_main.specs.Turns.{TurnBegins, TurnIsLive, TurnKeepsSheet, TurnMovesOn};
 
@@ -44,6 +45,7 @@ pub fn take_sheet<S: Source, K: Sink>(
     ensures way { TurnGives answering (S.left source.old) (S.ended source.old)
         (stream_of reader.new (S.left source.new)) (S.ended source.new) reader.new.position
         (S.left source.new) (K.holds sink.old) (K.holds sink.new) result }
+    ensures last { TurnStops S.left S.reads source.old reader.new source.new result }
     ensures live { TurnIsLive answering result }
     ensures counts { TurnCounts (S.faults source.old) (S.faults source.new)
         (K.faults sink.old) (K.faults sink.new) result }
@@ -99,6 +101,8 @@ pub fn take_round<R: Threads + Wait + Sync, S: Source + Send, K: Sink, G: Gate +
         → TurnGives answering input ended (stream_of reader.new (S.left source.new))
         (S.ended source.new) reader.new.position (S.left source.new) old (K.holds sink.new)
         result }
+    ensures last { RoundStops S.left S.reads pool.sheet pool.log reader.old reader.new
+        source.old source.new result }
     ensures live { TurnIsLive answering result }
     ensures sheet { TurnKeepsSheet pool.sheet result }
     ensures moves { TurnMovesOn reader.old.position.bytes reader.new.position.bytes result }

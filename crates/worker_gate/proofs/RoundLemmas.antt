@@ -43,7 +43,7 @@ told_on-as found is onward log same told =
     subst P (sym same) told
 
 -- some lines and then others tell the events of both
-tells-append : (sheet : Sheet) (log mid last : List Event) (first second : List (ℕ × List ℕ))
+pub tells-append : (sheet : Sheet) (log mid last : List Event) (first second : List (ℕ × List ℕ))
     → TellsEvents sheet log first mid → TellsEvents sheet mid second last
     → TellsEvents sheet log (first ++ second) last
 tells-append sheet log mid last [] second one two =
@@ -54,7 +54,7 @@ tells-append sheet log mid last (line ∷ lines) second one two =
     (λ next told. tells-append sheet next mid last lines second told two) one
 
 -- lines without a record tell none
-tells-blank : (sheet : Sheet) (log : List Event) (lines : List (ℕ × List ℕ))
+pub tells-blank : (sheet : Sheet) (log : List Event) (lines : List (ℕ × List ℕ))
     → All (λ line. live_entry sheet log line.1 ≡ Ok None) lines → TellsEvents sheet log lines log
 tells-blank sheet log [] none = refl
 tells-blank sheet log (line ∷ lines) none =

@@ -4,8 +4,10 @@ ghost use Rattle.std.specs.Prelude.{◌≡◌, IfOk, false, true};
 ghost use Rattle.league_core.specs.Seasons.{IsSeasonOf};
 ghost use Rattle.league_core.specs.Sheets.{IsWithinLimits};
 ghost use Rattle.result_log.specs.Feeds.{entry_in};
+ghost use Rattle.result_log.specs.LastReads.{StopsAtEntry};
 ghost use Rattle.result_log.specs.Records.{IsEntryAt};
 ghost use Rattle.worker_gate.specs.Feeding.{FeedsRound, IsSeasonTold};
+ghost use Rattle.worker_gate.specs.LastReads.{StopsFeeding};
 ghost use Rattle.worker_gate.specs.Rounds.{IsNextEntry};
 
 use crate::desk::Desk;
@@ -45,6 +47,8 @@ pub fn feed<J: Job, R: Wait, S: Source>(
           ended = S.ended source.new;
           faults = S.faults source.new;
         }) result }
+    ensures last { StopsFeeding S.left S.reads J.sheet desk.old.front reader.old reader.new
+        source.old source.new result }
     ensures shut { desk.new.is_shut ≡ true }
 {
     let end = feed_open(rt, alloc, sheet, lock, desk, reader, source);
@@ -64,7 +68,7 @@ fn feed_open<J: Job, R: Wait, S: Source>(
     requires of_job { sheet.now ≡ J.sheet }
     requires limits { IsWithinLimits sheet.now }
     requires told { IsSeasonTold J.sheet desk.old.front desk.old.season desk.old.events }
-    ensures { FeedsRound J.sheet desk.old.front desk.new.front
+    ensures feeds { FeedsRound J.sheet desk.old.front desk.new.front
         (record {
           reader = reader.old;
           left = S.left source.old;
@@ -77,6 +81,8 @@ fn feed_open<J: Job, R: Wait, S: Source>(
           ended = S.ended source.new;
           faults = S.faults source.new;
         }) result }
+    ensures last { StopsFeeding S.left S.reads J.sheet desk.old.front reader.old reader.new
+        source.old source.new result }
 {
     'entries: loop {
         match await_next(rt, alloc, sheet, lock, desk, reader, source) {
@@ -118,6 +124,8 @@ pub fn next_told<S: Source>(
           ended = S.ended source.new;
           faults = S.faults source.new;
         }) result }
+    ensures last { StopsAtEntry S.left S.reads (entry_in sheet.now season.now events false)
+        reader.old reader.new source.old source.new result }
 {
     next_entry(alloc, sheet, season, events, false, reader, source)
 }

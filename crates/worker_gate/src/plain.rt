@@ -5,6 +5,9 @@ ghost use Rattle.league_core.specs.Seasons.{IsEventOf, season_after};
 ghost use Rattle.league_core.specs.Limits.{most_events};
 ghost use Rattle.result_log.specs.Records.{IsEntryAt};
 ghost use Rattle.branch_pool.specs.States.{out_count};
+ghost use Rattle.fixture_sheet.specs.LastReads.{ReadsOnWay};
+ghost use Rattle.result_log.specs.LastReads.{StopsAtEntry};
+ghost use Rattle.worker_gate.specs.LastReads.{GivesEvents, StopsAtClose};
 ghost use Rattle.worker_gate.specs.Rounds.{BreaksOff, EndsRound, IsNextEntry, close_of, live_entry};
 
 use crate::feeder::next_told;
@@ -59,6 +62,12 @@ pub fn read_round<S: Source>(
           ended = S.ended source.new;
           faults = S.faults source.new;
         })) }
+
+    // Reading stops at the read that completes what ends the round.
+    ensures last { IfOk result (λ round. StopsAtClose S.left S.reads pool.sheet pool.log
+        reader.old reader.new source.old source.new (close_of round.end)) }
+    ensures err_last { OnErr result (ReadsOnWay S.left S.reads (GivesEvents pool.sheet pool.log)
+        reader.old reader.new source.old source.new) }
 {
     let mut pool = pool;
     let end = feed_pool(alloc, &mut pool, reader, source)?;
@@ -102,6 +111,10 @@ fn feed_pool<S: Source>(
           ended = S.ended source.new;
           faults = S.faults source.new;
         })) }
+    ensures last { IfOk result (λ end. StopsAtClose S.left S.reads pool.old.sheet pool.old.log
+        reader.old reader.new source.old source.new (close_of end)) }
+    ensures err_last { OnErr result (ReadsOnWay S.left S.reads
+        (GivesEvents pool.old.sheet pool.old.log) reader.old reader.new source.old source.new) }
 {
     'entries: loop {
         match next_of(alloc, pool, reader, source) {
@@ -140,6 +153,8 @@ fn next_of<S: Source>(
           ended = S.ended source.new;
           faults = S.faults source.new;
         }) result }
+    ensures last { StopsAtEntry S.left S.reads (live_entry pool.now.sheet pool.now.log)
+        reader.old reader.new source.old source.new result }
 {
     let events = pool.log().len() as u64;
     next_told(alloc, pool.sheet(), pool.season(), events, reader, source)

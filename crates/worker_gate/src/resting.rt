@@ -4,6 +4,7 @@ ghost use Rattle.std.specs.Prelude.{◌≡◌, IfOk, false};
 ghost use Rattle.league_core.specs.Seasons.{IsSeasonOf};
 ghost use Rattle.league_core.specs.Sheets.{IsWithinLimits};
 ghost use Rattle.result_log.specs.Feeds.{entry_in};
+ghost use Rattle.result_log.specs.LastReads.{StopsAtEntry};
 ghost use Rattle.result_log.specs.Records.{IsEntryAt};
 ghost use Rattle.worker_gate.specs.Rounds.{IsNextEntry};
 
@@ -82,6 +83,9 @@ pub fn await_next<J: Job, R: Wait, S: Source>(
           ended = S.ended source.new;
           faults = S.faults source.new;
         }) result }
+    ensures last { StopsAtEntry S.left S.reads
+        (entry_in sheet.now desk.now.season desk.now.events false) reader.old reader.new
+        source.old source.new result }
 {
     let (next, _) = next_as::<Brand, J, R, S>(rt, alloc, sheet, lock, desk, reader, source);
     next
@@ -115,6 +119,9 @@ fn next_as<'a, 's, B: Borrowed, J: Job, R: Wait, S: Source>(
           ended = S.ended result.1.now;
           faults = S.faults result.1.now;
         }) result.0 }
+    ensures last { StopsAtEntry S.left S.reads
+        (entry_in sheet.now desk.now.season desk.now.events false) reader.old reader.new
+        source.old result.1.now result.0 }
 {
     let mut resting = RestingSource::<'a, 's, B, J, R, S> {
         rt,

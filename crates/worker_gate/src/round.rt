@@ -3,6 +3,8 @@
 ghost use Rattle.std.specs.Prelude.{◌≡◌, ◌<◌, ◌≤◌, IfOk, OnErr};
 ghost use Rattle.league_core.specs.Seasons.{season_after};
 ghost use Rattle.branch_pool.specs.States.{out_count};
+ghost use Rattle.fixture_sheet.specs.LastReads.{ReadsOnWay};
+ghost use Rattle.worker_gate.specs.LastReads.{GivesEvents, StopsAtClose};
 ghost use Rattle.worker_gate.specs.Rounds.{BreaksOff, EndsRound, close_of};
 
 use crate::gate::Gate;
@@ -87,6 +89,12 @@ pub fn run_round<R: Threads + Wait + Sync, S: Source + Send, G: Gate + Sync>(
           ended = S.ended source.new;
           faults = S.faults source.new;
         })) }
+
+    // Reading stops at the read that completes what ends the round.
+    ensures last { IfOk result (λ round. StopsAtClose S.left S.reads pool.sheet pool.log
+        reader.old reader.new source.old source.new (close_of round.end)) }
+    ensures err_last { OnErr result (ReadsOnWay S.left S.reads (GivesEvents pool.sheet pool.log)
+        reader.old reader.new source.old source.new) }
 {
     let (word, owner, front, eyes) = EpochWord::new(alloc, pool.log(), workers)?;
     let seated = Seated {

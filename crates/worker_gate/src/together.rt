@@ -8,6 +8,8 @@ ghost use Rattle.branch_pool.specs.States.{out_count};
 ghost use Rattle.epoch_cancel.specs.Seats.{seat_of};
 ghost use Rattle.pool_lock.specs.Lends.{IsEyeAfter};
 ghost use Rattle.worker_gate.specs.Feeding.{FeedsRound, IsSeasonTold};
+ghost use Rattle.fixture_sheet.specs.LastReads.{ReadsOnWay};
+ghost use Rattle.worker_gate.specs.LastReads.{GivesEvents, StopsAtClose, StopsFeeding};
 ghost use Rattle.worker_gate.specs.Rounds.{BreaksOff, EndsRound, close_of};
 
 use crate::desk::Desk;
@@ -90,6 +92,10 @@ pub fn round_as<J: Job + Send + Sync, R: Threads + Wait + Sync, S: Source + Send
           ended = S.ended source.new;
           faults = S.faults source.new;
         })) }
+    ensures last { IfOk result (λ round. StopsAtClose S.left S.reads pool.sheet pool.log
+        reader.old reader.new source.old source.new (close_of round.end)) }
+    ensures err_last { OnErr result (ReadsOnWay S.left S.reads (GivesEvents pool.sheet pool.log)
+        reader.old reader.new source.old source.new) }
 {
     let season = pool.season().copy(alloc)?;
     let events = pool.log().len() as u64;
@@ -144,6 +150,8 @@ fn read_beside<J: Job + Send + Sync, R: Threads + Wait + Sync, S: Source + Send,
           ended = S.ended source.new;
           faults = S.faults source.new;
         }) result }
+    ensures last { StopsFeeding S.left S.reads J.sheet desk.old.front reader.old reader.new
+        source.old source.new result }
     ensures shut { desk.new.is_shut ≡ true }
 {
     let mut left = Some(posts);
@@ -174,6 +182,8 @@ fn read_beside<J: Job + Send + Sync, R: Threads + Wait + Sync, S: Source + Send,
                   ended = S.ended source.exit.now;
                   faults = S.faults source.exit.now;
                 }) result
+                × StopsFeeding S.left S.reads J.sheet desk.entry.now.front reader.entry.now
+                reader.exit.now source.entry.now source.exit.now result
                 × (desk.exit.now.is_shut ≡ true) }
         { feed(rt, alloc, sheet, lock, desk, reader, source) },
     );

@@ -2,11 +2,12 @@ use Rattle.std.proofs.Common.{◌≡◌, ◌-◌, ℕ, Bool, List, Option}
 use Rattle.port_core.specs.Contents.{input_limit}
 use Rattle.port_core.specs.Readers.{stream_of}
 use Rattle.futmax_main.specs.Way.{Path}
+use Rattle.futmax_main.specs.LastReads.{ComesOn}
 use Rattle.futmax_main.specs.Turns.{IsLive}
 use Rattle.futmax_main.proofs.rounds.run_rounds.Given as goal
 
--- the pool is live and of the sheet, the way led here from wherever it led to the first round, and
--- the counts of faults are as they were
+-- the pool is live and of the sheet, the way and the reads led here from wherever they led to the
+-- first round, and the counts of faults are as they were
 abbrev pub invariant-rounds : goal.invariant-rounds
 invariant-rounds g l =
     IsLive l.answering l.live × (l.sheet ≡ l.live.sheet)
@@ -17,6 +18,8 @@ invariant-rounds g l =
     → Path l.answering input ended (stream_of l.reader (g.S.Source.left l.source))
     (g.S.Source.ended l.source) l.reader.position l.live.sheet l.live.log old
     (g.K.Sink.holds l.sink))
+    × ComesOn g.S.Source.left g.S.Source.reads l.fn.pool.sheet l.fn.pool.log l.live.sheet l.live.log
+    l.fn.reader l.reader l.fn.source l.source
     × (g.S.Source.faults l.source ≡ g.S.Source.faults l.fn.source)
     × (g.K.Sink.faults l.sink ≡ g.K.Sink.faults l.fn.sink)
 

@@ -1,10 +1,13 @@
 use Rattle.std.proofs.Common.{◌≡◌, ◌-◌}
 use Rattle.port_core.specs.Contents.{input_limit}
 use Rattle.branch_pool.specs.States.{out_count}
+use Rattle.fixture_sheet.specs.LastReads.{ReadsOnWay}
+use Rattle.worker_gate.specs.LastReads.{GivesEvents}
 use Rattle.worker_gate.specs.Rounds.{IsUnderWay}
 use Rattle.worker_gate.proofs.plain.feed_pool.Given as goal
 
--- the lines so far told the events that the log has more than before
+-- the lines so far told the events that the log has more than before, and the last read came on
+-- the way over them
 abbrev pub invariant-entries : goal.invariant-entries
 invariant-entries g l = record {
   sheet : l.pool.sheet ≡ l.fn.pool.sheet;
@@ -23,6 +26,8 @@ invariant-entries g l = record {
         ended = g.S.Source.ended l.source;
         faults = g.S.Source.faults l.source;
       });
+  last : ReadsOnWay g.S.Source.left g.S.Source.reads (GivesEvents l.fn.pool.sheet l.fn.pool.log)
+      l.fn.reader l.reader l.fn.source l.source;
 }
 
 -- the bytes that may still be passed

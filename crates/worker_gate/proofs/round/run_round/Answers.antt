@@ -1,4 +1,5 @@
--- Where there is no memory for the word, nothing was passed.
+-- Where there is no memory for the word, nothing was passed and nothing was read.
+use Rattle.std.proofs.Common.{inl, refl}
 use Rattle.worker_gate.proofs.RoundLemmas.{err-holds, goes-nowhere}
 use Rattle.worker_gate.proofs.round.run_round.Goals as goal
 
@@ -6,3 +7,6 @@ pub returns-in_err-word-clause-err : goal.returns-in_err-word-clause-err
 returns-in_err-word-clause-err g c =
     err-holds c.from_residual.result _
     (c.args.pool.log, goes-nowhere c.args.pool.sheet c.args.pool.log _)
+
+pub returns-in_err-word-clause-err_last : goal.returns-in_err-word-clause-err_last
+returns-in_err-word-clause-err_last g c = err-holds c.from_residual.result _ (inl (refl, refl))

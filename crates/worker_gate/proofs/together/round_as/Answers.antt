@@ -1,4 +1,5 @@
--- Where the round does not begin, nothing was passed.
+-- Where the round does not begin, nothing was passed and nothing was read.
+use Rattle.std.proofs.Common.{inl, refl}
 use Rattle.worker_gate.proofs.RoundLemmas.{err-holds, goes-nowhere}
 use Rattle.worker_gate.proofs.together.round_as.Goals as goal
 
@@ -16,3 +17,14 @@ pub returns-in_err-posts-clause-err : goal.returns-in_err-posts-clause-err
 returns-in_err-posts-clause-err g c =
     err-holds c.from_residual-in_err-posts.result _
     (c.args.pool.log, goes-nowhere c.args.pool.sheet c.args.pool.log _)
+
+pub returns-in_err-season-clause-err_last : goal.returns-in_err-season-clause-err_last
+returns-in_err-season-clause-err_last g c = err-holds c.from_residual.result _ (inl (refl, refl))
+
+pub returns-in_err-lock-clause-err_last : goal.returns-in_err-lock-clause-err_last
+returns-in_err-lock-clause-err_last g c =
+    err-holds c.from_residual-in_err-lock.result _ (inl (refl, refl))
+
+pub returns-in_err-posts-clause-err_last : goal.returns-in_err-posts-clause-err_last
+returns-in_err-posts-clause-err_last g c =
+    err-holds c.from_residual-in_err-posts.result _ (inl (refl, refl))
