@@ -1,6 +1,6 @@
 //! Trees in a report, node by node.
 
-ghost use Rattle.std.specs.Prelude.{◌≡◌, ◌<◌, ◌≤◌, ◌+◌, ◌^◌, IsTrue, OnOk, IfOk, true, length};
+ghost use Rattle.std.specs.Prelude.{◌≡◌, ◌<◌, ◌≤◌, ◌+◌, ◌^◌, IsTrue, OnOk, true, length};
 ghost use Rattle.league_core.specs.Questions.{IsQuestionOf};
 ghost use Rattle.league_core.specs.Reasons as reasons;
 ghost use Rattle.cert_check.specs.Tokens.{counts};
@@ -17,7 +17,7 @@ use crate::stop::Halt;
 use crate::token::Token;
 use cert_text::ProofLine;
 use check_bounds::Way;
-use league_core::{Literal, OutOfMemory, Question, Reason, Test, TreeNode};
+use league_core::{Literal, Question, Reason, Test, TreeNode};
 
 // What kind of tree, for which question.
 #[derive(Clone, Copy, Debug, PartialEq, Eq)]
@@ -133,25 +133,21 @@ impl<'a> Report<'a> {
         if !is_reason_for(self.sheet, &wanted.question, reason) {
             return Err(Halt::BadLine(at));
         }
-        if !self.has_reason(&wanted.question, &walk.path, reason)? {
+        if !self.has_reason(&wanted.question, &walk.path, reason) {
             return Err(Halt::NoProof(at));
         }
         walk.tally = with_fresh(fresh, walk.tally);
         self.leave(at, wanted, walk)
     }
 
-    fn has_reason(
-        &self,
-        question: &Question,
-        path: &Way,
-        reason: Reason,
-    ) -> Result<bool, OutOfMemory>
+    // The reason holds in the zone that is due.
+    fn has_reason(&self, question: &Question, path: &Way, reason: Reason) -> bool
         requires question { IsQuestionOf self.now.basis.sheet question.now }
         requires path { IsPathFor self.now.basis question.now path.now }
-        ensures { IfOk result (λ holds. holds ≡ reasons.has_reason self.now.basis.sheet
-            self.now.basis.season question.now path.now.zone reason) }
+        ensures { result ≡ reasons.has_reason self.now.basis.sheet
+            self.now.basis.season question.now path.now.zone reason }
     {
-        path.holds(self.alloc, question, reason)
+        path.holds(question, reason)
     }
 
     // Leaves a leaf that proves what it says.

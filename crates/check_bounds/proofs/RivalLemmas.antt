@@ -1,12 +1,12 @@
 -- Rivals counted by sets of clubs.
-use Rattle.std.proofs.Common.{◌≡◌, ℕ, zero, suc, ◌+◌, ◌*◌, ◌-◌, ◌<◌, ◌≤◌, ℤ, pos, neg_ℤ, ◌*ℤ◌}
+use Rattle.std.proofs.Common.{◌≡◌, ◌≢◌, ℕ, zero, suc, ◌+◌, ◌*◌, ◌-◌, ◌<◌, ◌≤◌, ℤ, pos, neg_ℤ, ◌*ℤ◌}
 use Rattle.std.proofs.Common.{◌≤ℤ◌, Bool, true, false, not, ◌&&◌, ◌||◌, ◌==◌, nat_lt, nat_le, ltb}
 use Rattle.std.proofs.Common.{cond, List, [], ◌∷◌, length, refl, sym, ap, subst, ◌∙◌, arith}
 use Rattle.std.specs.Prelude.{IsTrue, ◌↔◌, count_by}
 use Rattle.std.specs.List.{list_all, list_any, range_with_len}
 use Rattle.std.proofs.Math.Bool.{or-false, not-not}
 use Rattle.std.proofs.lemmas.Bool.{false≢true, and_parts, and_from, ltb-true, lt-ltb}
-use Rattle.std.proofs.lemmas.Bool.{eqb-true, eq-eqb, or_right}
+use Rattle.std.proofs.lemmas.Bool.{eqb-true, eqb-false, eq-eqb, not-true, or_right}
 use Rattle.std.proofs.lemmas.Bool.Decides.{same_from_decides}
 use Rattle.std.proofs.lemmas.Int.{ints}
 use Rattle.std.proofs.lemmas.List.Sums.{length-filter, sum_by-cons}
@@ -54,7 +54,7 @@ count_rivals-is clubs club bits chosen without first single few first_is single_
     grouped false b c = refl
 
 -- a rival is a club of the sheet
-rival_below : (clubs club x : ℕ) → has_club (others_of clubs club) x ≡ true → x < clubs
+pub rival_below : (clubs club x : ℕ) → has_club (others_of clubs club) x ≡ true → x < clubs
 rival_below clubs club x has =
     let parts = and_parts (has_club (range_with_len 0 clubs) x) (not (x == club))
     (sym (has_club-filter (λ y. not (y == club)) (range_with_len 0 clubs) x) ∙ has) in
@@ -62,17 +62,19 @@ rival_below clubs club x has =
 
 -- tests that agree on the clubs count the same rivals
 pub count_same : (clubs club : ℕ) (test other : ℕ → Bool)
-    → ((x : ℕ) → x < clubs → test x ≡ other x)
+    → ((x : ℕ) → has_club (others_of clubs club) x ≡ true → test x ≡ other x)
     → count_by test (others_of clubs club) ≡ count_by other (others_of clubs club)
 count_same clubs club test other same =
     sym (length-filter test (others_of clubs club))
-    ∙ ap length (filter_agree_in test other (others_of clubs club)
-    (λ x has. same x (rival_below clubs club x has)))
+    ∙ ap length (filter_agree_in test other (others_of clubs club) same)
     ∙ length-filter other (others_of clubs club)
 
 pub too_many_same : (sheet : Sheet) (question : Question) (front back front' back' : ℕ → Bool)
-    (claim : Claim) → ((x : ℕ) → x < length sheet.clubs → front x ≡ front' x)
-    → ((x : ℕ) → x < length sheet.clubs → back x ≡ back' x)
+    (claim : Claim)
+    → ((x : ℕ) → has_club (others_of (length sheet.clubs) question.club) x ≡ true
+    → front x ≡ front' x)
+    → ((x : ℕ) → has_club (others_of (length sheet.clubs) question.club) x ≡ true
+    → back x ≡ back' x)
     → too_many sheet question front back claim ≡ too_many sheet question front' back' claim
 too_many_same sheet question front back front' back' Inside fronts backs =
     ap (nat_le question.line)
@@ -161,16 +163,17 @@ times_near (suc count) number low high =
 
 -- a club of the sheet that is surely before or behind, by a set
 by_set : (clubs : List ℕ) (test : Sure → Bool) (said known : ℕ → Sure)
-    → ((x : ℕ) → x < 32 → said x ≡ known x)
     → ((x : ℕ) → has_club clubs x ≡ (nat_lt x 32 && test (said x))) → (x : ℕ) → x < 32
-    → has_club clubs x ≡ test (known x)
-by_set clubs test said known is has x inside =
-    has x ∙ ap (λ b. b && test (said x)) (lt-ltb x 32 inside) ∙ ap test (is x inside)
+    → said x ≡ known x → has_club clubs x ≡ test (known x)
+by_set clubs test said known has x inside is =
+    has x ∙ ap (λ b. b && test (said x)) (lt-ltb x 32 inside) ∙ ap test is
 
 -- too many rivals, by sets
 pub decided_by_sets : (sheet : Sheet) (question : Question)
     (before after above below front back : List ℕ) (said known : ℕ → Sure)
-    → length sheet.clubs ≤ 24 → ((x : ℕ) → x < 32 → said x ≡ known x)
+    → length sheet.clubs ≤ 24
+    → ((x : ℕ) → has_club (others_of (length sheet.clubs) question.club) x ≡ true
+    → said x ≡ known x)
     → ((x : ℕ) → has_club above x ≡ (nat_lt x 32 && is_above (said x)))
     → ((x : ℕ) → has_club below x ≡ (nat_lt x 32 && is_below (said x)))
     → ((x : ℕ) → has_club front x ≡ (has_club before x || has_club above x))
@@ -183,15 +186,20 @@ decided_by_sets sheet question before after above below front back said known fe
     too_many_same sheet question (has_club front) (has_club back)
     (λ rival. has_club before rival || is_above (known rival))
     (λ rival. has_club after rival || is_below (known rival)) question.claim
-    (λ x inside. front_is x ∙ ap (λ b. has_club before x || b)
-    (by_set above is_above said known is above_is x (omega (arith, inside, few))))
-    (λ x inside. back_is x ∙ ap (λ b. has_club after x || b)
-    (by_set below is_below said known is below_is x (omega (arith, inside, few))))
+    (λ x rival. front_is x ∙ ap (λ b. has_club before x || b)
+    (by_set above is_above said known above_is x (inside x rival) (is x rival)))
+    (λ x rival. back_is x ∙ ap (λ b. has_club after x || b)
+    (by_set below is_below said known below_is x (inside x rival) (is x rival)))
+  where
+    inside : (x : ℕ) → has_club (others_of (length sheet.clubs) question.club) x ≡ true → x < 32
+    inside x rival =
+        let there = rival_below (length sheet.clubs) question.club x rival in
+        omega (arith, there, few)
 
 -- a rival on the wrong side, by sets
 pub wrong_by_sets : (clubs club : ℕ)
     (before after above below not_after not_before wrong : List ℕ) (said known : ℕ → Sure)
-    → clubs ≤ 24 → ((x : ℕ) → x < 32 → said x ≡ known x)
+    → clubs ≤ 24 → ((x : ℕ) → has_club (others_of clubs club) x ≡ true → said x ≡ known x)
     → ((x : ℕ) → has_club above x ≡ (nat_lt x 32 && is_above (said x)))
     → ((x : ℕ) → has_club below x ≡ (nat_lt x 32 && is_below (said x)))
     → ((x : ℕ) → has_club not_after x ≡ (has_club after x && has_club above x))
@@ -206,9 +214,28 @@ wrong_by_sets clubs club before after above below not_after not_before wrong sai
     || (has_club before rival && is_below (known rival)) in
     ap (nat_lt 0)
     (count_same clubs club (has_club wrong) wanted
-    (λ x inside. wrong_is x
+    (λ x rival. wrong_is x
     ∙ (λ i. (not_after_is x ∙ ap (λ b. has_club after x && b)
-    (by_set above is_above said known is above_is x (omega (arith, inside, few)))) i
+    (by_set above is_above said known above_is x (inside x rival) (is x rival))) i
     || (not_before_is x ∙ ap (λ b. has_club before x && b)
-    (by_set below is_below said known is below_is x (omega (arith, inside, few)))) i)))
+    (by_set below is_below said known below_is x (inside x rival) (is x rival))) i)))
     ∙ any_counted wanted (others_of clubs club)
+  where
+    inside : (x : ℕ) → has_club (others_of clubs club) x ≡ true → x < 32
+    inside x rival =
+        let there = rival_below clubs club x rival in omega (arith, there, few)
+
+-- a rival is a club of the sheet, and not the question's own
+pub rival_parts : (clubs club x : ℕ) → has_club (others_of clubs club) x ≡ true
+    → (has_club (range_with_len 0 clubs) x ≡ true) × (x ≢ club)
+rival_parts clubs club x has =
+    let parts = and_parts (has_club (range_with_len 0 clubs) x) (not (x == club))
+    (sym (has_club-filter (λ y. not (y == club)) (range_with_len 0 clubs) x) ∙ has) in
+    (parts.0, eqb-false x club (not-true (x == club) parts.1))
+
+-- a group that has no other club has this one alone
+pub alone_is : (group : List ℕ) (club other : ℕ)
+    → list_all (has_club (club ∷ [])) group ≡ true → has_club group other ≡ true → other ≡ club
+alone_is group club other all has =
+    sym (eqb-true club other
+    (sym (or-false (club == other)) ∙ each_member (has_club (club ∷ [])) group all other has))

@@ -1,6 +1,6 @@
 -- Rounds of the criteria: what tables of records say, and how the next round goes on.
 use Rattle.std.proofs.Common.{◌≡◌, ◌≢◌, ℕ, zero, suc, ◌-◌, Bool, true, false, ◌||◌, ◌==◌}
-use Rattle.std.proofs.Common.{List, [], ◌∷◌, length, filter, take, map, refl, sym, ap, ◌∙◌, arith}
+use Rattle.std.proofs.Common.{List, length, filter, refl, sym, ap, ◌∙◌, arith}
 use Rattle.std.specs.List.{list_all}
 use Rattle.std.proofs.lemmas.Bool.{eq-eqb, ne_eqb}
 use Rattle.league_core.specs.declared.sheet.Sheet.{Sheet}
@@ -15,7 +15,6 @@ use Rattle.league_core.specs.SureOrder.{first_sum_ranges, by_first_sum_ranges, s
 use Rattle.league_core.specs.SureOrder.{are_all_sure_overall, surely_level_overall}
 use Rattle.league_core.specs.declared.sheet.Order.TheVariants.{OverallFirst}
 use Rattle.check_bounds.specs.declared.span.Span.{Span}
-use Rattle.check_bounds.specs.Spans.{range_of_span, span_at}
 use Rattle.check_bounds.specs.Tables.{HoldRanges}
 use Rattle.check_bounds.specs.Steps.{sure_by_tables, is_level_by_tables, is_sure_by_tables}
 
@@ -131,19 +130,6 @@ next_round (suc times) sheet corners tables group level rival club some hold sur
   where
     less : suc times - 1 ≡ times
     less = omega arith
-
--- the first two of the tables of all sums are difference and goals
-pub hold_first : (sheet : Sheet) (corners : List (List Score)) (tables : List (List Span))
-    → HoldRanges tables (overall_ranges sheet corners)
-    → HoldRanges (take 2 tables) (first_sum_ranges sheet corners)
-hold_first sheet corners tables hold club =
-    front (λ table. range_of_span (span_at table club)) tables ∙ ap (take 2) (hold club)
-  where
-    front : (f : List Span → Range) (xs : List (List Span))
-        → map f (take 2 xs) ≡ take 2 (map f xs)
-    front f [] = refl
-    front f (x ∷ []) = refl
-    front f (x ∷ y ∷ xs) = refl
 
 -- how the second order goes on behind difference and goals
 abbrev pub rest_of_sums : Bool → Sure → Sure

@@ -190,28 +190,29 @@ tests_within sheet fixtures zone many few is k d within =
     test_within sheet fixtures (get_or zone k d).test many few
     (AllPass-from_list_all (λ (l : Literal). is_test_of sheet l.test) zone is k d within)
 
--- one list of corners more
-abbrev pub HaveCorners : List (List Score) → List (List Score) → Type 0
-HaveCorners corners options = (k : ℕ) → k < length corners
-    → AreCornersOf (get_or corners k []) (get_or options k [])
+-- the corners so far are those of their scopes
+abbrev pub HaveCorners : List Scope → List (List Score) → Type 0
+HaveCorners scopes corners = (k : ℕ) (d : Scope) → k < length corners → (options : List Score)
+    → IsScopeOf (get_or scopes k d) options → AreCornersOf (get_or corners k []) options
 
-pub corners_push : (corners : List (List Score)) (more : List Score)
-    (options : List (List Score)) → HaveCorners corners options
-    → AreCornersOf more (get_or options (length corners) [])
-    → HaveCorners (corners ++ more ∷ []) options
-corners_push corners more options have is k within = at (cases_eq k (length corners))
+-- one list of corners more
+pub corners_push : (scopes : List Scope) (corners : List (List Score)) (more : List Score)
+    → HaveCorners scopes corners
+    → ((d : Scope) (options : List Score) → IsScopeOf (get_or scopes (length corners) d) options
+    → AreCornersOf more options)
+    → HaveCorners scopes (corners ++ more ∷ [])
+corners_push scopes corners more have is k d within options of = at (cases_eq k (length corners))
   where
     at : (k ≡ length corners) ⊎ (k ≢ length corners)
-        → AreCornersOf (get_or (corners ++ more ∷ []) k []) (get_or options k [])
+        → AreCornersOf (get_or (corners ++ more ∷ []) k []) options
     at (inl last) =
-        subst (λ (n : ℕ). AreCornersOf (get_or (corners ++ more ∷ []) n []) (get_or options n []))
-        (sym last)
-        (subst (λ (xs : List Score). AreCornersOf xs (get_or options (length corners) []))
-        (sym (get_or_push corners more [] (length corners) refl)) is)
+        subst (λ (xs : List Score). AreCornersOf xs options)
+        (sym (get_or_push corners more [] k (sym last)))
+        (is d options (subst (λ (n : ℕ). IsScopeOf (get_or scopes n d) options) last of))
     at (inr before) =
         let below : k < length corners = omega (arith, within, before, length_push corners more) in
-        subst (λ (xs : List Score). AreCornersOf xs (get_or options k []))
-        (sym (get_or_append_left corners (more ∷ []) [] k below)) (have k below)
+        subst (λ (xs : List Score). AreCornersOf xs options)
+        (sym (get_or_append_left corners (more ∷ []) [] k below)) (have k d below options of)
 
 -- the corners of a league's zone are those of its fixtures
 pub played_over : (sheet : Sheet) (season : Results) (zone : List Literal)

@@ -4,13 +4,16 @@ use Rattle.std.proofs.Common.{not, cond, List, [], ◌∷◌, length, get_or, se
 use Rattle.std.proofs.Common.{sym, ap, ◌∙◌, arith}
 use Rattle.std.specs.Prelude.{IsTrue, ◌↔◌}
 use Rattle.std.specs.List.{list_all}
-use Rattle.std.proofs.lemmas.Bool.{cases_eq, and_parts}
+use Rattle.std.proofs.lemmas.Bool.{cases_eq, and_parts, false≢true}
 use Rattle.std.proofs.lemmas.Bool.Decides.{same_from_decides}
 use Rattle.std.proofs.lemmas.List.{get_or-set_same, get_or-set_other, length-set}
 use Rattle.league_core.specs.declared.sure.Sure.{Sure}
 use Rattle.league_core.specs.declared.sure.Sure.TheVariants.{Above, Below, Level, Unknown}
-use Rattle.league_core.specs.SureOrder.{sure_then}
-use Rattle.check_bounds.specs.Steps.{sure_at, TakesNext}
+use Rattle.league_core.specs.Sums.{has_club}
+use Rattle.league_core.specs.SureOrder.{sure_then, is_level}
+use Rattle.league_core.proofs.ClubSetLemmas.{has_club-filter}
+use Rattle.check_bounds.specs.declared.span.Span.{Span}
+use Rattle.check_bounds.specs.Steps.{sure_at, sure_by_tables, is_level_by_tables, TakesNext}
 
 pub sure_then-assoc : (a b c : Sure) → sure_then (sure_then a b) c ≡ sure_then a (sure_then b c)
 sure_then-assoc Above b c = refl
@@ -101,3 +104,31 @@ all_pass-none_fails test clubs failed is_empty are says =
           | true ↦ λ e. each clubs e
           | false ↦ λ e. absurd (cc)
         ] empty
+
+-- an answer that is not level stays
+pub stays : (a next : Sure) → (is_level a ≡ true → ⊥) → a ≡ sure_then a next
+stays Above next apart = refl
+stays Below next apart = refl
+stays Level next apart = absurd (apart refl)
+stays Unknown next apart = refl
+
+-- an answer is level behind a step where it was so before, and by the step
+both_level : (a b : Sure) → is_level (sure_then a b) ≡ true
+    → (is_level a ≡ true) × (is_level b ≡ true)
+both_level Above b level = absurd (false≢true level)
+both_level Below b level = absurd (false≢true level)
+both_level Level b level = (refl, level)
+both_level Unknown b level = absurd (false≢true level)
+
+-- a club that is level behind a step is of those that the step leaves level
+pub still_level : (tables : List (List Span)) (group level : List ℕ) (club rival : ℕ)
+    (old new : Sure) → new ≡ sure_then old (sure_by_tables tables club rival)
+    → level ≡ filter (is_level_by_tables tables club) group
+    → (is_level old ≡ true → has_club group rival ≡ true) → is_level new ≡ true
+    → has_club level rival ≡ true
+still_level tables group level club rival old new new_is level_is within is =
+    let both = both_level old (sure_by_tables tables club rival) (sym (ap is_level new_is) ∙ is) in
+    ap (λ xs. has_club xs rival) level_is
+    ∙ has_club-filter (is_level_by_tables tables club) group rival
+    ∙ ap (λ b. b && is_level_by_tables tables club rival) (within both.0)
+    ∙ both.1

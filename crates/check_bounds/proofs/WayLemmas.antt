@@ -1,9 +1,8 @@
 -- The way to a zone: what a step more makes of it, and what going back over the last one leaves.
 use Rattle.std.proofs.Common.{◌≡◌, ℕ, ◌&&◌, true, List, [], ◌∷◌, ◌++◌, length, reverse}
-use Rattle.std.proofs.Common.{Option, Some, refl, sym, ap, subst, ◌∙◌, arith}
+use Rattle.std.proofs.Common.{Option, sym, ap, subst, arith}
 use Rattle.std.specs.List.{list_all}
-use Rattle.std.proofs.Common.{None, take}
-use Rattle.std.proofs.lemmas.List.{reverse-append, length-set, take-append-le, take_all}
+use Rattle.std.proofs.lemmas.List.{reverse-append}
 use Rattle.league_core.specs.declared.sheet.Sheet.{Sheet}
 use Rattle.league_core.specs.declared.season.Score.{Score}
 use Rattle.league_core.specs.declared.question.Question.{Question}
@@ -18,7 +17,6 @@ use Rattle.league_core.specs.Options.{options_in, has_option}
 use Rattle.league_core.specs.Reasons.{has_reason}
 use Rattle.league_core.proofs.OptionLemmas.{length-options_from}
 use Rattle.check_bounds.specs.declared.scope.Scope.{Scope}
-use Rattle.check_bounds.specs.declared.step.Cut.{Cut}
 use Rattle.check_bounds.specs.declared.step.Marks.{Marks}
 use Rattle.check_bounds.specs.declared.step.Step.{Step}
 use Rattle.check_bounds.specs.Zones.{AreAllCornersOf, CutsBy, IsTestWithin}
@@ -66,19 +64,6 @@ within_way sheet season scopes marks steps test way is =
           (omega (arith, few)) is,
       test_within sheet 600 test fixtures (omega (arith, few)) is,
     )
-
--- to put a scope back changes no other thing
-length-undone : (scopes : List Scope) (cut : Option Cut)
-    → length (undone scopes cut) ≡ length scopes
-length-undone scopes None = refl
-length-undone scopes (Some cut) = length-set scopes cut.fixture cut.kept
-
--- a list of scopes that was lent, and cut by a step, is what was made of it
-pub lent : (count : ℕ) (old new behind : List Scope) (cut : Option Cut) → length old ≡ count
-    → undone new cut ≡ old → take count (new ++ behind) ≡ new
-lent count old new behind cut many back =
-    let same : length new ≡ count = sym (length-undone new cut) ∙ ap length back ∙ many in
-    take-append-le count new behind (omega (arith, same)) ∙ take_all count new (omega (arith, same))
 
 -- a step more leads on
 pub leads_on : (sheet : Sheet) (season : Results) (old new : List Scope) (marks : Marks)

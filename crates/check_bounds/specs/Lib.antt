@@ -1,6 +1,6 @@
 -- Reading order: the scores that a fixture may still end with, what is looked at in them, the few
 -- scores that bound all others, what a zone leaves of each fixture, sums and tables of them, what
--- is sure of each rival, and what a reason then says.
+-- is kept of them from zone to zone, what is sure of each rival, and what a reason then says.
 pub mod Scopes
 pub mod Looks
 pub mod Corners
@@ -8,5 +8,6 @@ pub mod Zones
 pub mod Ways
 pub mod Spans
 pub mod Tables
+pub mod Cells
 pub mod Steps
 pub mod Refutes

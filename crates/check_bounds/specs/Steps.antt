@@ -1,6 +1,7 @@
 -- What is sure of each club against one club, step by step: where a step leaves the two level, the
 -- next one decides.
-use Rattle.std.specs.Prelude.{◌≡◌, ℕ, ◌<◌, Bool, ◌||◌, List, slice_index_or}
+use Rattle.std.specs.Prelude.{◌≡◌, ◌≢◌, ℕ, ◌<◌, Bool, ◌||◌, IsTrue, List, slice_index_or}
+use Rattle.league_core.specs.Sums.{has_club}
 use Rattle.league_core.specs.declared.sure.Sure.{Sure}
 use Rattle.league_core.specs.declared.sure.Sure.TheVariants.{Unknown}
 use Rattle.league_core.specs.SureOrder.{sure_then, sure_by_ranges, is_level, is_apart}
@@ -29,3 +30,10 @@ is_sure_by_tables tables club other =
 abbrev pub TakesNext : List Sure → List Sure → (ℕ → Sure) → Type 0
 TakesNext old new next =
     (rival : ℕ) → rival < 32 → sure_at new rival ≡ sure_then (sure_at old rival) (next rival)
+
+-- the same of each club but one, where those whose answers are level are of a group
+abbrev pub TakesNextIn : List ℕ → ℕ → List Sure → List Sure → (ℕ → Sure) → Type 0
+TakesNextIn group club old new next =
+    (rival : ℕ) → rival < 32 → rival ≢ club
+    → (IsTrue (is_level (sure_at old rival)) → IsTrue (has_club group rival))
+    → sure_at new rival ≡ sure_then (sure_at old rival) (next rival)

@@ -1,10 +1,11 @@
 //! The checker's own test of a reason: whether it holds in a zone.
 //!
 //! What a reason says is league_core's `specs/Reasons.antt` and `SureOrder.antt`; read these first.
-//! Here each fixture has a scope, then a few corners (`corners.rt`), and sums over corners are
-//! those over all options. Nothing of the search is used.
+//! Here each fixture has a scope and a few corners (`cells.rt`, `corners.rt`), and sums over the
+//! corners are those over all options. Nothing of the search is used.
 #![tactic(auto)]
 
+mod cells;
 mod compare;
 mod corners;
 mod look;
@@ -18,6 +19,7 @@ mod step;
 mod table;
 mod total;
 mod way;
+mod won;
 mod zone;
 
 pub use way::{Way, holds_in};

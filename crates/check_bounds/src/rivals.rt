@@ -1,28 +1,17 @@
 //! Rivals on the wrong side: by the marks of a zone, as sets, and by what is sure of them.
 
-ghost use Rattle.std.specs.Prelude.{◌≡◌, ◌&&◌, ◌<◌, ◌≤◌, ℕ, nat_lt, IfOk, IsTrue, length};
-ghost use Rattle.std.specs.Prelude.{count_by, int_lt, ◌||◌, pos, neg_ℤ, ◌≤ℤ◌, ◌*ℤ◌};
+ghost use Rattle.std.specs.Prelude.{◌≡◌, ◌&&◌, ◌<◌, ◌≤◌, ℕ, nat_lt, IsTrue, length};
+ghost use Rattle.std.specs.Prelude.{count_by, ◌||◌};
 ghost use Rattle.std.specs.List.{list_all};
-ghost use Rattle.league_core.specs.Seasons.{IsLeague};
 ghost use Rattle.league_core.specs.Sums.{has_club};
 ghost use Rattle.league_core.specs.ClubSets.{clubs_in};
-ghost use Rattle.league_core.specs.Questions.{IsQuestionOf};
 ghost use Rattle.league_core.specs.LotsFor.{others_of};
-ghost use Rattle.league_core.specs.Zones.{is_zone_of, rivals_of};
+ghost use Rattle.league_core.specs.Zones.{rivals_of};
 ghost use Rattle.league_core.specs.declared.sure.Sure.{Sure};
-ghost use Rattle.league_core.specs.PointRanges.{points_range};
-ghost use Rattle.std.specs.Int.{int_min, int_max};
-ghost use Rattle.league_core.specs.Options as options;
-ghost use Rattle.league_core.specs.Options.{has_option, has_one_outcome};
 ghost use Rattle.league_core.specs.SureOrder as order;
 ghost use Rattle.league_core.specs.Reasons as reasons;
-ghost use Rattle.league_core.specs.Reasons.{has_reason};
-ghost use Rattle.check_bounds.specs.Tables.{ArePlayedOver};
-ghost use Rattle.check_bounds.specs.Spans.{range_of_span, IsSpanWithin};
 ghost use Rattle.check_bounds.specs.Steps.{sure_at};
 ghost use Rattle.check_bounds.specs.Refutes as over;
-ghost use Rattle.check_bounds.specs.Refutes.{refutes_over, own_range, is_floor, is_ceiling};
-ghost use Rattle.check_bounds.specs.Refutes.{sure_over};
 
 use league_core::{Claim, ClubSet, Question, Sheet, Sure};
 
@@ -81,7 +70,9 @@ pub fn is_decided(
 ) -> bool
     requires few { length sheet.now.clubs ≤ 24 }
     requires club { question.now.club < 32 }
-    ensures { (known : ℕ → Sure) → ((rival : ℕ) → rival < 32 → sure_at sure.now rival ≡ known rival)
+    ensures { (known : ℕ → Sure)
+        → ((rival : ℕ) → IsTrue (has_club (rivals_of sheet.now question.now.club) rival)
+        → sure_at sure.now rival ≡ known rival)
         → result ≡ over.is_decided sheet.now question.now (has_club (clubs_in before))
         (has_club (clubs_in after)) known }
 {

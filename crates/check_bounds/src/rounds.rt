@@ -1,52 +1,57 @@
-//! What is sure of all clubs against one: by points, then by the criteria among those level.
+//! What is sure of the rivals of a club: by points, then by the criteria among those level.
 
-ghost use Rattle.std.specs.Prelude.{◌≡◌, ◌<◌, ◌≤◌, ℕ, filter, length};
+ghost use Rattle.std.specs.Prelude.{◌≡◌, ◌<◌, ◌∷◌, [], ℕ, filter, IsTrue};
 ghost use Rattle.std.specs.List.{list_all};
 ghost use Rattle.league_core.specs.declared.sure.Sure.TheVariants.{Unknown};
 ghost use Rattle.league_core.specs.declared.sheet.Order.TheVariants.{OverallFirst};
 ghost use Rattle.league_core.specs.ClubSets.{clubs_in};
-ghost use Rattle.league_core.specs.SureOrder.{record_ranges, overall_ranges, sure_within, sure_by};
-ghost use Rattle.league_core.specs.SureOrder.{sure_by_points, level_on_points, sure_then};
-ghost use Rattle.check_bounds.specs.Tables.{ArePlayedOver, HoldRanges};
+ghost use Rattle.league_core.specs.Sums.{has_club};
+ghost use Rattle.league_core.specs.Zones.{rivals_of};
+ghost use Rattle.league_core.specs.SureOrder.{record_ranges, overall_ranges, first_sum_ranges};
+ghost use Rattle.league_core.specs.SureOrder.{sure_within, sure_by};
+ghost use Rattle.check_bounds.specs.Tables.{HoldRanges};
 ghost use Rattle.check_bounds.specs.Steps.{sure_at, sure_by_tables, is_level_by_tables};
-ghost use Rattle.check_bounds.specs.Steps.{is_sure_by_tables, TakesNext};
+ghost use Rattle.check_bounds.specs.Steps.{is_sure_by_tables, TakesNext, TakesNextIn};
+ghost use Rattle.check_bounds.specs.Refutes.{sure_over};
 
+use crate::cells::Cells;
 use crate::compare::{by_tables, is_level, is_sure, then};
-use crate::corners::Corners;
 use crate::look::Kind;
 use crate::span::Span;
-use crate::table::{ranks_of, table_of};
+use crate::table::ranks_of;
 use crate::total::points_table;
-use league_core::{ClubSet, Order, Season, Sheet, Sure};
+use league_core::{ClubSet, Order, Season, Sure};
 
 // The head-to-head records in a group: points, goal difference, goals.
-fn records_of(sheet: &Sheet, corners: &[Corners], group: ClubSet) -> [[Span; 32]; 3]
-    requires { ArePlayedOver sheet.now.fixtures corners.now }
-    ensures { HoldRanges result (record_ranges sheet.now corners.now (clubs_in group)) }
+fn records_of(cells: &Cells, group: ClubSet) -> [[Span; 32]; 3]
+    ensures { HoldRanges result
+        (record_ranges cells.now.sheet cells.now.corners (clubs_in group)) }
 {
-    let fixtures = sheet.fixtures.as_slice();
     [
-        table_of(fixtures, corners, Kind::Points, group),
-        table_of(fixtures, corners, Kind::Difference, group),
-        table_of(fixtures, corners, Kind::Goals, group),
+        cells.table(Kind::Points, group),
+        cells.table(Kind::Difference, group),
+        cells.table(Kind::Goals, group),
     ]
 }
 
-// The sums over all matches that decide after the records, the fixed ranks last.
-fn overall_of(sheet: &Sheet, corners: &[Corners]) -> [[Span; 32]; 6]
-    requires played { ArePlayedOver sheet.now.fixtures corners.now }
-    requires few { length sheet.now.clubs ≤ 24 }
-    ensures { HoldRanges result (overall_ranges sheet.now corners.now) }
+// Goal difference and goals over all matches.
+fn first_sums_of(cells: &Cells) -> [[Span; 32]; 2]
+    ensures { HoldRanges result (first_sum_ranges cells.now.sheet cells.now.corners) }
 {
-    let fixtures = sheet.fixtures.as_slice();
-    let all = ClubSet { bits: u32::MAX };
+    [cells.sums(Kind::Difference), cells.sums(Kind::Goals)]
+}
+
+// The sums over all matches that decide after the records, the fixed ranks last.
+fn overall_of(cells: &Cells) -> [[Span; 32]; 6]
+    ensures { HoldRanges result (overall_ranges cells.now.sheet cells.now.corners) }
+{
     [
-        table_of(fixtures, corners, Kind::Difference, all),
-        table_of(fixtures, corners, Kind::Goals, all),
-        table_of(fixtures, corners, Kind::AwayGoals, all),
-        table_of(fixtures, corners, Kind::Wins, all),
-        table_of(fixtures, corners, Kind::AwayWins, all),
-        ranks_of(sheet),
+        cells.sums(Kind::Difference),
+        cells.sums(Kind::Goals),
+        cells.sums(Kind::AwayGoals),
+        cells.sums(Kind::Wins),
+        cells.sums(Kind::AwayWins),
+        ranks_of(cells.sheet()),
     ]
 }
 
@@ -91,26 +96,28 @@ fn are_all_sure(group: ClubSet, tables: &[[Span; 32]], club: u8) -> bool
     unsure.is_empty()
 }
 
+// The group has no other club.
+fn is_alone(group: ClubSet, club: u8) -> bool
+    requires { club < 32 }
+    ensures { result ≡ list_all (has_club (club ∷ [])) (clubs_in group) }
+{
+    group.without(ClubSet::single(club)).is_empty()
+}
+
 // The criteria within a group with the head-to-head first, which is taken so many times at most.
-fn take_rounds(
-    times: u8,
-    answers: &mut [Sure; 32],
-    sheet: &Sheet,
-    corners: &[Corners],
-    overall: &[[Span; 32]],
-    group: ClubSet,
-    club: u8,
-)
-    requires played { ArePlayedOver sheet.now.fixtures corners.now }
-    requires club { club < 32 }
-    requires overall { HoldRanges overall.now (overall_ranges sheet.now corners.now) }
-    ensures { TakesNext answers.old answers.new (λ rival.
-        sure_within times sheet.now corners.now (clubs_in group) rival club) }
+// In a group that has no rival there is nothing to decide.
+fn take_rounds(times: u8, answers: &mut [Sure; 32], cells: &Cells, group: ClubSet, club: u8)
+    requires { club < 32 }
+    ensures { TakesNextIn (clubs_in group) club answers.old answers.new (λ rival.
+        sure_within times cells.now.sheet cells.now.corners (clubs_in group) rival club) }
 {
     if times == 0 {
         return;
     }
-    let records = records_of(sheet, corners, group);
+    if is_alone(group, club) {
+        return;
+    }
+    let records = records_of(cells, group);
     step(answers, &records, club);
     if !are_all_sure(group, &records, club) {
         leave_unknown(answers);
@@ -118,75 +125,57 @@ fn take_rounds(
     }
     let level = level_in(group, &records, club);
     if level.len() == group.len() {
-        step(answers, overall, club);
+        step(answers, &overall_of(cells), club);
     } else {
-        take_rounds(times - 1, answers, sheet, corners, overall, level, club);
+        take_rounds(times - 1, answers, cells, level, club);
     }
 }
 
 // The criteria within a group, in the sheet's order.
-fn take_criteria(
-    answers: &mut [Sure; 32],
-    sheet: &Sheet,
-    corners: &[Corners],
-    group: ClubSet,
-    club: u8,
-)
-    requires played { ArePlayedOver sheet.now.fixtures corners.now }
-    requires few { length sheet.now.clubs ≤ 24 }
-    requires club { club < 32 }
-    ensures { TakesNext answers.old answers.new (λ rival.
-        sure_by sheet.now.order sheet.now corners.now (clubs_in group) rival club) }
+fn take_criteria(answers: &mut [Sure; 32], cells: &Cells, group: ClubSet, club: u8)
+    requires { club < 32 }
+    ensures { TakesNextIn (clubs_in group) club answers.old answers.new (λ rival.
+        sure_by cells.now.sheet.order cells.now.sheet cells.now.corners (clubs_in group)
+        rival club) }
 {
-    let overall = overall_of(sheet, corners);
-    match sheet.order {
-        Order::HeadFirst => {
-            take_rounds(group.len(), answers, sheet, corners, &overall, group, club);
-        }
-        Order::OverallFirst => take_overall(answers, sheet, corners, &overall, group, club),
+    match cells.sheet().order {
+        Order::HeadFirst => take_rounds(group.len(), answers, cells, group, club),
+        Order::OverallFirst => take_overall(answers, cells, group, club),
     }
 }
 
 // Difference and goals over all matches first, and then the records among those that share them.
-fn take_overall(
-    answers: &mut [Sure; 32],
-    sheet: &Sheet,
-    corners: &[Corners],
-    overall: &[[Span; 32]; 6],
-    group: ClubSet,
-    club: u8,
-)
-    requires played { ArePlayedOver sheet.now.fixtures corners.now }
-    requires club { club < 32 }
-    requires overall { HoldRanges overall.now (overall_ranges sheet.now corners.now) }
-    ensures { TakesNext answers.old answers.new (λ rival.
-        sure_by OverallFirst sheet.now corners.now (clubs_in group) rival club) }
+fn take_overall(answers: &mut [Sure; 32], cells: &Cells, group: ClubSet, club: u8)
+    requires { club < 32 }
+    ensures { TakesNextIn (clubs_in group) club answers.old answers.new (λ rival.
+        sure_by OverallFirst cells.now.sheet cells.now.corners (clubs_in group) rival club) }
 {
-    let first = &overall[..2];
-    step(answers, first, club);
-    if !are_all_sure(group, first, club) {
+    let first = first_sums_of(cells);
+    step(answers, &first, club);
+    if !are_all_sure(group, &first, club) {
         leave_unknown(answers);
         return;
     }
-    let level = level_in(group, first, club);
-    take_rounds(level.len(), answers, sheet, corners, overall, level, club);
+    let level = level_in(group, &first, club);
+    take_rounds(level.len(), answers, cells, level, club);
 }
 
-/// What is sure of each club against the one, by their numbers.
-pub fn sure_against(sheet: &Sheet, season: &Season, corners: &[Corners], club: u8) -> [Sure; 32]
-    requires played { ArePlayedOver sheet.now.fixtures corners.now }
-    requires few { length sheet.now.clubs ≤ 24 }
-    requires deductions { length season.now.deductions ≤ 24 }
-    requires club { club < 32 }
-    ensures { (rival : ℕ) → rival < 32 → sure_at result rival
-        ≡ sure_then (sure_by_points sheet.now season.now corners.now rival club)
-        (sure_by sheet.now.order sheet.now corners.now
-        (level_on_points sheet.now season.now corners.now club) rival club) }
+/// What is sure of each rival against the club, by their numbers. Where no rival is on the club's
+/// points, these decide.
+pub fn sure_against(season: &Season, cells: &Cells, club: u8) -> [Sure; 32]
+    requires { club < 32 }
+    ensures { (rival : ℕ) → IsTrue (has_club (rivals_of cells.now.sheet club) rival)
+        → sure_at result rival
+        ≡ sure_over cells.now.sheet season.now cells.now.corners club rival }
 {
-    let points = [points_table(sheet, season, corners)];
+    let points = [points_table(season, cells)];
     let mut answers = [Sure::Level; 32];
     step(&mut answers, &points, club);
-    let group = level_in(ClubSet::first(sheet.clubs.len() as u8), &points, club);
-    take_criteria(&mut answers, sheet, corners, group, club);
+    let clubs = cells.sheet().clubs.len() as u8;
+    let group = level_in(ClubSet::first(clubs), &points, club);
+    if is_alone(group, club) {
+        return answers;
+    }
+    take_criteria(&mut answers, cells, group, club);
     answers
 }

@@ -56,6 +56,20 @@ impl Span {
         }
     }
 
+    /// The sum with one part in the place of another.
+    pub fn exchanged(self, old: Span, new: Span) -> Span
+        requires near { IsSpanWithin 2000 self }
+        requires old_near { IsSpanWithin 255 old }
+        requires new_near { IsSpanWithin 255 new }
+        ensures { added (range_of_span result) (range_of_span old)
+            ≡ added (range_of_span self) (range_of_span new) }
+    {
+        Span {
+            least: self.least - old.least + new.least,
+            greatest: self.greatest - old.greatest + new.greatest,
+        }
+    }
+
     // With one value more.
     fn widened(self, value: i64) -> Span
         ensures { range_of_span result ≡ widened value (range_of_span self) }

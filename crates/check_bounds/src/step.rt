@@ -1,10 +1,11 @@
 //! One literal of a way, and what has to be put back where the way goes back over it.
 
-ghost use Rattle.std.specs.Prelude.{◌≡◌, [], ◌∷◌, ◌++◌, List, length, IsTrue};
+ghost use Rattle.std.specs.Prelude.{◌≡◌, [], ◌∷◌, ◌++◌, List, length};
 ghost use Rattle.league_core.specs.declared.zone.Literal.{Literal};
 ghost use Rattle.check_bounds.specs.Zones.{IsTestWithin, CutsBy};
 ghost use Rattle.check_bounds.specs.Ways.{undone, IsCutWithin, AreMarks};
 
+use crate::cells::Cells;
 use crate::scope::Scope;
 use crate::zone::{fixture_of, with_mark};
 use league_core::{ClubSet, Literal};
@@ -56,16 +57,19 @@ impl Marks {
 
 /// Cuts the scope of the fixture that a literal is of, and hands out what it was; of a literal that
 /// is of none, nothing.
-pub fn cut_by(scopes: &mut [Scope], literal: &Literal) -> Option<Cut>
-    requires { IsTestWithin (length scopes.old) literal.now.test }
-    ensures cut { CutsBy scopes.old scopes.new literal.now }
-    ensures within { IsCutWithin (length scopes.new) result }
-    ensures back { undone scopes.new result ≡ scopes.old }
+pub fn cut_by(cells: &mut Cells, literal: &Literal) -> Option<Cut>
+    requires { IsTestWithin (length cells.old.scopes) literal.now.test }
+    ensures cut { CutsBy cells.old.scopes cells.new.scopes literal.now }
+    ensures within { IsCutWithin (length cells.new.scopes) result }
+    ensures back { undone cells.new.scopes result ≡ cells.old.scopes }
+    ensures sheet { cells.new.sheet ≡ cells.old.sheet }
 {
     match fixture_of(&literal.test) {
         Some(fixture) => {
-            let kept = scopes[fixture as usize];
-            scopes[fixture as usize].cut(literal);
+            let kept = cells.scope(fixture);
+            let mut scope = kept;
+            scope.cut(literal);
+            cells.put(fixture, scope);
             Some(Cut { fixture, kept })
         }
         None => None,
@@ -73,11 +77,12 @@ pub fn cut_by(scopes: &mut [Scope], literal: &Literal) -> Option<Cut>
 }
 
 /// Puts back what a step kept.
-pub fn undo(scopes: &mut [Scope], cut: Option<Cut>)
-    requires { IsCutWithin (length scopes.old) cut }
-    ensures { scopes.new ≡ undone scopes.old cut }
+pub fn undo(cells: &mut Cells, cut: Option<Cut>)
+    requires { IsCutWithin (length cells.old.scopes) cut }
+    ensures scopes { cells.new.scopes ≡ undone cells.old.scopes cut }
+    ensures sheet { cells.new.sheet ≡ cells.old.sheet }
 {
     if let Some(cut) = cut {
-        scopes[cut.fixture as usize] = cut.kept;
+        cells.put(cut.fixture, cut.kept);
     }
 }

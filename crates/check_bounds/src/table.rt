@@ -2,7 +2,7 @@
 
 ghost use Rattle.std.specs.Prelude.{◌≡◌, ◌≢◌, ◌<◌, ◌≤◌, ◌+◌, ◌&&◌, ℕ, pos, neg_ℤ, IsTrue, length};
 ghost use Rattle.league_core.specs.Sheets.{is_fixture};
-ghost use Rattle.league_core.specs.Sums.{has_club, worth_among};
+ghost use Rattle.league_core.specs.Sums.{has_club, worth_among, worth_to};
 ghost use Rattle.league_core.specs.Ahead.{rank_of};
 ghost use Rattle.league_core.specs.ClubSets.{clubs_in};
 ghost use Rattle.league_core.specs.PointRanges.{one_value, added, range_of};
@@ -27,6 +27,14 @@ pub fn table_of(fixtures: &[Fixture], corners: &[Corners], kind: Kind, group: Cl
         add_match(&mut table, fixtures[i], &corners[i], kind, group);
     }
     table
+}
+
+/// The sums of all clubs by one measure, over all matches.
+pub fn sums_of(fixtures: &[Fixture], corners: &[Corners], kind: Kind) -> [Span; 32]
+    requires { ArePlayedOver fixtures.now corners.now }
+    ensures { IsTableOf (worth_to (worth_by kind)) fixtures.now corners.now result }
+{
+    table_of(fixtures, corners, kind, ClubSet { bits: u32::MAX })
 }
 
 // Adds a match to the sums of its two sides, where both are of the group.

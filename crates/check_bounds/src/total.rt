@@ -4,35 +4,31 @@ ghost use Rattle.std.specs.Prelude.{◌≡◌, ◌<◌, ◌≤◌, ◌≤ℤ◌,
 ghost use Rattle.std.specs.Prelude.{if◌then◌else◌};
 ghost use Rattle.league_core.specs.ClubSets.{clubs_in};
 ghost use Rattle.league_core.specs.PointRanges.{points_range, points_together, total_of};
-ghost use Rattle.league_core.specs.PointRanges.{range_from};
-ghost use Rattle.league_core.specs.PointRanges.{added, one_value, deducted_from};
-ghost use Rattle.std.specs.Prelude.{◌-ℤ◌};
+ghost use Rattle.league_core.specs.PointRanges.{range_from, range_of, points_of_sides};
 ghost use Rattle.check_bounds.specs.Spans as spans;
 ghost use Rattle.check_bounds.specs.Spans.{range_of_span, IsSpanWithin};
 ghost use Rattle.check_bounds.specs.Tables.{ArePlayedOver};
 
-use crate::compare::span_at;
+use crate::cells::Cells;
 use crate::corners::Corners;
-use crate::look::{Kind, Look};
+use crate::look::Look;
 use crate::span::{Span, span_of};
-use crate::table::table_of;
-use league_core::{ClubSet, Fixture, Season, Sheet};
+use league_core::{ClubSet, Fixture, Season};
 
 /// The least and the most points that the clubs of a set can have together: match points less what
 /// is taken off.
-pub fn points_of_set(sheet: &Sheet, season: &Season, corners: &[Corners], set: ClubSet) -> Span
-    requires played { ArePlayedOver sheet.now.fixtures corners.now }
-    requires deductions { length season.now.deductions ≤ 24 }
+pub fn points_of_set(season: &Season, cells: &Cells, set: ClubSet) -> Span
+    requires { length season.now.deductions ≤ 24 }
     ensures points { range_of_span result
-        ≡ points_range sheet.now season.now corners.now (clubs_in set) }
+        ≡ points_range cells.now.sheet season.now cells.now.corners (clubs_in set) }
     ensures near { IsSpanWithin 200000 result }
 {
-    let won = won_by(sheet.fixtures.as_slice(), corners, set);
+    let won = cells.won_by(set);
     won.less(taken_off(season.deductions(), set))
 }
 
-// The match points of the clubs of a set.
-fn won_by(fixtures: &[Fixture], corners: &[Corners], set: ClubSet) -> Span
+/// The match points of the clubs of a set.
+pub fn won_by(fixtures: &[Fixture], corners: &[Corners], set: ClubSet) -> Span
     requires { ArePlayedOver fixtures.now corners.now }
     ensures points { range_of_span result
         ≡ range_from (points_together (clubs_in set)) fixtures.now corners.now }
@@ -42,9 +38,22 @@ fn won_by(fixtures: &[Fixture], corners: &[Corners], set: ClubSet) -> Span
     for i in 0..fixtures.len() {
         let home = set.has(fixtures[i].home);
         let away = set.has(fixtures[i].away);
-        won = won.plus(span_of(corners[i].as_slice(), Look::Both { home, away }));
+        won = won.plus(won_in(&corners[i], home, away));
     }
     won
+}
+
+// The match points that a match gives to its sides that count; most matches of a small set give
+// none.
+fn won_in(corners: &Corners, home: bool, away: bool) -> Span
+    ensures range { range_of_span result ≡ range_of (points_of_sides home away) corners.now }
+    ensures near { IsSpanWithin 255 result }
+{
+    if home || away {
+        span_of(corners.as_slice(), Look::Both { home, away })
+    } else {
+        Span::ZERO
+    }
 }
 
 // The points that are taken off the clubs of a set.
@@ -69,33 +78,13 @@ fn taken_if(counts: bool, points: u8) -> i64
 }
 
 /// The points of each club.
-pub fn points_table(sheet: &Sheet, season: &Season, corners: &[Corners]) -> [Span; 32]
-    requires played { ArePlayedOver sheet.now.fixtures corners.now }
-    requires deductions { length season.now.deductions ≤ 24 }
+pub fn points_table(season: &Season, cells: &Cells) -> [Span; 32]
     ensures { (club : ℕ) → club < 32 → range_of_span (spans.span_at result club)
-        ≡ points_range sheet.now season.now corners.now (club ∷ []) }
+        ≡ points_range cells.now.sheet season.now cells.now.corners (club ∷ []) }
 {
-    let won = table_of(
-        sheet.fixtures.as_slice(),
-        corners,
-        Kind::Points,
-        ClubSet { bits: u32::MAX },
-    );
     let mut table = [Span::ZERO; 32];
     for club in 0..32 {
-        let own = span_at(&won, club);
-        table[club as usize] = alone(season, own, club);
+        table[club as usize] = cells.points(season, club);
     }
     table
-}
-
-// The points of a club that won these match points.
-fn alone(season: &Season, won: Span, club: u8) -> Span
-    requires near { IsSpanWithin 153000 won }
-    requires deductions { length season.now.deductions ≤ 24 }
-    requires club { club < 32 }
-    ensures { range_of_span result ≡ added (range_of_span won)
-        (one_value (pos 0 -ℤ deducted_from season.now (club ∷ []))) }
-{
-    won.less(taken_off(season.deductions(), ClubSet::single(club)))
 }

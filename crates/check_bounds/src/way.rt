@@ -8,10 +8,9 @@ ghost use Rattle.league_core.specs.Reasons.{has_reason};
 ghost use Rattle.league_core.specs.Zones.{is_test_of, is_zone_of};
 ghost use Rattle.check_bounds.specs.Ways.{root_of, farther};
 
+use crate::cells::Cells;
 use crate::reasons::holds_over;
-use crate::scope::Scope;
 use crate::step::{Marks, Step, cut_by, undo};
-use crate::zone::{all_corners, season_scopes};
 use league_core::{Literal, OutOfMemory, Question, Reason, Season, Sheet};
 use std::alloc::Global;
 use std::marker::Model;
@@ -19,9 +18,8 @@ use std::marker::Model;
 /// A zone of a season, literal by literal. Contracts see the season and the zone.
 #[derive(Drop)]
 pub struct Way<'a> {
-    sheet: &'a Sheet,
     season: &'a Season,
-    scopes: Vec<Scope>,
+    cells: Cells<'a>,
     marks: Marks,
     steps: Vec<Step>,
 }
@@ -32,13 +30,13 @@ impl<'a> Model for Way<'a> {
     ghost Value = { Place };
 
     ghost view = { λ way. record {
-      sheet = way.sheet.now;
+      sheet = way.cells.sheet;
       season = way.season.now;
       zone = zone_of way.steps.items;
     } };
 
     ghost invariant = { λ way.
-        IsWay way.sheet.now way.season.now way.scopes.items way.marks way.steps.items };
+        IsWay way.cells.sheet way.season.now way.cells.scopes way.marks way.steps.items };
 }
 
 impl<'a> Way<'a> {
@@ -47,11 +45,10 @@ impl<'a> Way<'a> {
         requires { IsLeague sheet.now season.now }
         ensures { IfOk result (λ way. way ≡ root_of sheet.now season.now) }
     {
-        let scopes = season_scopes(alloc, season.scores(), sheet.goal_limit)?;
+        let cells = Cells::new(alloc, sheet, season)?;
         Ok(Way {
-            sheet,
             season,
-            scopes,
+            cells,
             marks: Marks::none(),
             steps: Vec::new(alloc),
         })
@@ -65,7 +62,7 @@ impl<'a> Way<'a> {
     {
         self.steps.reserve(1)?;
         let marks = self.marks;
-        let cut = cut_by(self.scopes.as_mut_slice(), &literal);
+        let cut = cut_by(&mut self.cells, &literal);
         self.marks = marks.with(&literal);
         self.steps.push_reserved(Step {
             literal,
@@ -82,7 +79,7 @@ impl<'a> Way<'a> {
     {
         match self.steps.pop() {
             Some(step) => {
-                undo(self.scopes.as_mut_slice(), step.cut);
+                undo(&mut self.cells, step.cut);
                 self.marks = step.marks;
                 Some(step.literal)
             }
@@ -91,25 +88,12 @@ impl<'a> Way<'a> {
     }
 
     /// Whether the reason holds in the zone, in a few walks over the fixtures.
-    pub fn holds(
-        &self,
-        alloc: Global,
-        question: &Question,
-        reason: Reason,
-    ) -> Result<bool, OutOfMemory>
+    pub fn holds(&self, question: &Question, reason: Reason) -> bool
         requires { IsQuestionOf self.now.sheet question.now }
-        ensures { IfOk result (λ holds. holds
-            ≡ has_reason self.now.sheet self.now.season question.now self.now.zone reason) }
+        ensures { result
+            ≡ has_reason self.now.sheet self.now.season question.now self.now.zone reason }
     {
-        let corners = all_corners(alloc, self.scopes.as_slice())?;
-        Ok(holds_over(
-            self.sheet,
-            self.season,
-            question,
-            corners.as_slice(),
-            self.marks,
-            reason,
-        ))
+        holds_over(self.season, question, &self.cells, self.marks, reason)
     }
 }
 
@@ -132,5 +116,5 @@ pub fn holds_in(
     for literal in zone {
         way.go(*literal)?;
     }
-    way.holds(alloc, question, reason)
+    Ok(way.holds(question, reason))
 }

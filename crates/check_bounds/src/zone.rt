@@ -1,17 +1,15 @@
 //! What a zone leaves of each fixture, and the rivals that it marks.
 
 ghost use Rattle.std.specs.Prelude.{◌≡◌, ◌||◌, ◌==◌, ◌<◌, ℕ, false, true, IfOk, IfSome, IfNone};
-ghost use Rattle.std.specs.Prelude.{IsTrue};
-ghost use Rattle.std.specs.Prelude.{List, [], length, Option};
-ghost use Rattle.std.specs.List.{All};
+ghost use Rattle.std.specs.Prelude.{[], Option};
 ghost use Rattle.league_core.specs.declared.season.Score.{Score};
-ghost use Rattle.league_core.specs.Seasons.{IsLeague};
 ghost use Rattle.league_core.specs.Sums.{has_club};
 ghost use Rattle.league_core.specs.ClubSets.{clubs_in};
-ghost use Rattle.league_core.specs.Zones.{is_on, is_of_score, is_as_said, is_zone_of};
-ghost use Rattle.league_core.specs.Options.{options_from, options_in};
-ghost use Rattle.check_bounds.specs.Zones.{AreScopesOf, AreAllCornersOf, IsTestWithin, CutsBy};
-ghost use Rattle.check_bounds.specs.Zones.{is_mark, marked_as};
+ghost use Rattle.league_core.specs.Zones.{is_on, is_of_score, is_as_said};
+ghost use Rattle.league_core.specs.Options.{options_from};
+ghost use Rattle.check_bounds.specs.Zones.{AreScopesOf, IsTestWithin};
+ghost use Rattle.check_bounds.specs.Cells.{FitScopes};
+ghost use Rattle.check_bounds.specs.Zones.{is_mark};
 
 use crate::corners::Corners;
 use crate::scope::Scope;
@@ -52,8 +50,7 @@ pub fn fixture_of(test: &Test) -> Option<u16>
 
 /// The corners of each scope.
 pub fn all_corners(alloc: Global, scopes: &[Scope]) -> Result<Vec<Corners>, OutOfMemory>
-    ensures { IfOk result (λ corners. (options : List (List Score))
-        → AreScopesOf scopes.now options → AreAllCornersOf corners.items options) }
+    ensures { IfOk result (λ corners. FitScopes scopes.now corners.items) }
 {
     let mut corners = Vec::new(alloc);
     for scope in scopes {

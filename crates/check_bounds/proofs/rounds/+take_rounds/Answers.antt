@@ -3,43 +3,54 @@ use Rattle.league_core.specs.ClubSets.{clubs_in}
 use Rattle.league_core.specs.declared.sure.Sure.TheVariants.{Unknown}
 use Rattle.league_core.specs.SureOrder.{sure_then, sure_within}
 use Rattle.check_bounds.specs.Steps.{sure_at, sure_by_tables}
-use Rattle.check_bounds.proofs.StepLemmas.{sure_then-assoc}
+use Rattle.check_bounds.proofs.StepLemmas.{sure_then-assoc, stays, still_level}
+use Rattle.check_bounds.proofs.RivalLemmas.{alone_is}
 use Rattle.check_bounds.proofs.RoundLemmas.{unsure_round, last_round, next_round}
 use Rattle.check_bounds.proofs.rounds.+take_rounds.Goals as goal
 
+pub returns-then-is_alone : goal.returns-then-is_alone
+returns-then-is_alone n c = λ rival below other within.
+    stays (sure_at c.args.answers.now rival) _
+    (λ level. other (alone_is (clubs_in c.args.group) c.args.club rival
+    (sym c.is_alone.ensures ∙ c.if-is_alone.true) (within level)))
+
 pub returns-then-not-are_all_sure : goal.returns-then-not-are_all_sure
-returns-then-not-are_all_sure n c = λ rival below.
+returns-then-not-are_all_sure n c = λ rival below other within.
     c.leave_unknown.ensures rival below
     ∙ ap (λ s. sure_then s Unknown) (c.step.ensures rival below)
     ∙ sure_then-assoc (sure_at c.args.answers.now rival) _ Unknown
     ∙ ap (sure_then (sure_at c.args.answers.now rival))
-    (unsure_round c.args.times c.args.sheet.now c.args.corners.now _ (clubs_in c.args.group) rival
-    c.args.club (omega arith) c.records_of-records.ensures
+    (unsure_round c.args.times c.args.cells.now.sheet c.args.cells.now.corners _
+    (clubs_in c.args.group) rival c.args.club (omega arith) c.records_of-records.ensures
     (sym c.are_all_sure.ensures ∙ c.if-not-are_all_sure.true))
 
 pub returns-then-len : goal.returns-then-len
-returns-then-len n c = λ rival below.
+returns-then-len n c = λ rival below other within.
     c.step-then-len.ensures rival below
-    ∙ ap (λ s. sure_then s (sure_by_tables c.args.overall.now c.args.club rival))
+    ∙ ap (λ s. sure_then s (sure_by_tables c.overall_of.result c.args.club rival))
     (c.step.ensures rival below)
     ∙ sure_then-assoc (sure_at c.args.answers.now rival) _
-    (sure_by_tables c.args.overall.now c.args.club rival)
+    (sure_by_tables c.overall_of.result c.args.club rival)
     ∙ ap (sure_then (sure_at c.args.answers.now rival))
-    (last_round c.args.times c.args.sheet.now c.args.corners.now _ c.args.overall.now
+    (last_round c.args.times c.args.cells.now.sheet c.args.cells.now.corners _ c.overall_of.result
     (clubs_in c.args.group) (clubs_in c.level_in-level.result) rival c.args.club (omega arith)
-    c.records_of-records.ensures c.requires.overall
+    c.records_of-records.ensures c.overall_of.ensures
     (sym c.are_all_sure.ensures ∙ c.if-not-are_all_sure.false) c.level_in-level.ensures
     (sym c.len.ensures ∙ c.if-len.true ∙ c.len-2.ensures))
 
 pub returns-else-len : goal.returns-else-len
-returns-else-len n c = λ rival below.
-    let rest = sure_within (c.args.times - 1) c.args.sheet.now c.args.corners.now
+returns-else-len n c = λ rival below other within.
+    let rest = sure_within (c.args.times - 1) c.args.cells.now.sheet c.args.cells.now.corners
     (clubs_in c.level_in-level.result) rival c.args.club in
-    c.take_rounds.ensures rival below
+    c.take_rounds.ensures rival below other
+    (still_level c.records_of-records.result (clubs_in c.args.group)
+    (clubs_in c.level_in-level.result) c.args.club rival
+    (sure_at c.args.answers.now rival) (sure_at c.step.new.answers rival)
+    (c.step.ensures rival below) c.level_in-level.ensures within)
     ∙ ap (λ s. sure_then s rest) (c.step.ensures rival below)
     ∙ sure_then-assoc (sure_at c.args.answers.now rival) _ rest
     ∙ ap (sure_then (sure_at c.args.answers.now rival))
-    (next_round c.args.times c.args.sheet.now c.args.corners.now _
+    (next_round c.args.times c.args.cells.now.sheet c.args.cells.now.corners _
     (clubs_in c.args.group) (clubs_in c.level_in-level.result) rival c.args.club (omega arith)
     c.records_of-records.ensures (sym c.are_all_sure.ensures ∙ c.if-not-are_all_sure.false)
     c.level_in-level.ensures

@@ -1,15 +1,13 @@
 use Rattle.std.proofs.Common.{◌≡◌, pos, ◌-ℤ◌, slice_index, to_z, of_z, w64, ap, ◌∙◌, arith}
 use Rattle.std.proofs.lemmas.Int.{ints}
 use Rattle.league_core.specs.ClubSets.{clubs_in}
-use Rattle.league_core.specs.PointRanges.{one_value, added, range_from, points_together, total_of}
+use Rattle.league_core.specs.PointRanges.{one_value, added, total_of}
 use Rattle.check_bounds.specs.Spans.{range_of_span}
 use Rattle.check_bounds.proofs.total.points_of_set.Goals as goal
 
 pub returns-clause-points : goal.returns-clause-points
 returns-clause-points c =
     let clubs = clubs_in c.args.set in
-    let won = c.won_by-won.ensures.points
-    ∙ ap (λ fs. range_from (points_together clubs) fs c.args.corners.now) c.as_slice.ensures in
     let off = c.taken_off.ensures.points
     ∙ ap (λ ds. total_of (λ club. pos (slice_index ds club)) clubs)
     c.deductions.ensures.deductions in
@@ -17,4 +15,4 @@ returns-clause-points c =
     omega (arith, ints, c.taken_off.ensures.within.0, c.taken_off.ensures.within.1) in
     c.less.ensures.range
     ∙ ap (λ n. added (range_of_span c.won_by-won.result) (one_value (pos 0 -ℤ n))) value
-    ∙ (λ i. added (won i) (one_value (pos 0 -ℤ off i)))
+    ∙ (λ i. added (c.won_by-won.ensures.points i) (one_value (pos 0 -ℤ off i)))

@@ -8,4 +8,4 @@ abbrev pub invariant-loop-club : goal.invariant-loop-club
 invariant-loop-club l =
     (length l.table ≡ 32)
     × ((x : ℕ) → x < l.club → range_of_span (span_at l.table x)
-    ≡ points_range l.sheet l.season l.corners (x ∷ []))
+    ≡ points_range l.cells.sheet l.season l.cells.corners (x ∷ []))

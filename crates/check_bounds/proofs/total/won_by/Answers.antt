@@ -18,22 +18,22 @@ loop-i-preserved c =
     let i = c.loop-i.i in
     let fixtures = c.args.fixtures.now in
     let corners = c.args.corners.now in
-    let corner : c.as_slice.result.now ≡ get_or corners i [] =
-    c.as_slice.ensures ∙ c.index-corners-i.is ∙ get_or_default corners i _ []
+    let corner : c.index-corners-i.result ≡ get_or corners i [] =
+    c.index-corners-i.is ∙ get_or_default corners i _ []
     (omega (arith, c.requires.many)) in
     let match = get_or fixtures i (record { home = 0; away = 0 }) in
     let apart = teams_apart 24 match
     (list_all-at (is_fixture 24) fixtures i (record { home = 0; away = 0 }) (omega arith)
     c.requires.teams) in
     let here = together_by_ends c.args.set.bits match (get_or corners i []) c.has-home.result
-    c.has-away.result c.span_of.result apart c.has-home.ensures c.has-away.ensures
-    (c.span_of.ensures.range
+    c.has-away.result c.won_in.result apart c.has-home.ensures c.has-away.ensures
+    (c.won_in.ensures.range
     ∙ ap (range_of (points_of_sides c.has-home.result c.has-away.result)) corner) in (
       sum_more (points_together (clubs_in c.args.set)) fixtures corners i c.loop-i.won
-          c.span_of.result c.plus-won.result (record { home = 0; away = 0 }) (omega arith)
+          c.won_in.result c.plus-won.result (record { home = 0; away = 0 }) (omega arith)
           (omega (arith, c.requires.many)) c.loop-i.invariant.0 here c.plus-won.ensures,
       near_wider (255 * i + 255) (255 * (i + 1)) c.plus-won.result (omega arith)
-          (near_plus (255 * i) 255 c.loop-i.won c.span_of.result c.plus-won.result
+          (near_plus (255 * i) 255 c.loop-i.won c.won_in.result c.plus-won.result
           c.plus-won.ensures
-          c.loop-i.invariant.1 c.span_of.ensures.near),
+          c.loop-i.invariant.1 c.won_in.ensures.near),
     )

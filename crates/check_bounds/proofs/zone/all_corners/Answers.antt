@@ -1,18 +1,30 @@
-use Rattle.std.proofs.Common.{ℕ, get_or, [], arith, subst, sym}
-use Rattle.std.proofs.lemmas.List.{length_push}
-use Rattle.check_bounds.specs.Corners.{AreCornersOf}
+-- The next scope's corners are those of the next scope.
+use Rattle.std.proofs.Common.{◌≡◌, ℕ, length, get_or, arith, subst}
+use Rattle.std.proofs.lemmas.List.{length_push, get_or_default}
+use Rattle.check_bounds.specs.declared.scope.Scope.{Scope}
+use Rattle.check_bounds.specs.Scopes.{IsScopeOf}
 use Rattle.check_bounds.proofs.ScopeLemmas.{corners_push}
 use Rattle.check_bounds.proofs.zone.all_corners.Goals as goal
 
 pub loop-scope-preserved : goal.loop-scope-preserved
 loop-scope-preserved c =
+    let scopes = c.args.scopes.now in
     let corners = c.loop-scope.corners.items in
-    let at = c.loop-scope.scope-index in
     rw c.in_ok-push.ensures.items (
       omega (arith, length_push corners c.of.result, c.loop-scope.invariant.0),
-      λ options are.
-          let At : ℕ → Type 0 = λ k. AreCornersOf c.of.result (get_or options k []) in
-          corners_push corners c.of.result options (c.loop-scope.invariant.1 options are)
-          (subst At (sym c.loop-scope.invariant.0)
-          (c.of.ensures (get_or options at []) (are.each at _ c.loop-scope-test.true))),
+      corners_push scopes corners c.of.result c.loop-scope.invariant.1
+          (λ d options of.
+          c.of.ensures options
+          (subst (λ (s : Scope). IsScopeOf s options)
+          (get_or_default scopes c.loop-scope.scope-index d _ c.loop-scope-test.true)
+          (subst (λ (n : ℕ). IsScopeOf (get_or scopes n d) options) c.loop-scope.invariant.0 of))),
     )
+
+pub returns : goal.returns
+returns c =
+    let many : length c.loop-scope.corners.items ≡ length c.args.scopes.now =
+    omega (arith, c.loop-scope.invariant.0) in
+    record {
+      many = many;
+      each = λ k d within. c.loop-scope.invariant.1 k d (omega (arith, within, many));
+    }

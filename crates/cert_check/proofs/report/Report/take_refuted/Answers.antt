@@ -5,16 +5,16 @@ use Rattle.cert_check.specs.Calls.{Judged, pending_of}
 use Rattle.cert_check.proofs.CallLemmas.{reason_unproved}
 use Rattle.cert_check.proofs.report.Report.take_refuted.Goals as goal
 
-pub returns-then-not-branch-clause-says : goal.returns-then-not-branch-clause-says
-returns-then-not-branch-clause-says c =
+pub returns-then-not-has_reason-clause-says : goal.returns-then-not-has_reason-clause-says
+returns-then-not-has_reason-clause-says c =
     let basis = c.args.self.now.basis in
     let question = c.args.wanted.question in
     let path = c.args.walk.now.path.zone in
     let P : Judged → Type 0 = λ it. is_reason_for it.basis.sheet question c.args.reason ≡ true in
     let fits = subst P c.self.view_is (sym c.is_reason_for.ensures ∙
     c.if-not-is_reason_for.false) in
-    let said = c.in_ok-has_reason.ensures {u = tt} in
-    let no = c.if-not-branch.true in
+    let said = c.has_reason.ensures in
+    let no = c.if-not-has_reason.true in
     let fails : has_reason basis.sheet basis.season question path c.args.reason ≡ false = cc in (
       refl,
       reason_unproved basis c.args.wanted.kind question path (pending_of path)

@@ -1,0 +1,82 @@
+-- Cells: scopes with their corners, where one of them changes, and where a zone is looked at.
+use Rattle.std.proofs.Common.{◌≡◌, ◌≢◌, ◌⊎◌, inl, inr, ℕ, ◌<◌, List, [], length, get_or}
+use Rattle.std.proofs.Common.{set, false, sym, subst, ◌∙◌, arith}
+use Rattle.std.proofs.lemmas.Bool.{cases_eq}
+use Rattle.std.proofs.lemmas.List.{length-set, get_or-set_same, get_or-set_other}
+use Rattle.league_core.specs.declared.sheet.Sheet.{Sheet}
+use Rattle.league_core.specs.declared.season.Score.{Score}
+use Rattle.check_bounds.specs.declared.scope.Scope.{Scope}
+use Rattle.check_bounds.specs.declared.span.Span.{Span}
+use Rattle.check_bounds.specs.Scopes.{IsScopeOf}
+use Rattle.check_bounds.specs.Corners.{AreCornersOf}
+use Rattle.check_bounds.specs.Zones.{AreScopesOf, AreAllCornersOf}
+use Rattle.check_bounds.specs.Cells.{FitScopes, AreCells, AreWonIn}
+
+-- corners that fit scopes are those of what the scopes leave
+pub fit_zone : (scopes : List Scope) (corners options : List (List Score))
+    → FitScopes scopes corners → AreScopesOf scopes options → AreAllCornersOf corners options
+fit_zone scopes corners options fit are = record {
+  many = fit.many ∙ are.many;
+  each = λ k within.
+      let below : k < length scopes = omega (arith, within, fit.many) in
+      fit.each k nothing below (get_or options k []) (are.each k nothing below);
+}
+  where
+    nothing : Scope
+    nothing = record {
+      home_win = false;
+      draw = false;
+      away_win = false;
+      home = record { least = 1; most = 0 };
+      away = record { least = 1; most = 0 };
+    }
+
+-- another scope at one place, with its corners
+pub fit_set : (scopes : List Scope) (corners : List (List Score)) (place : ℕ) (scope : Scope)
+    (own : List Score) → place < length scopes → FitScopes scopes corners
+    → ((options : List Score) → IsScopeOf scope options → AreCornersOf own options)
+    → FitScopes (set scopes place scope) (set corners place own)
+fit_set scopes corners place scope own inside fit is = record {
+  many = length-set corners place own ∙ fit.many ∙ sym (length-set scopes place scope);
+  each = λ k d within. at k d within (cases_eq k place);
+}
+  where
+    there : place < length corners
+    there = omega (arith, inside, fit.many)
+
+    at : (k : ℕ) (d : Scope) → k < length (set scopes place scope)
+        → (k ≡ place) ⊎ (k ≢ place) → (options : List Score)
+        → IsScopeOf (get_or (set scopes place scope) k d) options
+        → AreCornersOf (get_or (set corners place own) k []) options
+    at k d within (inl same) options of =
+        subst (λ (n : ℕ). AreCornersOf (get_or (set corners place own) n []) options) (sym same)
+        (subst (λ (xs : List Score). AreCornersOf xs options)
+        (sym (get_or-set_same corners place own [] there))
+        (is options
+        (subst (λ (s : Scope). IsScopeOf s options) (get_or-set_same scopes place scope d inside)
+        (subst (λ (n : ℕ). IsScopeOf (get_or (set scopes place scope) n d) options) same of))))
+    at k d within (inr other) options of =
+        let below : k < length scopes = omega (arith, within, length-set scopes place scope) in
+        subst (λ (xs : List Score). AreCornersOf xs options)
+        (sym (get_or-set_other corners place k own [] other))
+        (fit.each k d below options
+        (subst (λ (s : Scope). IsScopeOf s options)
+        (get_or-set_other scopes place k scope d other) of))
+
+-- another scope at one place
+pub cells_set : (sheet : Sheet) (scopes : List Scope) (corners : List (List Score))
+    (won now : List Span) (place : ℕ) (scope : Scope) (own : List Score)
+    → place < length scopes → AreCells sheet scopes corners won
+    → ((options : List Score) → IsScopeOf scope options → AreCornersOf own options)
+    → AreWonIn sheet (set corners place own) now
+    → AreCells sheet (set scopes place scope) (set corners place own) now
+cells_set sheet scopes corners won now place scope own inside are is won_is = record {
+  limits = are.limits;
+  played = record {
+    many = length-set corners place own ∙ are.played.many;
+    few = are.played.few;
+    teams = are.played.teams;
+  };
+  fit = fit_set scopes corners place scope own inside are.fit is;
+  won = won_is;
+}

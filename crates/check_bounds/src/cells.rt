@@ -1,0 +1,154 @@
+//! What a zone leaves of each fixture: its scope, its corners, and the points that these give. A
+//! literal changes one fixture alone, and so does going back over one; all others are kept.
+
+ghost use Rattle.std.specs.Prelude.{◌≡◌, ◌<◌, [], ◌∷◌, IfOk, length, set, slice_index_or};
+ghost use Rattle.league_core.specs.Seasons.{IsLeague};
+ghost use Rattle.league_core.specs.Sheets.{IsWithinLimits};
+ghost use Rattle.league_core.specs.Sums.{worth_among, worth_to};
+ghost use Rattle.league_core.specs.ClubSets.{clubs_in};
+ghost use Rattle.league_core.specs.Options.{options_in};
+ghost use Rattle.league_core.specs.PointRanges.{points_range, points_together, range_from};
+ghost use Rattle.check_bounds.specs.declared.scope.Scope.{Scope};
+ghost use Rattle.check_bounds.specs.Looks.{worth_by};
+ghost use Rattle.check_bounds.specs.Spans.{range_of_span, IsSpanWithin};
+ghost use Rattle.check_bounds.specs.Tables.{IsTableOf};
+ghost use Rattle.check_bounds.specs.Zones.{AreScopesOf};
+ghost use Rattle.check_bounds.specs.Cells.{FitScopes};
+
+use crate::corners::Corners;
+use crate::look::Kind;
+use crate::scope::Scope;
+use crate::span::Span;
+use crate::table::{sums_of, table_of};
+use crate::total::won_by;
+use crate::won::{exchange_match, points_of_club};
+use crate::zone::{all_corners, season_scopes};
+use league_core::{ClubSet, OutOfMemory, Season, Sheet};
+use std::alloc::Global;
+use std::marker::Model;
+
+/// The fixtures of a sheet, cell by cell. Contracts see the sheet, the scopes and the corners.
+#[derive(Drop)]
+pub struct Cells<'a> {
+    sheet: &'a Sheet,
+    scopes: Vec<Scope>,
+    corners: Vec<Corners>,
+    won: [Span; 32],
+}
+
+impl<'a> Model for Cells<'a> {
+    ghost use Rattle.check_bounds.specs.Cells.{Kept, AreCells};
+
+    ghost Value = { Kept };
+
+    ghost view = { λ cells. record {
+      sheet = cells.sheet.now;
+      scopes = cells.scopes.items;
+      corners = cells.corners.items;
+    } };
+
+    ghost invariant = { λ cells.
+        AreCells cells.sheet.now cells.scopes.items cells.corners.items cells.won };
+}
+
+impl<'a> Cells<'a> {
+    /// Those of a season in which no literal is asked for.
+    pub fn new(alloc: Global, sheet: &'a Sheet, season: &Season) -> Result<Cells<'a>, OutOfMemory>
+        requires { IsLeague sheet.now season.now }
+        ensures sheet { IfOk result (λ cells. cells.sheet ≡ sheet.now) }
+        ensures scopes { IfOk result
+            (λ cells. AreScopesOf cells.scopes (options_in sheet.now season.now [])) }
+    {
+        let scopes = season_scopes(alloc, season.scores(), sheet.goal_limit)?;
+        let corners = all_corners(alloc, scopes.as_slice())?;
+        let won = sums_of(sheet.fixtures.as_slice(), corners.as_slice(), Kind::Points);
+        Ok(Cells {
+            sheet,
+            scopes,
+            corners,
+            won,
+        })
+    }
+
+    /// The sheet whose fixtures they are.
+    pub fn sheet(&self) -> &Sheet
+        ensures value { result.now ≡ self.now.sheet }
+        ensures limits { IsWithinLimits result.now }
+    {
+        self.sheet
+    }
+
+    /// The corners of each fixture.
+    pub fn corners(&self) -> &[Corners]
+        ensures value { result.now ≡ self.now.corners }
+        ensures fit { FitScopes self.now.scopes self.now.corners }
+    {
+        self.corners.as_slice()
+    }
+
+    /// What is left of a fixture.
+    pub fn scope(&self, fixture: u16) -> Scope
+        requires { fixture < length self.now.scopes }
+        ensures { (d : Scope) → result ≡ slice_index_or self.now.scopes fixture d }
+    {
+        self.scopes[fixture as usize]
+    }
+
+    /// Puts another scope in the place of a fixture's.
+    pub fn put(&mut self, fixture: u16, scope: Scope)
+        requires { fixture < length self.old.scopes }
+        ensures sheet { self.new.sheet ≡ self.old.sheet }
+        ensures scopes { self.new.scopes ≡ set self.old.scopes fixture scope }
+    {
+        let place = fixture as usize;
+        let corners = Corners::of(&scope);
+        let teams = self.sheet.fixtures.as_slice()[place];
+        exchange_match(&mut self.won, teams, &self.corners[place], &corners);
+        self.scopes[place] = scope;
+        self.corners[place] = corners;
+    }
+
+    /// The sums of all clubs by one measure, over the matches with both ends in the group.
+    pub fn table(&self, kind: Kind, group: ClubSet) -> [Span; 32]
+        ensures { IsTableOf (worth_among (clubs_in group) (worth_by kind))
+            self.now.sheet.fixtures self.now.corners result }
+    {
+        table_of(
+            self.sheet.fixtures.as_slice(),
+            self.corners.as_slice(),
+            kind,
+            group,
+        )
+    }
+
+    /// The sums of all clubs by one measure, over all matches.
+    pub fn sums(&self, kind: Kind) -> [Span; 32]
+        ensures { IsTableOf (worth_to (worth_by kind))
+            self.now.sheet.fixtures self.now.corners result }
+    {
+        sums_of(
+            self.sheet.fixtures.as_slice(),
+            self.corners.as_slice(),
+            kind,
+        )
+    }
+
+    /// The match points of the clubs of a set together.
+    pub fn won_by(&self, set: ClubSet) -> Span
+        ensures points { range_of_span result ≡ range_from (points_together (clubs_in set))
+            self.now.sheet.fixtures self.now.corners }
+        ensures near { IsSpanWithin 153000 result }
+    {
+        won_by(self.sheet.fixtures.as_slice(), self.corners.as_slice(), set)
+    }
+
+    /// The points of a club.
+    pub fn points(&self, season: &Season, club: u8) -> Span
+        requires { club < 32 }
+        ensures range { range_of_span result
+            ≡ points_range self.now.sheet season.now self.now.corners (club ∷ []) }
+        ensures near { IsSpanWithin 200000 result }
+    {
+        points_of_club(&self.won, season, club)
+    }
+}

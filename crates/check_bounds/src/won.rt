@@ -1,0 +1,82 @@
+//! The match points of each club, kept while one match after the other changes.
+
+ghost use Rattle.std.specs.Prelude.{◌≡◌, ◌≢◌, ◌<◌, ◌≤ℤ◌, ℕ, pos, IsTrue};
+ghost use Rattle.std.specs.Prelude.{slice_index};
+ghost use Rattle.league_core.specs.Sheets.{is_fixture};
+ghost use Rattle.league_core.specs.Sums.{match_points, worth_to};
+ghost use Rattle.league_core.specs.PointRanges.{added, range_of};
+ghost use Rattle.check_bounds.specs.Looks.{side_worth};
+ghost use Rattle.check_bounds.specs.declared.look.Kind.TheVariants as kinds;
+ghost use Rattle.check_bounds.specs.Spans as spans;
+ghost use Rattle.check_bounds.specs.Spans.{range_of_span, IsSpanWithin};
+ghost use Rattle.check_bounds.specs.Cells.{points_by_table};
+
+use crate::compare::span_at;
+use crate::corners::Corners;
+use crate::look::{Kind, Look};
+use crate::span::{Span, span_of};
+use league_core::{Fixture, Season};
+
+/// Takes what a match gave to its two clubs off their points, and adds what it gives now.
+pub fn exchange_match(won: &mut [Span; 32], fixture: Fixture, old: &Corners, new: &Corners)
+    requires team { IsTrue (is_fixture 24 fixture) }
+    requires near { (club : ℕ) → IsSpanWithin 2000 (spans.span_at won.old club) }
+    ensures { (club : ℕ) → added (range_of_span (spans.span_at won.new club))
+        (range_of (worth_to match_points club fixture) old.now)
+        ≡ added (range_of_span (spans.span_at won.old club))
+        (range_of (worth_to match_points club fixture) new.now) }
+{
+    exchange(
+        won,
+        fixture.home,
+        points_in(old, false),
+        points_in(new, false),
+    );
+    exchange(
+        won,
+        fixture.away,
+        points_in(old, true),
+        points_in(new, true),
+    );
+}
+
+// The match points of one side in a match.
+fn points_in(corners: &Corners, away: bool) -> Span
+    ensures range { range_of_span result ≡ range_of (side_worth kinds.Points away) corners.now }
+    ensures near { IsSpanWithin 255 result }
+{
+    let kind = Kind::Points;
+    span_of(corners.as_slice(), Look::Side { kind, away })
+}
+
+// One span in the place of another in a club's sum.
+fn exchange(won: &mut [Span; 32], club: u8, old: Span, new: Span)
+    requires in_range { club < 32 }
+    requires near { IsSpanWithin 2000 (spans.span_at won.old club) }
+    requires small { IsSpanWithin 255 old × IsSpanWithin 255 new }
+    ensures own { added (range_of_span (spans.span_at won.new club)) (range_of_span old)
+        ≡ added (range_of_span (spans.span_at won.old club)) (range_of_span new) }
+    ensures others { (other : ℕ) → other ≢ club
+        → spans.span_at won.new other ≡ spans.span_at won.old other }
+{
+    won[club as usize] = won[club as usize].exchanged(old, new);
+}
+
+/// A club's match points less what is taken off it.
+pub fn points_of_club(won: &[Span; 32], season: &Season, club: u8) -> Span
+    requires in_range { club < 32 }
+    requires near { IsSpanWithin 2000 (spans.span_at won.now club) }
+    ensures range { range_of_span result ≡ points_by_table season.now won.now club }
+    ensures near { IsSpanWithin 200000 result }
+{
+    span_at(won, club).less(taken_off(season, club))
+}
+
+// The points that are taken off a club.
+fn taken_off(season: &Season, club: u8) -> i64
+    ensures value { result ≡ pos (slice_index season.now.deductions club) }
+    ensures within { (pos 0 ≤ℤ result) × (result ≤ℤ pos 255) }
+{
+    let deductions = season.deductions();
+    i64::from(deductions.get(club as usize).copied().unwrap_or(0))
+}
