@@ -20,8 +20,12 @@ use epoch_cancel::{EpochWord, Eye, Owner, cancelled};
 use league_core::{Event, OutOfMemory};
 use reason_core::{Done, Piece};
 use std::alloc::Global;
+use std::hint::spin_loop;
 use std::sync::ledger::Blank;
-use std::sync::{Condvar, Mutex, Wait};
+use std::sync::{Condvar, Mutex, MutexGuard, Wait};
+
+/// How often a worker tries the lock before it waits for it.
+const TRIES: u32 = 1000;
 
 /// A pool that several threads work on while one reports what changes.
 ///
@@ -82,7 +86,7 @@ impl<J: Job> PoolLock<J> {
         ensures begins { IsPrefix badge.old.list badge.new.list }
         ensures seen { badge.new ≡ record badge.old { list = badge.new.list } }
     {
-        let mut held = self.held.lock(rt);
+        let mut held = self.hold(rt);
         for _ in rt.forever() {
             match held.take(&self.word, badge) {
                 Took::Lent(ticket) => return Ok(LentOut::Work(ticket)),
@@ -110,10 +114,22 @@ impl<J: Job> PoolLock<J> {
         ensures seen { badge.new ≡ record badge.old { list = badge.new.list } }
     {
         let done = fitting(done, &ticket.piece);
-        let (gave, left) = self.held.lock(rt).give(&self.word, badge, ticket, done);
+        let (gave, left) = self.hold(rt).give(&self.word, badge, ticket, done);
         self.moved.notify_all();
         badge.keep(left);
         gave
+    }
+
+    // The held value. A worker that sleeps wakes late, and others then sleep behind it; so the lock
+    // is tried for a while before.
+    fn hold<R: Wait>(&self, rt: &R) -> MutexGuard<'_, Held<J>> {
+        for _ in 0..TRIES {
+            if let Some(held) = self.held.try_lock() {
+                return held;
+            }
+            spin_loop();
+        }
+        self.held.lock(rt)
     }
 
     /// Looks at the word once, without the lock: where an event came after this epoch, the answer
