@@ -1,6 +1,7 @@
 -- The least and the most points of a box, fixture by fixture and together.
 use Rattle.std.specs.Prelude.{◌≡◌, ℕ, ℤ, ◌*◌, min, max, pos, ◌≤◌, Bool, if◌then◌else◌, List, []}
 use Rattle.std.specs.Prelude.{slice_index_or, Option, MatchOption, is_some}
+use Rattle.std.specs.List.{list_any}
 use Rattle.league_core.specs.declared.sheet.Fixture.{Fixture}
 use Rattle.league_core.specs.declared.season.Score.{Score}
 use Rattle.league_core.specs.Limits.{set_width}
@@ -52,6 +53,12 @@ pub record AreOutcomesLeft (cell : Cell) (left : OutcomesLeft) : Type 0 where
   pub home_win : HasPassing cell is_home_win left.home_win
   pub draw : HasPassing cell is_draw left.draw
   pub away_win : HasPassing cell is_away_win left.away_win
+
+-- whether the options have a home win, a draw, an away win
+pub record AreOutcomesAmong (options : List Score) (left : OutcomesLeft) : Type 0 where
+  pub home_win : left.home_win ≡ list_any is_home_win options
+  pub draw : left.draw ≡ list_any is_draw options
+  pub away_win : left.away_win ≡ list_any is_away_win options
 
 -- what the options of the fixture of a number leave a set of clubs
 abbrev pub left_to : List ℕ → List Fixture → List (List Score) → ℕ → Range
