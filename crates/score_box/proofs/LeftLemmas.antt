@@ -1,8 +1,9 @@
 -- What the outcomes that a cell has left say of it.
 use Rattle.std.proofs.Common.{◌≡◌, Bool, true, false, not, ◌||◌, is_some, refl, sym, ap, ◌∙◌}
-use Rattle.std.proofs.Common.{List, [], ◌∷◌, inl, inr, Option, Some, None}
+use Rattle.std.proofs.Common.{List, [], ◌∷◌, ◌&&◌, inl, inr, Option, Some, None, subst}
 use Rattle.std.specs.List.{list_any}
 use Rattle.std.proofs.lemmas.Bool.{false≢true, false_from_ne_true, or_cases, or_left, or_right}
+use Rattle.std.proofs.lemmas.Bool.{ltb-true, eqb-true}
 use Rattle.league_core.specs.declared.season.Score.{Score}
 use Rattle.league_core.specs.Finishes.{same_score}
 use Rattle.league_core.specs.Options.{is_home_win, is_draw, is_away_win, has_score}
@@ -12,10 +13,12 @@ use Rattle.score_box.specs.declared.cell.Cell.{Cell}
 use Rattle.score_box.specs.declared.points.left.OutcomesLeft.{OutcomesLeft}
 use Rattle.score_box.specs.declared.points.outcomes.MatchPoints.{MatchPoints}
 use Rattle.score_box.specs.declared.cell.goals.Goals.{Goals}
-use Rattle.score_box.proofs.CellLemmas.{Says}
+use Rattle.score_box.proofs.CellLemmas.{Says, ranges_of, keeps_home_win, keeps_draw}
+use Rattle.score_box.proofs.CellLemmas.{keeps_away_win}
 use Rattle.score_box.specs.Cells.{allows, IsAllowed, at_most_one, HasOneOutcome, IsCellOf, IsEmptyCell}
+use Rattle.score_box.specs.Cells.{is_within, HasPassing, IsExactCell}
 use Rattle.score_box.specs.Points.{least_of_three, most_of_three, IsPointsOf}
-use Rattle.score_box.specs.Points.{HasPassing, AreOutcomesLeft, AreOutcomesAmong}
+use Rattle.score_box.specs.Points.{AreOutcomesLeft, AreOutcomesAmong}
 use Rattle.score_box.proofs.OutcomeLemmas.{decided}
 use Rattle.score_box.proofs.PointLemmas.{has_outcome, some_outcome, points_of_outcomes}
 
@@ -198,3 +201,79 @@ same_left cell other left same are = record {
   draw = same_passing cell other is_draw left.draw same are.draw;
   away_win = same_passing cell other is_away_win left.away_win same are.away_win;
 }
+
+-- a cell with those outcomes alone that it has a score of
+abbrev pub mended : Cell → OutcomesLeft → Cell
+mended cell left = record cell {
+  home_win = left.home_win;
+  draw = left.draw;
+  away_win = left.away_win;
+}
+
+-- for a score of an outcome: kept in the one exactly where it is in the other
+same_at : (cell : Cell) (test : Score → Bool) (score : Score) (inside has kept : Bool)
+    → HasPassing cell test has → test score ≡ true → allows cell score ≡ (inside && kept)
+    → ((other : Score) → IsAllowed cell test other → kept ≡ true)
+    → (inside && has) ≡ allows cell score
+same_at cell test score inside true kept left passed is keeps =
+    let one = has_outcome cell test left.goals left.says (sym left.is) in
+    ap (λ b. inside && b) (sym (keeps one.0 one.1)) ∙ sym is
+same_at cell test score inside false kept left passed is keeps =
+    nothing inside
+    ∙ sym (false_from_ne_true (allows cell score) (λ allowed.
+    false≢true (passes_left cell test false score left allowed passed)))
+  where
+    nothing : (b : Bool) → (b && false) ≡ false
+    nothing true = refl
+    nothing false = refl
+
+-- it has the scores of the cell
+pub mended_same : (cell : Cell) (left : OutcomesLeft) → AreOutcomesLeft cell left
+    → (score : Score) → allows (mended cell left) score ≡ allows cell score
+mended_same cell left are score =
+    let inside = is_within cell.home_least cell.home_most score.home
+    && is_within cell.away_least cell.away_most score.away in
+    outcome_cases {P = allows (mended cell left) score ≡ allows cell score} score
+    (λ wins.
+    ap (λ b. inside && b)
+    (keeps_home_win (mended cell left) score (ltb-true score.away score.home wins))
+    ∙ same_at cell is_home_win score inside left.home_win cell.home_win are.home_win wins
+    (ap (λ b. inside && b) (keeps_home_win cell score (ltb-true score.away score.home wins)))
+    (λ other one. sym (keeps_home_win cell other (ltb-true other.away other.home one.passed))
+    ∙ (ranges_of cell other one.allowed).1))
+    (λ level.
+    ap (λ b. inside && b)
+    (keeps_draw (mended cell left) score (eqb-true score.home score.away level))
+    ∙ same_at cell is_draw score inside left.draw cell.draw are.draw level
+    (ap (λ b. inside && b) (keeps_draw cell score (eqb-true score.home score.away level)))
+    (λ other one. sym (keeps_draw cell other (eqb-true other.home other.away one.passed))
+    ∙ (ranges_of cell other one.allowed).1))
+    (λ loses.
+    ap (λ b. inside && b)
+    (keeps_away_win (mended cell left) score (ltb-true score.home score.away loses))
+    ∙ same_at cell is_away_win score inside left.away_win cell.away_win are.away_win loses
+    (ap (λ b. inside && b) (keeps_away_win cell score (ltb-true score.home score.away loses)))
+    (λ other one. sym (keeps_away_win cell other (ltb-true other.home other.away one.passed))
+    ∙ (ranges_of cell other one.allowed).1))
+
+-- and so keeps what it has
+pub mended_exact : (cell : Cell) (left : OutcomesLeft) → AreOutcomesLeft cell left
+    → IsExactCell (mended cell left)
+mended_exact cell left are =
+    let same = same_left cell (mended cell left) left (λ score. sym (mended_same cell left are
+    score)) are in
+    record { home_win = same.home_win; draw = same.draw; away_win = same.away_win }
+
+-- what an exact cell keeps is what it has left
+pub exact_left : (cell : Cell) (left : OutcomesLeft) → IsExactCell cell
+    → left.home_win ≡ cell.home_win → left.draw ≡ cell.draw → left.away_win ≡ cell.away_win
+    → AreOutcomesLeft cell left
+exact_left cell left exact home draw away =
+    let Home : Bool → Type 0 = λ b. HasPassing cell is_home_win b in
+    let Draw : Bool → Type 0 = λ b. HasPassing cell is_draw b in
+    let Away : Bool → Type 0 = λ b. HasPassing cell is_away_win b in
+    record {
+      home_win = subst Home (sym home) exact.home_win;
+      draw = subst Draw (sym draw) exact.draw;
+      away_win = subst Away (sym away) exact.away_win;
+    }

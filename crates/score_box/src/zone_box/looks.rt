@@ -105,7 +105,7 @@ impl<'a> ZoneBox<'a> {
             (slice_index_or (options_in self.now.sheet self.now.season self.now.zone) fixture [])
             → AreOutcomesLeft cell result }
     {
-        OutcomesLeft::of(&self.cells[fixture as usize])
+        self.cells[fixture as usize].left()
     }
 
     /// The fixtures that are not played, by their numbers from 0, in order.
