@@ -72,23 +72,25 @@ fn add_all(lows: &mut [i32], highs: &mut [i32], fixtures: &[Fixture], cells: &[C
 }
 
 fn empty_cells(cells: &[Cell]) -> usize
+    requires { HasOptions cells.now }
     ensures { (options : List (List Score)) → AreCellsOf cells.now options
         → result ≡ empty_in options }
 {
     let mut count = 0;
     for cell in cells {
-        count += one_if(cell.is_empty());
+        count += one_if(cell.left().are_none());
     }
     count
 }
 
 fn several_outcomes(cells: &[Cell]) -> usize
+    requires { HasOptions cells.now }
     ensures { (options : List (List Score)) → AreCellsOf cells.now options
         → result ≡ open_outcomes_in options }
 {
     let mut count = 0;
     for cell in cells {
-        count += one_if(!cell.has_one_outcome());
+        count += one_if(!cell.left().are_one());
     }
     count
 }
