@@ -34,7 +34,7 @@ use Rattle.score_box.specs.Cells.{IsCellOf, IsEmptyCell}
 use Rattle.flow_bound.specs.declared.cut.Cut.{Cut}
 use Rattle.flow_bound.specs.declared.cut.Cut.TheVariants.{Floor, Ceiling}
 use Rattle.flow_bound.specs.declared.tally.Pair.{Pair}
-use Rattle.flow_bound.specs.declared.worth.Worth.{Worth}
+use Rattle.flow_bound.specs.Fixtures.{Worth}
 use Rattle.flow_bound.specs.Parts.{sum_below, entry, sum_of_side, sum_of_pairs, has_both}
 use Rattle.flow_bound.specs.Parts.{excess_in, IsPartOf}
 use Rattle.flow_bound.specs.Parts.{side_of}

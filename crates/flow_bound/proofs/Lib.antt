@@ -10,6 +10,7 @@ pub mod ChoiceLemmas
 pub mod WorthLemmas
 pub mod FixtureLemmas
 pub mod PairsLemmas
+pub mod SurplusLemmas
 pub mod ChosenLemmas
 pub mod NeededLemmas
 pub mod CutLemmas

@@ -25,7 +25,7 @@ use Rattle.score_box.proofs.SplitLemmas.{unplayed_in_range}
 use Rattle.flow_bound.specs.declared.cut.Cut.{Cut}
 use Rattle.flow_bound.specs.declared.cut.Cut.TheVariants.{Floor, Ceiling}
 use Rattle.flow_bound.specs.declared.tally.Pair.{Pair}
-use Rattle.flow_bound.specs.declared.worth.Worth.{Worth}
+use Rattle.flow_bound.specs.Fixtures.{Worth}
 use Rattle.flow_bound.specs.Fixtures.{IsWorthOf, above_nothing, beyond_over, end_of, pair_at}
 use Rattle.flow_bound.specs.Fixtures.{pairs_in, surplus_in}
 use Rattle.flow_bound.specs.Parts.{has_both, side_of, sum_of_pairs}

@@ -21,7 +21,7 @@ use Rattle.score_box.specs.Cells.{is_within, keeps_outcome, allows, IsCellOf, Is
 use Rattle.score_box.specs.Points.{IsPointsOf}
 use Rattle.flow_bound.specs.declared.cut.Cut.{Cut}
 use Rattle.flow_bound.specs.declared.cut.Cut.TheVariants.{Floor, Ceiling}
-use Rattle.flow_bound.specs.declared.worth.Worth.{Worth}
+use Rattle.flow_bound.specs.Fixtures.{Worth}
 use Rattle.flow_bound.specs.Fixtures.{end_of, worth_of_sides, IsWorthOf}
 
 -- the scores of a cell, listed

@@ -1,6 +1,6 @@
 -- What a fixture adds to the excess of a set, by the sides that are in the set.
 use Rattle.std.specs.Prelude.{◌≡◌, ℕ, ℤ, pos, negsuc, ◌+ℤ◌, ◌-ℤ◌, ◌≤ℤ◌, neg_ℤ, ◌≤◌, Bool, true}
-use Rattle.std.specs.Prelude.{false, ◌&&◌, if◌then◌else◌, List, [], ◌∷◌, map, slice_index_or}
+use Rattle.std.specs.Prelude.{false, ◌&&◌, ◌||◌, if◌then◌else◌, List, [], ◌∷◌, map, slice_index_or}
 use Rattle.league_core.specs.declared.sheet.Fixture.{Fixture}
 use Rattle.league_core.specs.declared.sheet.Sheet.{Sheet}
 use Rattle.league_core.specs.declared.season.Score.{Score}
@@ -17,7 +17,6 @@ use Rattle.flow_bound.specs.declared.cut.Cut.TheVariants.{Floor, Ceiling}
 use Rattle.score_box.specs.Settings.{Setting}
 use Rattle.score_box.specs.Unplayed.{unplayed_in}
 use Rattle.flow_bound.specs.declared.tally.Pair.{Pair}
-use Rattle.flow_bound.specs.declared.worth.Worth.{Worth}
 
 -- the end of a range that a cut looks at, counted
 abbrev pub end_of : Cut → Range → ℤ
@@ -41,6 +40,13 @@ beyond_over cut sheet season zone clubs =
     end_of cut (range_from (points_together clubs) sheet.fixtures (options_in sheet season zone))
     -ℤ total_of (λ club. end_of cut (range_from (points_together (club ∷ [])) sheet.fixtures
     (options_in sheet season zone))) clubs
+
+-- what a fixture adds where one of its clubs is in the set, and what it adds beyond that where both
+-- are; for a ceiling cut the points are counted with the sign turned
+pub record Worth : Type 0 where
+  pub home : ℤ
+  pub away : ℤ
+  pub surplus : ℕ
 
 -- what the sides add that count: each alone, and both beyond that
 abbrev pub worth_of_sides : Worth → Bool → Bool → ℤ
@@ -76,6 +82,18 @@ surplus_in cut options =
     above_nothing (end_of cut (range_of (points_of_sides true true) options)
     -ℤ end_of cut (range_of (points_of_sides true false) options)
     -ℤ end_of cut (range_of (points_of_sides false true) options))
+
+-- that surplus where all three outcomes are among the options
+abbrev pub surplus_of_all : Cut → ℕ
+surplus_of_all Floor = 2
+surplus_of_all Ceiling = 3
+
+-- and by which of the outcomes are among them
+abbrev pub surplus_left : Cut → Bool → Bool → Bool → ℕ
+surplus_left cut home_win draw away_win =
+    if home_win && away_win then (if draw then surplus_of_all cut else 3)
+    else if draw && (home_win || away_win) then 1
+    else 0
 
 -- the clubs of the match of a number, and its surplus
 abbrev pub pair_at : Cut → Setting → ℕ → Pair

@@ -18,7 +18,7 @@ ghost use Rattle.flow_bound.specs.Fixtures.{pair_at, pairs_in};
 
 use crate::cut::Cut;
 use crate::table::{Table, credit, is_over};
-use crate::tally::{Pair, pair_within};
+use crate::tally::pair_within;
 use league_core::ClubSet;
 use league_core::limits::SET_WIDTH;
 use score_box::ZoneBox;
@@ -87,27 +87,10 @@ fn credit_match(table: &mut Table, zone_box: &ZoneBox, cut: Cut, number: u16, se
         → IsClubTable (credits + 2) table.new }
 {
     if let Some(pair) = pair_within(zone_box, cut, number, set) {
-        credit_both(table, pair, set);
+        let surplus = i64::from(pair.surplus);
+        credit(table, pair.home, surplus);
+        credit(table, pair.away, surplus);
     }
-}
-
-/// Adds the surplus of a pair of the set to the entries of both its clubs.
-fn credit_both(table: &mut Table, pair: Pair, set: ClubSet)
-    requires small { pair.surplus ≤ 3 }
-    requires sized { (credits : ℕ) × (credits < 5 * most_fixtures) × IsClubTable credits table.old }
-    ensures sums { (side : ℕ → Bool) → sum_of_side table.new side
-        ≡ sum_of_side table.old side
-        +ℤ pos (if has_home_in (side_of set) side pair then pair.surplus else 0)
-        +ℤ pos (if has_away_in (side_of set) side pair then pair.surplus else 0) }
-    ensures sized { (credits : ℕ) → IsClubTable credits table.old
-        → IsClubTable (credits + 2) table.new }
-{
-    if !set.has(pair.home) || !set.has(pair.away) {
-        return;
-    }
-    let surplus = i64::from(pair.surplus);
-    credit(table, pair.home, surplus);
-    credit(table, pair.away, surplus);
 }
 
 /// The clubs of a set with an entry above 0.

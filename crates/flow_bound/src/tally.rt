@@ -1,7 +1,7 @@
 //! The parts of the excess of every set: what each club adds alone, and what each two clubs that
 //! still meet add beyond that where both are in the set.
 
-ghost use Rattle.std.specs.Prelude.{◌≡◌, ◌≢◌, ℕ, ◌+◌, ◌^◌, ◌<◌, ◌≤◌, ◌+ℤ◌, ◌≤ℤ◌, pos, neg_ℤ, Bool};
+ghost use Rattle.std.specs.Prelude.{◌≡◌, ◌≢◌, ◌⊎◌, ℕ, ◌+◌, ◌^◌, ◌<◌, ◌≤◌, ◌+ℤ◌, ◌≤ℤ◌, pos, neg_ℤ, Bool};
 ghost use Rattle.std.specs.Prelude.{◌&&◌, List, false, true, length, if◌then◌else◌, is_ok};
 ghost use Rattle.std.specs.Prelude.{IfOk, MatchOption};
 ghost use Rattle.std.specs.List.{All};
@@ -16,7 +16,7 @@ ghost use Rattle.flow_bound.specs.Fixtures.{excess_over, pair_at, pairs_in};
 
 use crate::cut::Cut;
 use crate::table::{Table, alone_table};
-use crate::worth::Worth;
+use crate::worth::surplus_of;
 use league_core::{ClubSet, Fixture, OutOfMemory};
 use score_box::ZoneBox;
 use std::alloc::Global;
@@ -48,16 +48,23 @@ pub fn own_entries(zone_box: &ZoneBox, cut: Cut, level: i64) -> Table
     alone_table(zone_box, cut, level)
 }
 
-/// The pair of a match that is not played, where both its clubs are in the set.
+/// The pair of a match that is not played, where both its clubs are in the set and it has a
+/// surplus.
 pub fn pair_within(zone_box: &ZoneBox, cut: Cut, number: u16, set: ClubSet) -> Option<Pair>
     requires has_finish { HasFinish zone_box.now }
     requires in_range { number < length zone_box.now.season.scores }
     ensures { MatchOption result
-        (has_both (side_of set) (pair_at cut zone_box.now number) ≡ false)
+        ((has_both (side_of set) (pair_at cut zone_box.now number) ≡ false)
+        ⊎ ((pair_at cut zone_box.now number).surplus ≡ 0))
         (λ pair. (pair ≡ pair_at cut zone_box.now number)
         × (has_both (side_of set) pair ≡ true) × (pair.home ≢ pair.away) × (pair.surplus ≤ 3)) }
 {
     let _season = zone_box.season();
+    let _cell = zone_box.cell(number);
+    let surplus = surplus_of(zone_box.outcomes_left(number), cut);
+    if surplus == 0 {
+        return None;
+    }
     let fixture = zone_box.sheet().fixtures.as_slice()[number as usize];
     if !are_both(set, fixture) {
         return None;
@@ -65,7 +72,7 @@ pub fn pair_within(zone_box: &ZoneBox, cut: Cut, number: u16, set: ClubSet) -> O
     Some(Pair {
         home: fixture.home,
         away: fixture.away,
-        surplus: Worth::of(zone_box.cell(number), cut).surplus,
+        surplus,
     })
 }
 

@@ -1,39 +1,33 @@
-//! What one fixture adds to the excess of a set, by the points that its cell leaves.
+//! What one fixture adds to the excess of a set beyond what it adds to each of its clubs alone.
 
-ghost use Rattle.score_box.specs.Cells.{IsEmptyCell};
-ghost use Rattle.flow_bound.specs.Fixtures.{IsWorthOf};
+ghost use Rattle.std.specs.Prelude.{◌≡◌, ◌≤◌};
+ghost use Rattle.flow_bound.specs.Fixtures.{surplus_left, surplus_of_all};
 
 use crate::cut::Cut;
-use score_box::{Cell, MatchPoints};
+use score_box::OutcomesLeft;
 
-/// What a fixture adds where one of its clubs is in the set, and what it adds beyond that where
-/// both are. For a ceiling cut the points are counted with the sign turned.
-#[derive(Clone, Copy)]
-pub struct Worth {
-    pub home: i64,
-    pub away: i64,
-    pub surplus: u8,
+/// What both clubs of a match get together beyond what each gets alone, by the outcomes that are
+/// left: with two wins three points, one of which a draw gives back.
+pub fn surplus_of(left: OutcomesLeft, cut: Cut) -> u8
+    ensures value { result ≡ surplus_left cut left.home_win left.draw left.away_win }
+    ensures small { result ≤ 3 }
+{
+    if left.home_win && left.away_win {
+        if left.draw { surplus_of_all(cut) } else { 3 }
+    } else if left.draw && (left.home_win || left.away_win) {
+        1
+    } else {
+        0
+    }
 }
 
-impl Worth {
-    pub fn of(cell: &Cell, cut: Cut) -> Worth
-        requires { ¬ IsEmptyCell cell.now }
-        ensures { IsWorthOf cut cell.now result }
-    {
-        let home = MatchPoints::of(cell, true, false);
-        let away = MatchPoints::of(cell, false, true);
-        let both = MatchPoints::of(cell, true, true);
-        match cut {
-            Cut::Floor => Worth {
-                home: i64::from(home.least),
-                away: i64::from(away.least),
-                surplus: both.least - (home.least + away.least),
-            },
-            Cut::Ceiling => Worth {
-                home: -i64::from(home.most),
-                away: -i64::from(away.most),
-                surplus: home.most + away.most - both.most,
-            },
-        }
+/// Where all three outcomes are left: least points come by draws, most points by wins.
+fn surplus_of_all(cut: Cut) -> u8
+    ensures value { result ≡ surplus_of_all cut }
+    ensures small { result ≤ 3 }
+{
+    match cut {
+        Cut::Floor => 2,
+        Cut::Ceiling => 3,
     }
 }

@@ -2,7 +2,7 @@
 -- them.
 use Rattle.std.proofs.Common.{◌≡◌, ℕ, zero, suc, ◌+◌, ◌<◌, ◌≤◌, ◌≢◌, ◌⊎◌, Bool, true, false, not}
 use Rattle.std.proofs.Common.{◌&&◌, ◌||◌, ◌==◌, List, [], ◌∷◌, ◌++◌, length, get_or, set, Option}
-use Rattle.std.proofs.Common.{Some, None, refl, sym, ap, ◌∙◌, inl, inr, arith}
+use Rattle.std.proofs.Common.{Some, None, refl, sym, ap, ◌∙◌, subst, inl, inr, arith}
 use Rattle.std.specs.Bool.{MatchBool}
 use Rattle.std.specs.List.{All, AllWithin, HoldsAt, list_all}
 use Rattle.std.proofs.Math.Bool.{and-true, or-false}
@@ -29,7 +29,7 @@ use Rattle.league_core.proofs.OptionLemmas.{has_score-options_of, has_score-with
 use Rattle.league_core.proofs.OptionLemmas.{length-options_from, get_or-options_from, all_options}
 use Rattle.league_core.proofs.OptionLemmas.{each_option}
 use Rattle.score_box.specs.declared.cell.Cell.{Cell}
-use Rattle.score_box.specs.Cells.{allows, IsCellOf, IsEmptyCell, HasOneScore}
+use Rattle.score_box.specs.Cells.{allows, IsCellOf, IsEmptyCell, IsExactCell, HasOneScore}
 use Rattle.score_box.specs.Boxes.{AreCellsOf, IsTestBelow}
 
 -- the options of a fixture by its number in the sheet
@@ -91,7 +91,21 @@ takes_mark cells literal off limit zone scores are = record {
       ∙ ap (λ b. has_score (get_or (options_from limit zone 0 scores) k []) score && b)
       (sym (meets-other k score literal (off k)))
       ∙ sym (options_at-with limit zone literal scores k score inside);
+  exact = are.exact;
 }
+
+-- where a cell is put among others, all are exact
+pub exact_set : (cells : List Cell) (f : ℕ) (cell : Cell) → f < length cells
+    → All IsExactCell cells → IsExactCell cell → All IsExactCell (set cells f cell)
+exact_set cells f cell in_range all is k d within = at (cases_eq k f)
+  where
+    at : (k ≡ f) ⊎ (k ≢ f) → IsExactCell (get_or (set cells f cell) k d)
+    at (inl same) =
+        subst IsExactCell (sym (ap (λ n. get_or (set cells f cell) n d) same
+        ∙ get_or-set_same cells f cell d in_range)) is
+    at (inr other) =
+        subst IsExactCell (sym (get_or-set_other cells f k cell d other))
+        (all k d (omega (arith, within, length-set cells f cell)))
 
 -- where a fixture is tested, its cell is cut, and each other stays
 pub takes_cut : (cells : List Cell) (fixture : ℕ) (cell : Cell) (literal : Literal)
@@ -99,8 +113,8 @@ pub takes_cut : (cells : List Cell) (fixture : ℕ) (cell : Cell) (literal : Lit
     → ((d : Cell) (score : Score)
     → allows cell score ≡
     (allows (get_or cells fixture d) score && is_as_said literal.yes (passes literal.test score)))
-    → TakesLiteral cells (set cells fixture cell) literal
-takes_cut cells fixture cell literal in_range on cut limit zone scores are = record {
+    → IsExactCell cell → TakesLiteral cells (set cells fixture cell) literal
+takes_cut cells fixture cell literal in_range on cut is_exact limit zone scores are = record {
   many = length-set cells fixture cell ∙ are.many ∙ length-options_from limit zone 0 scores
       ∙ sym (length-options_from limit (zone ++ literal ∷ []) 0 scores);
   each = λ k d within score.
@@ -113,6 +127,7 @@ takes_cut cells fixture cell literal in_range on cut limit zone scores are = rec
       ) in
       at k d score below (cases_eq k fixture)
       ∙ sym (options_at-with limit zone literal scores k score inside);
+  exact = exact_set cells fixture cell in_range are.exact is_exact;
 }
   where
     at : (k : ℕ) (d : Cell) (score : Score) → k < length cells → (k ≡ fixture) ⊎ (k ≢ fixture)
@@ -157,6 +172,16 @@ options_push cells cell options have is k d within = at (cases_eq k (length cell
         let below : k < length cells = omega (arith, length_push cells cell) in
         λ score. ap (λ c. allows c score) (get_or_append_left cells (cell ∷ []) d k below)
         ∙ have k d below score
+
+pub exact_push : (cells : List Cell) (cell : Cell) → All IsExactCell cells → IsExactCell cell
+    → All IsExactCell (cells ++ cell ∷ [])
+exact_push cells cell all is k d within = at (cases_eq k (length cells))
+  where
+    at : (k ≡ length cells) ⊎ (k ≢ length cells) → IsExactCell (get_or (cells ++ cell ∷ []) k d)
+    at (inl last) = subst IsExactCell (sym (get_or_push cells cell d k (sym last))) is
+    at (inr before) =
+        let below : k < length cells = omega (arith, length_push cells cell) in
+        subst IsExactCell (sym (get_or_append_left cells (cell ∷ []) d k below)) (all k d below)
 
 -- a cell that has what its fixture may end with has its options where no literal is asked for
 pub first_options : (limit : ℕ) (scores : List (Option Score)) (k : ℕ) (cell : Cell)
@@ -219,6 +244,7 @@ tail_of : (cell : Cell) (cells : List Cell) (o : List Score) (options : List (Li
 tail_of cell cells o options are = record {
   many = let e = are.many in omega arith;
   each = λ k d within. are.each (suc k) d (omega arith);
+  exact = λ k d within. are.exact (suc k) d (omega arith);
 }
 
 -- what holds of each cell, and what of each list of options, where the one gives the other

@@ -53,20 +53,20 @@ allows_from cell score ranges outcome =
     outcome
 
 -- the outcome of a score is kept where the cell keeps home wins, draws or away wins
-keeps_home_win : (cell : Cell) (score : Score) → score.away < score.home
+pub keeps_home_win : (cell : Cell) (score : Score) → score.away < score.home
     → keeps_outcome cell score ≡ cell.home_win
 keeps_home_win cell score wins =
     ap (λ b. cond b cell.home_win (cond (is_draw score) cell.draw cell.away_win))
     (lt-ltb score.away score.home wins)
 
-keeps_draw : (cell : Cell) (score : Score) → score.home ≡ score.away
+pub keeps_draw : (cell : Cell) (score : Score) → score.home ≡ score.away
     → keeps_outcome cell score ≡ cell.draw
 keeps_draw cell score level =
     ap (λ b. cond b cell.home_win (cond (is_draw score) cell.draw cell.away_win))
     (le-ltb score.away score.home (omega arith))
     ∙ ap (λ b. cond b cell.draw cell.away_win) (eq-eqb score.home score.away level)
 
-keeps_away_win : (cell : Cell) (score : Score) → score.home < score.away
+pub keeps_away_win : (cell : Cell) (score : Score) → score.home < score.away
     → keeps_outcome cell score ≡ cell.away_win
 keeps_away_win cell score loses =
     ap (λ b. cond b cell.home_win (cond (is_draw score) cell.draw cell.away_win))

@@ -1,15 +1,24 @@
 -- What the outcomes that a cell has left say of it.
 use Rattle.std.proofs.Common.{◌≡◌, Bool, true, false, not, ◌||◌, is_some, refl, sym, ap, ◌∙◌}
-use Rattle.std.proofs.lemmas.Bool.{false≢true, false_from_ne_true}
+use Rattle.std.proofs.Common.{List, [], ◌∷◌, ◌&&◌, inl, inr, Option, Some, None, subst}
+use Rattle.std.specs.List.{list_any}
+use Rattle.std.proofs.lemmas.Bool.{false≢true, false_from_ne_true, or_cases, or_left, or_right}
+use Rattle.std.proofs.lemmas.Bool.{ltb-true, eqb-true}
 use Rattle.league_core.specs.declared.season.Score.{Score}
-use Rattle.league_core.specs.Options.{is_home_win, is_draw, is_away_win}
+use Rattle.league_core.specs.Finishes.{same_score}
+use Rattle.league_core.specs.Options.{is_home_win, is_draw, is_away_win, has_score}
+use Rattle.league_core.proofs.OptionLemmas.{same_score-true, has_score-first}
 use Rattle.league_core.proofs.OutcomeLemmas.{outcome_cases}
 use Rattle.score_box.specs.declared.cell.Cell.{Cell}
 use Rattle.score_box.specs.declared.points.left.OutcomesLeft.{OutcomesLeft}
 use Rattle.score_box.specs.declared.points.outcomes.MatchPoints.{MatchPoints}
-use Rattle.score_box.specs.Cells.{allows, at_most_one, HasOneOutcome, IsEmptyCell}
+use Rattle.score_box.specs.declared.cell.goals.Goals.{Goals}
+use Rattle.score_box.proofs.CellLemmas.{Says, ranges_of, keeps_home_win, keeps_draw}
+use Rattle.score_box.proofs.CellLemmas.{keeps_away_win}
+use Rattle.score_box.specs.Cells.{allows, IsAllowed, at_most_one, HasOneOutcome, IsCellOf, IsEmptyCell}
+use Rattle.score_box.specs.Cells.{is_within, HasPassing, IsExactCell}
 use Rattle.score_box.specs.Points.{least_of_three, most_of_three, IsPointsOf}
-use Rattle.score_box.specs.Points.{HasPassing, AreOutcomesLeft}
+use Rattle.score_box.specs.Points.{AreOutcomesLeft, AreOutcomesAmong}
 use Rattle.score_box.proofs.OutcomeLemmas.{decided}
 use Rattle.score_box.proofs.PointLemmas.{has_outcome, some_outcome, points_of_outcomes}
 
@@ -104,3 +113,167 @@ points_left-are cell left home away points are some least_is most_is =
     ∙ ap (λ b. most_of_three b left.draw left.away_win home away) are.home_win.is
     ∙ ap (λ b. most_of_three h b left.away_win home away) are.draw.is
     ∙ ap (λ b. most_of_three h d b home away) are.away_win.is)
+
+-- a score that passes shows that one does, and where one does there is such a score
+any_shows : (test : Score → Bool) (options : List Score) (score : Score)
+    → has_score options score ≡ true → test score ≡ true → list_any test options ≡ true
+any_shows test [] score is passed = absurd (false≢true is)
+any_shows test (first ∷ options) score is passed =
+    elim (or_cases (same_score score first) (has_score options score) is) as
+    (λ _. list_any test (first ∷ options) ≡ true) [
+      | inl same ↦
+          or_left (test first) (list_any test options)
+          (ap test (sym (same_score-true score first same)) ∙ passed)
+      | inr later ↦
+          or_right (test first) (list_any test options) (any_shows test options score later passed)
+    ]
+
+any_gives : (test : Score → Bool) (options : List Score) → list_any test options ≡ true
+    → (score : Score) × (has_score options score ≡ true) × (test score ≡ true)
+any_gives test [] some = absurd (false≢true some)
+any_gives test (first ∷ options) some =
+    elim (or_cases (test first) (list_any test options) some) as
+    (λ _. (score : Score) × (has_score (first ∷ options) score ≡ true) × (test score ≡ true)) [
+      | inl passed ↦ (first, has_score-first first options, passed)
+      | inr later ↦
+          let found = any_gives test options later in
+          (found.0, or_right (same_score found.0 first) (has_score options found.0) found.1, found.2)
+    ]
+
+-- the cell has a score that passes exactly where the options have one
+passing_among : (cell : Cell) (options : List Score) (test : Score → Bool) (has : Bool)
+    → IsCellOf cell options → HasPassing cell test has → has ≡ list_any test options
+passing_among cell options test true is left =
+    let found = has_outcome cell test left.goals left.says (sym left.is) in
+    sym (any_shows test options found.0 (sym (is found.0) ∙ found.1.allowed) found.1.passed)
+passing_among cell options test false is left =
+    sym (false_from_ne_true (list_any test options) (λ some.
+    let found = any_gives test options some in
+    false≢true (passes_left cell test false found.0 left (is found.0 ∙ found.1) found.2)))
+
+pub left_among : (cell : Cell) (options : List Score) (left : OutcomesLeft)
+    → IsCellOf cell options → AreOutcomesLeft cell left → AreOutcomesAmong options left
+left_among cell options left is are = record {
+  home_win = passing_among cell options is_home_win left.home_win is are.home_win;
+  draw = passing_among cell options is_draw left.draw is are.draw;
+  away_win = passing_among cell options is_away_win left.away_win is are.away_win;
+}
+
+-- two cells with the same scores have the same outcomes left
+same_passing : (cell other : Cell) (test : Score → Bool) (has : Bool)
+    → ((score : Score) → allows cell score ≡ allows other score) → HasPassing cell test has
+    → HasPassing other test has
+same_passing cell other test has same left = record {
+  goals = left.goals;
+  says = moved left.goals left.says;
+  is = left.is;
+}
+  where
+    there : (score : Score) → IsAllowed cell test score → IsAllowed other test score
+    there score one = record { allowed = sym (same score) ∙ one.allowed; passed = one.passed }
+
+    back : (score : Score) → IsAllowed other test score → IsAllowed cell test score
+    back score one = record { allowed = same score ∙ one.allowed; passed = one.passed }
+
+    moved : (goals : Option Goals) → Says cell test goals → Says other test goals
+    moved None none = λ score one. none score (back score one)
+    moved (Some goals) span = record {
+      within = λ score one. span.within score (back score one);
+      home_least = (
+        span.home_least.0,
+        there span.home_least.0 span.home_least.1,
+        span.home_least.2,
+      );
+      home_most = (span.home_most.0, there span.home_most.0 span.home_most.1, span.home_most.2);
+      away_least = (
+        span.away_least.0,
+        there span.away_least.0 span.away_least.1,
+        span.away_least.2,
+      );
+      away_most = (span.away_most.0, there span.away_most.0 span.away_most.1, span.away_most.2);
+    }
+
+pub same_left : (cell other : Cell) (left : OutcomesLeft)
+    → ((score : Score) → allows cell score ≡ allows other score) → AreOutcomesLeft cell left
+    → AreOutcomesLeft other left
+same_left cell other left same are = record {
+  home_win = same_passing cell other is_home_win left.home_win same are.home_win;
+  draw = same_passing cell other is_draw left.draw same are.draw;
+  away_win = same_passing cell other is_away_win left.away_win same are.away_win;
+}
+
+-- a cell with those outcomes alone that it has a score of
+abbrev pub mended : Cell → OutcomesLeft → Cell
+mended cell left = record cell {
+  home_win = left.home_win;
+  draw = left.draw;
+  away_win = left.away_win;
+}
+
+-- for a score of an outcome: kept in the one exactly where it is in the other
+same_at : (cell : Cell) (test : Score → Bool) (score : Score) (inside has kept : Bool)
+    → HasPassing cell test has → test score ≡ true → allows cell score ≡ (inside && kept)
+    → ((other : Score) → IsAllowed cell test other → kept ≡ true)
+    → (inside && has) ≡ allows cell score
+same_at cell test score inside true kept left passed is keeps =
+    let one = has_outcome cell test left.goals left.says (sym left.is) in
+    ap (λ b. inside && b) (sym (keeps one.0 one.1)) ∙ sym is
+same_at cell test score inside false kept left passed is keeps =
+    nothing inside
+    ∙ sym (false_from_ne_true (allows cell score) (λ allowed.
+    false≢true (passes_left cell test false score left allowed passed)))
+  where
+    nothing : (b : Bool) → (b && false) ≡ false
+    nothing true = refl
+    nothing false = refl
+
+-- it has the scores of the cell
+pub mended_same : (cell : Cell) (left : OutcomesLeft) → AreOutcomesLeft cell left
+    → (score : Score) → allows (mended cell left) score ≡ allows cell score
+mended_same cell left are score =
+    let inside = is_within cell.home_least cell.home_most score.home
+    && is_within cell.away_least cell.away_most score.away in
+    outcome_cases {P = allows (mended cell left) score ≡ allows cell score} score
+    (λ wins.
+    ap (λ b. inside && b)
+    (keeps_home_win (mended cell left) score (ltb-true score.away score.home wins))
+    ∙ same_at cell is_home_win score inside left.home_win cell.home_win are.home_win wins
+    (ap (λ b. inside && b) (keeps_home_win cell score (ltb-true score.away score.home wins)))
+    (λ other one. sym (keeps_home_win cell other (ltb-true other.away other.home one.passed))
+    ∙ (ranges_of cell other one.allowed).1))
+    (λ level.
+    ap (λ b. inside && b)
+    (keeps_draw (mended cell left) score (eqb-true score.home score.away level))
+    ∙ same_at cell is_draw score inside left.draw cell.draw are.draw level
+    (ap (λ b. inside && b) (keeps_draw cell score (eqb-true score.home score.away level)))
+    (λ other one. sym (keeps_draw cell other (eqb-true other.home other.away one.passed))
+    ∙ (ranges_of cell other one.allowed).1))
+    (λ loses.
+    ap (λ b. inside && b)
+    (keeps_away_win (mended cell left) score (ltb-true score.home score.away loses))
+    ∙ same_at cell is_away_win score inside left.away_win cell.away_win are.away_win loses
+    (ap (λ b. inside && b) (keeps_away_win cell score (ltb-true score.home score.away loses)))
+    (λ other one. sym (keeps_away_win cell other (ltb-true other.home other.away one.passed))
+    ∙ (ranges_of cell other one.allowed).1))
+
+-- and so keeps what it has
+pub mended_exact : (cell : Cell) (left : OutcomesLeft) → AreOutcomesLeft cell left
+    → IsExactCell (mended cell left)
+mended_exact cell left are =
+    let same = same_left cell (mended cell left) left (λ score. sym (mended_same cell left are
+    score)) are in
+    record { home_win = same.home_win; draw = same.draw; away_win = same.away_win }
+
+-- what an exact cell keeps is what it has left
+pub exact_left : (cell : Cell) (left : OutcomesLeft) → IsExactCell cell
+    → left.home_win ≡ cell.home_win → left.draw ≡ cell.draw → left.away_win ≡ cell.away_win
+    → AreOutcomesLeft cell left
+exact_left cell left exact home draw away =
+    let Home : Bool → Type 0 = λ b. HasPassing cell is_home_win b in
+    let Draw : Bool → Type 0 = λ b. HasPassing cell is_draw b in
+    let Away : Bool → Type 0 = λ b. HasPassing cell is_away_win b in
+    record {
+      home_win = subst Home (sym home) exact.home_win;
+      draw = subst Draw (sym draw) exact.draw;
+      away_win = subst Away (sym away) exact.away_win;
+    }

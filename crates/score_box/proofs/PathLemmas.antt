@@ -27,7 +27,7 @@ use Rattle.league_core.specs.Options.{meets_literal, options_of, options_from}
 use Rattle.league_core.specs.Options.{has_score}
 use Rattle.league_core.proofs.OptionLemmas.{length-options_from}
 use Rattle.score_box.specs.declared.cell.Cell.{Cell}
-use Rattle.score_box.specs.Cells.{allows, IsCellOf}
+use Rattle.score_box.specs.Cells.{allows, IsCellOf, IsExactCell}
 use Rattle.score_box.specs.Unplayed.{is_unplayed, unplayed_below}
 use Rattle.score_box.specs.Boxes.{AreCellsOf, IsSetOf}
 use Rattle.score_box.specs.declared.ends.Ends.{Ends}
@@ -37,7 +37,7 @@ use Rattle.score_box.specs.Stages.{IsBoxOf, IsUndoOf}
 use Rattle.score_box.proofs.TrailLemmas.{trail_more, trail_less}
 use Rattle.score_box.specs.declared.totals.Totals.{Totals}
 use Rattle.score_box.proofs.EndLemmas.{set_is}
-use Rattle.score_box.proofs.BoxLemmas.{options_at, options_at-with, meets-other}
+use Rattle.score_box.proofs.BoxLemmas.{options_at, options_at-with, meets-other, exact_set}
 use Rattle.score_box.proofs.BoxLemmas.{marked_before-push, marked_after-push}
 
 -- none is below 0, and the next fixture follows those before it if it is not played
@@ -160,6 +160,7 @@ gives_mark limit zone last scores cells off are = record {
       ) in
       are.each k d within score
       ∙ options_without limit zone last scores k score inside (off k);
+  exact = are.exact;
 }
 
 -- and one that is on a fixture by that fixture's cell
@@ -167,9 +168,9 @@ pub gives_cell : (limit : ℕ) (zone : List Literal) (last : Literal) (scores : 
     (cells : List Cell) (fixture : ℕ) (cell : Cell)
     → ((number : ℕ) → is_on number last.test ≡ (fixture == number)) → fixture < length scores
     → IsCellOf cell (options_of limit zone fixture (get_or scores fixture None))
-    → AreCellsOf cells (options_from limit (zone ++ last ∷ []) 0 scores)
+    → IsExactCell cell → AreCellsOf cells (options_from limit (zone ++ last ∷ []) 0 scores)
     → AreCellsOf (set cells fixture cell) (options_from limit zone 0 scores)
-gives_cell limit zone last scores cells fixture cell on in_range is are = record {
+gives_cell limit zone last scores cells fixture cell on in_range is is_exact are = record {
   many = length-set cells fixture cell ∙ are.many
       ∙ length-options_from limit (zone ++ last ∷ []) 0 scores
       ∙ sym (length-options_from limit zone 0 scores);
@@ -181,6 +182,9 @@ gives_cell limit zone last scores cells fixture cell on in_range is are = record
         length-options_from limit (zone ++ last ∷ []) 0 scores,
       ) in
       at k d score below inside (cases_eq k fixture);
+  exact = exact_set cells fixture cell
+      (omega (arith, in_range, are.many, length-options_from limit (zone ++ last ∷ []) 0 scores))
+      are.exact is_exact;
 }
   where
     at : (k : ℕ) (d : Cell) (score : Score) → k < length cells → k < length scores

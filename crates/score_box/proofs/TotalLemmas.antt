@@ -21,8 +21,8 @@ use Rattle.league_core.specs.ClubSets.{clubs_below}
 use Rattle.league_core.specs.Sums.{sum_among}
 use Rattle.league_core.specs.PairSums.{sum_against}
 use Rattle.league_core.specs.PointRanges.{total_of}
-use Rattle.league_core.proofs.ClubSetLemmas.{has_club-clubs_below, clubs_below-none}
-use Rattle.league_core.proofs.PointRangeLemmas.{total_of-same, total_of-next}
+use Rattle.league_core.proofs.ClubSetLemmas.{has_club-clubs_below}
+use Rattle.league_core.proofs.PointRangeLemmas.{total_of-same}
 use Rattle.league_core.proofs.SumLemmas.{sum_over-agree, total_of-sum_over, total_of-zero}
 use Rattle.score_box.proofs.SplitLemmas.{one_of_set}
 use Rattle.score_box.specs.declared.totals.Totals.{Totals}
@@ -467,24 +467,9 @@ sum_among-set worth sheet season bits club limits member =
         (not (match.home == match.away)) is).1 in
         true≢false (sym different ∙ ap not (eq-eqb match.home match.away same))
 
--- rows that are added up to a club, and one club more
-pub pairs_more : (value : ℕ → ℤ) (bits count : ℕ) (old new : ℤ) → count < 32
-    → old ≡ total_of value (clubs_below count bits)
-    → new ≡ (old +ℤ cond (has_club (clubs_below 32 bits) count) (value count) (pos 0))
-    → new ≡ total_of value (clubs_below (count + 1) bits)
-pairs_more value bits count old new within so_far is =
-    let next = total_of-next value count bits within in omega (arith, ints, so_far, is, next)
-
 -- of no club there is none
-pub pairs_none : (pairs : List Totals) (club bits : ℕ)
-    → AddsPairs pairs club (clubs_below 0 bits) no_totals
-pairs_none pairs club bits column =
-    zero_in column
-    ∙ ap (total_of (λ rival. total_in (totals_at pairs (pair_place club rival)) column))
-    (sym (clubs_below-none bits))
-  where
-    zero_in : (column : Column) → total_in no_totals column ≡ pos 0
-    zero_in = each_column _ refl refl refl refl refl refl
+pub zero_in : (column : Column) → total_in no_totals column ≡ pos 0
+zero_in = each_column _ refl refl refl refl refl refl
 
 pub near_none : AreTotalsNear 0 no_totals
 near_none = each_column _ (omega (arith, ints), omega (arith, ints))

@@ -13,7 +13,7 @@ use Rattle.league_core.specs.Options.{options_from, has_score}
 use Rattle.league_core.proofs.OptionLemmas.{length-options_from}
 use Rattle.score_box.specs.declared.cell.Cell.{Cell}
 use Rattle.score_box.specs.declared.trail.Undo.{Undo}
-use Rattle.score_box.specs.Cells.{allows}
+use Rattle.score_box.specs.Cells.{allows, IsExactCell}
 use Rattle.score_box.specs.Boxes.{AreCellsOf, IsTestBelow}
 use Rattle.score_box.specs.Stages.{IsCellBefore, IsUndoOf, IsTrailOf}
 use Rattle.score_box.proofs.BoxLemmas.{options_at}
@@ -39,17 +39,19 @@ pub cell_before : (limit : ℕ) (zone : List Literal) (scores : List (Option Sco
     → ((number : ℕ) (d : Cell) → is_on number literal.test ≡ true
     → cell ≡ get_or cells number d)
     → IsCellBefore limit scores zone literal cell
-cell_before limit zone scores cells literal cell are below is number on score =
+cell_before limit zone scores cells literal cell are below is number on =
     let within : number < length cells = below_on literal.test (length cells) 32 number below on in
     let inside : number < length scores = omega (
       arith,
       within,
       are.many,
       length-options_from limit zone 0 scores,
-    ) in
-    ap (λ c. allows c score) (is number cell on)
-    ∙ are.each number cell within score
-    ∙ ap (λ options. has_score options score) (options_at limit zone scores number inside)
+    ) in (
+      λ score. ap (λ c. allows c score) (is number cell on)
+          ∙ are.each number cell within score
+          ∙ ap (λ options. has_score options score) (options_at limit zone scores number inside),
+      subst IsExactCell (sym (is number cell on)) (are.exact number cell within),
+    )
 
 -- the same undo of the same literal behind the same zone
 undo_same : (limit : ℕ) (scores : List (Option Score)) (zone zone_too : List Literal)

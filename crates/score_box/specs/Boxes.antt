@@ -1,6 +1,7 @@
 -- Boxes: the cells of a zone in the order of the fixtures, and the rivals that the zone marks. A
 -- box is seen as what it was made from.
 use Rattle.std.specs.Prelude.{◌≡◌, ℕ, ◌<◌, Bool, not, List, [], length, count_by, slice_index_or}
+use Rattle.std.specs.List.{All}
 use Rattle.league_core.specs.declared.season.Score.{Score}
 use Rattle.league_core.specs.declared.club_set.ClubSet.{ClubSet}
 use Rattle.league_core.specs.declared.zone.Test.{Test}
@@ -9,13 +10,14 @@ use Rattle.league_core.specs.Sums.{has_club}
 use Rattle.league_core.specs.ClubSets.{clubs_in}
 use Rattle.league_core.specs.Options.{has_one_outcome}
 use Rattle.score_box.specs.declared.cell.Cell.{Cell}
-use Rattle.score_box.specs.Cells.{IsCellOf}
+use Rattle.score_box.specs.Cells.{IsCellOf, IsExactCell}
 
--- one cell for each fixture, which has the fixture's options
+-- one exact cell for each fixture, which has the fixture's options
 pub record AreCellsOf (cells : List Cell) (options : List (List Score)) : Type 0 where
   pub many : length cells ≡ length options
   pub each : (k : ℕ) (d : Cell) → k < length cells
       → IsCellOf (slice_index_or cells k d) (slice_index_or options k [])
+  pub exact : All IsExactCell cells
 
 -- the cells have the options of some lists
 abbrev pub HasOptions : List Cell → Type 0

@@ -1,10 +1,11 @@
 -- Cells: the scores that are still open for one fixture, kept as a set of outcomes and a range of
 -- goals for each side, and seen as the set of those scores.
 use Rattle.std.specs.Prelude.{◌≡◌, ℕ, ◌≤◌, Bool, true, false, not, ◌&&◌, nat_le, if◌then◌else◌}
-use Rattle.std.specs.Prelude.{IsTrue}
+use Rattle.std.specs.Prelude.{IsTrue, Option, MatchOption, is_some}
 use Rattle.std.specs.Prelude.{List}
 use Rattle.league_core.specs.declared.season.Score.{Score}
-use Rattle.league_core.specs.Options.{is_home_win, is_draw, same_outcome, has_score}
+use Rattle.league_core.specs.Options.{is_home_win, is_draw, is_away_win, same_outcome}
+use Rattle.league_core.specs.Options.{has_score}
 use Rattle.score_box.specs.declared.cell.Cell.{Cell}
 use Rattle.score_box.specs.declared.cell.goals.Goals.{Goals}
 
@@ -55,6 +56,18 @@ pub record IsSpanOf (cell : Cell) (test : Score → Bool) (goals : Goals) : Type
   pub home_most : (score : Score) × IsAllowed cell test score × (score.home ≡ goals.home_most)
   pub away_least : (score : Score) × IsAllowed cell test score × (score.away ≡ goals.away_least)
   pub away_most : (score : Score) × IsAllowed cell test score × (score.away ≡ goals.away_most)
+
+-- whether the cell has a score that passes: where it has, such scores have these goals
+pub record HasPassing (cell : Cell) (test : Score → Bool) (has : Bool) : Type 0 where
+  pub goals : Option Goals
+  pub says : MatchOption goals (AllowsNone cell test) (IsSpanOf cell test)
+  pub is : has ≡ is_some goals
+
+-- the cell keeps an outcome exactly where it has a score of it
+pub record IsExactCell (cell : Cell) : Type 0 where
+  pub home_win : HasPassing cell is_home_win cell.home_win
+  pub draw : HasPassing cell is_draw cell.draw
+  pub away_win : HasPassing cell is_away_win cell.away_win
 
 -- all four ends are at the goals of this score
 pub record IsAt (score : Score) (goals : Goals) : Type 0 where

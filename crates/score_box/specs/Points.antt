@@ -1,6 +1,7 @@
 -- The least and the most points of a box, fixture by fixture and together.
 use Rattle.std.specs.Prelude.{◌≡◌, ℕ, ℤ, ◌*◌, min, max, pos, ◌≤◌, Bool, if◌then◌else◌, List, []}
-use Rattle.std.specs.Prelude.{slice_index_or, Option, MatchOption, is_some}
+use Rattle.std.specs.Prelude.{slice_index_or}
+use Rattle.std.specs.List.{list_any}
 use Rattle.league_core.specs.declared.sheet.Fixture.{Fixture}
 use Rattle.league_core.specs.declared.season.Score.{Score}
 use Rattle.league_core.specs.Limits.{set_width}
@@ -9,11 +10,10 @@ use Rattle.league_core.specs.PointRanges.{Range, range_of, points_of_sides, poin
 use Rattle.league_core.specs.PointRanges.{total_of}
 use Rattle.league_core.specs.PointRanges.{won_points, drawn_points, lost_points}
 use Rattle.score_box.specs.declared.cell.Cell.{Cell}
-use Rattle.score_box.specs.declared.cell.goals.Goals.{Goals}
 use Rattle.score_box.specs.declared.points.PointRange.{PointRange}
 use Rattle.score_box.specs.declared.points.left.OutcomesLeft.{OutcomesLeft}
 use Rattle.score_box.specs.declared.points.outcomes.MatchPoints.{MatchPoints}
-use Rattle.score_box.specs.Cells.{IsCellOf, AllowsNone, IsSpanOf}
+use Rattle.score_box.specs.Cells.{IsCellOf, HasPassing}
 use Rattle.score_box.specs.Boxes.{AreCellsOf}
 
 -- the most points that can be taken off the clubs of a set: what a byte holds, of each
@@ -41,17 +41,17 @@ pub record IsPointsOf (cell : Cell) (home away : Bool) (points : MatchPoints) : 
   pub at_most : points.most ≤ 3
   pub in_order : points.least ≤ points.most
 
--- whether the cell has a score that passes: where it has, such scores have these goals
-pub record HasPassing (cell : Cell) (test : Score → Bool) (has : Bool) : Type 0 where
-  pub goals : Option Goals
-  pub says : MatchOption goals (AllowsNone cell test) (IsSpanOf cell test)
-  pub is : has ≡ is_some goals
-
 -- whether it has a home win, a draw, an away win
 pub record AreOutcomesLeft (cell : Cell) (left : OutcomesLeft) : Type 0 where
   pub home_win : HasPassing cell is_home_win left.home_win
   pub draw : HasPassing cell is_draw left.draw
   pub away_win : HasPassing cell is_away_win left.away_win
+
+-- whether the options have a home win, a draw, an away win
+pub record AreOutcomesAmong (options : List Score) (left : OutcomesLeft) : Type 0 where
+  pub home_win : left.home_win ≡ list_any is_home_win options
+  pub draw : left.draw ≡ list_any is_draw options
+  pub away_win : left.away_win ≡ list_any is_away_win options
 
 -- what the options of the fixture of a number leave a set of clubs
 abbrev pub left_to : List ℕ → List Fixture → List (List Score) → ℕ → Range

@@ -13,7 +13,7 @@ use Rattle.league_core.specs.Options.{options_of, options_from, options_in}
 use Rattle.score_box.specs.declared.cell.Cell.{Cell}
 use Rattle.score_box.specs.declared.ends.Ends.{Ends}
 use Rattle.score_box.specs.declared.trail.Undo.{Undo}
-use Rattle.score_box.specs.Cells.{IsCellOf}
+use Rattle.score_box.specs.Cells.{IsCellOf, IsExactCell}
 use Rattle.score_box.specs.Settings.{Setting}
 use Rattle.score_box.specs.Unplayed.{unplayed_in}
 use Rattle.score_box.specs.Boxes.{AreCellsOf, IsSetOf}
@@ -36,11 +36,12 @@ pub record ArePlayed (stage : Stage) (cells : List Cell) (unplayed : List ℕ) (
   pub ends_are : AreEnds stage.sheet.fixtures (options_in stage.sheet stage.season []) ends
   pub tables : AreTables stage.sheet.fixtures stage.season.scores clubs pairs
 
--- the cell has the options of the fixture that a literal is on, before that literal
+-- the cell is exact, and has the options of the fixture that a literal is on, before that literal
 abbrev pub IsCellBefore : ℕ → List (Option Score) → List Literal → Literal → Cell → Type 0
 IsCellBefore limit scores zone literal cell =
     (number : ℕ) → is_on number literal.test ≡ true
     → IsCellOf cell (options_of limit zone number (slice_index_or scores number None))
+    × IsExactCell cell
 
 -- what stood before a literal that follows a zone
 pub record IsUndoOf (limit : ℕ) (scores : List (Option Score)) (zone : List Literal)

@@ -7,6 +7,7 @@ ghost use Rattle.league_core.specs.Zones.{passes, is_as_said, is_of_score};
 ghost use Rattle.league_core.specs.Options.{is_home_win, is_draw};
 ghost use Rattle.score_box.specs.Cells.{allows, is_within, keeps_outcome, IsEmptyCell};
 
+mod exact;
 mod goals;
 
 pub use goals::{Goals, at_most_one};

@@ -7,7 +7,7 @@ ghost use Rattle.std.specs.List.{All};
 ghost use Rattle.league_core.specs.declared.season.Score.{Score};
 ghost use Rattle.league_core.specs.Limits.{most_fixtures};
 ghost use Rattle.score_box.specs.declared.cell.Cell.{Cell};
-ghost use Rattle.score_box.specs.Cells.{IsCellOf};
+ghost use Rattle.score_box.specs.Cells.{IsCellOf, IsExactCell};
 ghost use Rattle.score_box.specs.Points.{AreOutcomesLeft};
 ghost use Rattle.score_box.specs.Boxes.{AreCellsOf, HasOptions, open_outcomes_in};
 ghost use Rattle.score_box.specs.Ends.{AreSpans, AreEnds, HasEndsOfCells};
@@ -66,29 +66,31 @@ fn add_all(lows: &mut [i32], highs: &mut [i32], fixtures: &[Fixture], cells: &[C
     let empty = Cell::none();
     let none = OutcomesLeft::of(&empty);
     for i in 0..fixtures.len() {
-        let left = OutcomesLeft::of(&cells[i]);
+        let left = cells[i].left();
         move_spans(lows, highs, fixtures[i], none, left);
     }
 }
 
 fn empty_cells(cells: &[Cell]) -> usize
+    requires { HasOptions cells.now }
     ensures { (options : List (List Score)) → AreCellsOf cells.now options
         → result ≡ empty_in options }
 {
     let mut count = 0;
     for cell in cells {
-        count += one_if(cell.is_empty());
+        count += one_if(cell.left().are_none());
     }
     count
 }
 
 fn several_outcomes(cells: &[Cell]) -> usize
+    requires { HasOptions cells.now }
     ensures { (options : List (List Score)) → AreCellsOf cells.now options
         → result ≡ open_outcomes_in options }
 {
     let mut count = 0;
     for cell in cells {
-        count += one_if(!cell.has_one_outcome());
+        count += one_if(!cell.left().are_one());
     }
     count
 }
@@ -100,6 +102,7 @@ pub fn replace(cells: &mut [Cell], ends: &mut Ends, fixtures: &[Fixture], number
     requires matches { All IsMatch fixtures.now }
     requires in_range { number < length cells.old }
     requires ends { HasEndsOfCells fixtures.now cells.old ends.old }
+    requires exact { IsExactCell cell }
     ensures cells { cells.new ≡ slice_set cells.old number cell }
     ensures ends { (options : List (List Score)) (after : List Score)
         → AreCellsOf cells.old options → AreEnds fixtures.now options ends.old
@@ -116,13 +119,15 @@ fn move_ends(ends: &mut Ends, fixtures: &[Fixture], number: u16, was: &Cell, now
     requires matches { All IsMatch fixtures.now }
     requires in_range { number < length fixtures.now }
     requires ends { HasEndsAt fixtures.now number was.now ends.old }
+    requires exact_was { IsExactCell was.now }
+    requires exact_now { IsExactCell now.now }
     ensures { (options : List (List Score)) (after : List Score)
         → length options ≡ length fixtures.now → AreEnds fixtures.now options ends.old
         → IsCellOf was.now (slice_index_or options number []) → IsCellOf now.now after
         → AreEnds fixtures.now (slice_set options number after) ends.new }
 {
-    let before = OutcomesLeft::of(was);
-    let after = OutcomesLeft::of(now);
+    let before = was.left();
+    let after = now.left();
     move_spans(
         &mut ends.lows,
         &mut ends.highs,

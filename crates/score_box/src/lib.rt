@@ -19,6 +19,6 @@ mod zone_box;
 
 pub use cell::{Cell, Goals};
 pub use played::Played;
-pub use points::{MatchPoints, PointRange};
+pub use points::{MatchPoints, OutcomesLeft, PointRange};
 pub use totals::Totals;
 pub use zone_box::ZoneBox;

@@ -9,11 +9,10 @@ ghost use Rattle.league_core.specs.Sums.{has_club, if_played, worth_to, worth_am
 ghost use Rattle.league_core.specs.PointRanges.{total_of};
 ghost use Rattle.score_box.specs.Ends.{IsMatch};
 ghost use Rattle.score_box.specs.Totals.{AreTables, AreTotalsNear, TotalsGrowBy, AddsScore};
-ghost use Rattle.score_box.specs.Totals.{AddsPairs, Column, total_in};
+ghost use Rattle.score_box.specs.Totals.{AddsPairs};
 ghost use Rattle.score_box.specs.Totals.{no_totals, totals_at, pair_place};
 
 use crate::totals::Totals;
-use league_core::limits::SET_WIDTH;
 use league_core::{ClubSet, Fixture, OutOfMemory, Score};
 use std::alloc::Global;
 
@@ -68,8 +67,13 @@ impl Tables {
         ensures near { AreTotalsNear 5000000 result }
     {
         let mut totals = Totals::NONE;
-        for rival in 0..SET_WIDTH {
-            totals = self.with_pair_if(group.has(rival), totals, club, rival);
+        let mut left = group;
+        for _step in 0..group.len() {
+            let rival = left.first_club();
+            let more = totals.with(&self.of_pair(club, rival));
+            let others = left.without(ClubSet::single(rival));
+            totals = more;
+            left = others;
         }
         totals
     }
@@ -88,27 +92,6 @@ impl Tables {
             points += points_if(set.has(club), &self.of_club(club));
         }
         points
-    }
-
-    fn with_pair_if(&self, counts: bool, totals: Totals, club: u8, rival: u8) -> Totals
-        requires pairs { length self.now.pairs.items ≡ 576 }
-        requires club { club < 24 }
-        requires rival { counts ≡ true → rival < 24 }
-        requires near { AreTotalsNear 5000000 totals }
-        requires near_pair { counts ≡ true
-            → AreTotalsNear 153000 (totals_at self.now.pairs.items (pair_place club rival)) }
-        ensures sums { (column : Column) → total_in result column ≡ (total_in totals column
-            +ℤ (if counts
-            then total_in (totals_at self.now.pairs.items (pair_place club rival)) column
-            else pos 0)) }
-        ensures near { (bound : ℕ) → AreTotalsNear bound totals
-            → AreTotalsNear (bound + 153000) result }
-    {
-        if counts {
-            totals.with(&self.of_pair(club, rival))
-        } else {
-            totals
-        }
     }
 
     pub fn copy(&self, alloc: Global) -> Result<Tables, OutOfMemory>

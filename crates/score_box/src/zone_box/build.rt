@@ -9,7 +9,7 @@ ghost use Rattle.league_core.specs.Limits.{set_width};
 ghost use Rattle.league_core.specs.Finishes.{may_end};
 ghost use Rattle.league_core.specs.Zones.{is_on, is_of_score};
 ghost use Rattle.league_core.specs.Options.{options_from};
-ghost use Rattle.score_box.specs.Cells.{allows};
+ghost use Rattle.score_box.specs.Cells.{allows, IsExactCell};
 ghost use Rattle.score_box.specs.Boxes.{AreCellsOf, IsTestBelow};
 
 use crate::cell::Cell;
@@ -33,7 +33,17 @@ pub fn season_cells(
 }
 
 /// A played fixture has its score, another all scores up to the limit.
-pub fn first_cell(played: Option<Score>, goal_limit: u8) -> Cell
+fn first_cell(played: Option<Score>, goal_limit: u8) -> Cell
+    ensures scores { (score : Score)
+        → allows result score ≡ may_end goal_limit played (Some score) }
+    ensures exact { IsExactCell result }
+{
+    let mut cell = ending_cell(played, goal_limit);
+    cell.mend();
+    cell
+}
+
+fn ending_cell(played: Option<Score>, goal_limit: u8) -> Cell
     ensures { (score : Score) → allows result score ≡ may_end goal_limit played (Some score) }
 {
     match played {

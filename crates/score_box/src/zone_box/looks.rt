@@ -1,6 +1,7 @@
 //! What a box says of one club, and of the outcomes that are left.
 
 ghost use Rattle.std.specs.Prelude.{◌≡◌, ◌<◌, ◌≤ℤ◌, ℕ, neg_ℤ, true, [], ◌∷◌, length};
+ghost use Rattle.std.specs.Prelude.{slice_index_or};
 ghost use Rattle.league_core.specs.Limits.{most_points};
 ghost use Rattle.league_core.specs.Options.{options_in};
 ghost use Rattle.league_core.specs.PointRanges.{least_points_of, most_points_of};
@@ -9,11 +10,14 @@ ghost use Rattle.league_core.specs.Sums.{has_club, sum_among, sum_of, points_of}
 ghost use Rattle.league_core.specs.PairSums.{sum_against};
 ghost use Rattle.score_box.specs.Totals.{AreTotals, AreTotalsNear};
 ghost use Rattle.score_box.specs.Boxes.{open_outcomes_in};
-ghost use Rattle.score_box.specs.Points.{most_taken_off};
+ghost use Rattle.score_box.specs.Points.{most_taken_off, AreOutcomesAmong, AreOutcomesLeft};
+ghost use Rattle.score_box.specs.declared.cell.Cell.{Cell};
+ghost use Rattle.score_box.specs.Cells.{IsCellOf};
 ghost use Rattle.score_box.specs.Settings.{HasFinish};
 ghost use Rattle.score_box.specs.Unplayed.{unplayed_in};
 
 use super::ZoneBox;
+use crate::points::OutcomesLeft;
 use crate::totals::Totals;
 use league_core::{ClubSet, Literal};
 
@@ -89,6 +93,19 @@ impl<'a> ZoneBox<'a> {
             ≡ open_outcomes_in (options_in self.now.sheet self.now.season self.now.zone) }
     {
         self.ends.several
+    }
+
+    /// Which outcomes a fixture has left: whether its options have a home win, a draw, an away win.
+    pub fn outcomes_left(&self, fixture: u16) -> OutcomesLeft
+        requires { fixture < length self.now.season.scores }
+        ensures among { AreOutcomesAmong
+            (slice_index_or (options_in self.now.sheet self.now.season self.now.zone) fixture [])
+            result }
+        ensures of_cell { (cell : Cell) → IsCellOf cell
+            (slice_index_or (options_in self.now.sheet self.now.season self.now.zone) fixture [])
+            → AreOutcomesLeft cell result }
+    {
+        self.cells[fixture as usize].left()
     }
 
     /// The fixtures that are not played, by their numbers from 0, in order.

@@ -1,10 +1,11 @@
 //! A box along a path: one literal more at the end of its zone, and the last one taken back. Each
 //! takes the steps of one cell, however long the zone.
 
-ghost use Rattle.std.specs.Prelude.{◌≡◌, ◌≢◌, ◌≤◌, ◌++◌, IsTrue, OnOk, OnErr, [], ◌∷◌, length};
+ghost use Rattle.std.specs.Prelude.{◌≡◌, ◌≢◌, ◌≤◌, ◌++◌, ℕ, true, IsTrue, OnOk, OnErr, [], ◌∷◌, length};
 ghost use Rattle.std.specs.List.{All};
 ghost use Rattle.league_core.specs.Limits.{most_fixtures, set_width};
-ghost use Rattle.league_core.specs.Zones.{is_test_of, is_zone_of};
+ghost use Rattle.league_core.specs.Zones.{is_on, is_test_of, is_zone_of};
+ghost use Rattle.score_box.specs.Cells.{IsExactCell};
 ghost use Rattle.score_box.specs.Boxes.{IsTestBelow};
 ghost use Rattle.score_box.specs.Ends.{HasEndsOfCells, IsMatch};
 ghost use Rattle.score_box.specs.Stages.{TakesOneMore, TakesOneLess};
@@ -81,6 +82,7 @@ fn take_one(cells: &mut [Cell], ends: &mut Ends, fixtures: &[Fixture], literal: 
         Some(fixture) => {
             let mut cell = cells[fixture as usize];
             cell.cut(literal);
+            cell.mend();
             replace(cells, ends, fixtures, fixture, cell);
         }
         None => {}
@@ -94,6 +96,7 @@ fn give_back(cells: &mut [Cell], ends: &mut Ends, fixtures: &[Fixture], last: &L
     requires few { length fixtures.now ≤ most_fixtures }
     requires matches { All IsMatch fixtures.now }
     requires ends { HasEndsOfCells fixtures.now cells.old ends.old }
+    requires exact { (number : ℕ) → is_on number last.now.test ≡ true → IsExactCell cell }
     ensures { TakesOneLess fixtures.now cells.old cells.new ends.old ends.new last.now cell }
 {
     match fixture_of(&last.test) {

@@ -1,13 +1,21 @@
 -- The match is one of the sheet, has an option, and its surplus is that of its cell.
-use Rattle.std.proofs.Common.{◌≡◌, ◌≢◌, ◌<◌, List, [], length, get_or, sym, ap, subst, ◌∙◌, arith}
+use Rattle.std.proofs.Common.{◌≡◌, ◌≢◌, ◌<◌, ℕ, inr, List, [], length, get_or, sym, ap, subst, ◌∙◌, arith}
 use Rattle.league_core.specs.declared.sheet.Sheet.{Sheet}
 use Rattle.league_core.specs.declared.sheet.Fixture.{Fixture}
 use Rattle.league_core.specs.Results.{Results}
 use Rattle.league_core.specs.Options.{options_in}
 use Rattle.league_core.proofs.OptionLemmas.{length-options_from}
+use Rattle.score_box.specs.declared.cell.Cell.{Cell}
+use Rattle.score_box.specs.declared.points.left.OutcomesLeft.{OutcomesLeft}
+use Rattle.score_box.specs.Cells.{IsCellOf}
+use Rattle.score_box.specs.Points.{AreOutcomesLeft}
+use Rattle.score_box.specs.Settings.{HasFinish, Setting}
 use Rattle.score_box.proofs.SplitLemmas.{no_match}
+use Rattle.flow_bound.specs.declared.cut.Cut.{Cut}
+use Rattle.flow_bound.specs.Fixtures.{pair_at, surplus_left}
 use Rattle.flow_bound.proofs.FixtureLemmas.{cell_of_option, fixture_of_sheet, option_at}
-use Rattle.flow_bound.proofs.PairsLemmas.{pair_is, worth_surplus}
+use Rattle.flow_bound.proofs.PairsLemmas.{pair_is}
+use Rattle.flow_bound.proofs.SurplusLemmas.{left_surplus}
 use Rattle.flow_bound.proofs.tally.pair_within.Goals as goal
 
 pub bounds-as_slice-number : goal.bounds-as_slice-number
@@ -21,14 +29,26 @@ bounds-as_slice-number c =
       c.season-season.ensures.of_sheet.scores,
     )
 
-pub of-requires : goal.of-requires
-of-requires c =
-    let box = c.args.zone_box.now in
+-- the surplus that was looked up is that of the pair
+surplus_at : (cut : Cut) (box : Setting) (number : ℕ) (cell : Cell) (left : OutcomesLeft)
+    → HasFinish box → number < length box.season.scores
+    → IsCellOf cell (get_or (options_in box.sheet box.season box.zone) number [])
+    → AreOutcomesLeft cell left
+    → surplus_left cut left.home_win left.draw left.away_win ≡ (pair_at cut box number).surplus
+surplus_at cut box number cell left finish within is are =
     let many = length-options_from box.sheet.goal_limit box.zone 0 box.season.scores in
-    cell_of_option c.cell.result.now
-    (get_or (options_in box.sheet box.season box.zone) c.args.number []) c.cell.ensures
-    (option_at box.sheet box.season box.zone c.args.number c.requires.has_finish
-    (omega (arith, c.requires.in_range, many)))
+    let options = get_or (options_in box.sheet box.season box.zone) number [] in
+    left_surplus cut cell left options are
+    (cell_of_option cell options is
+    (option_at box.sheet box.season box.zone number finish (omega (arith, within, many)))) is
+
+pub returns-then-surplus-eq0 : goal.returns-then-surplus-eq0
+returns-then-surplus-eq0 c =
+    let box = c.args.zone_box.now in
+    let same = surplus_at c.args.cut box c.args.number c.cell-cell.result.now
+    c.outcomes_left.result c.requires.has_finish c.requires.in_range c.cell-cell.ensures
+    (c.outcomes_left.ensures.of_cell c.cell-cell.result.now c.cell-cell.ensures) in
+    inr (omega (arith, c.if-surplus-eq0.true, c.surplus_of-surplus.ensures.value, same))
 
 pub returns : goal.returns
 returns c =
@@ -45,14 +65,15 @@ returns c =
     ) in
     let Apart : List Fixture → Type 0 = λ ms. (get_or ms number no_match).home
     ≢ (get_or ms number no_match).away in (
-      pair_is c.args.cut box number c.of.result.surplus
+      pair_is c.args.cut box number c.surplus_of-surplus.result
           (get_or c.as_slice.result.now number no_match)
           (ap (λ (ms : List Fixture). get_or ms number no_match) matches)
-          (worth_surplus c.args.cut c.cell.result.now
-          (get_or (options_in box.sheet box.season box.zone) number []) c.of.result c.of.ensures
-          c.cell.ensures),
+          (c.surplus_of-surplus.ensures.value
+          ∙ surplus_at c.args.cut box number c.cell-cell.result.now c.outcomes_left.result
+          c.requires.has_finish c.requires.in_range c.cell-cell.ensures
+          (c.outcomes_left.ensures.of_cell c.cell-cell.result.now c.cell-cell.ensures)),
       sym c.are_both.ensures ∙ c.if-not-are_both.false,
       subst Apart (sym c.as_slice.ensures)
           (fixture_of_sheet c.sheet.result.now number no_match c.sheet.ensures.limits in_sheet).2,
-      c.of.ensures.surplus_most,
+      c.surplus_of-surplus.ensures.small,
     )

@@ -26,7 +26,7 @@ loop-i-preserved c =
     let in_cells : i < length cells = omega (arith, c.requires.many) in
     let some = c.requires.some in
     let moves = c.move_spans.ensures c.none-empty.result (get_or cells i _) c.of-none.ensures
-    c.of-left.ensures in
+    c.left-left.ensures in
     let small = moved_small fixtures i _ c.none-empty.result _ (get_or some.0 i []) c.loop-i.lows
     c.move_spans.new.lows c.loop-i.highs c.move_spans.new.highs moves
     c.none-empty.ensures (some.1.each i _ in_cells) c.loop-i.invariant.1 c.loop-i.invariant.2 in (

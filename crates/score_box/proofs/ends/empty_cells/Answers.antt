@@ -1,25 +1,31 @@
 -- The next cell counts where it has no score.
 use Rattle.std.proofs.Common.{◌≡◌, ◌<◌, ◌≤◌, Bool, true, false, not, cond, [], length, get_or, List}
-use Rattle.std.proofs.Common.{arith}
+use Rattle.std.proofs.Common.{sym, ◌∙◌, arith}
 use Rattle.league_core.specs.declared.season.Score.{Score}
 use Rattle.league_core.specs.Options.{has_option}
 use Rattle.score_box.proofs.EndLemmas.{count_more, empty_is}
+use Rattle.score_box.proofs.LeftLemmas.{none_left, left_none}
 use Rattle.score_box.proofs.ends.empty_cells.Goals as goal
 
 one_at_most : (b : Bool) → cond b 1 0 ≤ 1
 one_at_most true = omega arith
 one_at_most false = omega arith
 
+pub left-requires : goal.left-requires
+left-requires c = c.requires.1.exact c.loop-cell.cell-index _ c.loop-cell-test.true
+
 pub loop-cell-preserved : goal.loop-cell-preserved
 loop-cell-preserved c =
     let k = c.loop-cell.cell-index in
-    let small = one_at_most c.is_empty.result in
-    let counted : c.one_if-count.result ≡ cond c.is_empty.result 1 0 = c.one_if-count.ensures in (
+    let small = one_at_most c.are_none.result in
+    let counted : c.one_if-count.result ≡ cond c.are_none.result 1 0 = c.one_if-count.ensures in (
       omega (arith, c.loop-cell.invariant.0),
       λ options are.
           let within : k < length options = omega (arith, are.many, c.loop-cell-test.true) in
           let more = count_more (λ (scores : List Score). not (has_option scores)) options k
-          c.is_empty.result within (empty_is _ (get_or options k []) c.is_empty.result
-          (are.each k _ c.loop-cell-test.true) c.is_empty.ensures.0 c.is_empty.ensures.1) in
+          c.are_none.result within (empty_is _ (get_or options k []) c.are_none.result
+          (are.each k _ c.loop-cell-test.true)
+          (λ e. none_left _ c.left.result c.left.ensures (sym c.are_none.ensures ∙ e))
+          (λ empty. c.are_none.ensures ∙ left_none _ c.left.result c.left.ensures empty)) in
           omega (arith, more, c.loop-cell.invariant.1 options are),
     )

@@ -47,8 +47,8 @@ moved_count-ends-requires-clause-counted c =
     let options = c.requires.ends.0 in
     let number = c.args.number in
     let within : number < length options = omega (arith, c.requires.ends.1, c.requires.in_range) in
-    let same = empty_counted c.args.was.now c.of-before.result (get_or options number [])
-    c.are_none.result c.of-before.ensures c.requires.ends.3 c.are_none.ensures in
+    let same = empty_counted c.args.was.now c.left-before.result (get_or options number [])
+    c.are_none.result c.left-before.ensures c.requires.ends.3 c.are_none.ensures in
     omega (arith, same, empty_counts options number within, c.requires.ends.2.empty)
 
 pub moved_count-ends-requires-2-clause-counted : goal.moved_count-ends-requires-2-clause-counted
@@ -56,8 +56,8 @@ moved_count-ends-requires-2-clause-counted c =
     let options = c.requires.ends.0 in
     let number = c.args.number in
     let within : number < length options = omega (arith, c.requires.ends.1, c.requires.in_range) in
-    let same = several_counted c.args.was.now c.of-before.result (get_or options number [])
-    c.are_one.result c.of-before.ensures c.requires.ends.3 c.are_one.ensures in
+    let same = several_counted c.args.was.now c.left-before.result (get_or options number [])
+    c.are_one.result c.left-before.ensures c.requires.ends.3 c.are_one.ensures in
     omega (arith, same, several_counts options number within, c.requires.ends.2.several)
 
 pub returns : goal.returns
@@ -65,20 +65,20 @@ returns c options after many are was_is now_is =
     let number = c.args.number in
     let before = get_or options number [] in
     let within : number < length options = omega (arith, many, c.requires.in_range) in
-    let was_empty = empty_counted c.args.was.now c.of-before.result before c.are_none.result
-    c.of-before.ensures was_is c.are_none.ensures in
-    let now_empty = empty_counted c.args.now.now c.of-after.result after c.are_none-2.result
-    c.of-after.ensures now_is c.are_none-2.ensures in
-    let was_one = several_counted c.args.was.now c.of-before.result before c.are_one.result
-    c.of-before.ensures was_is c.are_one.ensures in
-    let now_one = several_counted c.args.now.now c.of-after.result after c.are_one-2.result
-    c.of-after.ensures now_is c.are_one-2.ensures in
+    let was_empty = empty_counted c.args.was.now c.left-before.result before c.are_none.result
+    c.left-before.ensures was_is c.are_none.ensures in
+    let now_empty = empty_counted c.args.now.now c.left-after.result after c.are_none-2.result
+    c.left-after.ensures now_is c.are_none-2.ensures in
+    let was_one = several_counted c.args.was.now c.left-before.result before c.are_one.result
+    c.left-before.ensures was_is c.are_one.ensures in
+    let now_one = several_counted c.args.now.now c.left-after.result after c.are_one-2.result
+    c.left-after.ensures now_is c.are_one-2.ensures in
     record {
       spans = spans_moved c.args.fixtures.now options number _ c.args.was.now c.args.now.now after
           c.args.ends.now.lows c.move_spans.new.lows c.args.ends.now.highs c.move_spans.new.highs
           c.requires.in_range many are.spans
-          (c.move_spans.ensures c.args.was.now c.args.now.now c.of-before.ensures
-          c.of-after.ensures) was_is now_is c.move_spans.auto.lows c.move_spans.auto.highs;
+          (c.move_spans.ensures c.args.was.now c.args.now.now c.left-before.ensures
+          c.left-after.ensures) was_is now_is c.move_spans.auto.lows c.move_spans.auto.highs;
       empty = omega (
         arith,
         c.moved_count-ends.ensures,

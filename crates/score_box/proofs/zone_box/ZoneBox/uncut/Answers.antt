@@ -10,7 +10,7 @@ use Rattle.league_core.specs.Zones.{is_zone_of}
 use Rattle.score_box.specs.declared.cell.Cell.{Cell}
 use Rattle.score_box.specs.declared.trail.Undo.{Undo}
 use Rattle.score_box.specs.Ends.{IsMatch}
-use Rattle.score_box.specs.Stages.{IsBoxOf, TakesOneLess}
+use Rattle.score_box.specs.Stages.{IsBoxOf, IsTrailOf, TakesOneLess}
 use Rattle.score_box.proofs.BoxLemmas.{cells_of_season, test_below}
 use Rattle.score_box.proofs.EndLemmas.{matches_of}
 use Rattle.score_box.proofs.TrailLemmas.{trail_less}
@@ -52,6 +52,26 @@ give_back-requires-clause-matches c =
     let Matches : List Fixture → Type 0 = λ fs. All IsMatch fs in
     subst Matches (sym c.as_slice-fixtures.ensures)
     (matches_of c.self.inside.sheet.now c.self.invariant.league.limits)
+
+pub give_back-requires-clause-exact : goal.give_back-requires-clause-exact
+give_back-requires-clause-exact c number on =
+    let box = c.self.inside in
+    let sheet = box.sheet.now in
+    let season = box.season.now in
+    let zone = c.pop.new.self.items in
+    let trail = c.pop-2.new.self.items in
+    let literal = c.unwrap-literal.result in
+    let undo = c.unwrap-undo.result in
+    let zone_is = popped box.zone.items zone c.pop.result literal c.pop.ensures.items
+    c.unwrap-literal.ensures in
+    let trail_is = popped box.trail.items trail c.pop-2.result undo c.pop-2.ensures.items
+    c.unwrap-undo.ensures in
+    let Of_zone : List Literal → Type 0 = λ z. IsTrailOf sheet.goal_limit season.scores z
+    box.trail.items in
+    let Of_trail : List Undo → Type 0 = λ t. IsTrailOf sheet.goal_limit season.scores
+    (zone ++ literal ∷ []) t in
+    let is = subst Of_trail trail_is (subst Of_zone zone_is c.self.invariant.trail_is) in
+    ((trail_less sheet.goal_limit season.scores zone trail literal undo is).1.cell number on).1
 
 pub invariant_of-self : goal.invariant_of-self
 invariant_of-self c =

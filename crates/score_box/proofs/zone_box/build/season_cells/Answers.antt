@@ -5,7 +5,7 @@ use Rattle.league_core.specs.Finishes.{may_end}
 use Rattle.league_core.specs.Options.{options_from}
 use Rattle.league_core.proofs.OptionLemmas.{length-options_from}
 use Rattle.score_box.specs.Cells.{IsCellOf}
-use Rattle.score_box.proofs.BoxLemmas.{options_push, first_options}
+use Rattle.score_box.proofs.BoxLemmas.{options_push, exact_push, first_options}
 use Rattle.score_box.proofs.zone_box.build.season_cells.Goals as goal
 
 pub loop-score-preserved : goal.loop-score-preserved
@@ -18,7 +18,7 @@ loop-score-preserved c =
     let here : At c.loop-score.score-index = first_options limit scores c.loop-score.score-index
     c.first_cell.result c.loop-score-test.true
     (λ score.
-    c.first_cell.ensures score
+    c.first_cell.ensures.scores score
     ∙ ap (λ played. may_end limit played (Some score))
     (get_or_default scores c.loop-score.score-index _ None c.loop-score-test.true)) in
     rw c.in_ok-push.ensures.items (
@@ -26,6 +26,7 @@ loop-score-preserved c =
       options_push cells c.first_cell.result
           (options_from limit [] 0 scores) c.loop-score.invariant.1
           (subst At (sym c.loop-score.invariant.0) here),
+      exact_push cells c.first_cell.result c.loop-score.invariant.2 c.first_cell.ensures.exact,
     )
 
 pub returns : goal.returns
@@ -35,4 +36,5 @@ returns c = record {
       (arith, c.loop-score.invariant.0) in
       all ∙ sym (length-options_from c.args.goal_limit [] 0 c.args.scores.now);
   each = c.loop-score.invariant.1;
+  exact = c.loop-score.invariant.2;
 }

@@ -1,5 +1,7 @@
 use Rattle.std.proofs.Common.{◌≡◌, [], length}
 use Rattle.league_core.specs.Options.{options_from}
+use Rattle.std.specs.List.{All}
+use Rattle.score_box.specs.Cells.{IsExactCell}
 use Rattle.score_box.proofs.BoxLemmas.{HaveOptions}
 use Rattle.score_box.proofs.zone_box.build.season_cells.Given as goal
 
@@ -8,3 +10,4 @@ abbrev pub invariant-loop-score : goal.invariant-loop-score
 invariant-loop-score l =
     (length l.cells.items ≡ l.score-index)
     × HaveOptions l.cells.items (options_from l.goal_limit [] 0 l.scores)
+    × All IsExactCell l.cells.items

@@ -15,6 +15,11 @@ pub replace-requires-clause-in_range : goal.replace-requires-clause-in_range
 replace-requires-clause-in_range c =
     c.in-Some.ensures.some.2 (length c.args.cells.now) c.requires.in_range
 
+pub replace-requires-clause-exact : goal.replace-requires-clause-exact
+replace-requires-clause-exact c =
+    let f = c.in-Some.fixture in
+    c.requires.exact f (c.in-Some.ensures.some.1 f ∙ eq-eqb f f refl)
+
 pub returns-in-Some : goal.returns-in-Some
 returns-in-Some c limit zone scores before are ends_are =
     let last = c.args.last.now in
@@ -30,7 +35,7 @@ returns-in-Some c limit zone scores before are ends_are =
     let old = options_from limit (zone ++ last ∷ []) 0 scores in
     let new = options_from limit zone 0 scores in
     let given = gives_cell limit zone last scores cells f c.args.cell on below
-    (before f (on f ∙ eq-eqb f f refl)) are in
+    (before f (on f ∙ eq-eqb f f refl)).0 (before f (on f ∙ eq-eqb f f refl)).1 are in
     let Cells : List Cell → Type 0 = λ cs. AreCellsOf cs new in
     let Ends_of : List (List Score) → Type 0 = λ o. AreEnds c.args.fixtures.now o
     c.replace.new.ends in (
