@@ -29,6 +29,9 @@ pub fn outcome_test(zone_box: &ZoneBox, question: &Question, totals: &Totals) ->
     let mut best = None;
     for i in 0..unplayed.len() {
         best = better_of(zone_box, question, &rater, best, unplayed[i]);
+        if rater.is_beyond(best) {
+            return test_of(best);
+        }
     }
     test_of(best)
 }

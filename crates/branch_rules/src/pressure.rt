@@ -4,7 +4,8 @@
 use crate::left::Outcomes;
 use crate::rooms::Rooms;
 use crate::totals::Totals;
-use league_core::{Claim, Fixture, Question};
+use league_core::limits::SET_WIDTH;
+use league_core::{Claim, ClubSet, Fixture, Question};
 use score_box::ZoneBox;
 
 /// By how many points a match can move a bound of a club.
@@ -40,17 +41,8 @@ impl<'a> Pressure<'a> {
     pub fn of(zone_box: &ZoneBox, question: &'a Question, totals: &'a Totals) -> Pressure<'a> {
         let most = totals.own_most(question);
         let least = totals.own_least(question);
-        let (before, after) = (zone_box.before(), zone_box.after());
-        let mut rises = Rooms::ample();
-        let mut falls = Rooms::ample();
-        for club in 0..zone_box.sheet().clubs.len() as u8 {
-            if after.has(club) && club != question.club {
-                rises.put(club, most.wrapping_sub(totals.least_of(club)));
-            }
-            if before.has(club) && club != question.club {
-                falls.put(club, totals.most_of(club).wrapping_sub(least));
-            }
-        }
+        let rises = rises_of(zone_box.after(), question, totals, most);
+        let falls = falls_of(zone_box.before(), question, totals, least);
         Pressure {
             question,
             totals,
@@ -128,6 +120,40 @@ impl<'a> Pressure<'a> {
             },
         }
     }
+}
+
+/// By how many points the least of each rival of a set may rise until it meets this number.
+fn rises_of(marked: ClubSet, question: &Question, totals: &Totals, most: i32) -> Rooms {
+    let mut rooms = Rooms::ample();
+    let mut left = marked;
+    for _step in 0..SET_WIDTH {
+        if left.is_empty() {
+            return rooms;
+        }
+        let club = left.first_club();
+        if club != question.club {
+            rooms.put(club, most.wrapping_sub(totals.least_of(club)));
+        }
+        left = left.without(ClubSet::single(club));
+    }
+    rooms
+}
+
+/// By how many points the most of each rival of a set may fall until it meets this number.
+fn falls_of(marked: ClubSet, question: &Question, totals: &Totals, least: i32) -> Rooms {
+    let mut rooms = Rooms::ample();
+    let mut left = marked;
+    for _step in 0..SET_WIDTH {
+        if left.is_empty() {
+            return rooms;
+        }
+        let club = left.first_club();
+        if club != question.club {
+            rooms.put(club, totals.most_of(club).wrapping_sub(least));
+        }
+        left = left.without(ClubSet::single(club));
+    }
+    rooms
 }
 
 impl Outlook {

@@ -6,10 +6,11 @@
 //! is level the criteria decide, and they are sure only when all outcomes are fixed. Where the
 //! club's own points may miss the window, its own matches come before all that.
 
-ghost use Rattle.std.specs.Prelude.{pos, neg_ℤ, ◌≤ℤ◌};
+ghost use Rattle.std.specs.Prelude.{pos, neg_ℤ, ◌≤ℤ◌, ◌≢◌, IsTrue, None};
 
 use crate::left::Outcomes;
 use crate::pressure::Pressure;
+use crate::rated::Rated;
 use crate::totals::Totals;
 use league_core::{Claim, ClubSet, Fixture, Question};
 use score_box::ZoneBox;
@@ -45,6 +46,16 @@ impl<'a> Rater<'a> {
             before: zone_box.before(),
             after: zone_box.after(),
             excess,
+        }
+    }
+
+    /// No test whatever is rated higher than the best so far.
+    pub fn is_beyond(&self, best: Option<Rated>) -> bool
+        ensures { IsTrue result → best ≢ None }
+    {
+        match best {
+            Some(one) => REFUTES_A_HALF <= one.rate && self.excess <= 0,
+            None => false,
         }
     }
 

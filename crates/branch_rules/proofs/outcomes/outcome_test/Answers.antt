@@ -26,9 +26,9 @@ loop-i-preserved c = (
 pub returns-clause-none : goal.returns-clause-none
 returns-clause-none c =
     let b = c.args.zone_box.now in
-    test_of_none c.loop-i.best c.test_of.result (IsTrue (are_outcomes_fixed b.sheet b.season
+    test_of_none c.loop-i.best c.test_of-2.result (IsTrue (are_outcomes_fixed b.sheet b.season
     b.zone))
-    c.test_of.ensures (λ is.
+    c.test_of-2.ensures (λ is.
     outcomes_fixed b.sheet b.season b.zone (λ j within.
     let long = ap (λ (xs : List ℕ). length xs) c.unplayed-unplayed.ensures in
     subst (λ (xs : List ℕ). IsTrue (has_one_outcome (options_at_fixture b (get_or xs j 0))))
