@@ -1,12 +1,10 @@
-//! Which outcomes a cell has left, and what points they bring.
+//! Which outcomes a fixture has left, and what points they bring.
 
-ghost use Rattle.std.specs.Prelude.{◌≡◌, ◌&&◌, ◌||◌, List};
-ghost use Rattle.league_core.specs.declared.season.Score.{Score};
-ghost use Rattle.score_box.specs.Cells.{IsCellOf};
+ghost use Rattle.std.specs.Prelude.{◌≡◌, ◌&&◌, ◌||◌, ◌<◌, length};
 
-use score_box::Cell;
+use score_box::ZoneBox;
 
-/// The outcomes that a cell has left.
+/// The outcomes that a fixture has left.
 #[derive(Clone, Copy)]
 pub struct Outcomes {
     pub wins: bool,
@@ -15,16 +13,19 @@ pub struct Outcomes {
 }
 
 impl Outcomes {
+    ghost use Rattle.branch_rules.specs.Choices.{options_at_fixture};
     ghost use Rattle.branch_rules.specs.Outcomes.{AreOutcomesOf};
 
-    pub fn of(cell: &Cell) -> Outcomes
-        ensures { (options : List Score) → IsCellOf cell.now options
-            → AreOutcomesOf options result }
+    /// Those of a fixture in the box's zone.
+    pub fn at(zone_box: &ZoneBox, fixture: u16) -> Outcomes
+        requires { fixture < length zone_box.now.season.scores }
+        ensures { AreOutcomesOf (options_at_fixture zone_box.now fixture) result }
     {
+        let left = zone_box.outcomes_left(fixture);
         Outcomes {
-            wins: cell.home_wins().is_some(),
-            draws: cell.draws().is_some(),
-            losses: cell.away_wins().is_some(),
+            wins: left.home_win,
+            draws: left.draw,
+            losses: left.away_win,
         }
     }
 

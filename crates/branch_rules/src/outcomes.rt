@@ -37,7 +37,7 @@ pub fn outcome_test(zone_box: &ZoneBox, question: &Question, totals: &Totals) ->
 }
 
 /// The best test so far, or a test of a fixture's outcome that is rated higher. Where no such test
-/// can be, the fixture's options are not looked at.
+/// can be, none is rated.
 fn better_of(
     zone_box: &ZoneBox,
     question: &Question,
@@ -52,12 +52,19 @@ fn better_of(
     ensures none { result ≡ None → (best ≡ None)
         × IsTrue (has_one_outcome (options_at_fixture zone_box.now fixture)) }
 {
+    let left = Outcomes::at(zone_box, fixture);
+    if !left.parts_by_home() && !left.parts_by_draw() {
+        return best;
+    }
     if let Some(rated) = best {
         if rater.is_unbeaten(rated.rate, sides_of(zone_box, fixture)) {
             return best;
         }
     }
-    better(best, rated_outcome(zone_box, question, rater, fixture))
+    better(
+        best,
+        rated_outcome(zone_box, question, rater, fixture, left),
+    )
 }
 
 /// The better of the two tests of a fixture's outcome; none where it has one outcome.
@@ -66,14 +73,15 @@ fn rated_outcome(
     question: &Question,
     rater: &Rater,
     fixture: u16,
+    left: Outcomes,
 ) -> Option<Rated>
     requires has_finish { HasFinish zone_box.now }
     requires in_range { fixture < length zone_box.now.season.scores }
+    requires left { AreOutcomesOf (options_at_fixture zone_box.now fixture) left }
     ensures some { IfSome result (λ one. IsOutcomeSplit zone_box.now question.now one.test) }
     ensures none { IfNone result
         (IsTrue (has_one_outcome (options_at_fixture zone_box.now fixture))) }
 {
-    let left = Outcomes::of(zone_box.cell(fixture));
     let home = rated_home(zone_box, question, rater, fixture, left);
     let draw = rated_draw(zone_box, question, rater, fixture, left);
     better(home, draw)
