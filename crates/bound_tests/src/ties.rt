@@ -1,7 +1,9 @@
-//! Zones worked by hand, in which the two orders of the criteria differ, and the reason in one
-//! zone.
+//! Zones worked by hand, in which the two orders of the criteria differ; the reason in one zone;
+//! and drawn zones beside a plain program.
 
 mod asked;
+mod drawn;
 mod leagues;
 mod orders;
+mod plain;
 mod zones;

@@ -70,11 +70,7 @@ fn check_run(
 }
 
 #[test]
-fn an_input_as_long_as_may_be(rt: HostRuntime) -> Result<(), Fail> {
-    check_run(&rt, 0, Status::BadSheet, "fault,65537,no_league\n")
-}
-
-#[test]
-fn an_input_that_is_too_long(rt: HostRuntime) -> Result<(), Fail> {
+fn an_input_as_long_as_may_be_and_one_byte_more(rt: HostRuntime) -> Result<(), Fail> {
+    check_run(&rt, 0, Status::BadSheet, "fault,65537,no_league\n")?;
     check_run(&rt, 1, Status::TooLong, "fault,65537,input_too_long\n")
 }

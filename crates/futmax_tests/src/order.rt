@@ -1,12 +1,15 @@
-//! An answer is on the sink before the next line is read.
+//! An answer, and the row of a fault, is on the sink before the next line is read.
 
 ghost use Rattle.std.specs.Prelude.{None};
 
 use crate::words::words_of;
 use futmax_main::{Status, futmax};
 use port_core::{Got, Put, Sink, Source};
+use std::alloc::Global;
+use std::sync::Wait;
 use std::sync::atomic::{AtomicU64, Ordering};
 use std::test::Fail;
+use std::thread::Threads;
 use worker_gate::OpenGate;
 
 // A draw with goals, an ask, the score put right, and an ask again.
@@ -59,12 +62,14 @@ impl Sink for Noting<'_> {
     }
 }
 
-// The first ask ends 14 bytes before the end, the second at the end. Each answer has three rows.
-#[test]
-fn an_answer_comes_before_the_next_line(rt: HostRuntime) -> Result<(), Fail> {
+// How the run ends, and what had been read at each of the first pieces.
+fn notes_of(
+    rt: &(impl Threads + Wait + Sync + Alloc<A = Global>),
+    bytes: &[u8],
+) -> Result<(Status, [u64; 8]), Fail> {
     let given = AtomicU64::new(0);
     let mut source = Counted {
-        bytes: CORRECTED,
+        bytes,
         at: 0,
         given: &given,
     };
@@ -74,11 +79,33 @@ fn an_answer_comes_before_the_next_line(rt: HostRuntime) -> Result<(), Fail> {
         pieces: 0,
     };
     let words = words_of(rt.alloc(), &["futmax", "verdicts"])?;
-    let status = futmax(&rt, rt.alloc(), words, &mut source, &mut sink, &OpenGate);
+    let status = futmax(rt, rt.alloc(), words, &mut source, &mut sink, &OpenGate);
+    Ok((status, sink.notes))
+}
+
+// The first ask ends 14 bytes before the end, the second at the end. Each answer has three rows.
+#[test]
+fn an_answer_comes_before_the_next_line(rt: HostRuntime) -> Result<(), Fail> {
     let end = CORRECTED.len() as u64;
     let first = end - 14;
+    let (status, notes) = notes_of(&rt, CORRECTED)?;
     assert_eq!(rt; status, Status::Done);
     let wanted = [first, first, first, end, end, end, 0, 0];
-    assert_eq!(rt; sink.notes.as_slice(), wanted.as_slice());
+    assert_eq!(rt; notes.as_slice(), wanted.as_slice());
+    Ok(())
+}
+
+// A club without a rank that may be, in 23 bytes with its LF, and a line more. A correction of a
+// match without a score, in 66, and an ask. A comment of 2,000 bytes, which is too long with its
+// 1,025th.
+#[test]
+fn a_fault_comes_before_the_next_line(rt: HostRuntime) -> Result<(), Fail> {
+    let (status, notes) = notes_of(&rt, b"league,Tiny,1\nclub,A,0\nclub,B,2\n")?;
+    assert!(rt; status == Status::BadSheet && notes == [23, 0, 0, 0, 0, 0, 0, 0]);
+    let feed = b"league,Tiny,1\nclub,A,1\nclub,B,2\nmatch,A,B\nline,1\nseason\nfix,1,1,0\nask\n";
+    let (status, notes) = notes_of(&rt, feed)?;
+    assert!(rt; status == Status::BadFeed && notes == [66, 0, 0, 0, 0, 0, 0, 0]);
+    let (status, notes) = notes_of(&rt, &[b'#'; 2000])?;
+    assert!(rt; status == Status::TooLong && notes == [1025, 0, 0, 0, 0, 0, 0, 0]);
     Ok(())
 }

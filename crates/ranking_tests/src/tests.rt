@@ -35,7 +35,8 @@ fn count_around(alloc: Global, plain: &Plain, club: Entrant) -> Result<Counted, 
     Ok(counted)
 }
 
-fn drawn_sample(alloc: Global, draws: &mut Draws, open: u8) -> Result<Sample, Fail>
+/// A drawn league with at most so many matches open.
+pub fn drawn_sample(alloc: Global, draws: &mut Draws, open: u8) -> Result<Sample, Fail>
     ensures { IfOk result (λ sample. IsLeague sample.sheet sample.season) }
 {
     let clubs = draws.below(7) + 2;
