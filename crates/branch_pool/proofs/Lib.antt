@@ -6,5 +6,6 @@ pub mod CarriedLemmas
 pub mod StepLemmas
 pub mod GoodLemmas
 pub mod CallLemmas
+pub mod NextLemmas
 pub mod RunLemmas
 pub mod WorkLemmas

@@ -115,12 +115,12 @@ found_is_given piece number finding tree seat = λ i. record seat {
     lent = omega arith
 
 -- it is about the piece, true, and something was done
-done_is_for : (piece : Piece) (finding : Finding) → IsFor (done_of piece finding) piece
+pub done_is_for : (piece : Piece) (finding : Finding) → IsFor (done_of piece finding) piece
 done_is_for piece (Refuted reason) = refl
 done_is_for piece (Split literal) = refl
 done_is_for piece (Won finish lots) = refl
 
-done_is_true : (sheet : Sheet) (piece : Piece) (finding : Finding)
+pub done_is_true : (sheet : Sheet) (piece : Piece) (finding : Finding)
     → IsTrueFinding sheet piece.season piece.question piece.zone.literals finding
     → IsTrueDone sheet (done_of piece finding)
 done_is_true sheet piece (Refuted reason) found = found

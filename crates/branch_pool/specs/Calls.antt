@@ -16,6 +16,8 @@ use Rattle.league_core.specs.Trees.{Tree, is_refuted}
 use Rattle.reason_core.specs.declared.piece.Piece.{Piece}
 use Rattle.reason_core.specs.declared.done.Done.{Done}
 use Rattle.reason_core.specs.declared.done.Done.TheVariants.{Refuted, Split, Won, Undone}
+use Rattle.reason_core.specs.declared.finding.Finding.{Finding}
+use Rattle.reason_core.specs.Dones.{done_of}
 use Rattle.branch_pool.specs.declared.seat.Example.{Example}
 use Rattle.branch_pool.specs.declared.leftover.Leftover.{Leftover}
 use Rattle.branch_pool.specs.declared.seat.Seat.{Seat}
@@ -129,6 +131,14 @@ pub record LeavesOver (old : PoolState) (ticket : Ticket) (done : Done) (gave : 
   pub piece : left.piece ≡ ticket.piece
   pub worked_on : left.done ≡ piece_done done
   pub example : IsExampleLeft old ticket done gave left.example
+
+-- what is left over when a ticket is given back with what was found at its piece: the piece, and
+-- the example that is not kept
+pub record LeavesFound (old : PoolState) (ticket : Ticket) (finding : Finding) (gave : Gave)
+    (left : Leftover) : Type 0 where
+  pub piece : left.piece ≡ ticket.piece
+  pub no_other : left.done ≡ None
+  pub example : IsExampleLeft old ticket (done_of ticket.piece finding) gave left.example
 
 -- what `give` tells of epochs: what is kept is of the present one, and what is stale is told it
 abbrev pub IsTold : PoolState → Ticket → Gave → Type 0

@@ -11,7 +11,7 @@ ghost use Rattle.branch_pool.specs.declared.ticket.Gave.TheVariants.{Kept};
 use crate::leftover::{Leftover, parts_of};
 use crate::loans::is_loan_of;
 use crate::pool::Pool;
-use crate::seat::Example;
+use crate::seat::{Example, Loan};
 use crate::ticket::{Gave, Ticket};
 use league_core::Question;
 use reason_core::{Done, Piece};
@@ -43,7 +43,7 @@ impl Pool {
         ensures questions { self.new.questions ≡ self.old.questions }
         ensures log { self.new.log ≡ self.old.log }
     {
-        let (gave, done, example) = self.give_back(&ticket, done);
+        let (gave, done, example, loan) = self.give_back(&ticket, done);
         let Ticket {
             number: _,
             epoch: _,
@@ -56,11 +56,16 @@ impl Pool {
                 piece,
                 done,
                 example,
+                loan,
             },
         )
     }
 
-    fn give_back(&mut self, ticket: &Ticket, done: Done) -> (Gave, Option<Piece>, Option<Example>)
+    fn give_back(
+        &mut self,
+        ticket: &Ticket,
+        done: Done,
+    ) -> (Gave, Option<Piece>, Option<Example>, Option<Loan>)
         requires is_for { IsFor done ticket.now.piece }
         requires sound { IsTrueDone self.old.sheet done }
         ensures gives { Gives self.old ticket.now done result.0 self.new }
@@ -70,19 +75,19 @@ impl Pool {
         let epoch = self.epoch();
         if !self.is_own(ticket) {
             let (piece, example) = parts_of(done);
-            return (Gave::Stale { epoch }, piece, example);
+            return (Gave::Stale { epoch }, piece, example, None);
         }
         if ticket.epoch != epoch {
-            self.come_home(ticket);
+            let loan = self.come_home(ticket);
             let (piece, example) = parts_of(done);
-            return (Gave::Stale { epoch }, piece, example);
+            return (Gave::Stale { epoch }, piece, example, loan);
         }
-        let (piece, example) = self.keep(ticket, done);
-        (Gave::Kept, piece, example)
+        let (piece, example, loan) = self.keep(ticket, done);
+        (Gave::Kept, piece, example, loan)
     }
 
     // The ticket is one of the pool's.
-    fn is_own(&self, ticket: &Ticket) -> bool
+    pub(crate) fn is_own(&self, ticket: &Ticket) -> bool
         ensures { IsTrue result ↔ IsOwnTicket self.now ticket.now }
     {
         self.is_out(ticket) && (ticket.epoch != self.epoch() || self.is_present(ticket))
@@ -113,17 +118,22 @@ impl Pool {
             && self.season.equals(&ticket.piece.season)
     }
 
-    // The number of a ticket of an earlier epoch comes home.
-    fn come_home(&mut self, ticket: &Ticket)
+    // The number of a ticket of an earlier epoch comes home. What was out under it is answered.
+    pub(crate) fn come_home(&mut self, ticket: &Ticket) -> Option<Loan>
         requires own { IsOwnTicket self.old ticket.now }
         requires earlier { ticket.now.epoch ≢ present_epoch self.old }
         ensures { ComesHome self.old ticket.now self.new }
     {
-        let _home = self.loans.replace(ticket.number as usize, None);
+        let home = self.loans.replace(ticket.number as usize, None);
+        home
     }
 
     // What was done comes in place of the leaf that is lent with the ticket.
-    fn keep(&mut self, ticket: &Ticket, done: Done) -> (Option<Piece>, Option<Example>)
+    fn keep(
+        &mut self,
+        ticket: &Ticket,
+        done: Done,
+    ) -> (Option<Piece>, Option<Example>, Option<Loan>)
         requires own { IsOwnTicket self.old ticket.now }
         requires epoch { ticket.now.epoch ≡ present_epoch self.old }
         requires given { MayBeGiven self.old ticket.now done }
@@ -133,8 +143,8 @@ impl Pool {
     {
         let seat = &mut self.seats[ticket.place as usize];
         let left = seat.give(ticket.number, done);
-        let _home = self.loans.replace(ticket.number as usize, None);
-        left
+        let home = self.loans.replace(ticket.number as usize, None);
+        (left.0, left.1, home)
     }
 }
 

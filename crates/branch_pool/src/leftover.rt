@@ -2,10 +2,12 @@
 
 ghost use Rattle.std.specs.Prelude.{◌≡◌, Some};
 ghost use Rattle.std.specs.Option.{option_or, option_map};
+ghost use Rattle.reason_core.specs.declared.piece.Piece.{Piece};
+ghost use Rattle.reason_core.specs.Dones.{done_of};
 ghost use Rattle.branch_pool.specs.Calls.{piece_done, example_done};
 
-use crate::seat::Example;
-use reason_core::{Done, Piece};
+use crate::seat::{Example, Loan};
+use reason_core::{Done, Finding, Piece};
 
 /// What a pool has no use for when a ticket comes back, to be let go where nobody waits for it.
 #[derive(Drop)]
@@ -16,6 +18,8 @@ pub struct Leftover {
     pub done: Option<Piece>,
     /// The example that was found, if it is not kept.
     pub example: Option<Example>,
+    /// What was out under the ticket's number, if that came home.
+    pub loan: Option<Loan>,
 }
 
 /// The piece that was worked on, and the example that was found.
@@ -28,6 +32,17 @@ pub fn parts_of(done: Done) -> (Option<Piece>, Option<Example>)
         Done::Split(piece, _) => (Some(piece), None),
         Done::Won(piece, finish, lots) => (Some(piece), Some(Example { finish, lots })),
         Done::Undone => (None, None),
+    }
+}
+
+/// The example that was found.
+pub fn example_of(finding: Finding) -> Option<Example>
+    ensures { (piece : Piece) → result ≡ example_done (done_of piece finding) }
+{
+    match finding {
+        Finding::Won(finish, lots) => Some(Example { finish, lots }),
+        Finding::Refuted(_) => None,
+        Finding::Split(_) => None,
     }
 }
 

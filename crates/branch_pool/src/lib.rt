@@ -6,6 +6,7 @@
 #![tactic(auto)]
 
 mod change;
+mod found;
 mod give;
 mod laws;
 mod leftover;

@@ -5,20 +5,21 @@ ghost use Rattle.std.specs.Prelude.{true};
 ghost use mathlib.Core.List.{IsPrefix};
 ghost use Rattle.league_core.specs.Limits.{most_events};
 ghost use Rattle.league_core.specs.Seasons.{IsEventOf, season_after};
-ghost use Rattle.reason_core.specs.Dones.{IsFor, IsTrueDone};
+ghost use Rattle.reason_core.specs.Dones.{IsFor, IsTrueDone, IsTrueOf, done_of};
 ghost use Rattle.branch_pool.specs.declared.ticket.Took.TheVariants as took;
-ghost use Rattle.branch_pool.specs.Calls.{LeavesOver, Taking};
+ghost use Rattle.branch_pool.specs.Calls.{IsFitIfLent, LeavesOver, Taking};
 ghost use Rattle.branch_pool.specs.Steps.{Gives, Changes, pool_opened, pool_shut, pool_recalled};
 ghost use Rattle.epoch_cancel.specs.Seats.{seat_of};
 ghost use Rattle.pool_lock.specs.Lends.{TakesWorkAfter, IsToldAfter};
+ghost use Rattle.pool_lock.specs.States.{Swaps};
 
 use crate::front::Front;
 use crate::job::Job;
-use crate::work_badge::WorkBadge;
+use crate::work_badge::{Scraps, WorkBadge};
 use branch_pool::{ChangeStop, Gave, Leftover, Pool, Ticket, Took};
 use epoch_cancel::{EpochWord, Owner, seen, tell};
-use league_core::Event;
-use reason_core::Done;
+use league_core::{Event, Season};
+use reason_core::{Done, Finding};
 use std::marker::Model;
 use std::sync::ledger::{Blank, Book};
 
@@ -30,6 +31,8 @@ pub struct Held<J: Job> {
     owner: Owner,
     changes: Book<J>,
     is_busy: bool,
+    // a worker may wait for something to change
+    is_awaited: bool,
 }
 
 impl<J: Job> Model for Held<J> {
@@ -79,6 +82,7 @@ impl<J: Job> Held<J> {
             owner,
             changes,
             is_busy: true,
+            is_awaited: false,
         };
         (
             held,
@@ -100,14 +104,23 @@ impl<J: Job> Held<J> {
         ensures begins { IsPrefix badge.old.list badge.new.list }
         ensures seen { badge.new ≡ record badge.old { list = self.new.pool.log } }
     {
-        let took = if self.is_busy {
-            Took::Rest
-        } else {
-            self.pool.take_with(&mut badge.spare)
-        };
+        let took = self.take_next(&mut badge.spare);
         self.pool.is_sound();
         seen(word, &mut self.owner, &mut badge.eye);
         took
+    }
+
+    fn take_next(&mut self, spare: &mut Option<Season>) -> Took
+        ensures taking { self.old.is_busy ≡ false → Taking self.old.pool result self.new.pool }
+        ensures rest { self.old.is_busy ≡ true → (result ≡ took.Rest) × (self.new ≡ self.old) }
+        ensures busy { self.new.is_busy ≡ self.old.is_busy }
+        ensures fit { IsFitIfLent self.new.pool result }
+        ensures log { self.new.pool.log ≡ self.old.pool.log }
+    {
+        if self.is_busy {
+            return Took::Rest;
+        }
+        self.pool.take_with(spare)
     }
 
     // Gives back to the pool, and shows the worker all that the pool has been told. What the pool
@@ -132,6 +145,49 @@ impl<J: Job> Held<J> {
         let (gave, left) = self.pool.give_leaving(ticket, done);
         seen(word, &mut self.owner, &mut badge.eye);
         (gave, left)
+    }
+
+    // Gives back to the pool what was found at a ticket's piece, takes from it, and shows the worker
+    // all that the pool has been told. What is left of the ticket is handed out, so that it is let
+    // go behind the lock, but for its season, which the next ticket carries.
+    pub fn swap(
+        &mut self,
+        word: &EpochWord,
+        badge: &mut WorkBadge<J>,
+        ticket: Ticket,
+        finding: Finding,
+    ) -> (Gave, Took, Scraps)
+        requires word { word.now ≡ J.table }
+        requires sound { IsTrueOf J.sheet ticket.piece finding }
+        ensures swaps { Swaps self.old ticket (done_of ticket.piece finding) result.0 result.1
+            self.new }
+        ensures told { IsToldAfter badge.new.list ticket result.0 }
+        ensures work { TakesWorkAfter J.sheet badge.new.list result.1 }
+        ensures begins { IsPrefix badge.old.list badge.new.list }
+        ensures seen { badge.new ≡ record badge.old { list = self.new.pool.log } }
+    {
+        let (gave, left) = self.pool.give_found(ticket, finding);
+        let scraps = badge.keep(left);
+        let took = self.take_next(&mut badge.spare);
+        self.pool.is_sound();
+        seen(word, &mut self.owner, &mut badge.eye);
+        (gave, took, scraps)
+    }
+
+    // A worker waits for something to change.
+    pub fn await_change(&mut self)
+        ensures { self.new ≡ self.old }
+    {
+        self.is_awaited = true;
+    }
+
+    // Whether a worker may wait. Those who do are to be woken then.
+    pub fn wakes(&mut self) -> bool
+        ensures { self.new ≡ self.old }
+    {
+        let is_awaited = self.is_awaited;
+        self.is_awaited = false;
+        is_awaited
     }
 
     // Reports an event to the pool, announces it, and counts it; then the one who reports is busy.

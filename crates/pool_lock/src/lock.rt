@@ -5,10 +5,10 @@ ghost use mathlib.Core.List.{IsPrefix};
 ghost use Rattle.league_core.specs.declared.sheet.Sheet.{Sheet};
 ghost use Rattle.league_core.specs.Limits.{most_events};
 ghost use Rattle.league_core.specs.Seasons.{IsEventOf, season_after};
-ghost use Rattle.reason_core.specs.Dones.{IsFor, IsTrueDone};
+ghost use Rattle.reason_core.specs.Dones.{IsFor, IsTrueDone, IsTrueOf};
 ghost use Rattle.branch_pool.specs.States.{out_count};
 ghost use Rattle.epoch_cancel.specs.Seats.{IsCancelled, Looks, seat_of};
-ghost use Rattle.pool_lock.specs.Lends.{LendsWorkAfter, IsToldAfter, IsEyeAfter};
+ghost use Rattle.pool_lock.specs.Lends.{LendsWorkAfter, TakesWorkAfter, IsToldAfter, IsEyeAfter};
 
 use crate::front::Front;
 use crate::held::Held;
@@ -18,7 +18,7 @@ use crate::work_badge::{WorkBadge, badges_of};
 use branch_pool::{ChangeStop, Gave, Pool, Ticket, Took};
 use epoch_cancel::{EpochWord, Eye, Owner, cancelled};
 use league_core::{Event, OutOfMemory};
-use reason_core::{Done, Piece};
+use reason_core::{Done, Finding, Piece};
 use std::alloc::Global;
 use std::hint::spin_loop;
 use std::sync::ledger::Blank;
@@ -92,7 +92,10 @@ impl<J: Job> PoolLock<J> {
                 Took::Lent(ticket) => return Ok(LentOut::Work(ticket)),
                 Took::Over => return Ok(LentOut::Over),
                 Took::OutOfMemory => return Err(OutOfMemory),
-                Took::Rest => held = self.moved.wait(rt, held),
+                Took::Rest => {
+                    held.await_change();
+                    held = self.moved.wait(rt, held);
+                }
             }
         }
         unreachable!()
@@ -114,10 +117,46 @@ impl<J: Job> PoolLock<J> {
         ensures seen { badge.new ≡ record badge.old { list = badge.new.list } }
     {
         let done = fitting(done, &ticket.piece);
-        let (gave, left) = self.hold(rt).give(&self.word, badge, ticket, done);
-        self.moved.notify_all();
-        badge.keep(left);
+        let (gave, left, is_awaited) = {
+            let mut held = self.hold(rt);
+            let (gave, left) = held.give(&self.word, badge, ticket, done);
+            (gave, left, held.wakes())
+        };
+        self.wake(is_awaited);
+        let _scraps = badge.keep(left);
         gave
+    }
+
+    /// Gives a ticket back with what was found at its piece, and takes the next one, both in one
+    /// hold of the lock. What is told of the ticket, and what is lent, is by all events that the
+    /// badge has then seen. Where there is no work now it does not wait for some, as `lend` does.
+    pub fn swap<R: Wait>(
+        &self,
+        rt: &R,
+        badge: &mut WorkBadge<J>,
+        ticket: Ticket,
+        finding: Finding,
+    ) -> (Gave, Took)
+        requires sound { IsTrueOf J.sheet ticket.piece finding }
+        ensures told { IsToldAfter badge.new.list ticket result.0 }
+        ensures work { TakesWorkAfter J.sheet badge.new.list result.1 }
+        ensures begins { IsPrefix badge.old.list badge.new.list }
+        ensures seen { badge.new ≡ record badge.old { list = badge.new.list } }
+    {
+        let (gave, took, _scraps, is_awaited) = {
+            let mut held = self.hold(rt);
+            let (gave, took, scraps) = held.swap(&self.word, badge, ticket, finding);
+            (gave, took, scraps, held.wakes())
+        };
+        self.wake(is_awaited);
+        (gave, took)
+    }
+
+    // Wakes those who wait, where somebody may.
+    fn wake(&self, is_awaited: bool) {
+        if is_awaited {
+            self.moved.notify_all();
+        }
     }
 
     // The held value. A worker that sleeps wakes late, and others then sleep behind it; so the lock
@@ -160,16 +199,24 @@ impl<J: Job> PoolLock<J> {
 
     /// The one who reports, who has the front, has nothing in hand: workers may go on.
     pub fn rest<R: Wait>(&self, rt: &R, _front: &Front<J>) {
-        self.held.lock(rt).rest();
-        self.moved.notify_all();
+        let is_awaited = {
+            let mut held = self.held.lock(rt);
+            held.rest();
+            held.wakes()
+        };
+        self.wake(is_awaited);
     }
 
     /// No event will come: workers may go on.
     pub fn shut<R: Wait>(&self, rt: &R, front: &mut Front<J>)
         ensures { front.new ≡ front.old }
     {
-        self.held.lock(rt).shut();
-        self.moved.notify_all();
+        let is_awaited = {
+            let mut held = self.held.lock(rt);
+            held.shut();
+            held.wakes()
+        };
+        self.wake(is_awaited);
     }
 
     /// The pool, with each number at home. Its log is what the front has reported.

@@ -3,11 +3,13 @@
 ghost use Rattle.std.specs.Prelude.{◌≡◌, All, IfOk};
 
 use crate::job::Job;
-use branch_pool::Leftover;
+use branch_pool::{Example, Leftover, Loan};
 use epoch_cancel::Eye;
-use league_core::{OutOfMemory, Season};
+use league_core::{OutOfMemory, Season, Zone};
+use reason_core::Piece;
 use std::alloc::Global;
 use std::marker::{Model, PhantomData};
+use std::mem;
 
 /// A worker's badge of the lock of its job.
 ///
@@ -33,13 +35,39 @@ impl<J: Job> Model for WorkBadge<J> {
 }
 
 impl<J: Job> WorkBadge<J> {
-    // Keeps the season of what a ticket left, and lets the rest go.
-    pub(crate) fn keep(&mut self, left: Leftover)
+    // Keeps the season of what a ticket left, and answers the rest.
+    pub(crate) fn keep(&mut self, left: Leftover) -> Scraps
         ensures { self.new ≡ self.old }
     {
-        let Leftover { piece, .. } = left;
-        self.spare = Some(piece.season);
+        let Leftover {
+            piece,
+            done,
+            example,
+            loan,
+        } = left;
+        let Piece {
+            season,
+            question: _,
+            zone,
+        } = piece;
+        Scraps {
+            season: mem::replace(&mut self.spare, Some(season)),
+            zone,
+            done,
+            example,
+            loan,
+        }
     }
+}
+
+/// What nobody has a use for once a ticket is back, to be let go where nobody waits for it.
+#[derive(Drop)]
+pub struct Scraps {
+    pub season: Option<Season>,
+    pub zone: Zone,
+    pub done: Option<Piece>,
+    pub example: Option<Example>,
+    pub loan: Option<Loan>,
 }
 
 // A badge for each eye, in their order.

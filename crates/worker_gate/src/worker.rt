@@ -4,16 +4,17 @@ ghost use Rattle.std.specs.Prelude.{◌≡◌};
 ghost use mathlib.Core.List.{IsPrefix};
 ghost use Rattle.league_core.specs.Sheets.{IsWithinLimits};
 ghost use Rattle.league_core.specs.Seasons.{IsLeague};
+ghost use Rattle.reason_core.specs.Dones.{IsTrueOf};
 ghost use Rattle.pool_lock.specs.Lends.{IsWorkAfter};
 ghost use Rattle.worker_gate.specs.Workers.{IsNextAfter};
 
 use crate::gate::{Gate, Point};
-use crate::piece::{find_at, give_back};
-use branch_pool::Ticket;
+use crate::piece::{find_at, give_undone};
+use branch_pool::{Ticket, Took};
 use branch_rules::Worker;
 use league_core::{OutOfMemory, Season, Sheet};
 use pool_lock::{Job, LentOut, PoolLock, WorkBadge};
-use reason_core::{Done, Solver};
+use reason_core::{Finding, Solver};
 use score_box::Played;
 use std::alloc::Global;
 use std::sync::Wait;
@@ -85,6 +86,34 @@ fn take_next<J: Job, R: Wait, G: Gate>(
     }
 }
 
+// Gives the ticket back with what was found there, and takes the next one at once, where there is
+// one; the gate hears of both afterwards. Where there is none the worker waits for the next one.
+fn hand_over<J: Job, R: Wait, G: Gate>(
+    rt: &R,
+    lock: &PoolLock<J>,
+    badge: &mut WorkBadge<J>,
+    worker: u8,
+    gate: &G,
+    ticket: Ticket,
+    found: Finding,
+) -> Next
+    requires sound { IsTrueOf J.sheet ticket.piece found }
+    ensures next { IsNextAfter J.sheet badge.new.list result }
+    ensures begins { IsPrefix badge.old.list badge.new.list }
+{
+    let (_, took) = lock.swap(rt, badge, ticket, found);
+    gate.at(Point::Given, worker);
+    match took {
+        Took::Lent(next) => {
+            gate.at(Point::Taken, worker);
+            Next::Work(next)
+        }
+        Took::Rest => take_next(rt, lock, badge, worker, gate),
+        Took::Over => Next::Over,
+        Took::OutOfMemory => Next::Memory,
+    }
+}
+
 // Works on the ticket, and on those that follow it in its season.
 fn work_epoch<J: Job, R: Wait, G: Gate>(
     rt: &R,
@@ -130,7 +159,7 @@ fn work_season<J: Job, R: Wait, G: Gate>(
         return give_up(rt, lock, badge, worker, gate, ticket);
     };
     match Worker::new(alloc, &played) {
-        Ok(mut solver) => work_on(rt, alloc, lock, badge, worker, gate, &mut solver, ticket),
+        Ok(mut solver) => work_on(rt, lock, badge, worker, gate, &mut solver, ticket),
         Err(OutOfMemory) => give_up(rt, lock, badge, worker, gate, ticket),
     }
 }
@@ -138,7 +167,6 @@ fn work_season<J: Job, R: Wait, G: Gate>(
 // Works on by one solver, until a ticket of another epoch comes.
 fn work_on<J: Job, R: Wait, G: Gate, W: Solver>(
     rt: &R,
-    alloc: Global,
     lock: &PoolLock<J>,
     badge: &mut WorkBadge<J>,
     worker: u8,
@@ -155,7 +183,7 @@ fn work_on<J: Job, R: Wait, G: Gate, W: Solver>(
     let epoch = ticket.epoch;
     let mut ticket = ticket;
     for _ in rt.forever() {
-        match take_turn(rt, alloc, lock, badge, worker, gate, solver, ticket) {
+        match take_turn(rt, lock, badge, worker, gate, solver, ticket) {
             Next::Work(next) => {
                 if next.epoch != epoch {
                     return Next::Work(next);
@@ -172,7 +200,6 @@ fn work_on<J: Job, R: Wait, G: Gate, W: Solver>(
 // Works on the ticket, gives it back, and takes the next one.
 fn take_turn<J: Job, R: Wait, G: Gate, W: Solver>(
     rt: &R,
-    alloc: Global,
     lock: &PoolLock<J>,
     badge: &mut WorkBadge<J>,
     worker: u8,
@@ -188,27 +215,28 @@ fn take_turn<J: Job, R: Wait, G: Gate, W: Solver>(
     ensures same_sheet { W.sheet solver.new ≡ W.sheet solver.old }
     ensures same_season { W.season solver.new ≡ W.season solver.old }
 {
-    match find_at(alloc, lock, badge, worker, gate, solver, &ticket) {
-        Ok(done) => {
-            give_back(rt, lock, badge, worker, gate, ticket, done);
+    match find_at(lock, badge, worker, gate, solver, &ticket) {
+        Ok(Some(found)) => hand_over(rt, lock, badge, worker, gate, ticket, found),
+        Ok(None) => {
+            give_undone(rt, lock, badge, worker, gate, ticket);
             take_next(rt, lock, badge, worker, gate)
         }
         Err(OutOfMemory) => give_up(rt, lock, badge, worker, gate, ticket),
     }
 }
 
-// Gives the ticket back undone, for want of memory.
+// Gives back undone what the worker has in hand, for want of memory.
 fn give_up<J: Job, R: Wait, G: Gate>(
     rt: &R,
     lock: &PoolLock<J>,
     badge: &mut WorkBadge<J>,
     worker: u8,
     gate: &G,
-    ticket: Ticket,
+    in_hand: Ticket,
 ) -> Next
     ensures next { result ≡ Next.Memory }
     ensures begins { IsPrefix badge.old.list badge.new.list }
 {
-    give_back(rt, lock, badge, worker, gate, ticket, Done::Undone);
+    give_undone(rt, lock, badge, worker, gate, in_hand);
     Next::Memory
 }

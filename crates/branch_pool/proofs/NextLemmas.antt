@@ -1,0 +1,134 @@
+-- Which question comes next, found in one walk: none that is untouched stands before the first
+-- that has work.
+use Rattle.std.proofs.Common.{◌≡◌, ℕ, ◌+◌, ◌-◌, ◌<◌, ◌≤◌, Bool, true, false, ◌&&◌, ◌==◌, nat_lt}
+use Rattle.std.proofs.Common.{List, [], ◌∷◌, length, drop, Option, Some, None, refl, sym, ap}
+use Rattle.std.proofs.Common.{◌∙◌, ◌⊎◌, inl, inr, arith, get_or}
+use Rattle.std.specs.Prelude.{position}
+use Rattle.std.specs.List.{position_or_len}
+use Rattle.std.specs.Option.{option_or, option_map}
+use Rattle.std.proofs.lemmas.Bool.{both_ways, cases_lt, cond-true, cond-false, lt-ltb, le-ltb}
+use Rattle.std.proofs.lemmas.List.{length-drop, get_or-drop}
+use Rattle.std.proofs.lemmas.List.Folds.{list_any_at}
+use Rattle.std.proofs.lemmas.List.Quantifiers.{position-Some}
+use Rattle.std.proofs.lemmas.List.Sums.{fails_before_first, passes_at_first}
+use Rattle.std.proofs.lemmas.List.Sums.{position_or_len_is, prefix_len-le-length}
+use Rattle.std.proofs.lemmas.Option.{none-some}
+use Rattle.league_core.specs.declared.sheet.Sheet.{Sheet}
+use Rattle.branch_pool.specs.declared.seat.Seat.{Seat}
+use Rattle.branch_pool.specs.States.{PoolState, is_workable}
+use Rattle.branch_pool.specs.Calls.{next_place, is_untouched}
+use Rattle.branch_pool.proofs.CallLemmas.{none_passes}
+
+-- where a list has an element that passes, and where it has none
+position-found : {X : Type 0} (q : X → Bool) (xs : List X) → position_or_len q xs < length xs
+    → position q xs ≡ Some (position_or_len q xs)
+position-found q xs inside =
+    cond-true (nat_lt (position_or_len q xs) (length xs)) (Some (position_or_len q xs)) None
+    (lt-ltb (position_or_len q xs) (length xs) inside)
+
+position-missing : {X : Type 0} (q : X → Bool) (xs : List X) → length xs ≤ position_or_len q xs
+    → position q xs ≡ None
+position-missing q xs past =
+    cond-false (nat_lt (position_or_len q xs) (length xs)) (Some (position_or_len q xs)) None
+    (le-ltb (position_or_len q xs) (length xs) past)
+
+-- where the first place that passes is known, a narrower test passes from there on alone
+narrower_at : {X : Type 0} (p q : X → Bool) (x : X) (xs : List X) (k : ℕ)
+    → ((y : X) → p y ≡ false → q y ≡ false) → position p (x ∷ xs) ≡ Some k
+    → position_or_len q (x ∷ xs) ≡ k + position_or_len q (drop k (x ∷ xs))
+narrower_at p q x xs k narrower at =
+    let facts = position-Some p (x ∷ xs) k x at in
+    let long = length-drop k (x ∷ xs) in
+    let bound : position_or_len q (drop k (x ∷ xs)) ≤ length (drop k (x ∷ xs)) =
+    prefix_len-le-length _ (drop k (x ∷ xs)) in
+    position_or_len_is q (x ∷ xs) (k + position_or_len q (drop k (x ∷ xs))) x
+    (omega (arith, facts.0, long, bound))
+    (λ j before. elim (cases_lt j k) [
+      | inl early ↦ narrower (get_or (x ∷ xs) j x) (facts.2 j early)
+      | inr late ↦ behind j late before
+    ])
+    (λ within. ap q (sym (get_or-drop k (x ∷ xs) (position_or_len q (drop k (x ∷ xs))) x))
+    ∙ passes_at_first q (drop k (x ∷ xs)) x (omega (arith, long, within, facts.0)))
+  where
+    behind : (j : ℕ) → k ≤ j → j < k + position_or_len q (drop k (x ∷ xs))
+        → q (get_or (x ∷ xs) j x) ≡ false
+    behind j late before =
+        let same : k + (j - k) ≡ j = omega (arith, late) in
+        ap (λ i. q (get_or (x ∷ xs) i x)) (sym same)
+        ∙ (ap q (sym (get_or-drop k (x ∷ xs) (j - k) x))
+        ∙ fails_before_first q (drop k (x ∷ xs)) (j - k) x (omega (arith, late, before)))
+
+narrower_from : {X : Type 0} (p q : X → Bool) (xs : List X) (k : ℕ)
+    → ((y : X) → p y ≡ false → q y ≡ false) → position p xs ≡ Some k
+    → position q xs ≡ option_map (λ more. k + more) (position q (drop k xs))
+narrower_from p q [] k narrower at = absurd (none-some k at)
+narrower_from p q (x ∷ xs) k narrower at =
+    by_case (cases_lt (position_or_len q (drop k (x ∷ xs))) (length (drop k (x ∷ xs))))
+  where
+    is : position_or_len q (x ∷ xs) ≡ k + position_or_len q (drop k (x ∷ xs))
+    is = narrower_at p q x xs k narrower at
+
+    long : length (drop k (x ∷ xs)) ≡ length (x ∷ xs) - k
+    long = length-drop k (x ∷ xs)
+
+    within : k < length (x ∷ xs)
+    within = (position-Some p (x ∷ xs) k x at).0
+
+    by_case : (position_or_len q (drop k (x ∷ xs)) < length (drop k (x ∷ xs)))
+        ⊎ (length (drop k (x ∷ xs)) ≤ position_or_len q (drop k (x ∷ xs)))
+        → position q (x ∷ xs) ≡ option_map (λ more. k + more) (position q (drop k (x ∷ xs)))
+    by_case (inl inside) =
+        position-found q (x ∷ xs) (omega (arith, is, long, within, inside))
+        ∙ (ap Some is
+        ∙ sym (ap (option_map (λ more. k + more)) (position-found q (drop k (x ∷ xs)) inside)))
+    by_case (inr past) =
+        position-missing q (x ∷ xs) (omega (arith, is, long, within, past))
+        ∙ sym (ap (option_map (λ more. k + more)) (position-missing q (drop k (x ∷ xs)) past))
+
+-- an untouched question has work
+untouched_is_workable : (sheet : Sheet) (seat : Seat) → is_workable sheet seat ≡ false
+    → is_untouched sheet seat ≡ false
+untouched_is_workable sheet seat none = ap (λ works. works && (seat.lent == 0)) none
+
+-- the question that comes next, where the first with work is known
+pub next_from : (pool : PoolState) (first : ℕ)
+    → position (is_workable pool.sheet) pool.seats ≡ Some first
+    → next_place pool ≡ option_or (option_map (λ more. first + more)
+    (position (is_untouched pool.sheet) (drop first pool.seats))) (Some first)
+next_from pool first at =
+    ap (λ untouched. option_or untouched (position (is_workable pool.sheet) pool.seats))
+    (narrower_from (is_workable pool.sheet) (is_untouched pool.sheet) pool.seats first
+    (untouched_is_workable pool.sheet) at)
+    ∙ ap (option_or (option_map (λ more. first + more)
+    (position (is_untouched pool.sheet) (drop first pool.seats)))) at
+
+-- where no place passes, none passes a narrower test
+none_narrower : {X : Type 0} (p q : X → Bool) (xs : List X)
+    → ((x : X) → p x ≡ false → q x ≡ false) → position p xs ≡ None → position q xs ≡ None
+none_narrower p q [] narrower none = refl
+none_narrower p q (x ∷ xs) narrower none =
+    by_case (cases_lt (position_or_len q (x ∷ xs)) (length (x ∷ xs)))
+  where
+    fails : (k : ℕ) → k < length (x ∷ xs) → (b : Bool) → p (get_or (x ∷ xs) k x) ≡ b
+        → p (get_or (x ∷ xs) k x) ≡ false
+    fails k within false is = is
+    fails k within true is =
+        absurd (both_ways _ (none_passes p (x ∷ xs) none)
+        (list_any_at p (x ∷ xs) k x within is))
+
+    by_case : (position_or_len q (x ∷ xs) < length (x ∷ xs))
+        ⊎ (length (x ∷ xs) ≤ position_or_len q (x ∷ xs)) → position q (x ∷ xs) ≡ None
+    by_case (inl inside) = absurd (both_ways _
+        (narrower (get_or (x ∷ xs) (position_or_len q (x ∷ xs)) x)
+        (fails (position_or_len q (x ∷ xs)) inside _ refl))
+        (passes_at_first q (x ∷ xs) x inside))
+    by_case (inr past) = position-missing q (x ∷ xs) past
+
+-- where no question has work none comes next
+pub next_none : (pool : PoolState) → position (is_workable pool.sheet) pool.seats ≡ None
+    → next_place pool ≡ None
+next_none pool none =
+    ap (λ untouched. option_or untouched (position (is_workable pool.sheet) pool.seats))
+    (none_narrower (is_workable pool.sheet) (is_untouched pool.sheet) pool.seats
+    (untouched_is_workable pool.sheet) none)
+    ∙ none
