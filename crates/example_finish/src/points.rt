@@ -1,8 +1,8 @@
 //! The points of the clubs in the proposed finish, which come before all sums of goals.
 
-ghost use Rattle.std.specs.Prelude.{◌≡◌, ◌≢◌, ℕ, ◌<◌, pos, neg_ℤ, ◌+ℤ◌, ◌≤ℤ◌, false, length};
+ghost use Rattle.std.specs.Prelude.{◌≡◌, ◌≢◌, ℕ, ◌<◌, pos, ◌+ℤ◌, ◌≤ℤ◌, false, length};
 ghost use Rattle.std.specs.Prelude.{if◌then◌else◌, ◌==◌};
-ghost use Rattle.league_core.specs.Sums.{match_points, points_of, worth_to};
+ghost use Rattle.league_core.specs.Sums.{match_points, worth_to};
 ghost use Rattle.score_box.specs.Ends.{end_at};
 ghost use Rattle.example_finish.specs.ProposalViews.{sheet_asked, season_asked, finish_asked};
 ghost use Rattle.example_finish.specs.ProposedPoints.{ArePointsOver, ArePointsNear};
@@ -98,9 +98,10 @@ fn points_so_far(zone_box: &ZoneBox) -> [i32; 24]
     ensures near { ArePointsNear 200000 result }
     ensures long { length result ≡ 24 }
 {
+    let _played = zone_box.season().scores();
     let mut points = no_points();
     for club in 0..zone_box.sheet().clubs.len() as u8 {
-        points[club as usize] = points_of(zone_box, club);
+        points[club as usize] = zone_box.points_so_far(club);
     }
     points
 }
@@ -111,13 +112,4 @@ fn no_points() -> [i32; 24]
     ensures long { length result ≡ 24 }
 {
     [0; 24]
-}
-
-fn points_of(zone_box: &ZoneBox, club: u8) -> i32
-    requires { club < length zone_box.now.sheet.clubs }
-    ensures value { result ≡ points_of zone_box.now.sheet zone_box.now.season club }
-    ensures near { (neg_ℤ (pos 200000) ≤ℤ result) × (result ≤ℤ pos 200000) }
-{
-    let off = i32::from(zone_box.season().deducted(club));
-    zone_box.totals(club).points - off
 }
