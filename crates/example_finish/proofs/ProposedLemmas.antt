@@ -26,6 +26,8 @@ use Rattle.league_core.proofs.ProposalLemmas.{is_some-first_option, first_option
 use Rattle.score_box.specs.Unplayed.{is_unplayed, unplayed_in}
 use Rattle.score_box.proofs.SplitLemmas.{keeps_played}
 use Rattle.example_finish.specs.declared.wishes.Wishes.{Wishes}
+use Rattle.example_finish.specs.declared.outcome.Outcome.{Outcome}
+use Rattle.example_finish.specs.FirstOutcomes.{IsOutcomeOf, HasOutcome}
 use Rattle.example_finish.specs.Wished.{has_wish, AreWishesOf}
 use Rattle.example_finish.proofs.UnplayedLemmas.{each_fixture}
 
@@ -235,3 +237,29 @@ taken_in_finish wishes sheet season zone question k d score of_sheet within are 
     ∙ sym (ap₂ (λ (x y : Bool). first_option x y (get_or options k []))
     (are (get_or sheet.fixtures k d).home) (are (get_or sheet.fixtures k d).away))
     ∙ taken
+
+-- and its outcome is that of the first option
+pub outcome_in_finish : (wishes : Wishes) (sheet : Sheet) (season : Results)
+    (zone : List Literal) (question : Question) (k : ℕ) (d : Fixture) (outcome : Outcome)
+    → IsSeasonOf sheet season → has_finish sheet season zone ≡ true
+    → k < length season.scores → AreWishesOf zone question wishes
+    → ((score : Score)
+    → option_at wishes sheet season zone k (get_or sheet.fixtures k d) ≡ Some score
+    → IsOutcomeOf outcome score)
+    → HasOutcome (get_or (proposed_finish sheet season question zone).scores k None) outcome
+outcome_in_finish wishes sheet season zone question k d outcome of_sheet some within are each =
+    by (option_at wishes sheet season zone k (get_or sheet.fixtures k d)) refl
+  where
+    by : (found : Option Score)
+        → option_at wishes sheet season zone k (get_or sheet.fixtures k d) ≡ found
+        → HasOutcome (get_or (proposed_finish sheet season question zone).scores k None) outcome
+    by None is =
+        let sides = get_or sheet.fixtures k d in
+        absurd (false≢true (sym (ap is_some is)
+        ∙ is_some-first_option (has_wish wishes.near sides.home wishes.claim)
+        (has_wish wishes.near sides.away wishes.claim) (get_or (options_in sheet season zone) k [])
+        ∙ has_option-at sheet season zone k some within))
+    by (Some score) is =
+        subst (λ o. HasOutcome o outcome)
+        (sym (taken_in_finish wishes sheet season zone question k d score of_sheet within are is))
+        (each score is)

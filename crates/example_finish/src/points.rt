@@ -1,15 +1,13 @@
 //! The points of the clubs in the proposed finish, which come before all sums of goals.
 
-ghost use Rattle.std.specs.Prelude.{◌≡◌, ◌≢◌, ℕ, ◌<◌, pos, ◌+ℤ◌, ◌≤ℤ◌, false, length};
+ghost use Rattle.std.specs.Prelude.{◌≡◌, ℕ, ◌<◌, pos, ◌+ℤ◌, ◌≤ℤ◌, length};
 ghost use Rattle.std.specs.Prelude.{if◌then◌else◌, ◌==◌};
-ghost use Rattle.league_core.specs.Sums.{match_points, worth_to};
 ghost use Rattle.score_box.specs.Ends.{end_at};
 ghost use Rattle.example_finish.specs.ProposalViews.{sheet_asked, season_asked, finish_asked};
 ghost use Rattle.example_finish.specs.ProposedPoints.{ArePointsOver, ArePointsNear};
 ghost use Rattle.example_finish.specs.ProposedPoints.{points_proposed};
 
 use crate::proposed::Proposed;
-use league_core::{Fixture, Score};
 use score_box::ZoneBox;
 
 impl<'a> Proposed<'a> {
@@ -50,21 +48,10 @@ impl<'a> Proposed<'a> {
             ≡ (end_at points.old club +ℤ points_proposed self.now club fixture) }
     {
         let sides = self.sides(fixture);
-        add(points, sides, self.score(fixture));
+        let outcome = self.outcome(fixture);
+        raise(points, sides.home, outcome.home_points());
+        raise(points, sides.away, outcome.away_points());
     }
-}
-
-/// Adds what a match is worth to its two clubs.
-fn add(points: &mut [i32], sides: Fixture, score: Score)
-    requires different { sides.home ≢ sides.away }
-    requires home { sides.home < length points.old }
-    requires away { sides.away < length points.old }
-    requires near { ArePointsNear 1000000 points.old }
-    ensures { (club : ℕ) → end_at points.new club
-        ≡ (end_at points.old club +ℤ worth_to match_points club sides score) }
-{
-    raise(points, sides.home, points_for(score.home, score.away));
-    raise(points, sides.away, points_for(score.away, score.home));
 }
 
 /// Adds points to those of one club.
@@ -76,20 +63,6 @@ fn raise(points: &mut [i32], club: u8, by: i32)
         ≡ (end_at points.old other +ℤ (if club == other then by else pos 0)) }
 {
     points[club as usize] += by;
-}
-
-/// Three for a win, one for a draw.
-fn points_for(scored: u8, conceded: u8) -> i32
-    ensures value { result ≡ match_points scored conceded false }
-    ensures within { (pos 0 ≤ℤ result) × (result ≤ℤ pos 3) }
-{
-    if conceded < scored {
-        3
-    } else if scored == conceded {
-        1
-    } else {
-        0
-    }
 }
 
 /// The points of each club from the matches that are played.

@@ -101,8 +101,12 @@ returns c = λ question are.
     let of_sheet : IsSeasonOf sheet season =
     subst (IsSeasonOf sheet) c.season.ensures.season c.season.ensures.of_sheet in
     let whole : c.loop-i.i ≡ length (unplayed_in scores) =
-    omega (arith, ap (λ (ks : List ℕ). length ks) c.unplayed-unplayed.ensures, c.loop-i.auto.i-end,
-    c.loop-i-test.false) in
+    omega (
+      arith,
+      ap (λ (ks : List ℕ). length ks) c.unplayed-unplayed.ensures,
+      c.loop-i.auto.i-end,
+      c.loop-i-test.false,
+    ) in
     all_have_taken c.args.wishes sheet season c.args.zone_box.now.zone question c.loop-i.season
     of_sheet
     (subst (λ (n : ℕ). HaveTaken c.args.wishes sheet season c.args.zone_box.now.zone
