@@ -1,10 +1,10 @@
 -- The proposed finish, fixture by fixture.
 use Rattle.std.proofs.Math.Nat.{eq-or-lt_of_le}
-use Rattle.std.proofs.Common.{inl, inr, ◌≡◌, ◌<◌, ◌≤◌, ◌+◌, ℕ, zero, suc, Bool, true, List, [], ◌∷◌}
+use Rattle.std.proofs.Common.{false, inl, inr, ◌≡◌, ◌<◌, ◌≤◌, ◌+◌, ℕ, zero, suc, Bool, true, List, [], ◌∷◌}
 use Rattle.std.proofs.Common.{Option, Some, None, IsSome, is_some, length, get_or, set}
 use Rattle.std.proofs.Common.{nat_le, refl, sym, ap, ap₂, subst, ◌∙◌, arith}
 use Rattle.std.specs.List.{list_all}
-use Rattle.std.proofs.lemmas.Bool.{false≢true, and_parts, and_from, le-leb, leb-true}
+use Rattle.std.proofs.lemmas.Bool.{false≢true, and_parts, and_from, le-leb, leb-true, cases_eq}
 use Rattle.std.proofs.lemmas.List.{ext_get_or, get_or-set_same, get_or-set_other, length-set}
 use Rattle.league_core.specs.declared.sheet.Sheet.{Sheet}
 use Rattle.league_core.specs.declared.sheet.Fixture.{Fixture}
@@ -23,8 +23,13 @@ use Rattle.league_core.proofs.PlainLemmas.{list_all-at}
 use Rattle.league_core.proofs.OptionLemmas.{length-options_from, get_or-options_from}
 use Rattle.league_core.proofs.OptionLemmas.{has_score-options_of, same_score-true}
 use Rattle.league_core.proofs.ProposalLemmas.{is_some-first_option, first_option_is}
+use Rattle.score_box.specs.Unplayed.{is_unplayed, unplayed_in}
+use Rattle.score_box.proofs.SplitLemmas.{keeps_played}
 use Rattle.example_finish.specs.declared.wishes.Wishes.{Wishes}
+use Rattle.example_finish.specs.declared.outcome.Outcome.{Outcome}
+use Rattle.example_finish.specs.FirstOutcomes.{IsOutcomeOf, HasOutcome}
 use Rattle.example_finish.specs.Wished.{has_wish, AreWishesOf}
+use Rattle.example_finish.proofs.UnplayedLemmas.{each_fixture}
 
 -- where the zone has a finish each fixture has an option
 has_option-at : (sheet : Sheet) (season : Results) (zone : List Literal) (k : ℕ)
@@ -92,38 +97,82 @@ option_at wishes sheet season zone k sides =
     first_option (has_wish wishes.near sides.home wishes.claim)
     (has_wish wishes.near sides.away wishes.claim) (get_or (options_in sheet season zone) k [])
 
--- the fixtures before a number have taken the first of their options
+-- a fixture has taken the first of its options
+abbrev pub HasTaken : Wishes → Sheet → Results → List Literal → Results → ℕ → Type 0
+HasTaken wishes sheet season zone finish k =
+    get_or finish.scores k None
+    ≡ option_at wishes sheet season zone k (get_or sheet.fixtures k no_sides)
+
+-- those of the list before a place have, and so has each that is played
 pub record HaveTaken (wishes : Wishes) (sheet : Sheet) (season : Results) (zone : List Literal)
     (finish : Results) (number : ℕ) : Type 0 where
   pub deductions : finish.deductions ≡ season.deductions
   pub long : length finish.scores ≡ length season.scores
-  pub taken : (k : ℕ) → k < number → get_or finish.scores k None
-      ≡ option_at wishes sheet season zone k (get_or sheet.fixtures k no_sides)
+  pub taken : (j : ℕ) → j < number → HasTaken wishes sheet season zone finish
+      (get_or (unplayed_in season.scores) j 0)
+  pub played : (k : ℕ) → is_unplayed (get_or season.scores k None) ≡ false
+      → HasTaken wishes sheet season zone finish k
+
+-- a match that is played has its score for its one option
+pub played_is_taken : (wishes : Wishes) (sheet : Sheet) (season : Results) (zone : List Literal)
+    (k : ℕ) → has_finish sheet season zone ≡ true
+    → is_unplayed (get_or season.scores k None) ≡ false
+    → HasTaken wishes sheet season zone season k
+played_is_taken wishes sheet season zone k some played =
+    let sides = get_or sheet.fixtures k no_sides in
+    let found = keeps_played sheet season zone some k played in
+    found.1 ∙ sym (ap (first_option (has_wish wishes.near sides.home wishes.claim)
+    (has_wish wishes.near sides.away wishes.claim)) found.2)
+
+-- where one takes its own, the others stay as they are
+keeps_taken : (wishes : Wishes) (sheet : Sheet) (season : Results) (zone : List Literal)
+    (finish : Results) (k other : ℕ) (score : Score) → k < length finish.scores
+    → option_at wishes sheet season zone k (get_or sheet.fixtures k no_sides) ≡ Some score
+    → HasTaken wishes sheet season zone finish other
+    → HasTaken wishes sheet season zone
+    (record finish { scores = set finish.scores k (Some score) }) other
+keeps_taken wishes sheet season zone finish k other score within is taken =
+    elim (cases_eq other k) as (λ _. HasTaken wishes sheet season zone
+    (record finish { scores = set finish.scores k (Some score) }) other) [
+      | inl same ↦
+          subst (HasTaken wishes sheet season zone
+          (record finish { scores = set finish.scores k (Some score) })) (sym same)
+          (get_or-set_same finish.scores k (Some score) None within ∙ sym is)
+      | inr apart ↦
+          get_or-set_other finish.scores k other (Some score) None apart ∙ taken
+    ]
 
 -- the next one takes its own
 pub have_taken-next : (wishes : Wishes) (sheet : Sheet) (season : Results) (zone : List Literal)
-    (finish : Results) (k : ℕ) (score : Score)
-    → HaveTaken wishes sheet season zone finish k → k < length season.scores
+    (finish : Results) (i k : ℕ) (score : Score)
+    → HaveTaken wishes sheet season zone finish i
+    → k ≡ get_or (unplayed_in season.scores) i 0 → k < length season.scores
     → option_at wishes sheet season zone k (get_or sheet.fixtures k no_sides) ≡ Some score
     → HaveTaken wishes sheet season zone
-    (record finish { scores = set finish.scores k (Some score) }) (k + 1)
-have_taken-next wishes sheet season zone finish k score so_far within is = record {
-  deductions = so_far.deductions;
-  long = length-set finish.scores k (Some score) ∙ so_far.long;
-  taken = λ j below.
-      elim (eq-or-lt_of_le {n = j} {m = k} (omega arith)) as
-      (λ _. get_or (set finish.scores k (Some score)) j None
-      ≡ option_at wishes sheet season zone j (get_or sheet.fixtures j no_sides)) [
-        | inl same ↦
-            subst (λ (n : ℕ). get_or (set finish.scores k (Some score)) n None
-            ≡ option_at wishes sheet season zone n (get_or sheet.fixtures n no_sides)) (sym same)
-            (get_or-set_same finish.scores k (Some score) None (omega (arith, so_far.long))
-            ∙ sym is)
-        | inr before ↦
-            get_or-set_other finish.scores k j (Some score) None (λ e. absurd (omega arith))
-            ∙ so_far.taken j before
-      ];
-}
+    (record finish { scores = set finish.scores k (Some score) }) (i + 1)
+have_taken-next wishes sheet season zone finish i k score so_far here within is =
+    let inside : k < length finish.scores = omega (arith, so_far.long) in
+    record {
+      deductions = so_far.deductions;
+      long = length-set finish.scores k (Some score) ∙ so_far.long;
+      taken = λ j below.
+          elim (eq-or-lt_of_le {n = j} {m = i} (omega arith)) as
+          (λ _. HasTaken wishes sheet season zone
+          (record finish { scores = set finish.scores k (Some score) })
+          (get_or (unplayed_in season.scores) j 0)) [
+            | inl same ↦
+                subst (HasTaken wishes sheet season zone
+                (record finish { scores = set finish.scores k (Some score) }))
+                (here ∙ ap (λ (n : ℕ). get_or (unplayed_in season.scores) n 0) (sym same))
+                (get_or-set_same finish.scores k (Some score) None inside ∙ sym is)
+            | inr before ↦
+                keeps_taken wishes sheet season zone finish k
+                (get_or (unplayed_in season.scores) j 0) score inside is (so_far.taken j before)
+          ];
+      played = λ other is_played.
+          keeps_taken wishes sheet season zone finish k other score inside is
+          (so_far.played other is_played);
+    }
 
 -- the first options, fixture by fixture
 pub first_options-at : (wished : ℕ → Bool) (matches : List Fixture) (options : List (List Score))
@@ -150,7 +199,7 @@ length-first_options wished (match ∷ matches) (one ∷ options) same =
 -- where all have, that is the proposed finish
 pub all_have_taken : (wishes : Wishes) (sheet : Sheet) (season : Results) (zone : List Literal)
     (question : Question) (finish : Results) → IsSeasonOf sheet season
-    → HaveTaken wishes sheet season zone finish (length sheet.fixtures)
+    → HaveTaken wishes sheet season zone finish (length (unplayed_in season.scores))
     → AreWishesOf zone question wishes
     → finish ≡ proposed_finish sheet season question zone
 unfolding proposed_finish
@@ -164,7 +213,8 @@ all_have_taken wishes sheet season zone question finish of_sheet all are =
     (all.long ∙ sym long ∙ sym (length-first_options wished sheet.fixtures options same))
     (λ k within.
     let below : k < length sheet.fixtures = omega (arith, all.long, of_sheet.scores) in
-    all.taken k below
+    each_fixture (HasTaken wishes sheet season zone finish) season.scores all.taken
+    (λ j inside played. all.played j played) k (omega (arith, all.long))
     ∙ ap₂ (λ (x y : Bool). first_option x y (get_or options k []))
     (are (get_or sheet.fixtures k no_sides).home) (are (get_or sheet.fixtures k no_sides).away)
     ∙ sym (first_options-at wished sheet.fixtures options k no_sides below same)) in
@@ -187,3 +237,29 @@ taken_in_finish wishes sheet season zone question k d score of_sheet within are 
     ∙ sym (ap₂ (λ (x y : Bool). first_option x y (get_or options k []))
     (are (get_or sheet.fixtures k d).home) (are (get_or sheet.fixtures k d).away))
     ∙ taken
+
+-- and its outcome is that of the first option
+pub outcome_in_finish : (wishes : Wishes) (sheet : Sheet) (season : Results)
+    (zone : List Literal) (question : Question) (k : ℕ) (d : Fixture) (outcome : Outcome)
+    → IsSeasonOf sheet season → has_finish sheet season zone ≡ true
+    → k < length season.scores → AreWishesOf zone question wishes
+    → ((score : Score)
+    → option_at wishes sheet season zone k (get_or sheet.fixtures k d) ≡ Some score
+    → IsOutcomeOf outcome score)
+    → HasOutcome (get_or (proposed_finish sheet season question zone).scores k None) outcome
+outcome_in_finish wishes sheet season zone question k d outcome of_sheet some within are each =
+    by (option_at wishes sheet season zone k (get_or sheet.fixtures k d)) refl
+  where
+    by : (found : Option Score)
+        → option_at wishes sheet season zone k (get_or sheet.fixtures k d) ≡ found
+        → HasOutcome (get_or (proposed_finish sheet season question zone).scores k None) outcome
+    by None is =
+        let sides = get_or sheet.fixtures k d in
+        absurd (false≢true (sym (ap is_some is)
+        ∙ is_some-first_option (has_wish wishes.near sides.home wishes.claim)
+        (has_wish wishes.near sides.away wishes.claim) (get_or (options_in sheet season zone) k [])
+        ∙ has_option-at sheet season zone k some within))
+    by (Some score) is =
+        subst (λ o. HasOutcome o outcome)
+        (sym (taken_in_finish wishes sheet season zone question k d score of_sheet within are is))
+        (each score is)

@@ -20,6 +20,8 @@ use Rattle.league_core.proofs.PointsLemmas.{IsWorth, match_worth}
 use Rattle.league_core.proofs.PointRangeLemmas.{total_of-append}
 use Rattle.score_box.specs.Ends.{end_at}
 use Rattle.score_box.specs.Unplayed.{unplayed_in}
+use Rattle.example_finish.specs.declared.outcome.Outcome.{Outcome}
+use Rattle.example_finish.specs.FirstOutcomes.{IsOutcomeOf, HasOutcome}
 use Rattle.example_finish.specs.ProposalViews.{Asked, sheet_asked, season_asked, finish_asked}
 use Rattle.example_finish.specs.ProposedPoints.{ArePointsOver, ArePointsNear, points_proposed}
 use Rattle.example_finish.proofs.CriterionLemmas.{deductions_stay}
@@ -65,6 +67,30 @@ pub taken_worth : (asked : Asked) (club k : ℕ) (sides : Fixture) (score : Scor
     → worth_to match_points club sides score ≡ points_proposed asked club k
 taken_worth asked club k sides score is taken i =
     if_played (worth_to match_points club) (is i) (sym taken i)
+
+-- what it is worth by its outcome
+pub worth_by_outcome : (asked : Asked) (club k : ℕ) (sides : Fixture) (outcome : Outcome)
+    (old middle new home away : ℤ)
+    → sides ≡ get_or (sheet_asked asked).fixtures k (record { home = 0; away = 0 })
+    → sides.home ≢ sides.away
+    → HasOutcome (get_or (finish_asked asked).scores k None) outcome
+    → ((score : Score) → IsOutcomeOf outcome score
+    → home ≡ match_points score.home score.away false)
+    → ((score : Score) → IsOutcomeOf outcome score
+    → away ≡ match_points score.away score.home false)
+    → middle ≡ old +ℤ cond (eqb sides.home club) home (pos 0)
+    → new ≡ middle +ℤ cond (eqb sides.away club) away (pos 0)
+    → new ≡ old +ℤ points_proposed asked club k
+worth_by_outcome asked club k sides outcome old middle new home away is apart has home_is away_is
+    first second = by (get_or (finish_asked asked).scores k None) refl has
+  where
+    by : (found : Option Score) → get_or (finish_asked asked).scores k None ≡ found
+        → HasOutcome found outcome → new ≡ old +ℤ points_proposed asked club k
+    by None taken none = absurd none
+    by (Some score) taken outcome_is =
+        two_sides sides score club apart old middle new home away (home_is score outcome_is)
+        (away_is score outcome_is) first second
+        ∙ ap (λ n. old +ℤ n) (taken_worth asked club k sides score is taken)
 
 -- it is none to three points
 proposed_worth : (asked : Asked) (club k : ℕ) → IsWorth (points_proposed asked club k)

@@ -9,6 +9,7 @@ mod criterion;
 mod example;
 mod lead;
 mod option;
+mod outcome;
 mod points;
 mod proposal;
 mod proposed;

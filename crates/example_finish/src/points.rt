@@ -1,15 +1,13 @@
 //! The points of the clubs in the proposed finish, which come before all sums of goals.
 
-ghost use Rattle.std.specs.Prelude.{◌≡◌, ◌≢◌, ℕ, ◌<◌, pos, neg_ℤ, ◌+ℤ◌, ◌≤ℤ◌, false, length};
+ghost use Rattle.std.specs.Prelude.{◌≡◌, ℕ, ◌<◌, pos, ◌+ℤ◌, ◌≤ℤ◌, length};
 ghost use Rattle.std.specs.Prelude.{if◌then◌else◌, ◌==◌};
-ghost use Rattle.league_core.specs.Sums.{match_points, points_of, worth_to};
 ghost use Rattle.score_box.specs.Ends.{end_at};
 ghost use Rattle.example_finish.specs.ProposalViews.{sheet_asked, season_asked, finish_asked};
 ghost use Rattle.example_finish.specs.ProposedPoints.{ArePointsOver, ArePointsNear};
 ghost use Rattle.example_finish.specs.ProposedPoints.{points_proposed};
 
 use crate::proposed::Proposed;
-use league_core::{Fixture, Score};
 use score_box::ZoneBox;
 
 impl<'a> Proposed<'a> {
@@ -50,21 +48,10 @@ impl<'a> Proposed<'a> {
             ≡ (end_at points.old club +ℤ points_proposed self.now club fixture) }
     {
         let sides = self.sides(fixture);
-        add(points, sides, self.score(fixture));
+        let outcome = self.outcome(fixture);
+        raise(points, sides.home, outcome.home_points());
+        raise(points, sides.away, outcome.away_points());
     }
-}
-
-/// Adds what a match is worth to its two clubs.
-fn add(points: &mut [i32], sides: Fixture, score: Score)
-    requires different { sides.home ≢ sides.away }
-    requires home { sides.home < length points.old }
-    requires away { sides.away < length points.old }
-    requires near { ArePointsNear 1000000 points.old }
-    ensures { (club : ℕ) → end_at points.new club
-        ≡ (end_at points.old club +ℤ worth_to match_points club sides score) }
-{
-    raise(points, sides.home, points_for(score.home, score.away));
-    raise(points, sides.away, points_for(score.away, score.home));
 }
 
 /// Adds points to those of one club.
@@ -78,29 +65,16 @@ fn raise(points: &mut [i32], club: u8, by: i32)
     points[club as usize] += by;
 }
 
-/// Three for a win, one for a draw.
-fn points_for(scored: u8, conceded: u8) -> i32
-    ensures value { result ≡ match_points scored conceded false }
-    ensures within { (pos 0 ≤ℤ result) × (result ≤ℤ pos 3) }
-{
-    if conceded < scored {
-        3
-    } else if scored == conceded {
-        1
-    } else {
-        0
-    }
-}
-
 /// The points of each club from the matches that are played.
 fn points_so_far(zone_box: &ZoneBox) -> [i32; 24]
     ensures points { ArePointsOver zone_box.now.sheet zone_box.now.season result }
     ensures near { ArePointsNear 200000 result }
     ensures long { length result ≡ 24 }
 {
+    let _played = zone_box.season().scores();
     let mut points = no_points();
     for club in 0..zone_box.sheet().clubs.len() as u8 {
-        points[club as usize] = points_of(zone_box, club);
+        points[club as usize] = zone_box.points_so_far(club);
     }
     points
 }
@@ -111,13 +85,4 @@ fn no_points() -> [i32; 24]
     ensures long { length result ≡ 24 }
 {
     [0; 24]
-}
-
-fn points_of(zone_box: &ZoneBox, club: u8) -> i32
-    requires { club < length zone_box.now.sheet.clubs }
-    ensures value { result ≡ points_of zone_box.now.sheet zone_box.now.season club }
-    ensures near { (neg_ℤ (pos 200000) ≤ℤ result) × (result ≤ℤ pos 200000) }
-{
-    let off = i32::from(zone_box.season().deducted(club));
-    zone_box.totals(club).points - off
 }

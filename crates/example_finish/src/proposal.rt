@@ -30,7 +30,8 @@ pub fn propose(
     Ok(Finish::of_season(season).unwrap())
 }
 
-/// Gives each fixture the first of its options.
+/// Gives each fixture that is not played the first of its options. A match that is played has its
+/// score for its one option already.
 fn take_options(season: &mut Season, zone_box: &ZoneBox, wishes: Wishes)
     requires has_finish { HasFinish zone_box.now }
     requires season_is { season.old ≡ zone_box.now.season }
@@ -39,9 +40,10 @@ fn take_options(season: &mut Season, zone_box: &ZoneBox, wishes: Wishes)
 {
     let fixtures = zone_box.sheet().fixtures.as_slice();
     let _played = zone_box.season().scores();
-    for i in 0..fixtures.len() {
-        let fixture = i as u16;
-        let score = option_of(zone_box, wishes, fixture, fixtures[i]);
+    let unplayed = zone_box.unplayed();
+    for i in 0..unplayed.len() {
+        let fixture = unplayed[i];
+        let score = option_of(zone_box, wishes, fixture, fixtures[fixture as usize]);
         season.apply(&Event::Set { fixture, score });
     }
 }

@@ -5,8 +5,10 @@ ghost use Rattle.league_core.specs.Seasons.{IsSeasonOf};
 ghost use Rattle.league_core.specs.Sheets.{IsWithinLimits};
 ghost use Rattle.score_box.specs.Settings.{HasFinish};
 ghost use Rattle.score_box.specs.Ends.{IsMatch};
+ghost use Rattle.example_finish.specs.FirstOutcomes.{HasOutcome};
 ghost use Rattle.example_finish.specs.ProposalViews.{sheet_asked, season_asked, finish_asked};
 
+use crate::outcome::{Outcome, first_outcome};
 use crate::proposal::option_of;
 use crate::wishes::Wishes;
 use league_core::{Fixture, Question, Score, Season, Sheet};
@@ -53,6 +55,19 @@ impl<'a> Proposed<'a> {
         let _season = self.season();
         let sides = self.sides(fixture);
         option_of(self.zone_box, self.wishes, fixture, sides)
+    }
+
+    /// The outcome of the score that a fixture takes.
+    pub fn outcome(&self, fixture: u16) -> Outcome
+        requires { fixture < length (season_asked self.now).scores }
+        ensures { HasOutcome (slice_index_or (finish_asked self.now).scores fixture None) result }
+    {
+        let _season = self.season();
+        let sides = self.sides(fixture);
+        let home = self.wishes.has(sides.home);
+        let away = self.wishes.has(sides.away);
+        let left = self.zone_box.outcomes_left(fixture);
+        first_outcome(self.zone_box.cell(fixture), left, home, away)
     }
 
     /// The two sides of a fixture.

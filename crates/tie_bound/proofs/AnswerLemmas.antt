@@ -1,13 +1,17 @@
--- Tables of answers: a step at each club in turn, and what the steps of the sure order say.
+-- Tables of answers: a step at each club of a group in turn, and what the steps of the sure order say.
 use Rattle.std.proofs.Common.{◌≡◌, ◌≢◌, ◌⊎◌, inl, inr, ℕ, ◌+◌, ◌<◌, ◌≤◌, ℤ, pos, neg_ℤ, ◌+ℤ◌, ◌-ℤ◌}
-use Rattle.std.proofs.Common.{Bool, true, ◌&&◌, ◌||◌, eqb, List, [], ◌∷◌, length, set, slice_index}
+use Rattle.std.proofs.Common.{Bool, true, false, nat_lt, ◌&&◌, ◌||◌, eqb, List, [], ◌∷◌, length, set, slice_index}
 use Rattle.std.proofs.Common.{refl, sym, ap, ◌∙◌, arith}
 use Rattle.std.specs.List.{list_all}
 use Rattle.std.proofs.lemmas.Bool.{false≢true, cases_eq, eq-eqb, or_cases, or_left, or_right}
-use Rattle.std.proofs.lemmas.Bool.{and_parts, and_from, eqb-true}
+use Rattle.std.proofs.lemmas.Bool.{and_parts, and_from, eqb-true, lt-ltb, ltb-true, cases_Bool}
 use Rattle.std.proofs.lemmas.Int.{ints}
-use Rattle.std.proofs.lemmas.List.{get_or-set_same, get_or-set_other}
+use Rattle.std.proofs.lemmas.List.{get_or-set_same, get_or-set_other, length-set}
 use Rattle.league_core.specs.declared.sheet.Sheet.{Sheet}
+use Rattle.league_core.specs.declared.club_set.ClubSet.{ClubSet}
+use Rattle.league_core.specs.ClubSets.{clubs_in}
+use Rattle.tie_criteria.proofs.MemberLemmas.{IsLeftOf, IsTakenOff, all_left, left_next, each_next}
+use Rattle.tie_criteria.proofs.MemberLemmas.{each_left}
 use Rattle.league_core.specs.declared.season.Score.{Score}
 use Rattle.league_core.specs.declared.sure.Sure.{Sure}
 use Rattle.league_core.specs.declared.sure.Sure.TheVariants.{Above, Below, Level, Unknown}
@@ -29,36 +33,135 @@ use Rattle.tie_bound.specs.Tables.{AreSums}
 use Rattle.tie_bound.specs.Answers.{record_spans_of, first_spans_of, ranges_of, overall_spans_of}
 use Rattle.tie_bound.specs.Answers.{by_table}
 use Rattle.tie_bound.specs.Answers.{by_overall_table, is_sure_by}
-use Rattle.tie_bound.specs.Answers.{answer_at}
+use Rattle.tie_bound.specs.Answers.{answer_at, AreLevelIn, StepDecides, IsStepIn, HaveAnswers}
 
--- the answers below a number have gone on, the others are as they were
-pub record HasGoneOn (next : ℕ → Sure) (old now : List Sure) (bound : ℕ) : Type 0 where
-  pub done : (k : ℕ) → k < bound → answer_at now k ≡ sure_then (answer_at old k) (next k)
-  pub left : (k : ℕ) → bound ≤ k → answer_at now k ≡ answer_at old k
+-- a step in the clubs of a group on its way: those that are left have their old answers still
+pub record IsOnTheWay (next : ℕ → Sure) (group left : ClubSet) (steps : ℕ) (old now : List Sure)
+    : Type 0 where
+  pub left_is : IsLeftOf group left steps
+  pub done : (club : ℕ) → has_club (clubs_in group) club ≡ true
+      → has_club (clubs_in left) club ≡ false
+      → answer_at now club ≡ sure_then (answer_at old club) (next club)
+  pub kept : (club : ℕ) → has_club (clubs_in left) club ≡ true
+      → answer_at now club ≡ answer_at old club
+  pub outside : (club : ℕ) → has_club (clubs_in group) club ≡ false
+      → answer_at now club ≡ answer_at old club
+  pub long : length now ≡ length old
 
-pub gone_on_none : (next : ℕ → Sure) (old : List Sure) → HasGoneOn next old old 0
-gone_on_none next old = record { done = λ k below. absurd (omega arith); left = λ k above. refl }
-
-pub gone_on_more : (next : ℕ → Sure) (old now : List Sure) (bound : ℕ) (answer : Sure)
-    → bound < length now → HasGoneOn next old now bound
-    → answer ≡ sure_then (answer_at now bound) (next bound)
-    → HasGoneOn next old (set now bound answer) (bound + 1)
-gone_on_more next old now bound answer within gone is = record {
-  done = λ k below. at k below (cases_eq k bound);
-  left = λ k above. get_or-set_other now bound k answer Unknown (λ e. absurd (omega arith))
-      ∙ gone.left k (omega arith);
+pub step_begins : (next : ℕ → Sure) (group : ClubSet) (old : List Sure)
+    → IsOnTheWay next group group 0 old old
+step_begins next group old = record {
+  left_is = all_left group;
+  done = λ club has gone. absurd (false≢true (sym gone ∙ has));
+  kept = λ club has. refl;
+  outside = λ club out. refl;
+  long = refl;
 }
-  where
-    at : (k : ℕ) → k < bound + 1 → (k ≡ bound) ⊎ (k ≢ bound)
-        → answer_at (set now bound answer) k ≡ sure_then (answer_at old k) (next k)
-    at k below (inl same) =
-        ap (answer_at (set now bound answer)) same
-        ∙ get_or-set_same now bound answer Unknown within
-        ∙ is
-        ∙ ap (λ a. sure_then a (next bound)) (gone.left bound (omega arith))
-        ∙ ap (λ n. sure_then (answer_at old n) (next n)) (sym same)
-    at k below (inr other) = get_or-set_other now bound k answer Unknown other
-        ∙ gone.done k (omega arith)
+
+pub step_goes_on : (next : ℕ → Sure) (group left rest : ClubSet) (at steps : ℕ)
+    (old now : List Sure) (answer : Sure) → IsOnTheWay next group left steps old now
+    → HaveAnswers (clubs_in group) old → IsTakenOff left rest at
+    → answer ≡ sure_then (answer_at now at) (next at)
+    → IsOnTheWay next group rest (steps + 1) old (set now at answer)
+step_goes_on next group left rest at steps old now answer so_far answered taken is =
+    let inside = so_far.left_is.part at taken.among in
+    let within : at < length now = omega (arith, so_far.long, answered at inside) in
+    let apart = λ (club : ℕ) (other : club ≢ at).
+    get_or-set_other now at club answer Unknown other in
+    record {
+      left_is = left_next group left rest at steps so_far.left_is taken;
+      done = each_next
+          (λ club. answer_at now club ≡ sure_then (answer_at old club) (next club))
+          (λ club. answer_at (set now at answer) club
+          ≡ sure_then (answer_at old club) (next club)) group left rest at taken
+          (λ club other before. apart club other ∙ before)
+          (get_or-set_same now at answer Unknown within
+          ∙ is
+          ∙ ap (λ a. sure_then a (next at)) (so_far.kept at taken.among))
+          so_far.done;
+      kept = each_left (λ club. answer_at now club ≡ answer_at old club)
+          (λ club. answer_at (set now at answer) club ≡ answer_at old club) left rest at taken
+          (λ club other before. apart club other ∙ before) so_far.kept;
+      outside = λ club out.
+          apart club (λ same. false≢true (sym out
+          ∙ ap (has_club (clubs_in group)) same ∙ inside))
+          ∙ so_far.outside club out;
+      long = length-set now at answer ∙ so_far.long;
+    }
+
+-- a club that is left has an answer
+pub left_has_answer : (next : ℕ → Sure) (group left : ClubSet) (at steps : ℕ)
+    (old now : List Sure) → IsOnTheWay next group left steps old now
+    → HaveAnswers (clubs_in group) old → has_club (clubs_in left) at ≡ true → at < length now
+left_has_answer next group left at steps old now so_far answered has =
+    omega (arith, so_far.long, answered at (so_far.left_is.part at has))
+
+pub step_ends : (next : ℕ → Sure) (group left : ClubSet) (steps : ℕ) (old now : List Sure)
+    → IsOnTheWay next group left steps old now
+    → ((club : ℕ) → has_club (clubs_in left) club ≡ false)
+    → IsStepIn (clubs_in group) next old now
+step_ends next group left steps old now so_far none = record {
+  inside = λ club has. so_far.done club has (none club);
+  outside = so_far.outside;
+}
+
+-- where an answer is not level the next step changes nothing
+pub not_level_keeps : (answer next : Sure) → is_level answer ≡ false
+    → sure_then answer next ≡ answer
+not_level_keeps Above next is = refl
+not_level_keeps Below next is = refl
+not_level_keeps Level next is = absurd (false≢true (sym is))
+not_level_keeps Unknown next is = refl
+
+pub not_level : (clubs : ℕ) (answers : List Sure) (group : List ℕ) (club : ℕ)
+    → AreLevelIn clubs answers group → club < clubs → has_club group club ≡ false
+    → is_level (answer_at answers club) ≡ false
+not_level clubs answers group club level low out =
+    sym (ap (λ b. b && is_level (answer_at answers club)) (lt-ltb club clubs low))
+    ∙ sym (level club) ∙ out
+
+-- no club outside a group is level
+abbrev pub AreOthersDecided : ℕ → List Sure → List ℕ → Type 0
+AreOthersDecided clubs answers group =
+    (club : ℕ) → club < clubs → has_club group club ≡ false
+    → is_level (answer_at answers club) ≡ false
+
+pub others_decided : (clubs : ℕ) (answers : List Sure) (group : List ℕ)
+    → AreLevelIn clubs answers group → AreOthersDecided clubs answers group
+others_decided clubs answers group level club low out = not_level clubs answers group club level
+    low out
+
+pub others_stay : (clubs : ℕ) (next : ℕ → Sure) (group : List ℕ) (old new : List Sure)
+    → AreOthersDecided clubs old group → IsStepIn group next old new
+    → AreOthersDecided clubs new group
+others_stay clubs next group old new decided step club low out =
+    ap is_level (step.outside club out) ∙ decided club low out
+
+pub step_decides : (clubs : ℕ) (next : ℕ → Sure) (group : List ℕ) (old new : List Sure)
+    → AreOthersDecided clubs old group → IsStepIn group next old new
+    → StepDecides clubs next old new
+step_decides clubs next group old new decided step club low =
+    elim (cases_Bool (has_club group club)) as
+    (λ _. answer_at new club ≡ sure_then (answer_at old club) (next club)) [
+      | inl has ↦ step.inside club has
+      | inr out ↦
+          step.outside club out
+          ∙ sym (not_level_keeps (answer_at old club) (next club) (decided club low out))
+    ]
+
+-- the clubs that are level have answers
+pub level_have_answers : (clubs : ℕ) (answers : List Sure) (group : List ℕ)
+    → AreLevelIn clubs answers group → clubs ≤ length answers → HaveAnswers group answers
+level_have_answers clubs answers group level few club has =
+    let low = ltb-true club clubs
+    (and_parts (nat_lt club clubs) (is_level (answer_at answers club)) (sym (level club) ∙ has)).0
+    in
+    omega arith
+
+pub have_answers_still : (group : List ℕ) (old new : List Sure) → length old ≡ length new
+    → HaveAnswers group old → HaveAnswers group new
+have_answers_still group old new same answered club has =
+    let low = answered club has in omega arith
 
 -- steps one after the other
 pub sure_then-assoc : (a b c : Sure) → sure_then (sure_then a b) c ≡ sure_then a (sure_then b c)

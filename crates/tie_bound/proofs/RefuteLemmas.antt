@@ -75,8 +75,8 @@ at_least_more line few many more is =
 
 pub refutes_more : (box : Setting) (question : Question)
     (above below above_too below_too : ℕ → Bool)
-    → ((x : ℕ) → x < length box.sheet.clubs → above x ≡ true → above_too x ≡ true)
-    → ((x : ℕ) → x < length box.sheet.clubs → below x ≡ true → below_too x ≡ true)
+    → ((x : ℕ) → has_club (rivals_of box.sheet question.club) x ≡ true → above x ≡ true → above_too x ≡ true)
+    → ((x : ℕ) → has_club (rivals_of box.sheet question.club) x ≡ true → below x ≡ true → below_too x ≡ true)
     → refutes_with box question above below ≡ true
     → refutes_with box question above_too below_too ≡ true
 refutes_more box question above below above_too below_too more_above more_below =
@@ -90,9 +90,9 @@ refutes_more box question above below above_too below_too more_above more_below 
     or_both (marked_after box.zone x && above x) (marked_before box.zone x && below x)
     (marked_after box.zone x && above_too x) (marked_before box.zone x && below_too x)
     (and_more (marked_after box.zone x) (above x) (above_too x)
-    (more_above x (rival_below box.sheet question.club x has)))
+    (more_above x has))
     (and_more (marked_before box.zone x) (below x) (below_too x)
-    (more_below x (rival_below box.sheet question.club x has)))))
+    (more_below x has))))
   where
     rivals : List ℕ
     rivals = rivals_of box.sheet question.club
@@ -111,13 +111,13 @@ refutes_more box question above below above_too below_too more_above more_below 
         (count_by (front above_too) rivals)
         (count_more (front above) (front above_too) rivals
         (λ x has. or_more (marked_before box.zone x) (above x) (above_too x)
-        (more_above x (rival_below box.sheet question.club x has))))
+        (more_above x has)))
     by_claim Outside =
         at_least_more (length box.sheet.clubs - question.line) (count_by (back below) rivals)
         (count_by (back below_too) rivals)
         (count_more (back below) (back below_too) rivals
         (λ x has. or_more (marked_after box.zone x) (below x) (below_too x)
-        (more_below x (rival_below box.sheet question.club x has))))
+        (more_below x has)))
 
 -- where the same clubs of the sheet are above and below, the same is refuted
 both_true : (a b : Bool) → (a ≡ true → b ≡ true) → (b ≡ true → a ≡ true) → a ≡ b
@@ -127,8 +127,8 @@ both_true false false gives from = refl
 
 pub refutes_same : (box : Setting) (question : Question)
     (above below above_too below_too : ℕ → Bool)
-    → ((x : ℕ) → x < length box.sheet.clubs → above x ≡ above_too x)
-    → ((x : ℕ) → x < length box.sheet.clubs → below x ≡ below_too x)
+    → ((x : ℕ) → has_club (rivals_of box.sheet question.club) x ≡ true → above x ≡ above_too x)
+    → ((x : ℕ) → has_club (rivals_of box.sheet question.club) x ≡ true → below x ≡ below_too x)
     → refutes_with box question above below ≡ refutes_with box question above_too below_too
 refutes_same box question above below above_too below_too same_above same_below =
     both_true (refutes_with box question above below)
@@ -206,13 +206,13 @@ open_by_points box question above below most_above most_below above_is below_is 
     (is_surely_below box.sheet box.season question box.zone) most_above most_below
     (λ x within is.
     most_above_is x
-    ∙ and_from (nat_lt x (length box.sheet.clubs)) (not (below x)) (lt-ltb x _ within)
+    ∙ and_from (nat_lt x (length box.sheet.clubs)) (not (below x)) (lt-ltb x _ (rival_below box.sheet question.club x within))
     (ap not (below_is x ∙ ap (λ b. nat_lt x (length box.sheet.clubs) && b) (not_below
     (sure_by_points box.sheet box.season (options_in_box box) x question.club) _ is)
     ∙ and_false (nat_lt x (length box.sheet.clubs)))))
     (λ x within is.
     most_below_is x
-    ∙ and_from (nat_lt x (length box.sheet.clubs)) (not (above x)) (lt-ltb x _ within)
+    ∙ and_from (nat_lt x (length box.sheet.clubs)) (not (above x)) (lt-ltb x _ (rival_below box.sheet question.club x within))
     (ap not (above_is x ∙ ap (λ b. nat_lt x (length box.sheet.clubs) && b) (not_above
     (sure_by_points box.sheet box.season (options_in_box box) x question.club) _ is)
     ∙ and_false (nat_lt x (length box.sheet.clubs)))))

@@ -1,6 +1,6 @@
 -- The rounds of the sure order: what is judged so far, and the group that is still level.
 use Rattle.std.proofs.Common.{◌≡◌, ◌≢◌, ◌⊎◌, inl, inr, ℕ, suc, ◌<◌, ◌≤◌, Bool, true, false, ◌&&◌}
-use Rattle.std.proofs.Common.{◌==◌, ltb, List, length, filter, refl, sym, ap, ◌∙◌, subst, arith}
+use Rattle.std.proofs.Common.{◌==◌, ltb, List, length, filter, refl, sym, ap, ◌∙◌, subst}
 use Rattle.std.proofs.lemmas.Bool.{eq-eqb, ne_eqb, cases_lt, le-ltb}
 use Rattle.league_core.specs.declared.sheet.Sheet.{Sheet}
 use Rattle.league_core.specs.declared.season.Score.{Score}
@@ -10,8 +10,10 @@ use Rattle.league_core.specs.SureOrder.{sure_then, is_level, by_record_ranges, b
 use Rattle.league_core.specs.SureOrder.{is_surely_in, are_all_sure, sure_within, sure_in}
 use Rattle.league_core.specs.ClubSets.{clubs_below}
 use Rattle.league_core.proofs.ClubSetLemmas.{clubs_below-filter}
-use Rattle.tie_bound.specs.Answers.{answer_at, AreLevelIn}
+use Rattle.league_core.specs.Sums.{has_club}
+use Rattle.tie_bound.specs.Answers.{answer_at, AreLevelIn, StepDecides}
 use Rattle.tie_bound.proofs.AnswerLemmas.{sure_then-assoc, sure_then-level, is_level-then}
+use Rattle.tie_bound.proofs.AnswerLemmas.{not_level, not_level_keeps}
 
 -- one round of the sure order within a group: where it is not sure who shares the club's record
 -- nothing more is, where all share it the sums over all matches decide, and else the round is made
@@ -78,21 +80,16 @@ pub record Judging : Type 0 where
 -- are the group
 pub record IsJudged (task : Judging) (times : ℕ) (group : List ℕ) (answers : List Sure) : Type 0
   where
-    pub order : (rival : ℕ) → rival < 24
+    pub order : (rival : ℕ) → rival < length task.sheet.clubs
         → task.wanted rival
         ≡ sure_then (answer_at answers rival)
         (sure_within times task.sheet task.options group rival task.club)
     pub level : AreLevelIn (length task.sheet.clubs) answers group
 
--- a step more at each club
-abbrev pub Taken : (ℕ → Sure) → List Sure → List Sure → Type 0
-Taken step answers taken =
-    (rival : ℕ) → rival < 24
-    → answer_at taken rival ≡ sure_then (answer_at answers rival) (step rival)
-
 -- each answer is the wanted one
 abbrev pub AreWanted : Judging → List Sure → Type 0
-AreWanted task answers = (rival : ℕ) → rival < 24 → answer_at answers rival ≡ task.wanted rival
+AreWanted task answers =
+    (rival : ℕ) → rival < length task.sheet.clubs → answer_at answers rival ≡ task.wanted rival
 
 -- the criteria within a group are wanted, and as many rounds are to come as it has clubs
 abbrev pub task_in : Sheet → List (List Score) → List ℕ → ℕ → List Sure → Judging
@@ -116,8 +113,8 @@ judged_first sheet options club times group answers level all = record {
 -- a last step after the records
 judged_last : (task : Judging) (times : ℕ) (group : List ℕ) (answers taken last : List Sure)
     (next : ℕ → Sure) → IsJudged task times group answers
-    → Taken (λ rival. by_record_ranges task.sheet task.options group rival task.club) answers taken
-    → Taken next taken last
+    → StepDecides (length task.sheet.clubs) (λ rival. by_record_ranges task.sheet task.options group rival task.club) answers taken
+    → StepDecides (length task.sheet.clubs) next taken last
     → ((rival : ℕ) → sure_within times task.sheet task.options group rival task.club
     ≡ sure_then (by_record_ranges task.sheet task.options group rival task.club) (next rival))
     → AreWanted task last
@@ -132,8 +129,8 @@ judged_last task times group answers taken last next judged takes lasts round ri
 -- where it is not sure who shares the record, nothing more is
 pub judged_open : (task : Judging) (times : ℕ) (group : List ℕ) (answers taken last : List Sure)
     → IsJudged task (suc times) group answers
-    → Taken (λ rival. by_record_ranges task.sheet task.options group rival task.club) answers taken
-    → Taken (λ rival. Unknown) taken last
+    → StepDecides (length task.sheet.clubs) (λ rival. by_record_ranges task.sheet task.options group rival task.club) answers taken
+    → StepDecides (length task.sheet.clubs) (λ rival. Unknown) taken last
     → are_all_sure task.sheet task.options group task.club ≡ false → AreWanted task last
 judged_open task times group answers taken last judged takes lasts not_sure =
     judged_last task (suc times) group answers taken last (λ _. Unknown) judged takes lasts
@@ -142,8 +139,8 @@ judged_open task times group answers taken last judged takes lasts not_sure =
 -- where the whole group shares it, the sums over all matches decide
 pub judged_whole : (task : Judging) (times : ℕ) (group level : List ℕ)
     (answers taken last : List Sure) → IsJudged task (suc times) group answers
-    → Taken (λ rival. by_record_ranges task.sheet task.options group rival task.club) answers taken
-    → Taken (λ rival. by_overall_ranges task.sheet task.options rival task.club) taken last
+    → StepDecides (length task.sheet.clubs) (λ rival. by_record_ranges task.sheet task.options group rival task.club) answers taken
+    → StepDecides (length task.sheet.clubs) (λ rival. by_overall_ranges task.sheet task.options rival task.club) taken last
     → are_all_sure task.sheet task.options group task.club ≡ true
     → level ≡ filter (is_surely_in task.sheet task.options group task.club) group
     → length level ≡ length group → AreWanted task last
@@ -156,7 +153,7 @@ judged_whole task times group level answers taken last judged takes lasts sure i
 -- else the round is made again
 pub judged_deeper : (task : Judging) (times : ℕ) (group level : List ℕ)
     (answers taken : List Sure) → IsJudged task (suc times) group answers
-    → Taken (λ rival. by_record_ranges task.sheet task.options group rival task.club) answers taken
+    → StepDecides (length task.sheet.clubs) (λ rival. by_record_ranges task.sheet task.options group rival task.club) answers taken
     → are_all_sure task.sheet task.options group task.club ≡ true
     → level ≡ filter (is_surely_in task.sheet task.options group task.club) group
     → (length level ≢ length group) → AreLevelIn (length task.sheet.clubs) taken level
@@ -185,6 +182,16 @@ pub judged_all : (task : Judging) (group : List ℕ) (answers : List Sure)
 judged_all task group answers judged rival within =
     sym (judged.order rival within ∙ sure_then-level (answer_at answers rival))
 
+-- a club that is level no more has its answer
+pub judged_apart : (task : Judging) (times : ℕ) (group : List ℕ) (answers : List Sure) (club : ℕ)
+    → IsJudged task times group answers → club < length task.sheet.clubs
+    → has_club group club ≡ false → answer_at answers club ≡ task.wanted club
+judged_apart task times group answers club judged low out =
+    sym (judged.order club low
+    ∙ not_level_keeps (answer_at answers club)
+    (sure_within times task.sheet task.options group club task.club)
+    (not_level (length task.sheet.clubs) answers group club judged.level low out))
+
 -- one round less
 pub one_less : (task : Judging) (left next : ℕ) (group : List ℕ) (answers : List Sure)
     → left ≡ suc next → IsJudged task left group answers → IsJudged task (suc next) group answers
@@ -193,11 +200,11 @@ one_less task left next group answers same judged =
     subst P same judged
 
 -- the clubs of a group that are level after a step are those that the step leaves level
-pub level_is : (clubs group bits : ℕ) (answers taken : List Sure) (step : ℕ → Sure) → clubs ≤ 24
-    → AreLevelIn clubs answers (clubs_below 32 group) → Taken step answers taken
+pub level_is : (clubs group bits : ℕ) (answers taken : List Sure) (step : ℕ → Sure)
+    → AreLevelIn clubs answers (clubs_below 32 group) → StepDecides clubs step answers taken
     → AreLevelIn clubs taken (clubs_below 32 bits)
     → clubs_below 32 bits ≡ filter (λ other. is_level (step other)) (clubs_below 32 group)
-level_is clubs group bits answers taken step few group_level takes level =
+level_is clubs group bits answers taken step group_level takes level =
     clubs_below-filter 32 bits group (λ other. is_level (step other))
     (λ x. level x ∙ at x (cases_lt x clubs)
     ∙ ap (λ b. b && is_level (step x)) (sym (group_level x)))
@@ -210,7 +217,7 @@ level_is clubs group bits answers taken step few group_level takes level =
         → (ltb x clubs && is_level (answer_at taken x))
         ≡ ((ltb x clubs && is_level (answer_at answers x)) && is_level (step x))
     at x (inl below) =
-        ap (λ a. ltb x clubs && is_level a) (takes x (omega arith))
+        ap (λ a. ltb x clubs && is_level a) (takes x below)
         ∙ ap (λ b. ltb x clubs && b) (is_level-then (answer_at answers x) (step x))
         ∙ both (ltb x clubs) (is_level (answer_at answers x)) (is_level (step x))
     at x (inr past) =

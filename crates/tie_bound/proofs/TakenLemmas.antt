@@ -27,41 +27,47 @@ use Rattle.tie_bound.specs.Boxes.{options_in_box}
 use Rattle.tie_bound.specs.Tables.{AreSums}
 use Rattle.tie_bound.specs.Answers.{record_spans_of, first_spans_of, overall_spans_of, by_table}
 use Rattle.tie_bound.specs.Answers.{by_overall_table, is_sure_by, answer_at, AreLevelIn}
-use Rattle.tie_bound.specs.Answers.{StepDecides}
+use Rattle.tie_bound.specs.Answers.{StepDecides, IsStepIn}
 use Rattle.tie_bound.proofs.AnswerLemmas.{sure_then-assoc, record_spans_of-is, overall_spans_of-is}
-use Rattle.tie_bound.proofs.AnswerLemmas.{first_spans_of-is}
-use Rattle.tie_bound.proofs.RoundLemmas.{Taken}
+use Rattle.tie_bound.proofs.AnswerLemmas.{first_spans_of-is, step_decides, AreOthersDecided}
 
--- a step that goes on at all clubs of a table
-taken_by : (step next : ℕ → Sure) (answers taken : List Sure) → length answers ≡ 24
-    → StepDecides step answers taken → ((rival : ℕ) → step rival ≡ next rival)
-    → Taken next answers taken
-taken_by step next answers taken long goes same rival within =
-    goes rival (omega arith) ∙ ap (sure_then (answer_at answers rival)) (same rival)
+-- a step in the group of the clubs that are level, by what it says of each
+taken_by : (clubs : ℕ) (step next : ℕ → Sure) (group : List ℕ) (answers taken : List Sure)
+    → AreOthersDecided clubs answers group → IsStepIn group step answers taken
+    → ((rival : ℕ) → step rival ≡ next rival) → StepDecides clubs next answers taken
+taken_by clubs step next group answers taken decided goes same rival low =
+    step_decides clubs step group answers taken decided goes rival low
+    ∙ ap (sure_then (answer_at answers rival)) (same rival)
 
 -- the records by the table of a group
 pub taken_records : (sheet : Sheet) (options : List (List Score)) (club : ℕ) (group : List ℕ)
     (table : List Sums) (answers taken : List Sure)
-    → AreSums (worth_among group) sheet.fixtures options table → length answers ≡ 24
-    → StepDecides (by_table Record table club) answers taken
-    → Taken (λ rival. by_record_ranges sheet options group rival club) answers taken
-taken_records sheet options club group table answers taken are long goes =
-    taken_by (by_table Record table club) (λ rival. by_record_ranges sheet options group rival club)
-    answers taken long goes (λ rival.
+    → AreSums (worth_among group) sheet.fixtures options table
+    → AreOthersDecided (length sheet.clubs) answers group
+    → IsStepIn group (by_table Record table club) answers taken
+    → StepDecides (length sheet.clubs)
+    (λ rival. by_record_ranges sheet options group rival club) answers taken
+taken_records sheet options club group table answers taken are decided goes =
+    taken_by (length sheet.clubs) (by_table Record table club)
+    (λ rival. by_record_ranges sheet options group rival club) group answers taken decided goes
+    (λ rival.
     ap (λ rs. sure_by_ranges rs (record_spans_of (sums_at table club)))
     (record_spans_of-is sheet options group table rival are)
     ∙ ap (sure_by_ranges (record_ranges sheet options group rival))
     (record_spans_of-is sheet options group table club are))
 
 -- difference and goals by the table of all matches
-pub taken_first_sums : (sheet : Sheet) (options : List (List Score)) (club : ℕ)
+pub taken_first_sums : (sheet : Sheet) (options : List (List Score)) (club : ℕ) (group : List ℕ)
     (table : List Sums) (answers taken : List Sure)
-    → AreSums worth_to sheet.fixtures options table → length answers ≡ 24
-    → StepDecides (by_table FirstSums table club) answers taken
-    → Taken (λ rival. by_first_sum_ranges sheet options rival club) answers taken
-taken_first_sums sheet options club table answers taken are long goes =
-    taken_by (by_table FirstSums table club)
-    (λ rival. by_first_sum_ranges sheet options rival club) answers taken long goes (λ rival.
+    → AreSums worth_to sheet.fixtures options table
+    → AreOthersDecided (length sheet.clubs) answers group
+    → IsStepIn group (by_table FirstSums table club) answers taken
+    → StepDecides (length sheet.clubs) (λ rival. by_first_sum_ranges sheet options rival club)
+    answers taken
+taken_first_sums sheet options club group table answers taken are decided goes =
+    taken_by (length sheet.clubs) (by_table FirstSums table club)
+    (λ rival. by_first_sum_ranges sheet options rival club) group answers taken decided goes
+    (λ rival.
     ap (λ rs. sure_by_ranges rs (first_spans_of (sums_at table club)))
     (first_spans_of-is sheet options table rival are)
     ∙ ap (sure_by_ranges (first_sum_ranges sheet options rival))
@@ -69,13 +75,16 @@ taken_first_sums sheet options club table answers taken are long goes =
 
 -- the sums over all matches, and the ranks
 pub taken_overall : (sheet read : Sheet) (options : List (List Score)) (club : ℕ)
-    (table : List Sums) (taken last : List Sure) → read ≡ sheet
-    → AreSums worth_to sheet.fixtures options table → length taken ≡ 24
-    → StepDecides (by_overall_table read table club) taken last
-    → Taken (λ rival. by_overall_ranges sheet options rival club) taken last
-taken_overall sheet read options club table taken last same are long goes =
-    taken_by (by_overall_table read table club)
-    (λ rival. by_overall_ranges sheet options rival club) taken last long goes (λ rival.
+    (group : List ℕ) (table : List Sums) (taken last : List Sure) → read ≡ sheet
+    → AreSums worth_to sheet.fixtures options table
+    → AreOthersDecided (length sheet.clubs) taken group
+    → IsStepIn group (by_overall_table read table club) taken last
+    → StepDecides (length sheet.clubs) (λ rival. by_overall_ranges sheet options rival club)
+    taken last
+taken_overall sheet read options club group table taken last same are decided goes =
+    taken_by (length sheet.clubs) (by_overall_table read table club)
+    (λ rival. by_overall_ranges sheet options rival club) group taken last decided goes
+    (λ rival.
     ap (λ s. by_overall_table s table club rival) same
     ∙ ap (λ rs. sure_by_ranges rs (overall_spans_of (sums_at table club) (rank_of sheet club)))
     (overall_spans_of-is sheet options table rival are)
@@ -128,53 +137,58 @@ after_first_sums sheet options group rival club sure =
     ]
 
 pub overall_first_open : (sheet : Sheet) (options : List (List Score)) (club : ℕ) (group : List ℕ)
-    (answers taken last : List Sure) → are_all_sure_overall sheet options group club ≡ false
-    → Taken (λ rival. by_first_sum_ranges sheet options rival club) answers taken
-    → Taken (λ rival. Unknown) taken last
-    → Taken (λ rival. sure_by OverallFirst sheet options group rival club) answers last
-overall_first_open sheet options club group answers taken last not_sure takes lasts rival within =
+    (rival : ℕ) (answers taken last : List Sure)
+    → are_all_sure_overall sheet options group club ≡ false
+    → answer_at taken rival
+    ≡ sure_then (answer_at answers rival) (by_first_sum_ranges sheet options rival club)
+    → answer_at last rival ≡ sure_then (answer_at taken rival) Unknown
+    → answer_at last rival ≡ sure_then (answer_at answers rival)
+    (sure_by OverallFirst sheet options group rival club)
+overall_first_open sheet options club group rival answers taken last not_sure takes lasts =
     let first = by_first_sum_ranges sheet options rival club in
-    lasts rival within
-    ∙ ap (λ a. sure_then a Unknown) (takes rival within)
+    lasts
+    ∙ ap (λ a. sure_then a Unknown) takes
     ∙ sure_then-assoc (answer_at answers rival) first Unknown
     ∙ sym (ap (λ b. sure_then (answer_at answers rival)
     (sure_then first (after_first_sums sheet options group rival club b))) not_sure)
 
 -- and else the criteria are taken among the clubs that share them
 pub overall_first_sure : (sheet : Sheet) (options : List (List Score)) (club : ℕ)
-    (group level : List ℕ) (answers taken last : List Sure)
+    (group level : List ℕ) (rival : ℕ) (answers taken last : List Sure)
     → are_all_sure_overall sheet options group club ≡ true
     → level ≡ surely_level_overall sheet options group club
-    → Taken (λ rival. by_first_sum_ranges sheet options rival club) answers taken
-    → Taken (λ rival. sure_in sheet options level rival club) taken last
-    → Taken (λ rival. sure_by OverallFirst sheet options group rival club) answers last
-overall_first_sure sheet options club group level answers taken last sure is takes lasts rival
-    within =
+    → answer_at taken rival
+    ≡ sure_then (answer_at answers rival) (by_first_sum_ranges sheet options rival club)
+    → answer_at last rival
+    ≡ sure_then (answer_at taken rival) (sure_in sheet options level rival club)
+    → answer_at last rival ≡ sure_then (answer_at answers rival)
+    (sure_by OverallFirst sheet options group rival club)
+overall_first_sure sheet options club group level rival answers taken last sure is takes lasts =
     let first = by_first_sum_ranges sheet options rival club in
-    lasts rival within
+    lasts
     ∙ ap (λ g. sure_then (answer_at taken rival) (sure_in sheet options g rival club)) is
-    ∙ ap (λ a. sure_then a (after_first_sums sheet options group rival club true))
-    (takes rival within)
+    ∙ ap (λ a. sure_then a (after_first_sums sheet options group rival club true)) takes
     ∙ sure_then-assoc (answer_at answers rival) first
     (after_first_sums sheet options group rival club true)
     ∙ sym (ap (λ b. sure_then (answer_at answers rival)
     (sure_then first (after_first_sums sheet options group rival club b))) sure)
 
 -- by points and then by the criteria within the group of all clubs on the club's points
-pub sure_order-is : (box : Setting) (club bits : ℕ) (answers last : List Sure)
+pub sure_order-is : (box : Setting) (club bits rival : ℕ) (answers last : List Sure)
     → length box.sheet.clubs ≤ 24
-    → ((rival : ℕ) → rival < 24 → answer_at answers rival
-    ≡ sure_by_points box.sheet box.season (options_in_box box) rival club)
+    → ((other : ℕ) → other < length box.sheet.clubs → answer_at answers other
+    ≡ sure_by_points box.sheet box.season (options_in_box box) other club)
     → AreLevelIn (length box.sheet.clubs) answers (clubs_below 32 bits)
-    → Taken (λ rival. sure_by box.sheet.order box.sheet (options_in_box box) (clubs_below 32 bits)
-    rival club) answers last → (rival : ℕ) → rival < 24
+    → rival < length box.sheet.clubs
+    → answer_at last rival ≡ sure_then (answer_at answers rival)
+    (sure_by box.sheet.order box.sheet (options_in_box box) (clubs_below 32 bits) rival club)
     → answer_at last rival ≡ sure_order box.sheet box.season box.zone rival club
 unfolding sure_order
-sure_order-is box club bits answers last few by_points level takes rival within =
-    takes rival within
+sure_order-is box club bits rival answers last few by_points level low takes =
+    takes
     ∙ ap (λ a. sure_then a (sure_by box.sheet.order box.sheet (options_in_box box)
     (clubs_below 32 bits) rival
-    club)) (by_points rival within)
+    club)) (by_points rival low)
     ∙ ap (λ g. sure_then (sure_by_points box.sheet box.season (options_in_box box) rival club)
     (sure_by box.sheet.order box.sheet (options_in_box box) g rival club)) same
   where
@@ -183,7 +197,7 @@ sure_order-is box club bits answers last few by_points level takes rival within 
         ≡ (ltb x (length box.sheet.clubs)
         && is_level (sure_by_points box.sheet box.season (options_in_box box) x club))
     on_points x (inl below) =
-        ap (λ a. ltb x (length box.sheet.clubs) && is_level a) (by_points x (omega arith))
+        ap (λ a. ltb x (length box.sheet.clubs) && is_level a) (by_points x below)
     on_points x (inr past) =
         ap (λ b. b && is_level (answer_at answers x)) (le-ltb x (length box.sheet.clubs) past)
         ∙ sym (ap (λ b. b && is_level (sure_by_points box.sheet box.season (options_in_box box) x

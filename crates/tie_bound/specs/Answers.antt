@@ -61,10 +61,27 @@ is_sure_by parts table club other =
 abbrev pub answer_at : List Sure → ℕ → Sure
 answer_at answers club = slice_index_or answers club Unknown
 
--- where a club was level so far, the next step decides
-abbrev pub StepDecides : (ℕ → Sure) → List Sure → List Sure → Type 0
-StepDecides next old new =
-    (club : ℕ) → club < length old → answer_at new club ≡ sure_then (answer_at old club) (next club)
+-- where one of so many clubs was level so far, the next step decides
+abbrev pub StepDecides : ℕ → (ℕ → Sure) → List Sure → List Sure → Type 0
+StepDecides clubs next old new =
+    (club : ℕ) → club < clubs → answer_at new club ≡ sure_then (answer_at old club) (next club)
+
+-- so it does for those of the clubs that are asked for
+abbrev pub StepDecidesFor : List ℕ → ℕ → (ℕ → Sure) → List Sure → List Sure → Type 0
+StepDecidesFor asked clubs next old new =
+    (club : ℕ) → club < clubs → has_club asked club ≡ true
+    → answer_at new club ≡ sure_then (answer_at old club) (next club)
+
+-- for each club of a group that was level so far the next step decides, and the others' answers
+-- stay
+pub record IsStepIn (group : List ℕ) (next : ℕ → Sure) (old new : List Sure) : Type 0 where
+  pub inside : (club : ℕ) → has_club group club ≡ true
+      → answer_at new club ≡ sure_then (answer_at old club) (next club)
+  pub outside : (club : ℕ) → has_club group club ≡ false → answer_at new club ≡ answer_at old club
+
+-- each club of the group has an answer
+abbrev pub HaveAnswers : List ℕ → List Sure → Type 0
+HaveAnswers group answers = (club : ℕ) → has_club group club ≡ true → club < length answers
 
 -- the group is all clubs, out of so many, that are level so far
 abbrev pub AreLevelIn : ℕ → List Sure → List ℕ → Type 0

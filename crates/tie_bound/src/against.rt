@@ -1,58 +1,66 @@
-//! What is sure of every club against one club, in one walk over all fixtures and one for each
-//! group in which the head-to-head record is taken: the groups depend on the one club alone, so all
-//! its rivals are judged together.
+//! What is sure of clubs against one club, by points first, then in a walk over the matches that are
+//! not played for each group in which the head-to-head record is taken. The groups depend on the one
+//! club alone, so all its rivals are judged together.
 
-ghost use Rattle.std.specs.Prelude.{◌≡◌, ◌<◌, ◌≤◌, ℕ, IsTrue, length};
+ghost use Rattle.std.specs.Prelude.{◌≡◌, ◌<◌, ◌≤◌, ℕ, true, IsTrue, length};
 ghost use Rattle.league_core.specs.declared.sheet.Order.TheVariants.{OverallFirst};
-ghost use Rattle.league_core.specs.Sums.{worth_to};
+ghost use Rattle.league_core.specs.Sums.{has_club};
 ghost use Rattle.league_core.specs.ClubSets.{clubs_in};
-ghost use Rattle.league_core.specs.SureOrder.{sure_by, sure_order};
+ghost use Rattle.league_core.specs.SureOrder.{sure_by, sure_by_points, sure_order};
 ghost use Rattle.tie_bound.specs.Boxes.{options_in_box, have_one_outcome};
-ghost use Rattle.tie_bound.specs.Tables.{AreSums};
-ghost use Rattle.tie_bound.specs.Answers.{answer_at, AreLevelIn, StepDecides};
+ghost use Rattle.tie_bound.specs.Answers.{answer_at, AreLevelIn, StepDecidesFor};
 
-use crate::answers::{are_all_sure, by_points, leave_open, take_parts, those_that_are};
+use crate::answers::{are_all_sure, by_ends, by_points, leave_open, take_parts, those_that_are};
 use crate::parts::Parts;
 use crate::rounds::take_rounds;
-use crate::sums::Sums;
 use crate::table::sums_over;
 use league_core::{ClubSet, Order, Sure};
 use score_box::ZoneBox;
 
-/// The answers of all clubs against the one, by the clubs' numbers.
-pub fn answers_against(zone_box: &ZoneBox, club: u8) -> [Sure; 24]
+/// The answers of the clubs that are asked for against the one, by the clubs' numbers.
+pub fn answers_against(zone_box: &ZoneBox, asked: ClubSet, club: u8) -> [Sure; 24]
     requires { IsTrue (have_one_outcome zone_box.now) }
-    ensures answers { (rival : ℕ) → rival < 24 → answer_at result rival
+    ensures answers { (rival : ℕ) → rival < length zone_box.now.sheet.clubs
+        → has_club (clubs_in asked) rival ≡ true → answer_at result rival
         ≡ sure_order zone_box.now.sheet zone_box.now.season zone_box.now.zone rival club }
     ensures clubs { length zone_box.now.sheet.clubs ≤ 24 }
 {
     let clubs = zone_box.sheet().clubs.len() as u8;
-    let overall = sums_over(zone_box);
-    let mut answers = by_points(zone_box, &overall, club);
+    let mut answers = on_points(zone_box, club);
     let group = those_that_are(&answers, Sure::Level, clubs);
-    take_criteria(&mut answers, zone_box, &overall, group, club);
+    take_criteria(&mut answers, zone_box, asked, group, club);
     answers
 }
 
+/// The answers of the sheet's clubs by points. Without a finish, or against a number that is no
+/// club's, the box keeps no ends of points to look at.
+fn on_points(zone_box: &ZoneBox, club: u8) -> [Sure; 24]
+    requires { IsTrue (have_one_outcome zone_box.now) }
+    ensures answers { (rival : ℕ) → rival < length zone_box.now.sheet.clubs
+        → answer_at result rival ≡ sure_by_points zone_box.now.sheet zone_box.now.season
+        (options_in_box zone_box.now) rival club }
+    ensures long { length result ≡ 24 }
+{
+    let clubs = zone_box.sheet().clubs.len() as u8;
+    if club < clubs && zone_box.has_finish() {
+        by_ends(zone_box, club)
+    } else {
+        by_points(zone_box, &sums_over(zone_box), club)
+    }
+}
+
 /// Takes the criteria within the group of all clubs that are level on points, in the sheet's order.
-fn take_criteria(
-    answers: &mut [Sure],
-    zone_box: &ZoneBox,
-    overall: &[Sums],
-    group: ClubSet,
-    club: u8,
-)
+fn take_criteria(answers: &mut [Sure], zone_box: &ZoneBox, asked: ClubSet, group: ClubSet, club: u8)
     requires outcomes { IsTrue (have_one_outcome zone_box.now) }
-    requires overall { AreSums worth_to zone_box.now.sheet.fixtures (options_in_box zone_box.now)
-        overall.now }
     requires long { length answers.old ≡ 24 }
     requires level { AreLevelIn (length zone_box.now.sheet.clubs) answers.old (clubs_in group) }
-    ensures { StepDecides (λ rival. sure_by zone_box.now.sheet.order zone_box.now.sheet
+    ensures { StepDecidesFor (clubs_in asked) (length zone_box.now.sheet.clubs)
+        (λ rival. sure_by zone_box.now.sheet.order zone_box.now.sheet
         (options_in_box zone_box.now) (clubs_in group) rival club) answers.old answers.new }
 {
     match zone_box.sheet().order {
-        Order::HeadFirst => take_rounds(answers, zone_box, overall, group, club),
-        Order::OverallFirst => take_overall_first(answers, zone_box, overall, group, club),
+        Order::HeadFirst => take_rounds(answers, zone_box, asked, group, club),
+        Order::OverallFirst => take_overall_first(answers, zone_box, asked, group, club),
     }
 }
 
@@ -61,24 +69,24 @@ fn take_criteria(
 fn take_overall_first(
     answers: &mut [Sure],
     zone_box: &ZoneBox,
-    overall: &[Sums],
+    asked: ClubSet,
     group: ClubSet,
     club: u8,
 )
     requires outcomes { IsTrue (have_one_outcome zone_box.now) }
-    requires overall { AreSums worth_to zone_box.now.sheet.fixtures (options_in_box zone_box.now)
-        overall.now }
     requires long { length answers.old ≡ 24 }
     requires level { AreLevelIn (length zone_box.now.sheet.clubs) answers.old (clubs_in group) }
-    ensures { StepDecides (λ rival. sure_by OverallFirst zone_box.now.sheet
-        (options_in_box zone_box.now) (clubs_in group) rival club) answers.old answers.new }
+    ensures { StepDecidesFor (clubs_in asked) (length zone_box.now.sheet.clubs)
+        (λ rival. sure_by OverallFirst zone_box.now.sheet (options_in_box zone_box.now)
+        (clubs_in group) rival club) answers.old answers.new }
 {
-    take_parts(answers, Parts::FirstSums, overall, club);
-    if !are_all_sure(Parts::FirstSums, overall, group, club) {
-        leave_open(answers);
+    let clubs = zone_box.sheet().clubs.len() as u8;
+    let overall = sums_over(zone_box);
+    take_parts(answers, Parts::FirstSums, &overall, group, club);
+    if !are_all_sure(Parts::FirstSums, &overall, group, club) {
+        leave_open(answers, group);
         return;
     }
-    let clubs = zone_box.sheet().clubs.len() as u8;
     let level = those_that_are(answers, Sure::Level, clubs);
-    take_rounds(answers, zone_box, overall, level, club);
+    take_rounds(answers, zone_box, asked, level, club);
 }

@@ -11,20 +11,40 @@ ghost use Rattle.league_core.specs.ClubSets.{clubs_in};
 ghost use Rattle.league_core.specs.PointRanges.{one_value, added};
 ghost use Rattle.league_core.specs.SureOrder.{sure_by_points, sure_by_ranges, sure_then};
 ghost use Rattle.league_core.specs.SureOrder.{is_level, is_apart};
+ghost use Rattle.score_box.specs.Settings.{HasFinish};
 ghost use Rattle.tie_bound.specs.Spans.{as_range, IsSpanNear};
 ghost use Rattle.tie_bound.specs.Sums.{sums_at};
 ghost use Rattle.tie_bound.specs.Boxes.{options_in_box};
 ghost use Rattle.tie_bound.specs.Tables.{AreSums};
 ghost use Rattle.tie_bound.specs.Answers.{ranges_of, overall_spans_of, by_table};
 ghost use Rattle.tie_bound.specs.Answers.{by_overall_table, is_sure_by};
-ghost use Rattle.tie_bound.specs.Answers.{answer_at, is_answer, StepDecides};
+ghost use Rattle.tie_bound.specs.Answers.{answer_at, is_answer, IsStepIn, HaveAnswers};
 
+use crate::ends::ends_of;
 use crate::order::{are_apart, by_overall, by_parts, by_span, is_answer, then};
 use crate::parts::Parts;
 use crate::span::Span;
 use crate::sums::{Sums, sums_at};
+use league_core::limits::SET_WIDTH;
 use league_core::{ClubSet, Season, Sheet, Sure};
 use score_box::ZoneBox;
+
+/// The answers of the sheet's clubs by points, from the least and the most of each.
+pub fn by_ends(zone_box: &ZoneBox, club: u8) -> [Sure; 24]
+    requires has_finish { HasFinish zone_box.now }
+    requires in_range { club < length zone_box.now.sheet.clubs }
+    ensures answers { (rival : ℕ) → rival < length zone_box.now.sheet.clubs
+        → answer_at result rival ≡ sure_by_points zone_box.now.sheet zone_box.now.season
+        (options_in_box zone_box.now) rival club }
+    ensures long { length result ≡ 24 }
+{
+    let own = ends_of(zone_box, club);
+    let mut answers = [Sure::Unknown; 24];
+    for rival in 0..zone_box.sheet().clubs.len() as u8 {
+        answers[rival as usize] = by_span(ends_of(zone_box, rival), own);
+    }
+    answers
+}
 
 /// The answers by points: match points less deductions, which have one value each.
 pub fn by_points(zone_box: &ZoneBox, overall: &[Sums], club: u8) -> [Sure; 24]
@@ -62,14 +82,21 @@ fn deducted(deductions: &[u8], club: u8) -> i32
     i32::from(deductions.get(club as usize).copied().unwrap_or(0))
 }
 
-/// Takes these parts, by a table of sums.
-pub fn take_parts(answers: &mut [Sure], parts: Parts, table: &[Sums], club: u8)
-    requires { length answers.old ≤ 32 }
-    ensures { StepDecides (by_table parts table.now club) answers.old answers.new }
+/// Takes these parts for the clubs of a group, by a table of sums.
+pub fn take_parts(answers: &mut [Sure], parts: Parts, table: &[Sums], group: ClubSet, club: u8)
+    requires { HaveAnswers (clubs_in group) answers.old }
+    ensures { IsStepIn (clubs_in group) (by_table parts table.now club) answers.old answers.new }
 {
     let own = sums_at(table, club);
-    for rival in 0..answers.len() {
-        answers[rival] = then_parts(answers[rival], parts, table, rival as u8, &own);
+    let mut left = group;
+    for _step in 0..SET_WIDTH {
+        if left.is_empty() {
+            return;
+        }
+        let rival = left.first_club();
+        let answer = then_parts(answers[rival as usize], parts, table, rival, &own);
+        answers[rival as usize] = answer;
+        left = left.without(ClubSet::single(rival));
     }
 }
 
@@ -86,15 +113,23 @@ fn then_parts(answer: Sure, parts: Parts, table: &[Sums], rival: u8, own: &Sums)
     }
 }
 
-/// Takes the sums over all matches, and the ranks.
-pub fn take_overall(answers: &mut [Sure], sheet: &Sheet, overall: &[Sums], club: u8)
-    requires { length answers.old ≤ 32 }
-    ensures { StepDecides (by_overall_table sheet.now overall.now club) answers.old answers.new }
+/// Takes the sums over all matches, and the ranks, for the clubs of a group.
+pub fn take_overall(answers: &mut [Sure], sheet: &Sheet, overall: &[Sums], group: ClubSet, club: u8)
+    requires { HaveAnswers (clubs_in group) answers.old }
+    ensures { IsStepIn (clubs_in group) (by_overall_table sheet.now overall.now club) answers.old
+        answers.new }
 {
     let own = sums_at(overall, club);
     let own_rank = rank_of(sheet, club);
-    for rival in 0..answers.len() {
-        answers[rival] = then_overall(answers[rival], sheet, overall, rival as u8, &own, own_rank);
+    let mut left = group;
+    for _step in 0..SET_WIDTH {
+        if left.is_empty() {
+            return;
+        }
+        let rival = left.first_club();
+        let old = answers[rival as usize];
+        answers[rival as usize] = then_overall(old, sheet, overall, rival, &own, own_rank);
+        left = left.without(ClubSet::single(rival));
     }
 }
 
@@ -132,12 +167,19 @@ fn rank_of(sheet: &Sheet, club: u8) -> u16
     }
 }
 
-/// Where nothing has decided yet, nothing is sure.
-pub fn leave_open(answers: &mut [Sure])
-    ensures { StepDecides (λ rival. Unknown) answers.old answers.new }
+/// Where nothing has decided yet for the clubs of a group, nothing is sure.
+pub fn leave_open(answers: &mut [Sure], group: ClubSet)
+    requires { HaveAnswers (clubs_in group) answers.old }
+    ensures { IsStepIn (clubs_in group) (λ rival. Unknown) answers.old answers.new }
 {
-    for rival in 0..answers.len() {
-        answers[rival] = then(answers[rival], Sure::Unknown);
+    let mut left = group;
+    for _step in 0..SET_WIDTH {
+        if left.is_empty() {
+            return;
+        }
+        let rival = left.first_club();
+        answers[rival as usize] = then(answers[rival as usize], Sure::Unknown);
+        left = left.without(ClubSet::single(rival));
     }
 }
 
@@ -160,10 +202,16 @@ pub fn are_all_sure(parts: Parts, table: &[Sums], group: ClubSet, club: u8) -> b
     ensures { result ≡ list_all (is_sure_by parts table.now club) (clubs_in group) }
 {
     let own = sums_at(table, club);
-    for other in 0..32 {
-        if group.has(other) && !is_sure(parts, &sums_at(table, other), &own) {
+    let mut left = group;
+    for _step in 0..SET_WIDTH {
+        if left.is_empty() {
+            return true;
+        }
+        let other = left.first_club();
+        if !is_sure(parts, &sums_at(table, other), &own) {
             return false;
         }
+        left = left.without(ClubSet::single(other));
     }
     true
 }

@@ -1,19 +1,17 @@
 //! The clubs that are surely above a club and those that are surely below it: by points alone, a
 //! look at each club, or by all criteria.
 
-ghost use Rattle.std.specs.Prelude.{◌≡◌, ◌<◌, ◌≤◌, ◌&&◌, ℕ, nat_lt, not, IsTrue, [], ◌∷◌, length};
+ghost use Rattle.std.specs.Prelude.{◌≡◌, ◌<◌, ◌≤◌, ◌&&◌, ℕ, nat_lt, not, true, IsTrue, length};
 ghost use Rattle.league_core.specs.Sums.{has_club};
 ghost use Rattle.league_core.specs.ClubSets.{clubs_in};
-ghost use Rattle.league_core.specs.PointRanges.{points_range};
 ghost use Rattle.league_core.specs.SureOrder.{sure_order, sure_by_points, is_above, is_below};
 ghost use Rattle.score_box.specs.Settings.{HasFinish};
-ghost use Rattle.tie_bound.specs.Spans.{as_range};
 ghost use Rattle.tie_bound.specs.Boxes.{options_in_box, have_one_outcome};
 
 use crate::against::answers_against;
 use crate::answers::those_that_are;
+use crate::ends::ends_of;
 use crate::order::{by_span, is_answer};
-use crate::span::Span;
 use league_core::{ClubSet, Sure};
 use score_box::ZoneBox;
 
@@ -36,29 +34,29 @@ impl Apart {
             ≡ (nat_lt x (length zone_box.now.sheet.clubs) && is_below (sure_by_points
             zone_box.now.sheet zone_box.now.season (options_in_box zone_box.now) x club)) }
     {
-        let own = points_of(zone_box, club);
+        let own = ends_of(zone_box, club);
         let mut above = ClubSet::empty();
         let mut below = ClubSet::empty();
         for rival in 0..zone_box.sheet().clubs.len() as u8 {
-            let answer = by_span(points_of(zone_box, rival), own);
+            let answer = by_span(ends_of(zone_box, rival), own);
             above = above.with_if(is_answer(Sure::Above, answer), rival);
             below = below.with_if(is_answer(Sure::Below, answer), rival);
         }
         Apart { above, below }
     }
 
-    /// By points and all criteria.
-    pub fn by_criteria(zone_box: &ZoneBox, club: u8) -> Apart
+    /// By points and all criteria, as far as the clubs that are asked for.
+    pub fn by_criteria(zone_box: &ZoneBox, asked: ClubSet, club: u8) -> Apart
         requires { IsTrue (have_one_outcome zone_box.now) }
         ensures above { (x : ℕ) → x < length zone_box.now.sheet.clubs
-            → has_club (clubs_in result.above) x ≡ is_above
+            → has_club (clubs_in asked) x ≡ true → has_club (clubs_in result.above) x ≡ is_above
             (sure_order zone_box.now.sheet zone_box.now.season zone_box.now.zone x club) }
         ensures below { (x : ℕ) → x < length zone_box.now.sheet.clubs
-            → has_club (clubs_in result.below) x ≡ is_below
+            → has_club (clubs_in asked) x ≡ true → has_club (clubs_in result.below) x ≡ is_below
             (sure_order zone_box.now.sheet zone_box.now.season zone_box.now.zone x club) }
     {
         let clubs = zone_box.sheet().clubs.len() as u8;
-        let answers = answers_against(zone_box, club);
+        let answers = answers_against(zone_box, asked, club);
         Apart {
             above: those_that_are(&answers, Sure::Above, clubs),
             below: those_that_are(&answers, Sure::Below, clubs),
@@ -77,18 +75,5 @@ impl Apart {
             above: self.below.others(clubs),
             below: self.above.others(clubs),
         }
-    }
-}
-
-/// The least and the most points of a club.
-fn points_of(zone_box: &ZoneBox, club: u8) -> Span
-    requires has_finish { HasFinish zone_box.now }
-    requires in_range { club < length zone_box.now.sheet.clubs }
-    ensures { as_range result ≡ points_range zone_box.now.sheet zone_box.now.season
-        (options_in_box zone_box.now) (club ∷ []) }
-{
-    Span {
-        least: zone_box.low(club),
-        greatest: zone_box.high(club),
     }
 }

@@ -9,6 +9,7 @@
 mod against;
 mod answers;
 mod apart;
+mod ends;
 mod fixtures;
 mod given;
 mod order;

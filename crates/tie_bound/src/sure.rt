@@ -5,7 +5,7 @@ ghost use Rattle.league_core.specs.SureOrder.{sure_order};
 ghost use Rattle.tie_bound.specs.Boxes.{have_one_outcome};
 
 use crate::against::answers_against;
-use league_core::Sure;
+use league_core::{ClubSet, Sure};
 use score_box::ZoneBox;
 
 /// Whether the rival is surely before the club, surely behind it, surely left to lots with it, or
@@ -16,6 +16,7 @@ pub fn judge(zone_box: &ZoneBox, club: u8, rival: u8) -> Sure
     ensures { result
         ≡ sure_order zone_box.now.sheet zone_box.now.season zone_box.now.zone rival club }
 {
-    let answers = answers_against(zone_box, club);
+    let _sheet = zone_box.sheet();
+    let answers = answers_against(zone_box, ClubSet::single(rival), club);
     answers[rival as usize]
 }

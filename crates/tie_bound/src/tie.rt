@@ -69,7 +69,7 @@ fn by_criteria(zone_box: &ZoneBox, question: &Question, rivals: &Rivals) -> bool
     requires rivals { AreRivalsIn zone_box.now question.now.club rivals.now }
     ensures { result ≡ refutes_surely zone_box.now question.now }
 {
-    let apart = Apart::by_criteria(zone_box, question.club);
+    let apart = Apart::by_criteria(zone_box, rivals.all, question.club);
     refutes(zone_box, question, rivals, apart)
 }
 

@@ -8,3 +8,4 @@ pub mod OtherBlockLemmas
 pub mod AloneLemmas
 pub mod GroupLemmas
 pub mod OverallLemmas
+pub mod MemberLemmas

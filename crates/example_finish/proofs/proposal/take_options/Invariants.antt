@@ -1,4 +1,4 @@
--- The fixtures before this one have taken the first of their options.
+-- The fixtures before this one in the list have taken the first of their options.
 use Rattle.example_finish.proofs.ProposedLemmas.{HaveTaken}
 use Rattle.example_finish.proofs.proposal.take_options.Given as goal
 

@@ -7,9 +7,9 @@ use Rattle.tie_bound.proofs.TakenLemmas.{sure_order-is}
 use Rattle.tie_bound.proofs.against.answers_against.Goals as goal
 
 pub returns-clause-answers : goal.returns-clause-answers
-returns-clause-answers c =
+returns-clause-answers c = λ rival low asked.
     let box = c.args.zone_box.now in
-    let answers = c.by_points-answers.result in
+    let answers = c.on_points-answers.result in
     let many : c.len-clubs.result ≡ length box.sheet.clubs =
     c.len-clubs.ensures ∙ ap (λ (s : Sheet). length s.clubs) c.sheet.ensures.sheet in
     let few : length box.sheet.clubs ≤ 24 = omega
@@ -18,6 +18,6 @@ returns-clause-answers c =
     =
     λ x. c.those_that_are-group.ensures x
     ∙ ap (λ n. nat_lt x n && is_level (answer_at answers x)) many in
-    sure_order-is box c.args.club c.those_that_are-group.result.bits answers
-    c.take_criteria.new.answers few c.by_points-answers.ensures.answers level
-    (λ rival low. c.take_criteria.ensures rival (omega (arith, c.by_points-answers.ensures.long)))
+    sure_order-is box c.args.club c.those_that_are-group.result.bits rival answers
+    c.take_criteria.new.answers few c.on_points-answers.ensures.answers level low
+    (c.take_criteria.ensures rival low asked)

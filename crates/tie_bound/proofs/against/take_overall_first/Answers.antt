@@ -1,4 +1,9 @@
 use Rattle.std.proofs.Common.{◌≡◌, ◌≤◌, ◌&&◌, nat_lt, true, length, sym, ap, ◌∙◌, arith}
+use Rattle.league_core.specs.declared.sure.Sure.TheVariants.{Unknown}
+use Rattle.tie_bound.specs.declared.parts.Parts.TheVariants.{FirstSums}
+use Rattle.tie_bound.specs.Answers.{by_table}
+use Rattle.tie_bound.proofs.AnswerLemmas.{others_decided, others_stay, step_decides}
+use Rattle.tie_bound.proofs.AnswerLemmas.{level_have_answers, have_answers_still}
 use Rattle.league_core.specs.declared.sheet.Sheet.{Sheet}
 use Rattle.league_core.specs.ClubSets.{clubs_in}
 use Rattle.league_core.specs.SureOrder.{are_all_sure_overall, by_first_sum_ranges, is_level}
@@ -15,18 +20,20 @@ returns-then-not-are_all_sure c =
     let options = options_in_box c.args.zone_box.now in
     let club = c.args.club in
     let group = clubs_in c.args.group in
-    let table = c.args.overall.now in
+    let table = c.sums_over-overall.result in
     let old = c.args.answers.now in
     let taken = c.take_parts.new.answers in
-    let takes = taken_first_sums sheet options club table old taken c.requires.overall
-    c.requires.long
+    let takes = taken_first_sums sheet options club group table old taken
+    c.sums_over-overall.ensures (others_decided (length sheet.clubs) old group c.requires.level)
     c.take_parts.ensures in
-    λ rival within.
-    overall_first_open sheet options club group old taken c.leave_open.new.answers
-    (sym (all_sure-first_sums sheet options group table club c.requires.overall)
-    ∙ sym c.are_all_sure.ensures ∙ c.if-not-are_all_sure.true) takes
-    (λ x low. c.leave_open.ensures x (omega (arith, c.requires.long, c.take_parts.auto.answers)))
-    rival (omega (arith, c.requires.long))
+    λ rival low asked.
+    overall_first_open sheet options club group rival old taken c.leave_open.new.answers
+    (sym (all_sure-first_sums sheet options group table club c.sums_over-overall.ensures)
+    ∙ sym c.are_all_sure.ensures ∙ c.if-not-are_all_sure.true) (takes rival low)
+    (step_decides (length sheet.clubs) (λ _. Unknown) group taken c.leave_open.new.answers
+    (others_stay (length sheet.clubs) (by_table FirstSums table club) group old taken
+    (others_decided (length sheet.clubs) old group c.requires.level) c.take_parts.ensures)
+    c.leave_open.ensures rival low)
 
 pub returns : goal.returns
 returns c =
@@ -34,11 +41,11 @@ returns c =
     let options = options_in_box c.args.zone_box.now in
     let club = c.args.club in
     let group = clubs_in c.args.group in
-    let table = c.args.overall.now in
+    let table = c.sums_over-overall.result in
     let old = c.args.answers.now in
     let taken = c.take_parts.new.answers in
-    let takes = taken_first_sums sheet options club table old taken c.requires.overall
-    c.requires.long
+    let takes = taken_first_sums sheet options club group table old taken
+    c.sums_over-overall.ensures (others_decided (length sheet.clubs) old group c.requires.level)
     c.take_parts.ensures in
     let many : c.len-clubs.result ≡ length sheet.clubs =
     c.len-clubs.ensures ∙ ap (λ (s : Sheet). length s.clubs) c.sheet.ensures.sheet in
@@ -47,13 +54,36 @@ returns c =
     λ x. c.those_that_are-level.ensures x
     ∙ ap (λ n. nat_lt x n && is_level (answer_at taken x)) many in
     let sure : are_all_sure_overall sheet options group club ≡ true =
-    sym (all_sure-first_sums sheet options group table club c.requires.overall)
+    sym (all_sure-first_sums sheet options group table club c.sums_over-overall.ensures)
     ∙ sym c.are_all_sure.ensures ∙ c.if-not-are_all_sure.false in
     let shared = level_is (length sheet.clubs) c.args.group.bits
     c.those_that_are-level.result.bits old taken
-    (λ rival. by_first_sum_ranges sheet options rival club) few c.requires.level takes level in
-    λ rival within.
-    overall_first_sure sheet options club group (clubs_in c.those_that_are-level.result) old taken
-    c.take_rounds.new.answers sure shared takes
-    (λ x low. c.take_rounds.ensures x (omega (arith, c.requires.long, c.take_parts.auto.answers)))
-    rival (omega (arith, c.requires.long))
+    (λ rival. by_first_sum_ranges sheet options rival club) c.requires.level takes level in
+    λ rival low asked.
+    overall_first_sure sheet options club group (clubs_in c.those_that_are-level.result) rival old
+    taken c.take_rounds.new.answers sure shared (takes rival low)
+    (c.take_rounds.ensures rival low asked)
+
+pub take_parts-requires : goal.take_parts-requires
+take_parts-requires c =
+    let sheet = c.args.zone_box.now.sheet in
+    let few : length sheet.clubs ≤ 24 = omega (
+      arith,
+      ap (λ (s : Sheet). length s.clubs) c.sheet.ensures.sheet,
+      c.sheet.ensures.limits.most_clubs,
+    ) in
+    level_have_answers (length sheet.clubs) c.args.answers.now (clubs_in c.args.group)
+    c.requires.level (omega (arith, few, c.requires.long))
+
+pub leave_open-requires : goal.leave_open-requires
+leave_open-requires c =
+    let sheet = c.args.zone_box.now.sheet in
+    let few : length sheet.clubs ≤ 24 = omega (
+      arith,
+      ap (λ (s : Sheet). length s.clubs) c.sheet.ensures.sheet,
+      c.sheet.ensures.limits.most_clubs,
+    ) in
+    have_answers_still (clubs_in c.args.group) c.args.answers.now c.take_parts.new.answers
+    (sym c.take_parts.auto.answers)
+    (level_have_answers (length sheet.clubs) c.args.answers.now (clubs_in c.args.group)
+    c.requires.level (omega (arith, few, c.requires.long)))

@@ -5,7 +5,7 @@ use Rattle.std.proofs.Common.{◌≡◌, ℤ, [], ◌∷◌, ap, ◌∙◌, arit
 use Rattle.std.proofs.lemmas.Int.{ints}
 use Rattle.league_core.specs.PointRanges.{Range, points_range, least_points_of, most_points_of}
 use Rattle.tie_bound.specs.Boxes.{options_in_box}
-use Rattle.tie_bound.proofs.apart.points_of.Goals as goal
+use Rattle.tie_bound.proofs.ends.ends_of.Goals as goal
 
 -- a range is its two ends
 ends_are : (least greatest : ℤ) (range : Range) → least ≡ range.least → greatest ≡ range.greatest

@@ -1,0 +1,235 @@
+-- The outcome of the first option, by the outcomes that the options have.
+use Rattle.std.proofs.Common.{◌≡◌, ◌≢◌, inl, inr, ◌+ℤ◌, ◌≤ℤ◌, ℤ, pos, neg_ℤ, ◌+◌, Bool, true, false}
+use Rattle.std.proofs.Common.{◌||◌, List, [], ◌∷◌, Some, Ordering, Less, Equal, Greater, refl, sym, ap, ◌∙◌}
+use Rattle.std.proofs.Common.{arith}
+use Rattle.std.specs.List.{list_any}
+use Rattle.std.specs.Ordering.{ordering_then}
+use Rattle.std.proofs.lemmas.Bool.{false≢true, or_cases, or_left, or_right}
+use Rattle.std.proofs.lemmas.Int.{ints}
+use Rattle.league_core.specs.declared.season.Score.{Score}
+use Rattle.league_core.specs.Sums.{match_points, goal_difference}
+use Rattle.league_core.specs.HeadToHead.{greater_first, by_first_difference}
+use Rattle.league_core.specs.Finishes.{same_score}
+use Rattle.league_core.specs.Options.{has_score, is_home_win, is_draw, is_away_win}
+use Rattle.league_core.specs.Proposals.{weighed, weighed_together, first_option}
+use Rattle.league_core.proofs.OutcomeLemmas.{outcome_cases}
+use Rattle.league_core.proofs.OptionLemmas.{has_score-first, same_score-true}
+use Rattle.league_core.proofs.ProposalLemmas.{first_option_is}
+use Rattle.example_finish.proofs.OrderLemmas.{home_win_points, draw_points, away_win_points}
+
+-- where some option passes, one does
+some_passes : (test : Score → Bool) (options : List Score) → list_any test options ≡ true
+    → (score : Score) × (has_score options score ≡ true) × (test score ≡ true)
+some_passes test [] some = absurd (false≢true some)
+some_passes test (first ∷ options) some =
+    elim (or_cases (test first) (list_any test options) some) as
+    (λ _. (score : Score) × (has_score (first ∷ options) score ≡ true) × (test score ≡ true)) [
+      | inl here ↦ (first, has_score-first first options, here)
+      | inr later ↦
+          let found = some_passes test options later in (
+            found.0,
+            or_right (same_score found.0 first) (has_score options found.0) found.1,
+            found.2,
+          )
+    ]
+
+-- where none passes, no option does
+none_passes : (test : Score → Bool) (options : List Score) (score : Score)
+    → list_any test options ≡ false → has_score options score ≡ true → test score ≢ true
+none_passes test [] score none has = absurd (false≢true has)
+none_passes test (first ∷ options) score none has =
+    λ passed.
+    elim (or_cases (same_score score first) (has_score options score) has) as (λ _. ⊥) [
+      | inl same ↦
+          false≢true (sym none ∙ or_left (test first) (list_any test options)
+          (ap test (sym (same_score-true score first same)) ∙ passed))
+      | inr later ↦
+          none_passes test options score (rest (test first) (list_any test options) none) later
+          passed
+    ]
+  where
+    rest : (a b : Bool) → (a || b) ≡ false → b ≡ false
+    rest false b is = is
+    rest true b is = absurd (false≢true (sym is))
+
+-- what is not taken before has no greater first number
+no_more : (number other : ℤ) (numbers others : List ℤ)
+    → by_first_difference (number ∷ numbers) (other ∷ others) ≢ Less → number ≤ℤ other
+no_more number other numbers others not_less = by (greater_first number other) refl
+  where
+    equal : greater_first number other ≡ Equal → number ≤ℤ other
+    equal is = grind (arith, ints)
+
+    greater : greater_first number other ≡ Greater → number ≤ℤ other
+    greater is = grind (arith, ints)
+
+    by : (order : Ordering) → greater_first number other ≡ order → number ≤ℤ other
+    by Less is =
+        absurd (not_less (ap (λ o. ordering_then o (by_first_difference numbers others)) is))
+    by Equal is = equal is
+    by Greater is = greater is
+
+-- the first option meets the wishes for points as well as any other
+first_meets : (home away : Bool) (options : List Score) (score other : Score)
+    → first_option home away options ≡ Some score → has_score options other ≡ true
+    → weighed_together match_points home away other
+    ≤ℤ weighed_together match_points home away score
+first_meets home away options score other is has =
+    no_more (weighed_together match_points home away other)
+    (weighed_together match_points home away score)
+    (weighed_together goal_difference home away other
+    ∷ neg_ℤ (pos (other.home + other.away)) ∷ pos other.home ∷ [])
+    (weighed_together goal_difference home away score
+    ∷ neg_ℤ (pos (score.home + score.away)) ∷ pos score.home ∷ [])
+    ((first_option_is home away options score is).first other has)
+
+is_option : (home away : Bool) (options : List Score) (score : Score)
+    → first_option home away options ≡ Some score → has_score options score ≡ true
+is_option home away options score is = (first_option_is home away options score is).option
+
+-- an outcome that no option has is not that of the first
+not_taken : (test : Score → Bool) (home away : Bool) (options : List Score) (score : Score)
+    → list_any test options ≡ false → first_option home away options ≡ Some score
+    → test score ≢ true
+not_taken test home away options score none is =
+    none_passes test options score none (is_option home away options score is)
+
+-- a home win is taken where it brings the most points
+home_win_brings : (home away : Bool) (options : List Score) (score : Score)
+    → list_any is_home_win options ≡ true → first_option home away options ≡ Some score
+    → (weighed home (pos 3) +ℤ weighed away (pos 0))
+    ≤ℤ weighed_together match_points home away score
+home_win_brings home away options score some is =
+    let found = some_passes is_home_win options some in
+    let meets = first_meets home away options score found.0 is found.1 in
+    let theirs = home_win_points home away found.0 found.2 in
+    omega (arith, ints, meets, theirs)
+
+draw_brings : (home away : Bool) (options : List Score) (score : Score)
+    → list_any is_draw options ≡ true → first_option home away options ≡ Some score
+    → (weighed home (pos 1) +ℤ weighed away (pos 1))
+    ≤ℤ weighed_together match_points home away score
+draw_brings home away options score some is =
+    let found = some_passes is_draw options some in
+    let meets = first_meets home away options score found.0 is found.1 in
+    let theirs = draw_points home away found.0 found.2 in
+    omega (arith, ints, meets, theirs)
+
+away_win_brings : (home away : Bool) (options : List Score) (score : Score)
+    → list_any is_away_win options ≡ true → first_option home away options ≡ Some score
+    → (weighed home (pos 0) +ℤ weighed away (pos 3))
+    ≤ℤ weighed_together match_points home away score
+away_win_brings home away options score some is =
+    let found = some_passes is_away_win options some in
+    let meets = first_meets home away options score found.0 is found.1 in
+    let theirs = away_win_points home away found.0 found.2 in
+    omega (arith, ints, meets, theirs)
+
+-- the home side alone is wished points
+pub home_first-home_win : (options : List Score) (score : Score)
+    → list_any is_home_win options ≡ true → first_option true false options ≡ Some score
+    → is_home_win score ≡ true
+home_first-home_win options score some is =
+    let most = home_win_brings true false options score some is in
+    outcome_cases score (λ wins. wins)
+    (λ draws. absurd (let mine = draw_points true false score draws in
+    omega (arith, ints, most, mine)))
+    (λ loses. absurd (let mine = away_win_points true false score loses in
+    omega (arith, ints, most, mine)))
+
+pub home_first-draw : (options : List Score) (score : Score)
+    → list_any is_home_win options ≡ false → list_any is_draw options ≡ true
+    → first_option true false options ≡ Some score → is_draw score ≡ true
+home_first-draw options score none some is =
+    let most = draw_brings true false options score some is in
+    outcome_cases score
+    (λ wins. absurd (not_taken is_home_win true false options score none is wins))
+    (λ draws. draws)
+    (λ loses. absurd (let mine = away_win_points true false score loses in
+    omega (arith, ints, most, mine)))
+
+-- the away side alone is
+pub away_first-away_win : (options : List Score) (score : Score)
+    → list_any is_away_win options ≡ true → first_option false true options ≡ Some score
+    → is_away_win score ≡ true
+away_first-away_win options score some is =
+    let most = away_win_brings false true options score some is in
+    outcome_cases score
+    (λ wins. absurd (let mine = home_win_points false true score wins in
+    omega (arith, ints, most, mine)))
+    (λ draws. absurd (let mine = draw_points false true score draws in
+    omega (arith, ints, most, mine)))
+    (λ loses. loses)
+
+pub away_first-draw : (options : List Score) (score : Score)
+    → list_any is_away_win options ≡ false → list_any is_draw options ≡ true
+    → first_option false true options ≡ Some score → is_draw score ≡ true
+away_first-draw options score none some is =
+    let most = draw_brings false true options score some is in
+    outcome_cases score
+    (λ wins. absurd (let mine = home_win_points false true score wins in
+    omega (arith, ints, most, mine)))
+    (λ draws. draws)
+    (λ loses. absurd (not_taken is_away_win false true options score none is loses))
+
+-- neither is
+pub draw_first-draw : (options : List Score) (score : Score)
+    → list_any is_draw options ≡ true → first_option false false options ≡ Some score
+    → is_draw score ≡ true
+draw_first-draw options score some is =
+    let most = draw_brings false false options score some is in
+    outcome_cases score
+    (λ wins. absurd (let mine = home_win_points false false score wins in
+    omega (arith, ints, most, mine)))
+    (λ draws. draws)
+    (λ loses. absurd (let mine = away_win_points false false score loses in
+    omega (arith, ints, most, mine)))
+
+-- both are: a draw is not taken where there is a win
+pub win_first-home_win : (options : List Score) (score : Score)
+    → list_any is_home_win options ≡ true → list_any is_away_win options ≡ false
+    → first_option true true options ≡ Some score → is_home_win score ≡ true
+win_first-home_win options score some none is =
+    let most = home_win_brings true true options score some is in
+    outcome_cases score (λ wins. wins)
+    (λ draws. absurd (let mine = draw_points true true score draws in
+    omega (arith, ints, most, mine)))
+    (λ loses. absurd (not_taken is_away_win true true options score none is loses))
+
+pub win_first-away_win : (options : List Score) (score : Score)
+    → list_any is_home_win options ≡ false → list_any is_away_win options ≡ true
+    → first_option true true options ≡ Some score → is_away_win score ≡ true
+win_first-away_win options score none some is =
+    let most = away_win_brings true true options score some is in
+    outcome_cases score
+    (λ wins. absurd (not_taken is_home_win true true options score none is wins))
+    (λ draws. absurd (let mine = draw_points true true score draws in
+    omega (arith, ints, most, mine)))
+    (λ loses. loses)
+
+-- where two outcomes are not left the first option has the third
+pub home_win_alone : (home away : Bool) (options : List Score) (score : Score)
+    → list_any is_draw options ≡ false → list_any is_away_win options ≡ false
+    → first_option home away options ≡ Some score → is_home_win score ≡ true
+home_win_alone home away options score no_draw no_away is =
+    outcome_cases score (λ wins. wins)
+    (λ draws. absurd (not_taken is_draw home away options score no_draw is draws))
+    (λ loses. absurd (not_taken is_away_win home away options score no_away is loses))
+
+pub draw_alone : (home away : Bool) (options : List Score) (score : Score)
+    → list_any is_home_win options ≡ false → list_any is_away_win options ≡ false
+    → first_option home away options ≡ Some score → is_draw score ≡ true
+draw_alone home away options score no_home no_away is =
+    outcome_cases score
+    (λ wins. absurd (not_taken is_home_win home away options score no_home is wins))
+    (λ draws. draws)
+    (λ loses. absurd (not_taken is_away_win home away options score no_away is loses))
+
+pub away_win_alone : (home away : Bool) (options : List Score) (score : Score)
+    → list_any is_home_win options ≡ false → list_any is_draw options ≡ false
+    → first_option home away options ≡ Some score → is_away_win score ≡ true
+away_win_alone home away options score no_home no_draw is =
+    outcome_cases score
+    (λ wins. absurd (not_taken is_home_win home away options score no_home is wins))
+    (λ draws. absurd (not_taken is_draw home away options score no_draw is draws))
+    (λ loses. loses)

@@ -1,0 +1,39 @@
+use Rattle.std.proofs.Common.{◌<◌, None, [], length, get_or, ap, ap₂, Bool, sym, ◌∙◌, subst}
+use Rattle.league_core.specs.declared.sheet.Fixture.{Fixture}
+use Rattle.league_core.specs.Options.{options_in}
+use Rattle.league_core.specs.Proposals.{first_option}
+use Rattle.league_core.specs.Seasons.{IsSeasonOf}
+use Rattle.example_finish.specs.ProposalViews.{Asked, sheet_asked, season_asked, finish_asked}
+use Rattle.example_finish.specs.FirstOutcomes.{HasOutcome}
+use Rattle.example_finish.proofs.ProposedLemmas.{outcome_in_finish, option_at}
+use Rattle.example_finish.proofs.proposed.Proposed.outcome.Goals as goal
+
+pub returns : goal.returns
+returns c =
+    let wishes = c.self.inside.wishes in
+    let inside : Asked =
+    record { setting = c.self.inside.zone_box.now; question = c.self.inside.question.now } in
+    let sheet = inside.setting.sheet in
+    let season = inside.setting.season in
+    let zone = inside.setting.zone in
+    let fixture = c.args.fixture in
+    let options = get_or (options_in sheet season zone) fixture [] in
+    let of_sheet : IsSeasonOf sheet season =
+    subst (λ (asked : Asked). IsSeasonOf (sheet_asked asked) (season_asked asked)) (sym
+    c.self.view_is)
+    (subst (IsSeasonOf (sheet_asked c.args.self.now)) c.season-season.ensures.season
+    c.season-season.ensures.of_sheet) in
+    let within : fixture < length season.scores =
+    subst (λ (asked : Asked). fixture < length (season_asked asked).scores) (sym c.self.view_is)
+    c.requires in
+    let sides = c.sides-sides.ensures.sides
+    ∙ ap (λ (asked : Asked). get_or (sheet_asked asked).fixtures fixture
+    (record { home = 0; away = 0 })) (sym c.self.view_is) in
+    subst (λ (asked : Asked). HasOutcome (get_or (finish_asked asked).scores fixture None)
+    c.first_outcome.result) c.self.view_is
+    (outcome_in_finish wishes sheet season zone inside.question fixture
+    (record { home = 0; away = 0 }) c.first_outcome.result of_sheet
+    c.self.invariant.has_finish within c.self.invariant.wishes_are
+    (λ score is. c.first_outcome.ensures options score c.cell.ensures c.outcomes_left-left.ensures.among
+    (ap₂ (λ (x y : Bool). first_option x y options) c.has-home.ensures c.has-away.ensures
+    ∙ ap (λ (match : Fixture). option_at wishes sheet season zone fixture match) sides ∙ is)))
