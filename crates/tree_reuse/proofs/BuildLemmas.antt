@@ -595,7 +595,7 @@ building_starts tree list nodes places opens lents read nodes_are places_are non
 -- at its end no place waits, and the tree is the list's
 pub building_ends : (tree : Tree) (size : ℕ) (left : List TreeNode) (nodes : List Node)
     (places opens lents : List ℕ) → IsBuilding tree size left nodes places opens lents
-    → left ≡ [] → (tree_below nodes 0 ≡ tree) × IsArena nodes opens lents
+    → left ≡ [] → (tree_below nodes 0 ≡ tree) × IsArena nodes opens lents × (places ≡ [])
 building_ends tree size left nodes places opens lents building done =
     let many = places_many tree size left nodes places opens lents building in
     let none : [] ≡ building.trees =
@@ -606,6 +606,7 @@ building_ends tree size left nodes places opens lents building done =
           ∙ building.whole,
       subst (λ (list : List ℕ). IsArena nodes list lents)
           (ap (λ list. opens ++ list) empty ∙ append-nil opens) building.arena,
+      empty,
     )
 
 -- a list that is read has its tree
@@ -683,23 +684,41 @@ lents_few nodes opens lents arena =
     let two = arena-lent nodes opens lents arena in
     omega arith
 
--- what was made has room for each lent leaf
+-- a list that is turned over has the same numbers
+listed_turned : (marked list : List ℕ) → IsListed marked list → IsListed marked (reverse list)
+listed_turned marked list listed = record {
+  each = λ number. times_in-reverse number list ∙ listed.each number;
+  many = listed.many ∙ sym (length-reverse list);
+}
+
+-- what was made, with its open leaves turned over, has room for each lent leaf
 pub built_roomy : (tree : Tree) (size : ℕ) (left : List TreeNode) (made done : Roomy Node)
-    (places waits waiting lent : Roomy ℕ)
+    (places waits turned waiting lent : Roomy ℕ)
     → IsBuilding tree size left made.items places.items waits.items lent.items → left ≡ []
-    → size ≤ MOST_NODES → done.items ≡ made.items → waiting.items ≡ waits.items
+    → size ≤ MOST_NODES → done.items ≡ made.items
+    → turned.items ≡ places.items ++ reverse waits.items → waiting.items ≡ turned.items
     → 2 * length lent.items ≤ done.room → 2 * length lent.items ≤ waiting.room
     → IsRoomy done waiting lent
-built_roomy tree size left made done places waits waiting lent building ended few same same_waiting
-    node_room wait_room =
-    let arena = (building_ends tree size left made.items places.items waits.items lent.items
-    building ended).1 in
+built_roomy tree size left made done places waits turned waiting lent building ended few same
+    turned_is waiting_is node_room wait_room =
+    let end = building_ends tree size left made.items places.items waits.items lent.items
+    building ended in
+    let arena = end.1 in
     let count = building_few tree size left made.items places.items waits.items lent.items
     building in
     let half = lents_few made.items waits.items lent.items arena in
     let long = ap length same in
+    let stack : waiting.items ≡ reverse waits.items =
+    waiting_is ∙ turned_is ∙ ap (λ list. list ++ reverse waits.items) end.2 in
     record {
-      arena = rw (same, same_waiting) arena;
+      arena = rw (same, stack) (record {
+        some = arena.some;
+        whole = arena.whole;
+        within = arena.within;
+        linked = arena.linked;
+        open_listed = listed_turned (marks open_mark made.items) waits.items arena.open_listed;
+        lent_listed = arena.lent_listed;
+      });
       few = omega arith;
       node_room = node_room;
       open_room = wait_room;

@@ -48,12 +48,13 @@ pub struct Build {
 }
 
 impl Build {
-    /// One place, and nothing else.
-    pub fn start(alloc: Global) -> Result<Build, OutOfMemory>
+    /// One place, and nothing else; with room for so many nodes, at least one.
+    pub fn start(alloc: Global, many: usize) -> Result<Build, OutOfMemory>
+        requires some { 0 < many }
         ensures { IfOk result Starts }
     {
         let mut nodes = RoomyList::new(alloc);
-        nodes.reserve(1)?;
+        nodes.reserve(many)?;
         nodes.push(Node {
             kind: Kind::Open,
             parent: 0,

@@ -16,6 +16,7 @@ mod retargeting;
 mod shorten;
 mod stop;
 mod tree;
+mod turn;
 mod way;
 mod zones;
 

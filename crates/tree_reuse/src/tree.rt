@@ -16,6 +16,7 @@ use crate::build::{Build, is_tree};
 use crate::list::list_nodes;
 use crate::node::{Kind, Node};
 use crate::stop::TreeStop;
+use crate::turn::turn_over;
 use crate::zones::list_zones;
 use league_core::{Listing, Literal, OutOfMemory, Reason, RoomyList, Test, TreeNode, Zone};
 use std::alloc::Global;
@@ -247,23 +248,27 @@ impl Tree {
         requires some { IsTrue (is_some (tree_of list.now)) }
         ensures { IfOk result (λ tree. preorder tree ≡ list.now) }
     {
-        let mut build = Build::start(alloc)?;
+        let mut build = Build::start(alloc, list.len())?;
         for node in list {
             build.take(*node)?;
         }
         let more = 2 * build.lent.len();
         build.nodes.reserve(more)?;
-        build.waiting.reserve(more)?;
+        // No place is left over. The leaves were opened as the list has them, and its first one is
+        // to be lent first.
+        build.places.reserve(build.waiting.len())?;
+        turn_over(&mut build.waiting, &mut build.places);
+        build.places.reserve(more)?;
         let Build {
             nodes,
-            places: _,
-            waiting,
+            places,
+            waiting: _,
             lent,
         } = build;
         Ok(Tree {
             alloc,
             nodes,
-            waiting,
+            waiting: places,
             lent,
         })
     }

@@ -1,4 +1,4 @@
-use Rattle.std.proofs.Common.{◌+◌, length, drop, ap, ◌∙◌}
+use Rattle.std.proofs.Common.{◌+◌, ◌++◌, length, drop, reverse, ap, ◌∙◌}
 use Rattle.std.proofs.Common.{arith, subst}
 use Rattle.std.proofs.Common.{List, get_or, refl, false}
 use Rattle.std.proofs.lemmas.List.{drop_all}
@@ -77,11 +77,15 @@ overflow_mul-more c =
 pub invariant_of-result : goal.invariant_of-result
 invariant_of-result c =
     built_roomy _ _ _ c.loop-node.build.nodes c.reserve.new.self c.loop-node.build.places
-    c.loop-node.build.waiting c.reserve-2.new.self c.loop-node.build.lent c.loop-node.invariant
+    c.loop-node.build.waiting c.turn_over.new.onto c.reserve-3.new.self c.loop-node.build.lent
+    c.loop-node.invariant
     (drop_all c.loop-node.node-index c.args.list.now c.loop-node-test.false) c.requires.few
-    c.in_ok-reserve.ensures.items c.in_ok-reserve-2.ensures.items
+    c.in_ok-reserve.ensures.items
+    (c.turn_over.ensures.items
+    ∙ ap (λ list. list ++ reverse c.loop-node.build.waiting.items) c.in_ok-reserve-2.ensures.items)
+    c.in_ok-reserve-3.ensures.items
     (let size = c.len-more.ensures in let ok = c.in_ok-reserve.ensures.ok in omega arith)
-    (let size = c.len-more.ensures in let ok = c.in_ok-reserve-2.ensures.ok in omega arith)
+    (let size = c.len-more.ensures in let ok = c.in_ok-reserve-3.ensures.ok in omega arith)
 
 pub returns : goal.returns
 returns c =
