@@ -32,6 +32,8 @@ pub struct Tree {
     nodes: RoomyList<Node>,
     waiting: RoomyList<u32>,
     lent: RoomyList<u32>,
+    // How many literals the next zone is likely to have: one more than the one before.
+    likely: usize,
 }
 
 impl Model for Tree {
@@ -70,6 +72,7 @@ impl Tree {
             nodes,
             waiting,
             lent,
+            likely: 0,
         })
     }
 
@@ -117,6 +120,7 @@ impl Tree {
         self.lend_last(number)?;
         match self.way(number) {
             Ok(way) => {
+                self.likely = way.len() + 1;
                 let literals = Listing::from_vec(way);
                 Ok(Some(Zone { literals }))
             }
@@ -157,6 +161,7 @@ impl Tree {
             self.nodes.as_slice(),
             self.lent.as_slice(),
             number,
+            self.likely,
         )
     }
 
@@ -270,6 +275,7 @@ impl Tree {
             nodes,
             waiting: places,
             lent,
+            likely: 0,
         })
     }
 
