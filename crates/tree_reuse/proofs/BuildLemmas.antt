@@ -43,7 +43,7 @@ use Rattle.tree_reuse.proofs.FillLemmas.{filled-none, filled-set_leaf, filled_sp
 use Rattle.tree_reuse.proofs.FillLemmas.{length-filled}
 
 -- the place on top among all that are open
-places_count : (opens rest : List ℕ) (at number : ℕ)
+pub places_count : (opens rest : List ℕ) (at number : ℕ)
     → times_in number (opens ++ (rest ++ at ∷ []))
     ≡ times_in number opens + times_in number rest + one_if number at
 places_count opens rest at number =
@@ -225,7 +225,7 @@ pub record IsBuilding (tree : Tree) (size : ℕ) (left : List TreeNode) (nodes :
   pub many : length nodes + length left ≡ size + length places
 
 -- how often a number stands in a list does not depend on its order
-times_in-reverse : (number : ℕ) (list : List ℕ)
+pub times_in-reverse : (number : ℕ) (list : List ℕ)
     → times_in number (reverse list) ≡ times_in number list
 times_in-reverse number [] = refl
 times_in-reverse number (at ∷ list) =
@@ -691,34 +691,32 @@ listed_turned marked list listed = record {
   many = listed.many ∙ sym (length-reverse list);
 }
 
--- what was made, with its open leaves turned over, has room for each lent leaf
-pub built_roomy : (tree : Tree) (size : ℕ) (left : List TreeNode) (made done : Roomy Node)
-    (places waits turned waiting lent : Roomy ℕ)
-    → IsBuilding tree size left made.items places.items waits.items lent.items → left ≡ []
-    → size ≤ MOST_NODES → done.items ≡ made.items
-    → turned.items ≡ places.items ++ reverse waits.items → waiting.items ≡ turned.items
+-- the open leaves of what was made may stand the other way round
+pub arena_turned : (nodes : List Node) (places opens turned lents : List ℕ)
+    → IsArena nodes opens lents → places ≡ [] → turned ≡ places ++ reverse opens
+    → IsArena nodes turned lents
+arena_turned nodes places opens turned lents arena none is =
+    rw (is ∙ ap (λ ps. ps ++ reverse opens) none) (record {
+      some = arena.some;
+      whole = arena.whole;
+      within = arena.within;
+      linked = arena.linked;
+      open_listed = listed_turned (marks open_mark nodes) opens arena.open_listed;
+      lent_listed = arena.lent_listed;
+    })
+
+-- what was made has room for each lent leaf
+pub built_roomy : (size : ℕ) (made done : Roomy Node) (waits waiting lent : Roomy ℕ)
+    → IsArena made.items waits.items lent.items → length made.items ≤ size → size ≤ MOST_NODES
+    → done.items ≡ made.items → waiting.items ≡ waits.items
     → 2 * length lent.items ≤ done.room → 2 * length lent.items ≤ waiting.room
     → IsRoomy done waiting lent
-built_roomy tree size left made done places waits turned waiting lent building ended few same
-    turned_is waiting_is node_room wait_room =
-    let end = building_ends tree size left made.items places.items waits.items lent.items
-    building ended in
-    let arena = end.1 in
-    let count = building_few tree size left made.items places.items waits.items lent.items
-    building in
+built_roomy size made done waits waiting lent arena count few same same_waiting node_room wait_room
+    =
     let half = lents_few made.items waits.items lent.items arena in
     let long = ap length same in
-    let stack : waiting.items ≡ reverse waits.items =
-    waiting_is ∙ turned_is ∙ ap (λ list. list ++ reverse waits.items) end.2 in
     record {
-      arena = rw (same, stack) (record {
-        some = arena.some;
-        whole = arena.whole;
-        within = arena.within;
-        linked = arena.linked;
-        open_listed = listed_turned (marks open_mark made.items) waits.items arena.open_listed;
-        lent_listed = arena.lent_listed;
-      });
+      arena = rw (same, same_waiting) arena;
       few = omega arith;
       node_room = node_room;
       open_room = wait_room;

@@ -16,7 +16,6 @@ mod retargeting;
 mod shorten;
 mod stop;
 mod tree;
-mod turn;
 mod way;
 mod zones;
 

@@ -16,7 +16,6 @@ use crate::build::{Build, is_tree};
 use crate::list::list_nodes;
 use crate::node::{Kind, Node};
 use crate::stop::TreeStop;
-use crate::turn::turn_over;
 use crate::zones::list_zones;
 use league_core::{Listing, Literal, OutOfMemory, Reason, RoomyList, Test, TreeNode, Zone};
 use std::alloc::Global;
@@ -233,7 +232,7 @@ impl Tree {
     }
 
     /// The tree whose nodes are this list; `NoTree` hands the list back exactly where no tree has
-    /// it.
+    /// it. Its open leaves are lent as the list has them, the first one first.
     pub fn of_nodes(alloc: Global, nodes: Vec<TreeNode>) -> Result<Tree, TreeStop>
         requires few { length nodes.items ≤ MOST_NODES }
         ensures ok { IfOk result (λ tree. preorder tree ≡ nodes.items) }
@@ -253,27 +252,20 @@ impl Tree {
         requires some { IsTrue (is_some (tree_of list.now)) }
         ensures { IfOk result (λ tree. preorder tree ≡ list.now) }
     {
-        let mut build = Build::start(alloc, list.len())?;
-        for node in list {
-            build.take(*node)?;
-        }
+        let mut build = Build::of_list(alloc, list)?;
         let more = 2 * build.lent.len();
         build.nodes.reserve(more)?;
-        // No place is left over. The leaves were opened as the list has them, and its first one is
-        // to be lent first.
-        build.places.reserve(build.waiting.len())?;
-        turn_over(&mut build.waiting, &mut build.places);
-        build.places.reserve(more)?;
+        build.waiting.reserve(more)?;
         let Build {
             nodes,
-            places,
-            waiting: _,
+            places: _,
+            waiting,
             lent,
         } = build;
         Ok(Tree {
             alloc,
             nodes,
-            waiting: places,
+            waiting,
             lent,
             likely: 0,
         })

@@ -1,5 +1,5 @@
 use Rattle.std.proofs.Common.{◌≡◌, ◌+◌, ◌++◌, length, reverse}
-use Rattle.tree_reuse.proofs.turn.turn_over.Given as goal
+use Rattle.tree_reuse.proofs.build.turn_over.Given as goal
 
 abbrev pub invariant-loop-from : goal.invariant-loop-from
 invariant-loop-from l = record {
