@@ -43,7 +43,7 @@ use Rattle.tree_reuse.proofs.FillLemmas.{filled-none, filled-set_leaf, filled_sp
 use Rattle.tree_reuse.proofs.FillLemmas.{length-filled}
 
 -- the place on top among all that are open
-places_count : (opens rest : List ℕ) (at number : ℕ)
+pub places_count : (opens rest : List ℕ) (at number : ℕ)
     → times_in number (opens ++ (rest ++ at ∷ []))
     ≡ times_in number opens + times_in number rest + one_if number at
 places_count opens rest at number =
@@ -225,7 +225,7 @@ pub record IsBuilding (tree : Tree) (size : ℕ) (left : List TreeNode) (nodes :
   pub many : length nodes + length left ≡ size + length places
 
 -- how often a number stands in a list does not depend on its order
-times_in-reverse : (number : ℕ) (list : List ℕ)
+pub times_in-reverse : (number : ℕ) (list : List ℕ)
     → times_in number (reverse list) ≡ times_in number list
 times_in-reverse number [] = refl
 times_in-reverse number (at ∷ list) =
@@ -595,7 +595,7 @@ building_starts tree list nodes places opens lents read nodes_are places_are non
 -- at its end no place waits, and the tree is the list's
 pub building_ends : (tree : Tree) (size : ℕ) (left : List TreeNode) (nodes : List Node)
     (places opens lents : List ℕ) → IsBuilding tree size left nodes places opens lents
-    → left ≡ [] → (tree_below nodes 0 ≡ tree) × IsArena nodes opens lents
+    → left ≡ [] → (tree_below nodes 0 ≡ tree) × IsArena nodes opens lents × (places ≡ [])
 building_ends tree size left nodes places opens lents building done =
     let many = places_many tree size left nodes places opens lents building in
     let none : [] ≡ building.trees =
@@ -606,6 +606,7 @@ building_ends tree size left nodes places opens lents building done =
           ∙ building.whole,
       subst (λ (list : List ℕ). IsArena nodes list lents)
           (ap (λ list. opens ++ list) empty ∙ append-nil opens) building.arena,
+      empty,
     )
 
 -- a list that is read has its tree
@@ -683,19 +684,35 @@ lents_few nodes opens lents arena =
     let two = arena-lent nodes opens lents arena in
     omega arith
 
+-- a list that is turned over has the same numbers
+listed_turned : (marked list : List ℕ) → IsListed marked list → IsListed marked (reverse list)
+listed_turned marked list listed = record {
+  each = λ number. times_in-reverse number list ∙ listed.each number;
+  many = listed.many ∙ sym (length-reverse list);
+}
+
+-- the open leaves of what was made may stand the other way round
+pub arena_turned : (nodes : List Node) (places opens turned lents : List ℕ)
+    → IsArena nodes opens lents → places ≡ [] → turned ≡ places ++ reverse opens
+    → IsArena nodes turned lents
+arena_turned nodes places opens turned lents arena none is =
+    rw (is ∙ ap (λ ps. ps ++ reverse opens) none) (record {
+      some = arena.some;
+      whole = arena.whole;
+      within = arena.within;
+      linked = arena.linked;
+      open_listed = listed_turned (marks open_mark nodes) opens arena.open_listed;
+      lent_listed = arena.lent_listed;
+    })
+
 -- what was made has room for each lent leaf
-pub built_roomy : (tree : Tree) (size : ℕ) (left : List TreeNode) (made done : Roomy Node)
-    (places waits waiting lent : Roomy ℕ)
-    → IsBuilding tree size left made.items places.items waits.items lent.items → left ≡ []
-    → size ≤ MOST_NODES → done.items ≡ made.items → waiting.items ≡ waits.items
+pub built_roomy : (size : ℕ) (made done : Roomy Node) (waits waiting lent : Roomy ℕ)
+    → IsArena made.items waits.items lent.items → length made.items ≤ size → size ≤ MOST_NODES
+    → done.items ≡ made.items → waiting.items ≡ waits.items
     → 2 * length lent.items ≤ done.room → 2 * length lent.items ≤ waiting.room
     → IsRoomy done waiting lent
-built_roomy tree size left made done places waits waiting lent building ended few same same_waiting
-    node_room wait_room =
-    let arena = (building_ends tree size left made.items places.items waits.items lent.items
-    building ended).1 in
-    let count = building_few tree size left made.items places.items waits.items lent.items
-    building in
+built_roomy size made done waits waiting lent arena count few same same_waiting node_room wait_room
+    =
     let half = lents_few made.items waits.items lent.items arena in
     let long = ap length same in
     record {

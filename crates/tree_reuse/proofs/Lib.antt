@@ -1,5 +1,6 @@
 -- The arena: marks and lists of nodes, trees, weights, links, what each call does, lent leaves,
--- rooms, lists of nodes, how an arena is made; then zones, and trees that are carried over.
+-- rooms, lists of nodes, how an arena is made, with its open leaves in order; then zones, and trees
+-- that are carried over.
 pub mod MarkLemmas
 pub mod ShapeLemmas
 pub mod WeightLemmas
@@ -10,6 +11,7 @@ pub mod RoomLemmas
 pub mod VisitLemmas
 pub mod FillLemmas
 pub mod BuildLemmas
+pub mod OrderLemmas
 pub mod ListLemmas
 pub mod ZoneLemmas
 pub mod RetargetLemmas

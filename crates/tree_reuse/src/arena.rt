@@ -49,26 +49,14 @@ pub fn find(nodes: &[Node], lent: &[u32], number: u64) -> usize
     unreachable!()
 }
 
-// How many splits stand above a node.
-fn depth_of(nodes: &[Node], node: u32) -> usize
-    requires linked { IsLinked nodes.now }
-    requires within { node < length nodes.now }
-{
-    let mut depth = 0usize;
-    let mut at = node as usize;
-    while at > 0 {
-        depth += 1;
-        at = nodes[at].parent as usize;
-    }
-    depth
-}
-
-/// The zone of the leaf that is lent under the number.
+/// The zone of the leaf that is lent under the number. Where it has no more literals than are
+/// likely, the list does not grow.
 pub fn way_to(
     alloc: Global,
     nodes: &[Node],
     lent: &[u32],
     number: u64,
+    likely: usize,
 ) -> Result<Vec<Literal>, OutOfMemory>
     requires linked { IsLinked nodes.now }
     requires listed { IsListed (marks lent_mark nodes.now) lent.now }
@@ -77,7 +65,7 @@ pub fn way_to(
     ensures { IfOk result (λ way. IsWayTo number (tree_below nodes.now 0) way.items) }
 {
     let leaf = lent[find(nodes, lent, number)];
-    let mut way = Vec::with_capacity(alloc, depth_of(nodes, leaf))?;
+    let mut way = Vec::with_capacity(alloc, likely)?;
     let mut at = leaf as usize;
     while at > 0 {
         let node = nodes[at];

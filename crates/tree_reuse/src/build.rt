@@ -1,13 +1,15 @@
 //! An arena that is made from the list of a tree's nodes.
 
-ghost use Rattle.std.specs.Prelude.{◌≡◌, ◌<◌, ◌≤◌, ◌+◌, ◌++◌, ◌∷◌, [], ℕ, List, length, IfOk};
+ghost use Rattle.std.specs.Prelude.{◌≡◌, ◌<◌, ◌≤◌, ◌+◌, ◌++◌, ◌∷◌, [], ℕ, List, length, reverse};
+ghost use Rattle.std.specs.Prelude.{IfOk, IsTrue};
 ghost use Rattle.std.specs.Option.{is_some};
 ghost use Rattle.league_core.specs.TreeLists.{tree_of};
 ghost use Rattle.tree_reuse.specs.Arena.{kind_over, halves_under, is_split_node};
-ghost use Rattle.tree_reuse.specs.Builds.{Starts, TakesNode};
+ghost use Rattle.tree_reuse.specs.Builds.{Starts, TakesNode, IsBuilt};
 
 use crate::arena::write;
 use crate::node::{Kind, MOST_NUMBERS, Node};
+use crate::tree::MOST_NODES;
 use league_core::{OutOfMemory, RoomyList, TreeNode};
 use std::alloc::Global;
 
@@ -48,12 +50,13 @@ pub struct Build {
 }
 
 impl Build {
-    /// One place, and nothing else.
-    pub fn start(alloc: Global) -> Result<Build, OutOfMemory>
+    // One place, and nothing else; with room for so many nodes, at least one.
+    fn start(alloc: Global, many: usize) -> Result<Build, OutOfMemory>
+        requires some { 0 < many }
         ensures { IfOk result Starts }
     {
         let mut nodes = RoomyList::new(alloc);
-        nodes.reserve(1)?;
+        nodes.reserve(many)?;
         nodes.push(Node {
             kind: Kind::Open,
             parent: 0,
@@ -72,8 +75,35 @@ impl Build {
         })
     }
 
-    /// The next node of the list comes to the next place.
-    pub fn take(&mut self, node: TreeNode) -> Result<(), OutOfMemory>
+    /// What is made of the list of a tree. The first open leaf of the list is on top of the stack.
+    pub fn of_list(alloc: Global, list: &[TreeNode]) -> Result<Build, OutOfMemory>
+        requires few { length list.now ≤ MOST_NODES }
+        requires some { IsTrue (is_some (tree_of list.now)) }
+        ensures { IfOk result (IsBuilt list.now) }
+    {
+        let mut build = Build::start(alloc, list.len())?;
+        for node in list {
+            build.take(*node)?;
+        }
+        // No place is left over: their stack takes the open leaves, the last one first.
+        build.places.reserve(build.waiting.len())?;
+        turn_over(&mut build.waiting, &mut build.places);
+        let Build {
+            nodes,
+            places: waiting,
+            waiting: places,
+            lent,
+        } = build;
+        Ok(Build {
+            nodes,
+            places,
+            waiting,
+            lent,
+        })
+    }
+
+    // The next node of the list comes to the next place.
+    fn take(&mut self, node: TreeNode) -> Result<(), OutOfMemory>
         requires some { 0 < length self.old.places.items }
         requires within { (rest : List ℕ) (at : ℕ) → self.old.places.items ≡ rest ++ at ∷ []
             → at < length self.old.nodes.items }
@@ -101,6 +131,19 @@ impl Build {
             }
         }
         Ok(())
+    }
+}
+
+// Moves what stands on one stack onto another, so that what was put on first comes off first. It
+// takes no memory.
+fn turn_over(from: &mut RoomyList<u32>, onto: &mut RoomyList<u32>)
+    requires room { length from.old.items ≤ onto.old.room }
+    ensures items { onto.new.items ≡ onto.old.items ++ reverse from.old.items }
+    ensures room { onto.new.room + length from.old.items ≡ onto.old.room }
+{
+    while from.len() > 0 {
+        let top = from.pop();
+        onto.push(top);
     }
 }
 

@@ -45,12 +45,14 @@ fn halves(way: &mut ZoneBox, test: Test) -> Result<Halves, OutOfMemory>
     if let Test::Rival { .. } = test {
         return Ok(Halves::Both);
     }
-    let yes_half = has_half(way, Literal { test, yes: true })?;
-    let no_half = has_half(way, Literal { test, yes: false })?;
-    Ok(match (yes_half, no_half) {
-        (true, true) => Halves::Both,
-        (true, false) => Halves::YesAlone,
-        (false, _) => Halves::NoAlone,
+    if !has_half(way, Literal { test, yes: true })? {
+        return Ok(Halves::NoAlone);
+    }
+    let has_no_half = has_half(way, Literal { test, yes: false })?;
+    Ok(if has_no_half {
+        Halves::Both
+    } else {
+        Halves::YesAlone
     })
 }
 
@@ -237,7 +239,7 @@ pub fn carry(
     let mut parts = Vec::new(alloc);
     let literal = None;
     parts.push(Part::Kept { depth: 0, literal })?;
-    let mut found = Vec::new(alloc);
+    let mut found = Vec::with_capacity(alloc, nodes.len())?;
     let mut at = 0;
     while let Some(part) = parts.pop() {
         take_part(way, question, part, nodes[at], &mut parts, &mut found)?;

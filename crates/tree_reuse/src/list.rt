@@ -18,7 +18,7 @@ pub fn list_nodes(alloc: Global, nodes: &[Node]) -> Result<Vec<TreeNode>, OutOfM
     requires within { AllWithin nodes.now }
     ensures { IfOk result (λ found. found.items ≡ preorder (tree_below nodes.now 0)) }
 {
-    let mut found = Vec::new(alloc);
+    let mut found = Vec::with_capacity(alloc, nodes.len())?;
     let mut stack = Vec::new(alloc);
     stack.push(0)?;
     while let Some(at) = stack.pop() {

@@ -31,6 +31,8 @@ pub struct Tree {
     nodes: RoomyList<Node>,
     waiting: RoomyList<u32>,
     lent: RoomyList<u32>,
+    // How many literals the next zone is likely to have: one more than the one before.
+    likely: usize,
 }
 
 impl Model for Tree {
@@ -69,6 +71,7 @@ impl Tree {
             nodes,
             waiting,
             lent,
+            likely: 0,
         })
     }
 
@@ -116,6 +119,7 @@ impl Tree {
         self.lend_last(number)?;
         match self.way(number) {
             Ok(way) => {
+                self.likely = way.len() + 1;
                 let literals = Listing::from_vec(way);
                 Ok(Some(Zone { literals }))
             }
@@ -156,6 +160,7 @@ impl Tree {
             self.nodes.as_slice(),
             self.lent.as_slice(),
             number,
+            self.likely,
         )
     }
 
@@ -227,7 +232,7 @@ impl Tree {
     }
 
     /// The tree whose nodes are this list; `NoTree` hands the list back exactly where no tree has
-    /// it.
+    /// it. Its open leaves are lent as the list has them, the first one first.
     pub fn of_nodes(alloc: Global, nodes: Vec<TreeNode>) -> Result<Tree, TreeStop>
         requires few { length nodes.items ≤ MOST_NODES }
         ensures ok { IfOk result (λ tree. preorder tree ≡ nodes.items) }
@@ -247,10 +252,7 @@ impl Tree {
         requires some { IsTrue (is_some (tree_of list.now)) }
         ensures { IfOk result (λ tree. preorder tree ≡ list.now) }
     {
-        let mut build = Build::start(alloc)?;
-        for node in list {
-            build.take(*node)?;
-        }
+        let mut build = Build::of_list(alloc, list)?;
         let more = 2 * build.lent.len();
         build.nodes.reserve(more)?;
         build.waiting.reserve(more)?;
@@ -265,6 +267,7 @@ impl Tree {
             nodes,
             waiting,
             lent,
+            likely: 0,
         })
     }
 

@@ -12,10 +12,10 @@ loop-part-init c = record {
   of_sheet = rw c.in_ok-nodes.ensures c.requires.tests;
   walk = walk_started c.args.question.now c.args.way.now.sheet c.args.way.now.season
       c.args.tree.now c.args.way.now c.in_ok-nodes.nodes.items
-      (reverse c.push.new.self.items) c.new-found.result.items
+      (reverse c.push.new.self.items) c.in_ok-found.found.items
       (ap (λ (zone : List Literal). record c.args.way.now { zone = zone }) c.requires.root)
       c.in_ok-nodes.ensures (rw (c.in_ok-push.ensures.items, c.new-parts.ensures.items) refl)
-      c.new-found.ensures.items;
+      c.in_ok-found.ensures.items;
 }
 
 pub loop-part-preserved : goal.loop-part-preserved

@@ -1,92 +1,29 @@
-use Rattle.std.proofs.Common.{◌+◌, length, drop, ap, ◌∙◌}
-use Rattle.std.proofs.Common.{arith, subst}
-use Rattle.std.proofs.Common.{List, get_or, refl, false}
-use Rattle.std.proofs.lemmas.List.{drop_all}
-use Rattle.league_core.specs.declared.tree.TreeNode.TheVariants.{Split}
-use Rattle.league_core.specs.declared.zone.Test.TheVariants.{Home}
+use Rattle.std.proofs.Common.{length, ap, ◌∙◌, arith}
 use Rattle.league_core.specs.Trees.{preorder}
-use Rattle.league_core.specs.TreeLists.{tree_of, tree_or_leaf}
-use Rattle.league_core.specs.declared.tree.TreeNode.{TreeNode}
 use Rattle.tree_reuse.specs.Arena.{tree_below}
-use Rattle.tree_reuse.proofs.BuildLemmas.{building_begins, building_some, building_few}
-use Rattle.tree_reuse.proofs.BuildLemmas.{building_within, building_on, building_ends}
-use Rattle.tree_reuse.proofs.BuildLemmas.{preorder-read, from_item, lents_few, IsBuilding}
-use Rattle.tree_reuse.proofs.BuildLemmas.{built_roomy}
+use Rattle.tree_reuse.proofs.BuildLemmas.{lents_few, built_roomy}
 use Rattle.tree_reuse.proofs.tree.Tree.of_list.Goals as goal
-
-pub loop-node-init : goal.loop-node-init
-loop-node-init c =
-    let started = c.in_ok-build.ensures in
-    building_begins c.args.list.now c.in_ok-build.build.nodes.items
-    c.in_ok-build.build.places.items c.in_ok-build.build.waiting.items
-    c.in_ok-build.build.lent.items c.requires.some started.nodes_are started.places_are
-    started.open_are started.lent_are
-
-pub take-requires-clause-some : goal.take-requires-clause-some
-take-requires-clause-some c =
-    let list = c.args.list.now in
-    let index = c.loop-node.node-index in
-    let node = get_or list index (Split (Home 0) false) in
-    building_some _ _ node (drop (index + 1) list) c.loop-node.build.nodes.items
-    c.loop-node.build.places.items c.loop-node.build.waiting.items c.loop-node.build.lent.items
-    (subst (λ (left : List TreeNode). IsBuilding (tree_or_leaf (tree_of list)) (length list) left
-    c.loop-node.build.nodes.items c.loop-node.build.places.items
-    c.loop-node.build.waiting.items c.loop-node.build.lent.items)
-    (from_item list index node (Split (Home 0) false) c.loop-node-test.true refl)
-    c.loop-node.invariant)
-
-pub take-requires-clause-within : goal.take-requires-clause-within
-take-requires-clause-within c = λ rest at popped.
-    building_within _ _ _ c.loop-node.build.nodes.items c.loop-node.build.places.items
-    c.loop-node.build.waiting.items c.loop-node.build.lent.items rest at c.loop-node.invariant
-    popped
-
-pub take-requires-clause-few : goal.take-requires-clause-few
-take-requires-clause-few c =
-    let few = building_few _ _ _ c.loop-node.build.nodes.items c.loop-node.build.places.items
-    c.loop-node.build.waiting.items c.loop-node.build.lent.items c.loop-node.invariant in
-    omega arith
-
-pub loop-node-preserved : goal.loop-node-preserved
-loop-node-preserved c =
-    let taken = c.in_ok-take.ensures in
-    let list = c.args.list.now in
-    let index = c.loop-node.node-index in
-    let node = get_or list index (Split (Home 0) false) in
-    building_on _ _ node (drop index list) (drop (index + 1) list) c.loop-node.build.nodes.items
-    c.take.new.self.nodes.items c.loop-node.build.places.items c.loop-node.build.waiting.items
-    c.loop-node.build.lent.items taken.rest c.take.new.self.places.items
-    c.take.new.self.waiting.items c.take.new.self.lent.items taken.at
-    (from_item list index node (Split (Home 0) false) c.loop-node-test.true refl)
-    c.loop-node.invariant taken.popped taken.nodes_are taken.places_are taken.open_are
-    taken.lent_are
 
 pub overflow_mul-more : goal.overflow_mul-more
 overflow_mul-more c =
-    let few = building_few _ _ _ c.loop-node.build.nodes.items c.loop-node.build.places.items
-    c.loop-node.build.waiting.items c.loop-node.build.lent.items c.loop-node.invariant in
-    let end = building_ends _ _ _ c.loop-node.build.nodes.items c.loop-node.build.places.items
-    c.loop-node.build.waiting.items c.loop-node.build.lent.items c.loop-node.invariant
-    (drop_all c.loop-node.node-index c.args.list.now c.loop-node-test.false) in
-    let half = lents_few c.loop-node.build.nodes.items c.loop-node.build.waiting.items
-    c.loop-node.build.lent.items end.1 in
+    let built = c.in_ok-build.ensures in
+    let few = built.few in
+    let half = lents_few c.in_ok-build.build.nodes.items c.in_ok-build.build.waiting.items
+    c.in_ok-build.build.lent.items built.arena in
     let size = c.len-more.ensures in
     let most = c.requires.few in
     omega arith
 
 pub invariant_of-result : goal.invariant_of-result
 invariant_of-result c =
-    built_roomy _ _ _ c.loop-node.build.nodes c.reserve.new.self c.loop-node.build.places
-    c.loop-node.build.waiting c.reserve-2.new.self c.loop-node.build.lent c.loop-node.invariant
-    (drop_all c.loop-node.node-index c.args.list.now c.loop-node-test.false) c.requires.few
-    c.in_ok-reserve.ensures.items c.in_ok-reserve-2.ensures.items
+    let built = c.in_ok-build.ensures in
+    built_roomy (length c.args.list.now) c.in_ok-build.build.nodes c.reserve.new.self
+    c.in_ok-build.build.waiting c.reserve-2.new.self c.in_ok-build.build.lent built.arena
+    built.few c.requires.few c.in_ok-reserve.ensures.items c.in_ok-reserve-2.ensures.items
     (let size = c.len-more.ensures in let ok = c.in_ok-reserve.ensures.ok in omega arith)
     (let size = c.len-more.ensures in let ok = c.in_ok-reserve-2.ensures.ok in omega arith)
 
 pub returns : goal.returns
 returns c =
-    let end = building_ends _ _ _ c.loop-node.build.nodes.items c.loop-node.build.places.items
-    c.loop-node.build.waiting.items c.loop-node.build.lent.items c.loop-node.invariant
-    (drop_all c.loop-node.node-index c.args.list.now c.loop-node-test.false) in
     ap (λ ns. preorder (tree_below ns 0)) c.in_ok-reserve.ensures.items
-    ∙ ap preorder end.0 ∙ preorder-read c.args.list.now c.requires.some
+    ∙ c.in_ok-build.ensures.tree

@@ -1,9 +1,0 @@
-use Rattle.std.proofs.Common.{length, drop}
-use Rattle.league_core.specs.TreeLists.{tree_of, tree_or_leaf}
-use Rattle.tree_reuse.proofs.BuildLemmas.{IsBuilding}
-use Rattle.tree_reuse.proofs.tree.Tree.of_list.Given as goal
-
-abbrev pub invariant-loop-node : goal.invariant-loop-node
-invariant-loop-node l =
-    IsBuilding (tree_or_leaf (tree_of l.list)) (length l.list) (drop l.node-index l.list)
-    l.build.nodes.items l.build.places.items l.build.waiting.items l.build.lent.items
