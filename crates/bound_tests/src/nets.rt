@@ -8,15 +8,53 @@ use std::test::Fail;
 /// An arc: from, to, capacity.
 type Row = (u16, u16, u32);
 
+// Nodes; the sink, where node 0 is the source; arcs by from, to and capacity; the greatest flow;
+// and where it is known, for each node whether it is on the source's side of the cut. The first is
+// of Cormen, Leiserson, Rivest and Stein, the trucks from Vancouver to Winnipeg: 23 crates a day.
+// The second is the example of shortest ways from A to G in the encyclopedia's page on Edmonds and
+// Karp; one arc leads into the source. The others are by hand: no arc, nothing fits, the sink is
+// out of reach, arcs side by side and back, a way that is taken back, and a flow past 2^32.
+const NETS: &str = "\
+    6|5|0 1 16,0 2 13,1 3 12,2 1 4,2 4 14,3 2 9,3 5 20,4 3 7,4 5 4|23|111010\n\
+    7|6|0 1 3,0 3 3,1 2 4,2 0 3,2 3 1,2 4 2,3 4 2,3 5 6,4 1 1,4 6 1,5 6 9|5|1110100\n\
+    2|1||0|\n\
+    2|1|0 1 0|0|\n\
+    3|1|0 2 5,1 2 5|0|\n\
+    2|1|0 1 3,0 1 4,1 0 5,0 0 9|7|\n\
+    4|1|0 2 1,0 3 1,2 3 1,2 1 1,3 1 1|2|\n\
+    4|1|0 2 4294967295,0 3 4294967295,2 3 1,2 1 4294967295,3 1 4294967295|8589934590|";
+
+fn number(text: Option<&str>) -> Result<u64, Fail> {
+    Ok(
+        text.ok_or("no number")?
+            .parse::<u64>()
+            .ok()
+            .ok_or("no number")?,
+    )
+}
+
+fn node(text: Option<&str>) -> Result<u16, Fail> {
+    Ok(u16::try_from(number(text)?).ok().ok_or("no node")?)
+}
+
+fn row_of(arc: &str) -> Result<Row, Fail> {
+    let mut words = arc.split_whitespace();
+    let (from, to) = (node(words.next())?, node(words.next())?);
+    let capacity = u32::try_from(number(words.next())?)
+        .ok()
+        .ok_or("no capacity")?;
+    Ok((from, to, capacity))
+}
+
 fn add(rt: &impl Abort, net: &mut Net, row: &Row) {
     assert!(rt; net.arcs() < net.room() && row.0 < net.nodes() && row.1 < net.nodes());
     net.add_arc(row.0, row.1, row.2);
 }
 
-fn made(rt: &impl Abort, alloc: Global, nodes: u16, rows: &[Row]) -> Result<Net, Fail> {
+fn made(rt: &impl Abort, alloc: Global, nodes: u16, arcs: &str) -> Result<Net, Fail> {
     let mut net = Net::new(alloc, nodes, 40)?;
-    for row in rows {
-        add(rt, &mut net, row);
+    for arc in arcs.split_terminator(',') {
+        add(rt, &mut net, &row_of(arc)?);
     }
     Ok(net)
 }
@@ -42,99 +80,34 @@ fn carried(rt: &impl Abort, net: &Net, arc: usize) -> u32 {
     net.flow(arc)
 }
 
-#[test]
-fn networks_of_the_textbooks(rt: HostRuntime) -> Result<(), Fail> {
-    // Cormen, Leiserson, Rivest and Stein, the trucks from Vancouver to Winnipeg: 23 crates a
-    // day, with the cut of {s, v1, v2, v4}.
-    let trucks = [
-        (0, 1, 16),
-        (0, 2, 13),
-        (1, 3, 12),
-        (2, 1, 4),
-        (2, 4, 14),
-        (3, 2, 9),
-        (3, 5, 20),
-        (4, 3, 7),
-        (4, 5, 4),
-    ];
-    let mut net = made(&rt, rt.alloc(), 6, &trucks)?;
-    let flow = found(&rt, rt.alloc(), &mut net, 0, 5)?;
-    assert_eq!(rt; flow.value, 23);
-    assert_eq!(rt;
-        flow.source_side.as_slice(),
-        [true, true, true, false, true, false].as_slice()
-    );
+fn check_side(rt: &impl Abort, flow: &Flow, side: &[u8]) {
+    for (marked, wanted) in flow.source_side.iter().zip(side) {
+        assert!(rt; *marked == (*wanted == b'1'));
+    }
+}
 
-    // The example of shortest ways from A to G in the encyclopedia's page on Edmonds and Karp: 5,
-    // with the cut of {A, B, C, E}. One arc leads into the source.
-    let lettered = [
-        (0, 1, 3),
-        (0, 3, 3),
-        (1, 2, 4),
-        (2, 0, 3),
-        (2, 3, 1),
-        (2, 4, 2),
-        (3, 4, 2),
-        (3, 5, 6),
-        (4, 1, 1),
-        (4, 6, 1),
-        (5, 6, 9),
-    ];
-    let mut net = made(&rt, rt.alloc(), 7, &lettered)?;
-    let flow = found(&rt, rt.alloc(), &mut net, 0, 6)?;
-    assert_eq!(rt; flow.value, 5);
-    let side = [true, true, true, false, true, false, false];
-    assert_eq!(rt; flow.source_side.as_slice(), side.as_slice());
+fn check_row(rt: &impl Abort, alloc: Global, row: &str) -> Result<(), Fail> {
+    let mut parts = row.split('|');
+    let (nodes, sink) = (node(parts.next())?, node(parts.next())?);
+    let mut net = made(rt, alloc, nodes, parts.next().unwrap_or(""))?;
+    let flow = found(rt, alloc, &mut net, 0, sink)?;
+    assert_eq!(rt; flow.value, number(parts.next())?, "{row}");
+    check_side(rt, &flow, parts.next().unwrap_or("").as_bytes());
     Ok(())
 }
 
 #[test]
-fn values_by_hand(rt: HostRuntime) -> Result<(), Fail> {
-    let most = u32::MAX;
-    let rows: [(&str, u16, &[Row], u64); 6] = [
-        ("no arc", 2, &[], 0),
-        ("nothing fits", 2, &[(0, 1, 0)], 0),
-        ("the sink is out of reach", 3, &[(0, 2, 5), (1, 2, 5)], 0),
-        (
-            "side by side, and back",
-            2,
-            &[(0, 1, 3), (0, 1, 4), (1, 0, 5), (0, 0, 9)],
-            7,
-        ),
-        (
-            "a way is taken back",
-            4,
-            &[(0, 2, 1), (0, 3, 1), (2, 3, 1), (2, 1, 1), (3, 1, 1)],
-            2,
-        ),
-        (
-            "past 2^32",
-            4,
-            &[
-                (0, 2, most),
-                (0, 3, most),
-                (2, 3, 1),
-                (2, 1, most),
-                (3, 1, most),
-            ],
-            8_589_934_590,
-        ),
-    ];
-    for (what, nodes, arcs, value) in rows {
-        let mut net = made(&rt, rt.alloc(), nodes, arcs)?;
-        assert_eq!(rt;
-            found(&rt, rt.alloc(), &mut net, 0, 1)?.value,
-            value,
-            "{what}"
-        );
+fn networks_have_their_flows(rt: HostRuntime) -> Result<(), Fail> {
+    for row in NETS.lines() {
+        check_row(&rt, rt.alloc(), row)?;
     }
     Ok(())
 }
 
+// From 0 over 2 to 1, and straight.
 #[test]
 fn only_whole_flows_are_started_from(rt: HostRuntime) -> Result<(), Fail> {
-    // From 0 over 2 to 1, and straight.
-    let mut net = made(&rt, rt.alloc(), 3, &[(0, 2, 4), (2, 1, 3), (0, 1, 2)])?;
+    let mut net = made(&rt, rt.alloc(), 3, "0 2 4,2 1 3,0 1 2")?;
     assert!(rt; !started(&rt, &mut net, &[0, 0, 3]), "above the capacity");
     assert!(rt; !started(&rt, &mut net, &[2, 1, 0]), "a node keeps some");
     assert_eq!(rt; carried(&rt, &net, 0), 0);
@@ -142,9 +115,13 @@ fn only_whole_flows_are_started_from(rt: HostRuntime) -> Result<(), Fail> {
     assert_eq!(rt; carried(&rt, &net, 0), 1);
     assert_eq!(rt; found(&rt, rt.alloc(), &mut net, 0, 1)?.value, 5);
     assert_eq!(rt; carried(&rt, &net, 0), 3);
+    Ok(())
+}
 
-    // A flow from the sink to the source is whole too. It is taken back, and two go the right way.
-    let mut net = made(&rt, rt.alloc(), 2, &[(1, 0, 7), (0, 1, 2)])?;
+// A flow from the sink to the source is whole too. It is taken back, and two go the right way.
+#[test]
+fn a_flow_to_the_source_is_taken_back(rt: HostRuntime) -> Result<(), Fail> {
+    let mut net = made(&rt, rt.alloc(), 2, "1 0 7,0 1 2")?;
     assert!(rt; started(&rt, &mut net, &[7, 0]));
     assert_eq!(rt; found(&rt, rt.alloc(), &mut net, 0, 1)?.value, 2);
     assert_eq!(rt; carried(&rt, &net, 0), 0);
@@ -207,23 +184,25 @@ fn compare(rt: &impl Abort, alloc: Global, net: &mut Net, rows: &[Row]) -> Resul
     Ok(())
 }
 
+/// The flow found so far is gone on from as arcs are added.
+fn check_drawn(rt: &impl Abort, alloc: Global, state: &mut u64) -> Result<(), Fail> {
+    let mut net = Net::new(alloc, 6, 12)?;
+    let mut rows = Vec::new(alloc);
+    for _arc in 0..12 {
+        let (from, to) = (next(state, 6) as u16, next(state, 6) as u16);
+        let row = (from, to, next(state, 5));
+        rows.push(row)?;
+        add(rt, &mut net, &row);
+        compare(rt, alloc, &mut net, rows.as_slice())?;
+    }
+    Ok(())
+}
+
 #[test]
 fn every_cut_of_small_networks(rt: HostRuntime) -> Result<(), Fail> {
     let mut state = 1;
     for _round in 0..300 {
-        let mut net = Net::new(rt.alloc(), 6, 12)?;
-        let mut rows = Vec::new(rt.alloc());
-        // The flow found so far is gone on from as arcs are added.
-        for _arc in 0..12 {
-            let row = (
-                next(&mut state, 6) as u16,
-                next(&mut state, 6) as u16,
-                next(&mut state, 5),
-            );
-            rows.push(row)?;
-            add(&rt, &mut net, &row);
-            compare(&rt, rt.alloc(), &mut net, rows.as_slice())?;
-        }
+        check_drawn(&rt, rt.alloc(), &mut state)?;
     }
     Ok(())
 }

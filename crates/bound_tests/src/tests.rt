@@ -1,17 +1,15 @@
 //! Boxes along drawn paths of literals: what they leave beside the plain program, beside boxes made
 //! anew, and beside the cuts.
 
-ghost use Rattle.std.specs.Prelude.{◌≡◌, ◌<◌, IsTrue, IfOk, length};
-ghost use Rattle.league_core.specs.declared.sheet.Sheet.{Sheet};
+ghost use Rattle.std.specs.Prelude.{◌<◌, IfOk, length};
 ghost use Rattle.league_core.specs.Seasons.{IsLeague};
-ghost use Rattle.league_core.specs.Zones.{is_zone_of, is_test_of};
 
 use crate::plain::{is_option, sums_of};
 use flow_bound::{high_cut, low_cut};
 use league_core::{
     Claim, ClubSet, Listing, Literal, OutOfMemory, Question, Reason, Score, Sheet, Test, Zone,
 };
-use sample_leagues::{Draws, Sample, drawn_league, sample_of};
+use sample_leagues::{Draws, Sample, drawn_league, is_below, is_of_sheet, sample_of};
 use score_box::{Played, ZoneBox};
 use std::alloc::Global;
 use std::process::Abort;
@@ -45,29 +43,6 @@ fn drawn_literal(draws: &mut Draws) -> Literal {
         test,
         yes: draws.flip(),
     }
-}
-
-/// Whether a test is of one of so many fixtures or clubs.
-fn is_below(test: &Test, fixtures: usize, clubs: usize) -> bool
-    ensures { (sheet : Sheet) → length sheet.fixtures ≡ fixtures → length sheet.clubs ≡ clubs
-        → result ≡ is_test_of sheet test.now }
-{
-    match test {
-        Test::Home { fixture }
-        | Test::Draw { fixture }
-        | Test::HomeMost { fixture, .. }
-        | Test::AwayMost { fixture, .. } => (*fixture as usize) < fixtures,
-        Test::Rival { club } => (*club as usize) < clubs,
-    }
-}
-
-fn is_of_sheet(sheet: &Sheet, zone: &[Literal]) -> bool
-    ensures { result ≡ is_zone_of sheet.now zone.now }
-{
-    let fixtures = sheet.fixtures.len();
-    let clubs = sheet.clubs.len();
-    zone.iter()
-        .all(|literal| is_below(&literal.test, fixtures, clubs))
 }
 
 fn go_on(rt: &impl Abort, zone_box: &mut ZoneBox, literal: Literal) -> Result<(), OutOfMemory> {
@@ -121,18 +96,10 @@ fn check_clubs(rt: &impl Abort, zone_box: &ZoneBox, zone: &[Literal]) {
     }
 }
 
-/// What the same question is answered over both boxes: a cut is found exactly where a set makes
-/// one, and the reasons that are given hold alike.
-fn check_reasons(
-    rt: &impl Abort,
-    alloc: Global,
-    kept: &ZoneBox,
-    fresh: &ZoneBox,
-    question: &Question,
-) -> Result<(), Fail> {
-    assert!(rt; (question.club as usize) < kept.sheet().clubs.len());
-    assert!(rt; (question.club as usize) < fresh.sheet().clubs.len());
-    assert!(rt; kept.has_finish() && fresh.has_finish());
+/// Whether a floor cut, and whether a ceiling cut holds for some set of clubs.
+fn some_cuts(fresh: &ZoneBox, question: &Question) -> (bool, bool)
+    requires { question.now.club < length fresh.now.sheet.clubs }
+{
     let mut low = false;
     let mut high = false;
     for bits in 0..64 {
@@ -140,20 +107,35 @@ fn check_reasons(
         low = low || holds(fresh, question, &Reason::Low(set));
         high = high || holds(fresh, question, &Reason::High(set));
     }
-    let low_set = low_cut(alloc, kept, question)?;
-    let high_set = high_cut(alloc, kept, question)?;
-    assert_eq!(rt; low_set.is_some(), low);
-    assert_eq!(rt; high_set.is_some(), high);
-    assert!(rt; low_set == low_cut(alloc, fresh, question)?);
-    assert!(rt; high_set == high_cut(alloc, fresh, question)?);
+    (low, high)
+}
+
+/// A cut is found exactly where a set makes one, and over both boxes it is the same.
+fn check_cuts(
+    rt: &impl Abort,
+    alloc: Global,
+    kept: &ZoneBox,
+    fresh: &ZoneBox,
+    question: &Question,
+) -> Result<(), Fail> {
+    assert!(rt; (question.club as usize) < kept.sheet().clubs.len() && kept.has_finish());
+    assert!(rt; (question.club as usize) < fresh.sheet().clubs.len() && fresh.has_finish());
+    let low = low_cut(alloc, kept, question)?;
+    let high = high_cut(alloc, kept, question)?;
+    assert!(rt; (low.is_some(), high.is_some()) == some_cuts(fresh, question));
+    assert!(rt; low == low_cut(alloc, fresh, question)?);
+    assert!(rt; high == high_cut(alloc, fresh, question)?);
+    Ok(())
+}
+
+/// The reasons that are given hold alike over both boxes.
+fn check_reasons(rt: &impl Abort, kept: &ZoneBox, fresh: &ZoneBox, question: &Question) {
+    assert!(rt; (question.club as usize) < kept.sheet().clubs.len() && kept.has_finish());
+    assert!(rt; (question.club as usize) < fresh.sheet().clubs.len() && fresh.has_finish());
     assert_eq!(rt; tie_reason(kept, question), tie_reason(fresh, question));
     for reason in [Reason::Count, Reason::Window, Reason::Tie].iter() {
-        assert_eq!(rt;
-            holds(kept, question, reason),
-            holds(fresh, question, reason)
-        );
+        assert!(rt; holds(kept, question, reason) == holds(fresh, question, reason));
     }
-    Ok(())
 }
 
 fn drawn_question(draws: &mut Draws) -> Question {
@@ -181,26 +163,49 @@ fn check(
     requires { IsLeague sample.now.sheet sample.now.season }
 {
     let path = kept.zone();
+    let bits = u32::from(draws.below(64));
     check_cells(rt, kept, path);
     check_clubs(rt, kept, path);
-    check_sums(
-        rt,
-        kept,
-        path,
-        ClubSet {
-            bits: u32::from(draws.below(64)),
-        },
-    );
-    assert!(rt; is_of_sheet(&sample.sheet, path));
+    check_sums(rt, kept, path, ClubSet { bits });
     let zone = Zone {
         literals: Listing::from_vec(path.to_vec(alloc)?),
     };
     assert!(rt; is_of_sheet(&sample.sheet, zone.literals.as_slice()));
     let fresh = ZoneBox::of(alloc, &sample.sheet, &sample.season, &zone)?;
     assert!(rt; kept.before() == fresh.before() && kept.after() == fresh.after());
-    assert_eq!(rt; kept.is_single(), fresh.is_single());
+    assert!(rt; kept.is_single() == fresh.is_single());
     if kept.has_finish() {
-        check_reasons(rt, alloc, kept, &fresh, &drawn_question(draws))?;
+        let question = drawn_question(draws);
+        check_cuts(rt, alloc, kept, &fresh, &question)?;
+        check_reasons(rt, kept, &fresh, &question);
+    }
+    Ok(())
+}
+
+/// Goes on or back by one literal, beside the path as a list.
+fn step(
+    rt: &impl Abort,
+    draws: &mut Draws,
+    kept: &mut ZoneBox,
+    path: &mut Vec<Literal>,
+) -> Result<(), Fail> {
+    if draws.below(2) == 0 && !path.is_empty() {
+        assert!(rt; Some(go_back(rt, kept)) == path.pop());
+        return Ok(());
+    }
+    let literal = drawn_literal(draws);
+    go_on(rt, kept, literal)?;
+    Ok(path.push(literal)?)
+}
+
+fn check_league(rt: &impl Abort, alloc: Global, draws: &mut Draws) -> Result<(), Fail> {
+    let sample = drawn_sample(alloc, draws)?;
+    let played = Played::of(alloc, &sample.sheet, &sample.season)?;
+    let mut kept = ZoneBox::over(alloc, &played, &[])?;
+    let mut path = Vec::new(alloc);
+    for _ in 0..60 {
+        step(rt, draws, &mut kept, &mut path)?;
+        check(rt, alloc, &sample, &kept, draws)?;
     }
     Ok(())
 }
@@ -209,20 +214,7 @@ fn check(
 fn a_path_of_literals_leaves_what_the_plain_program_leaves(rt: HostRuntime) -> Result<(), Fail> {
     let mut draws = Draws::new(18);
     for _ in 0..6 {
-        let sample = drawn_sample(rt.alloc(), &mut draws)?;
-        let played = Played::of(rt.alloc(), &sample.sheet, &sample.season)?;
-        let mut kept = ZoneBox::over(rt.alloc(), &played, &[])?;
-        let mut path = Vec::new(rt.alloc());
-        for _ in 0..60 {
-            if draws.below(2) == 0 && !path.is_empty() {
-                assert_eq!(rt; Some(go_back(&rt, &mut kept)), path.pop());
-            } else {
-                let literal = drawn_literal(&mut draws);
-                go_on(&rt, &mut kept, literal)?;
-                path.push(literal)?;
-            }
-            check(&rt, rt.alloc(), &sample, &kept, &mut draws)?;
-        }
+        check_league(&rt, rt.alloc(), &mut draws)?;
     }
     Ok(())
 }

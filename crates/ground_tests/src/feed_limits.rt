@@ -2,6 +2,7 @@
 //! first has ended 2:1.
 
 use crate::feed_telling::{is_of, tell_event};
+use crate::rows::{compare, part, rows};
 use fixture_sheet::{fields_of, read_sheet};
 use league_core::limits::MOST_EVENTS;
 use league_core::{Season, Sheet};
@@ -9,9 +10,20 @@ use port_core::{LineReader, MemSource};
 use result_log::{Entry, read_event};
 use std::alloc::Global;
 use std::io::Write;
+use std::process::Abort;
 use std::test::Fail;
 
 const SHEET: &[u8] = b"league,T,1\nclub,A,1\nclub,B,2\nmatch,A,B\nmatch,B,A\nline,1\nseason\n";
+
+// A record, and what it is.
+const ROOM_FOR_ONE: &[u8] = b"result,2,0,0~1=2:1 2=0:0 @void,1~1=2:1 1=- ";
+
+const FULL: &[u8] = b"result,2,0,0~1=2:1 log_full@result,1,0,0~1=2:1 already_played@\
+    fix,2,0,0~1=2:1 not_played@void,2~1=2:1 not_played@result,2,100,0~1=2:1 bad_goals@\
+    deduct,A,3~1=2:1 log_full@deduct,C,3~1=2:1 unknown_club@deduct,A,100~1=2:1 bad_points@\
+    ask~1=2:1 ask@proofs~1=2:1 proofs@report~1=2:1 unknown_record";
+
+const PAST_ALL: &[u8] = b"void,1~1=2:1 log_full";
 
 fn sheet(alloc: Global) -> Result<Sheet, Fail> {
     let bytes = Vec::from_slice(alloc, SHEET)?;
@@ -60,31 +72,18 @@ fn tell_record(
     Ok(())
 }
 
+fn check(rt: &impl Abort, alloc: Global, events: u64, table: &[u8]) -> Result<(), Fail> {
+    for row in rows(alloc, table)? {
+        let out = told_behind(alloc, events, part(row, 0))?;
+        compare(rt, row, out.as_slice(), part(row, 1));
+    }
+    Ok(())
+}
+
 #[test]
 fn a_feed_has_at_most_100000_events(rt: HostRuntime) -> Result<(), Fail> {
     let most = u64::from(MOST_EVENTS);
-    for (events, record, wanted) in [
-        (
-            99_999,
-            b"result,2,0,0".as_slice(),
-            b"1=2:1 2=0:0 ".as_slice(),
-        ),
-        (99_999, b"void,1", b"1=2:1 1=- "),
-        (most, b"result,2,0,0", b"1=2:1 log_full"),
-        (u64::MAX, b"void,1", b"1=2:1 log_full"),
-        (most, b"result,1,0,0", b"1=2:1 already_played"),
-        (most, b"fix,2,0,0", b"1=2:1 not_played"),
-        (most, b"void,2", b"1=2:1 not_played"),
-        (most, b"result,2,100,0", b"1=2:1 bad_goals"),
-        (most, b"deduct,A,3", b"1=2:1 log_full"),
-        (most, b"deduct,C,3", b"1=2:1 unknown_club"),
-        (most, b"deduct,A,100", b"1=2:1 bad_points"),
-        (most, b"ask", b"1=2:1 ask"),
-        (most, b"proofs", b"1=2:1 proofs"),
-        (most, b"report", b"1=2:1 unknown_record"),
-    ] {
-        let out = told_behind(rt.alloc(), events, record)?;
-        assert_eq!(rt; out.as_slice(), wanted, "{record:?} behind {events}");
-    }
-    Ok(())
+    check(&rt, rt.alloc(), 99_999, ROOM_FOR_ONE)?;
+    check(&rt, rt.alloc(), most, FULL)?;
+    check(&rt, rt.alloc(), u64::MAX, PAST_ALL)
 }

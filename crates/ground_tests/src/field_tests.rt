@@ -1,12 +1,20 @@
 //! Fields of lines. What is wanted is what the csv crate for Rust reads, with the empty fields at
 //! the end left out: each field with `|` behind it, `-` for no field, `^` for a CR.
 
+use crate::rows::{compare, part, rows};
 use fixture_sheet::{
     Fields, FieldsStop, Progress, SheetFault, fields_of, name_of, number_within, number_written,
     take_content,
 };
 use std::alloc::Global;
 use std::test::Fail;
+
+// A line, and its fields.
+const FIELDS: &[u8] = b"~-@,~-@,\"\",,~-@\xef\xbb\xbf~-@a~a|@a,,b,,~a||b|@,a~|a|@\
+    \"a,b\",c~a,b|c|@\"a\"\"b\"~a\"b|@\"a\"b,c~ab|c|@a\"b~a\"b|@\x20\"a\" ~ \"a\" |@\
+    \"ab,c~ab,c|@#a,b~#a|b|@\xef\xbb\xbfa,b~a|b|@\
+    \xef\xbb\xbf\xef\xbb\xbfa~\xef\xbb\xbfa|@a,\xef\xbb\xbf~a|\xef\xbb\xbf|@\
+    \xff,\x00~\xff|\x00|@\r~^@a,b\r~^@\"a\rb\"~^";
 
 fn told(alloc: Global, text: &[u8]) -> Result<Vec<u8>, Fail> {
     match fields_of(alloc, text) {
@@ -28,31 +36,9 @@ fn joined(alloc: Global, fields: &Fields) -> Result<Vec<u8>, Fail> {
 
 #[test]
 fn fields_are_those_of_csv_without_padding(rt: HostRuntime) -> Result<(), Fail> {
-    for (text, wanted) in [
-        (b"".as_slice(), b"-".as_slice()),
-        (b",", b"-"),
-        (b",\"\",,", b"-"),
-        (b"\xef\xbb\xbf", b"-"),
-        (b"a", b"a|"),
-        (b"a,,b,,", b"a||b|"),
-        (b",a", b"|a|"),
-        (b"\"a,b\",c", b"a,b|c|"),
-        (b"\"a\"\"b\"", b"a\"b|"),
-        (b"\"a\"b,c", b"ab|c|"),
-        (b"a\"b", b"a\"b|"),
-        (b" \"a\" ", b" \"a\" |"),
-        (b"\"ab,c", b"ab,c|"),
-        (b"#a,b", b"#a|b|"),
-        (b"\xef\xbb\xbfa,b", b"a|b|"),
-        (b"\xef\xbb\xbf\xef\xbb\xbfa", b"\xef\xbb\xbfa|"),
-        (b"a,\xef\xbb\xbf", b"a|\xef\xbb\xbf|"),
-        (b"\xff,\x00", b"\xff|\x00|"),
-        (b"\r", b"^"),
-        (b"a,b\r", b"^"),
-        (b"\"a\rb\"", b"^"),
-    ] {
-        let out = told(rt.alloc(), text)?;
-        assert_eq!(rt; out.as_slice(), wanted, "{text:?}");
+    for row in rows(rt.alloc(), FIELDS)? {
+        let out = told(rt.alloc(), part(row, 0))?;
+        compare(&rt, row, out.as_slice(), part(row, 1));
     }
     Ok(())
 }

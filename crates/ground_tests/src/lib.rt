@@ -1,7 +1,8 @@
 //! Tests of the lowest crates: lists and seasons, lines, sheets and feeds.
 //!
 //! They stand here and not beside the code, since a crate with tests is proved twice. The modules
-//! `line_telling`, `sheet_telling` and `feed_telling` write out what is read.
+//! `line_telling`, `sheet_telling` and `feed_telling` write out what is read; a table of cases is a
+//! text, which `rows` takes apart.
 #![tactic(auto)]
 
 #[cfg(test)]
@@ -24,6 +25,8 @@ mod line_tests;
 mod list_tests;
 #[cfg(test)]
 mod row_tests;
+#[cfg(test)]
+mod rows;
 #[cfg(test)]
 mod season_tests;
 #[cfg(test)]

@@ -1,38 +1,29 @@
 //! Lines that are too long.
 
 use crate::line_telling::{answers, memory};
+use crate::rows::{compare, number, part, rows};
 use std::test::Fail;
 
+// What stands before the letters, how many there are, what follows, and the end of the answers.
 // The bytes of a comment, of the byte order mark and of a CR count.
+const LONG: &[u8] = b"#~1023~\nb~b2|.3.3@~1024~\nb~b2|.3.3@~1025~\nb~>1>1@#~1024~\nb~>1>1@\
+    #~1024~~>1>1@#~1022~\r\nb~b2|.3.3@#~1023~\r\nb~>1>1@\xef\xbb\xbf#~1020~\nb~b2|.3.3@\
+    \xef\xbb\xbf#~1021~\nb~>1>1@a\n\n#~1024~\nb~a1|>3>3";
+
 #[test]
 fn a_line_of_1025_bytes_stops_an_input(rt: HostRuntime) -> Result<(), Fail> {
     let alloc = rt.alloc();
-    for (front, bytes, end, wanted) in [
-        (
-            b"#".as_slice(),
-            1023,
-            b"\nb".as_slice(),
-            b"b2|.3.3".as_slice(),
-        ),
-        (b"", 1024, b"\nb", b"b2|.3.3"),
-        (b"", 1025, b"\nb", b">1>1"),
-        (b"#", 1024, b"\nb", b">1>1"),
-        (b"#", 1024, b"", b">1>1"),
-        (b"#", 1022, b"\r\nb", b"b2|.3.3"),
-        (b"#", 1023, b"\r\nb", b">1>1"),
-        (b"\xef\xbb\xbf#", 1020, b"\nb", b"b2|.3.3"),
-        (b"\xef\xbb\xbf#", 1021, b"\nb", b">1>1"),
-        (b"a\n\n#", 1024, b"\nb", b"a1|>3>3"),
-    ] {
-        let mut input = Vec::from_slice(alloc, front)?;
-        for _ in 0..bytes {
+    for row in rows(alloc, LONG)? {
+        let mut input = Vec::from_slice(alloc, part(row, 0))?;
+        for _ in 0..number(row, 1)? {
             input.push(b'x')?;
         }
-        input.extend_from_slice(end)?;
+        input.extend_from_slice(part(row, 2))?;
         let mut source = memory(alloc, &input, 1000, &[])?;
         let out = answers(alloc, &mut source)?;
+        let wanted = part(row, 3);
         let shown = &out[out.len() - wanted.len().min(out.len())..];
-        assert_eq!(rt; shown, wanted, "{bytes} letters");
+        compare(&rt, row, shown, wanted);
     }
     Ok(())
 }

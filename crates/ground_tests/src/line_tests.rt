@@ -1,55 +1,42 @@
 //! Which lines come, in which pieces, and after which faults.
 
 use crate::line_telling::{answers, memory};
+use crate::rows::{compare, number, part, rows};
 use port_core::{LineReader, StdSource};
 use std::test::Fail;
 
+// An input, and all that comes.
+const INPUTS: &[u8] =
+    b"~.1.1@\n~.2.2@one~one1|.2.2@one\n~one1|.2.2@\r\n# a\r\none\r\n\n#~one3|.6.6@\
+    one\r~one1|.2.2@a\r\r\nb\rc\n\r~a\r1|b\rc2|.4.4@#a\rb\nc~c2|.3.3@\x20#a~ #a1|.2.2@\
+    \xef\xbb\xbfa\n\xef\xbb\xbfb~a1|\xef\xbb\xbfb2|.3.3@\xef\xbb\xbf#a\nb~b2|.3.3@\
+    \xef\xbb\xbf\r\nb~b2|.3.3@\xef\xbb\xbf\xef\xbb\xbf#~\xef\xbb\xbf#1|.2.2@\
+    \xef\xbb~\xef\xbb1|.2.2";
+
+// The call that fails, and all that comes. Without a fault the calls give `ab`, then CR and LF,
+// then `#c`, then two LF, then `d`, and from then on the end.
+const FAULTS: &[u8] = b"1~!ab1|d4|.5.5@2~!ab1|d4|.5.5@3~ab1|!d4|.5.5@4~ab1|!d4|.5.5@\
+    5~ab1|!d4|.5.5@6~ab1|!d4|.5.5@7~ab1|d4|!.5.5@8~ab1|d4|.5!.5";
+
 #[test]
 fn lines_come_in_pieces_of_any_size(rt: HostRuntime) -> Result<(), Fail> {
-    let alloc = rt.alloc();
-    for (input, wanted) in [
-        (b"".as_slice(), b".1.1".as_slice()),
-        (b"\n", b".2.2"),
-        (b"one", b"one1|.2.2"),
-        (b"one\n", b"one1|.2.2"),
-        (b"\r\n# a\r\none\r\n\n#", b"one3|.6.6"),
-        (b"one\r", b"one1|.2.2"),
-        (b"a\r\r\nb\rc\n\r", b"a\r1|b\rc2|.4.4"),
-        (b"#a\rb\nc", b"c2|.3.3"),
-        (b" #a", b" #a1|.2.2"),
-        (b"\xef\xbb\xbfa\n\xef\xbb\xbfb", b"a1|\xef\xbb\xbfb2|.3.3"),
-        (b"\xef\xbb\xbf#a\nb", b"b2|.3.3"),
-        (b"\xef\xbb\xbf\r\nb", b"b2|.3.3"),
-        (b"\xef\xbb\xbf\xef\xbb\xbf#", b"\xef\xbb\xbf#1|.2.2"),
-        (b"\xef\xbb", b"\xef\xbb1|.2.2"),
-    ] {
+    for row in rows(rt.alloc(), INPUTS)? {
         for piece in [1, 2, 7, 100] {
-            let mut source = memory(alloc, input, piece, &[])?;
-            let out = answers(alloc, &mut source)?;
-            assert_eq!(rt; out.as_slice(), wanted, "{input:?} in pieces of {piece}");
+            let mut source = memory(rt.alloc(), part(row, 0), piece, &[])?;
+            let out = answers(rt.alloc(), &mut source)?;
+            compare(&rt, row, out.as_slice(), part(row, 1));
         }
     }
     Ok(())
 }
 
-// Without a fault the calls give `ab`, then CR and LF, then `#c`, then two LF, then `d`, and from
-// then on the end.
 #[test]
 fn a_fault_at_any_call_loses_nothing(rt: HostRuntime) -> Result<(), Fail> {
-    let alloc = rt.alloc();
-    for (call, wanted) in [
-        (1, b"!ab1|d4|.5.5".as_slice()),
-        (2, b"!ab1|d4|.5.5"),
-        (3, b"ab1|!d4|.5.5"),
-        (4, b"ab1|!d4|.5.5"),
-        (5, b"ab1|!d4|.5.5"),
-        (6, b"ab1|!d4|.5.5"),
-        (7, b"ab1|d4|!.5.5"),
-        (8, b"ab1|d4|.5!.5"),
-    ] {
-        let mut source = memory(alloc, b"ab\r\n#c\n\nd", 2, &[call])?;
-        let out = answers(alloc, &mut source)?;
-        assert_eq!(rt; out.as_slice(), wanted, "call {call} fails");
+    for row in rows(rt.alloc(), FAULTS)? {
+        let call = u64::from(number(row, 0)?);
+        let mut source = memory(rt.alloc(), b"ab\r\n#c\n\nd", 2, &[call])?;
+        let out = answers(rt.alloc(), &mut source)?;
+        compare(&rt, row, out.as_slice(), part(row, 1));
     }
     Ok(())
 }

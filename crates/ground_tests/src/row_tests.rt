@@ -1,27 +1,29 @@
 //! Rows that go out over devices in pieces and with faults.
 
+use crate::rows::{compare, number, part, rows};
+use fixture_sheet::number_written;
 use port_core::{MemSink, StdSink, WriteFault, put_line};
 use std::io;
 use std::io::Write;
 use std::test::Fail;
 
+// The room and the pieces of the device, the call that fails, whether the row goes out whole, and
+// what is there then.
+const DEVICES: &[u8] = b"10~1~~whole~row\n@4~3~~whole~row\n@3~2~~front~row@0~2~~front~@\
+    10~2~1~front~@10~2~2~front~ro@10~2~3~whole~row\n";
+
 #[test]
 fn a_row_goes_out_whole_or_leaves_a_front(rt: HostRuntime) -> Result<(), Fail> {
-    let alloc = rt.alloc();
-    for (room, piece, fail, whole, wanted) in [
-        (10, 1, [].as_slice(), true, b"row\n".as_slice()),
-        (4, 3, &[], true, b"row\n"),
-        (3, 2, &[], false, b"row"),
-        (0, 2, &[], false, b""),
-        (10, 2, &[1], false, b""),
-        (10, 2, &[2], false, b"ro"),
-        (10, 2, &[3], true, b"row\n"),
-    ] {
-        let fail = Vec::from_slice(alloc, fail)?;
-        let mut sink = MemSink::new(alloc, room, piece, fail)?;
-        let put = put_line(&mut sink, b"row\n");
-        assert_eq!(rt; put.is_ok(), whole, "room {room}, pieces of {piece}");
-        assert_eq!(rt; sink.bytes(), wanted, "room {room}, pieces of {piece}");
+    for row in rows(rt.alloc(), DEVICES)? {
+        let mut fail = Vec::new(rt.alloc());
+        if let Some(call) = number_written(part(row, 2)) {
+            fail.push(u64::from(call))?;
+        }
+        let (room, piece) = (number(row, 0)? as usize, number(row, 1)? as usize);
+        let mut sink = MemSink::new(rt.alloc(), room, piece.max(1), fail)?;
+        let whole = put_line(&mut sink, b"row\n").is_ok();
+        assert_eq!(rt; whole, part(row, 3) == b"whole".as_slice(), "{row:?}");
+        compare(&rt, row, sink.bytes(), part(row, 4));
     }
     Ok(())
 }

@@ -1,69 +1,77 @@
 //! Refused inputs, each with the line and the code that the order of the tests gives.
 
+use crate::rows::{compare, part, rows};
 use crate::sheet_telling::told;
 use std::alloc::Global;
 use std::io::Write;
+use std::process::Abort;
 use std::test::Fail;
 
 // Three lines, so that what comes behind them begins at line 4.
 const HEAD: &[u8] = b"league,T,1\nclub,A,1\nclub,B,2\n";
 
-fn behind_head(alloc: Global, tail: &[u8]) -> Result<Vec<u8>, Fail> {
-    let mut input = Vec::from_slice(alloc, HEAD)?;
-    input.extend_from_slice(tail)?;
-    Ok(told(alloc, input.as_slice(), 1000, &[])?)
-}
+// What stands behind the head, what is answered, and what comes then.
+const BEHIND_HEAD: &[u8] = b"league,T,1~4,unknown_record .5@\
+    ask\nx~4,unknown_record 5:x@\
+    cl\rub,C,3~4,unknown_record .5@\
+    match,A,B\nclub,C~5,unknown_record .6@\
+    club,A,0,x~4,wrong_width .5@\
+    club,\"C,3~4,wrong_width .5@\
+    club,A,0~4,bad_field .5@\
+    club,C\x7f,3~4,bad_field .5@\
+    club,C\xff,3~4,bad_field .5@\
+    club,B,000003~4,club_twice .5@\
+    match,C,C,C~4,wrong_width .5@\
+    match,C,C~4,unknown_club .5@\
+    match,,B~4,unknown_club .5@\
+    match,B,B\nx~4,self_match 5:x@\
+    line,9,9~4,wrong_width .5@\
+    line,x~4,bad_field .5@\
+    line,0~4,line_range .5@\
+    line,1\nline,01~5,line_twice .6@\
+    season,1~4,wrong_width .5@\
+    ~4,no_season .4";
 
-#[test]
-fn a_line_is_refused_by_the_first_test_that_it_fails(rt: HostRuntime) -> Result<(), Fail> {
-    for (tail, wanted) in [
-        (b"league,T,1".as_slice(), b"4,unknown_record .5".as_slice()),
-        (b"ask\nx", b"4,unknown_record 5:x"),
-        (b"cl\rub,C,3", b"4,unknown_record .5"),
-        (b"match,A,B\nclub,C", b"5,unknown_record .6"),
-        (b"club,A,0,x", b"4,wrong_width .5"),
-        (b"club,\"C,3", b"4,wrong_width .5"),
-        (b"club,A,0", b"4,bad_field .5"),
-        (b"club,C\x7f,3", b"4,bad_field .5"),
-        (b"club,C\xff,3", b"4,bad_field .5"),
-        (b"club,B,000003", b"4,club_twice .5"),
-        (b"match,C,C,C", b"4,wrong_width .5"),
-        (b"match,C,C", b"4,unknown_club .5"),
-        (b"match,,B", b"4,unknown_club .5"),
-        (b"match,B,B\nx", b"4,self_match 5:x"),
-        (b"line,9,9", b"4,wrong_width .5"),
-        (b"line,x", b"4,bad_field .5"),
-        (b"line,0", b"4,line_range .5"),
-        (b"line,1\nline,01", b"5,line_twice .6"),
-        (b"season,1", b"4,wrong_width .5"),
-        (b"", b"4,no_season .4"),
-    ] {
-        let out = behind_head(rt.alloc(), tail)?;
-        assert_eq!(rt; out.as_slice(), wanted, "{tail:?}");
-    }
-    for (input, wanted) in [
-        (b"# none\n\n,,\n".as_slice(), b"4,no_league .4".as_slice()),
-        (b"club,A,1\nx", b"1,no_league 2:x"),
-        (b"lea\rgue,T,1", b"1,no_league .2"),
-        (b"league,T,1", b"2,no_season .2"),
-        (b"league,,0,x,y,z\n", b"1,wrong_width .2"),
-        (b"league,,1", b"1,bad_field .2"),
-        (b"league,T,21", b"1,bad_field .2"),
-        (b"league,T,1,50001", b"1,bad_field .2"),
-        (b"league,T,1,9,other", b"1,bad_field .2"),
-        (b"league,T,1,,overall_first", b"1,bad_field .2"),
-        (b"league,T,1,9,Head_first", b"1,bad_field .2"),
-        (b"league,T,1\nline,x,y", b"2,too_few_clubs .3"),
-        (b"league,T,1\nclub,A,1\nmatch,A,A", b"3,too_few_clubs .4"),
-    ] {
-        let out = told(rt.alloc(), input, 1000, &[])?;
-        assert_eq!(rt; out.as_slice(), wanted, "{input:?}");
+// The same of a whole input.
+const WHOLE: &[u8] = b"# none\n\n,,\n~4,no_league .4@\
+    club,A,1\nx~1,no_league 2:x@\
+    lea\rgue,T,1~1,no_league .2@\
+    league,T,1~2,no_season .2@\
+    league,,0,x,y,z\n~1,wrong_width .2@\
+    league,,1~1,bad_field .2@\
+    league,T,21~1,bad_field .2@\
+    league,T,1,50001~1,bad_field .2@\
+    league,T,1,9,other~1,bad_field .2@\
+    league,T,1,,overall_first~1,bad_field .2@\
+    league,T,1,9,Head_first~1,bad_field .2@\
+    league,T,1\nline,x,y~2,too_few_clubs .3@\
+    league,T,1\nclub,A,1\nmatch,A,A~3,too_few_clubs .4";
+
+// The last line of a sheet of 24 clubs, and what is answered.
+const FULL_OF_CLUBS: &[u8] = b"club,C25,1~26,too_many .27@club,C24,1~26,club_twice .27";
+
+// The same where it has 600 matches and 4 lines too.
+const FULL: &[u8] = b"match,C1,C2~630,too_many .631@match,C1,C1~630,self_match .631@\
+    line,5~630,too_many .631@line,4~630,line_twice .631@line,24~630,line_range .631";
+
+fn check(rt: &impl Abort, alloc: Global, head: &[u8], table: &[u8]) -> Result<(), Fail> {
+    for row in rows(alloc, table)? {
+        let mut input = Vec::from_slice(alloc, head)?;
+        input.extend_from_slice(part(row, 0))?;
+        let out = told(alloc, input.as_slice(), 5000, &[])?;
+        compare(rt, row, out.as_slice(), part(row, 1));
     }
     Ok(())
 }
 
-// 24 clubs, then as many matches of the first two, then lines 1 to 4, then `last`.
-fn full(alloc: Global, matches: usize, last: &[u8]) -> Result<Vec<u8>, Fail> {
+#[test]
+fn a_line_is_refused_by_the_first_test_that_it_fails(rt: HostRuntime) -> Result<(), Fail> {
+    check(&rt, rt.alloc(), HEAD, BEHIND_HEAD)?;
+    check(&rt, rt.alloc(), b"", WHOLE)
+}
+
+// 24 clubs, then as many matches of the first two, then lines 1 to 4 where there are any.
+fn full(alloc: Global, matches: usize) -> Result<Vec<u8>, Fail> {
     let mut input = Vec::from_slice(alloc, b"league,T,1\n")?;
     for club in 1..25 {
         write!(input, "club,C{club},1\n")?;
@@ -74,24 +82,16 @@ fn full(alloc: Global, matches: usize, last: &[u8]) -> Result<Vec<u8>, Fail> {
     if 0 < matches {
         input.extend_from_slice(b"line,1\nline,2\nline,3\nline,4\n")?;
     }
-    input.extend_from_slice(last)?;
-    Ok(told(alloc, input.as_slice(), 5000, &[])?)
+    Ok(input)
 }
 
 #[test]
 fn a_full_sheet_takes_no_more(rt: HostRuntime) -> Result<(), Fail> {
-    let alloc = rt.alloc();
-    for (matches, last, wanted) in [
-        (0, b"club,C25,1".as_slice(), b"26,too_many .27".as_slice()),
-        (0, b"club,C24,1", b"26,club_twice .27"),
-        (600, b"match,C1,C2", b"630,too_many .631"),
-        (600, b"match,C1,C1", b"630,self_match .631"),
-        (600, b"line,5", b"630,too_many .631"),
-        (600, b"line,4", b"630,line_twice .631"),
-        (600, b"line,24", b"630,line_range .631"),
-    ] {
-        let out = full(alloc, matches, last)?;
-        assert_eq!(rt; out.as_slice(), wanted, "{last:?}");
-    }
-    Ok(())
+    check(
+        &rt,
+        rt.alloc(),
+        full(rt.alloc(), 0)?.as_slice(),
+        FULL_OF_CLUBS,
+    )?;
+    check(&rt, rt.alloc(), full(rt.alloc(), 600)?.as_slice(), FULL)
 }

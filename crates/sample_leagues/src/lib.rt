@@ -7,7 +7,9 @@
 mod drawn;
 mod draws;
 mod sample;
+mod zones;
 
 pub use drawn::drawn_league;
 pub use draws::Draws;
 pub use sample::{Sample, sample_of};
+pub use zones::{is_below, is_of_sheet};
