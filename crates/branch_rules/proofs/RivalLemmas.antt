@@ -1,5 +1,6 @@
 -- Where no rival is left unmarked, all are marked.
-use Rattle.std.proofs.Common.{◌≡◌, ◌<◌, ℕ, Bool, true, false, not, ◌&&◌, ◌||◌, ◌==◌, nat_lt, eqb, ltb}
+use Rattle.std.proofs.Common.{◌≡◌, ◌<◌, ℕ, Bool, true, false, not, ◌&&◌, ◌||◌, ◌==◌, nat_lt, eqb}
+use Rattle.std.proofs.Common.{ltb}
 use Rattle.std.proofs.Common.{inl, inr, List, [], ◌∷◌, length, filter, refl, sym, ap, ◌∙◌}
 use Rattle.std.proofs.Common.{arith}
 use Rattle.std.specs.List.{list_all, range_with_len}

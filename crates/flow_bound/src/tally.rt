@@ -1,7 +1,8 @@
 //! The parts of the excess of every set: what each club adds alone, and what each two clubs that
 //! still meet add beyond that where both are in the set.
 
-ghost use Rattle.std.specs.Prelude.{◌≡◌, ◌≢◌, ◌⊎◌, ℕ, ◌+◌, ◌^◌, ◌<◌, ◌≤◌, ◌+ℤ◌, ◌≤ℤ◌, pos, neg_ℤ, Bool};
+ghost use Rattle.std.specs.Prelude.{◌≡◌, ◌≢◌, ◌⊎◌, ℕ, ◌+◌, ◌^◌, ◌<◌, ◌≤◌, ◌+ℤ◌, ◌≤ℤ◌, pos, neg_ℤ};
+ghost use Rattle.std.specs.Prelude.{Bool};
 ghost use Rattle.std.specs.Prelude.{◌&&◌, List, false, true, length, if◌then◌else◌, is_ok};
 ghost use Rattle.std.specs.Prelude.{IfOk, MatchOption};
 ghost use Rattle.std.specs.List.{All};

@@ -1,6 +1,8 @@
 -- A set without one of its clubs: what its clubs come to, and how many are left.
-use Rattle.std.proofs.Common.{◌≡◌, ◌≢◌, ◌⊎◌, inl, inr, ℕ, zero, suc, ◌+◌, ◌<◌, ◌≤◌, ℤ, pos, ◌+ℤ◌, ◌≤ℤ◌}
-use Rattle.std.proofs.Common.{Bool, true, false, not, ◌&&◌, ◌||◌, nat_lt, cond, List, [], ◌∷◌, length}
+use Rattle.std.proofs.Common.{◌≡◌, ◌≢◌, ◌⊎◌, inl, inr, ℕ, zero, suc, ◌+◌, ◌<◌, ◌≤◌, ℤ, pos, ◌+ℤ◌}
+use Rattle.std.proofs.Common.{◌≤ℤ◌}
+use Rattle.std.proofs.Common.{Bool, true, false, not, ◌&&◌, ◌||◌, nat_lt, cond, List, [], ◌∷◌}
+use Rattle.std.proofs.Common.{length}
 use Rattle.std.proofs.Common.{refl, sym, ap, ◌∙◌, add-one, subst, arith}
 use Rattle.std.proofs.lemmas.Int.{ints}
 use Rattle.std.proofs.lemmas.Bool.{cases_eq, cases_lt, eq-eqb, ne_eqb, lt-ltb, le-ltb, ltb-true}
@@ -48,7 +50,8 @@ member_below set club has =
 apart_below : (value : ℕ → ℤ) (left rest : ClubSet) (first count : ℕ) → count ≤ 32
     → IsRest left rest first
     → total_of value (clubs_below count left.bits)
-    ≡ total_of value (clubs_below count rest.bits) +ℤ cond (nat_lt first count) (value first) (pos 0)
+    ≡ total_of value (clubs_below count rest.bits) +ℤ cond (nat_lt first count) (value first)
+    (pos 0)
 apart_below value left rest first zero within is =
     let l = ap (total_of value) (clubs_below-none left.bits) in
     let r = ap (total_of value) (clubs_below-none rest.bits) in

@@ -15,7 +15,8 @@ use Rattle.score_box.specs.declared.points.outcomes.MatchPoints.{MatchPoints}
 use Rattle.score_box.specs.declared.cell.goals.Goals.{Goals}
 use Rattle.score_box.proofs.CellLemmas.{Says, ranges_of, keeps_home_win, keeps_draw}
 use Rattle.score_box.proofs.CellLemmas.{keeps_away_win}
-use Rattle.score_box.specs.Cells.{allows, IsAllowed, at_most_one, HasOneOutcome, IsCellOf, IsEmptyCell}
+use Rattle.score_box.specs.Cells.{allows, IsAllowed, at_most_one, HasOneOutcome, IsCellOf}
+use Rattle.score_box.specs.Cells.{IsEmptyCell}
 use Rattle.score_box.specs.Cells.{is_within, HasPassing, IsExactCell}
 use Rattle.score_box.specs.Points.{least_of_three, most_of_three, IsPointsOf}
 use Rattle.score_box.specs.Points.{AreOutcomesLeft, AreOutcomesAmong}
@@ -136,8 +137,11 @@ any_gives test (first ∷ options) some =
     (λ _. (score : Score) × (has_score (first ∷ options) score ≡ true) × (test score ≡ true)) [
       | inl passed ↦ (first, has_score-first first options, passed)
       | inr later ↦
-          let found = any_gives test options later in
-          (found.0, or_right (same_score found.0 first) (has_score options found.0) found.1, found.2)
+          let found = any_gives test options later in (
+            found.0,
+            or_right (same_score found.0 first) (has_score options found.0) found.1,
+            found.2,
+          )
     ]
 
 -- the cell has a score that passes exactly where the options have one

@@ -126,7 +126,8 @@ opens-set_leaf base (suc at) place (node ∷ nodes) written default within is wa
     let new = opens_over written.kind place [] in
     let behind = opens_from (suc base) nodes in
     ap (λ lists. opens_over node.kind base lists ∷ lists)
-    (opens-set_leaf (suc base) at place nodes written default (omega arith) (omega arith) was_open leaf)
+    (opens-set_leaf (suc base) at place nodes written default (omega arith) (omega arith) was_open
+    leaf)
     ∙ ap (λ list. list ∷ map (replaced place new) behind)
     (over_replaced place base new node.kind behind (λ same. omega arith))
 
@@ -177,7 +178,8 @@ opens_split : (base at place size half parent : ℕ) (nodes : List Node) (writte
     → opens_from base (set nodes at written ++ halves_under parent)
     ≡ map (replaced place (size ∷ suc size ∷ [])) (opens_from base nodes)
     ++ (size ∷ []) ∷ (suc size ∷ []) ∷ []
-opens_split base at place size half parent [] written default test fresh within is long far all was_open
+opens_split base at place size half parent [] written default test fresh within is long far all
+    was_open
     kind = absurd (omega arith)
 opens_split base zero place size half parent (node ∷ nodes) written default test fresh within is
     long far all was_open kind =
@@ -251,7 +253,8 @@ order_taken open_node nodes opens rest at within all was_open none none_left ord
     ∙ sym (append_assoc opens (at ∷ []) (reverse rest))
 order_taken (lent_node number) nodes opens rest at within all was_open none none_left order =
     leaf_taken nodes opens rest at (Lent number) within was_open none none_left order tt
-order_taken (refuted_node reason fresh) nodes opens rest at within all was_open none none_left order =
+order_taken (refuted_node reason fresh) nodes opens rest at within all was_open none none_left
+    order =
     leaf_taken nodes opens rest at (Refuted reason fresh) within was_open none none_left order tt
 order_taken (split_node test fresh) nodes opens rest at within all was_open none none_left order =
     let size = length nodes in

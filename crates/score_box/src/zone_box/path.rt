@@ -1,7 +1,8 @@
 //! A box along a path: one literal more at the end of its zone, and the last one taken back. Each
 //! takes the steps of one cell, however long the zone.
 
-ghost use Rattle.std.specs.Prelude.{◌≡◌, ◌≢◌, ◌≤◌, ◌++◌, ℕ, true, IsTrue, OnOk, OnErr, [], ◌∷◌, length};
+ghost use Rattle.std.specs.Prelude.{◌≡◌, ◌≢◌, ◌≤◌, ◌++◌, ℕ, true, IsTrue, OnOk, OnErr, [], ◌∷◌};
+ghost use Rattle.std.specs.Prelude.{length};
 ghost use Rattle.std.specs.List.{All};
 ghost use Rattle.league_core.specs.Limits.{most_fixtures, set_width};
 ghost use Rattle.league_core.specs.Zones.{is_on, is_test_of, is_zone_of};

@@ -9,7 +9,8 @@ use Rattle.score_box.proofs.tables.Tables.of_group.Given as goal
 abbrev pub invariant-loop-step : goal.invariant-loop-step
 invariant-loop-step l = record {
   sums : (column : Column) → (total_in l.totals column
-      +ℤ total_of (λ rival. total_in (totals_at l.self.pairs.items (pair_place l.club rival)) column)
+      +ℤ total_of (λ rival. total_in (totals_at l.self.pairs.items (pair_place l.club rival))
+      column)
       (clubs_in l.left))
       ≡ total_of (λ rival. total_in (totals_at l.self.pairs.items (pair_place l.club rival)) column)
       (clubs_in l.fn.group);
