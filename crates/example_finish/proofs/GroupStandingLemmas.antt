@@ -1,16 +1,15 @@
 -- Where a club stands in a group, step by step: by one order, and within the clubs that it leaves
 -- level by the next one.
-use Rattle.std.proofs.Common.{◌≡◌, ℕ, ◌<◌, ◌≤◌, Bool, true, false, ◌&&◌, ◌||◌}
-use Rattle.std.proofs.Common.{◌==◌, nat_lt, List, [], ◌∷◌, length, filter, refl, sym, ap}
+use Rattle.std.proofs.Common.{◌≡◌, ◌≢◌, ℕ, ◌<◌, ◌≤◌, Bool, true, false, ◌&&◌, ◌||◌}
+use Rattle.std.proofs.Common.{◌==◌, List, [], ◌∷◌, length, filter, refl, sym, ap}
 use Rattle.std.proofs.Common.{◌∙◌}
 use Rattle.std.proofs.Common.{arith}
 use Rattle.std.specs.declared.cmp.Ordering.{Ordering}
 use Rattle.std.specs.declared.cmp.Ordering.TheVariants.{Less, Equal, Greater}
 use Rattle.std.specs.Ordering.{is_eq, is_lt, int_eq, ordering_then}
 use Rattle.std.specs.Cmp.{IsTotalOrder}
-use Rattle.std.specs.Int.{bit_at}
 use Rattle.std.proofs.lemmas.Bool.{and_from, and_parts}
-use Rattle.std.proofs.lemmas.Bool.{eqb-true, false≢true}
+use Rattle.std.proofs.lemmas.Bool.{eqb-true, eq-eqb, ne_eqb, false≢true}
 use Rattle.std.proofs.lemmas.Cmp.{eq_by_cmp_equiv, tied_itself, int_cmp_total}
 use Rattle.league_core.specs.declared.sheet.Sheet.{Sheet}
 use Rattle.league_core.specs.declared.sheet.Order.TheVariants.{OverallFirst}
@@ -30,24 +29,70 @@ use Rattle.league_core.proofs.StandingLemmas.{lead_within_total}
 use Rattle.league_core.proofs.StandingLemmas.{level_with-tied, level_overall-tied}
 use Rattle.league_core.proofs.TimesLemmas.{lead_in-again, level_with-le}
 use Rattle.league_core.proofs.ClubSetLemmas.{clubs_below-filter, clubs_below-filter_range}
-use Rattle.league_core.proofs.ClubSetLemmas.{has_club-range, has_club-clubs_below}
+use Rattle.league_core.proofs.ClubSetLemmas.{has_club-range}
 use Rattle.league_core.proofs.RankingLemmas.{tied_group_of-tied}
 use Rattle.final_rank.proofs.TierLemmas.{by_points, by_points_total, is_of_sheet}
+use Rattle.tie_criteria.proofs.MemberLemmas.{IsTakenOff, each_next, each_left, empty_left}
 use Rattle.example_finish.specs.declared.standing.Standing.{Standing}
 use Rattle.example_finish.specs.GroupStandings.{IsStandingOf, next_after}
 
-and_under : (a b c : Bool) → (a && ((a && b) && c)) ≡ ((a && b) && c)
-and_under true b c = refl
-and_under false b c = refl
+-- of the clubs of a group that are not left, those that pass a test are found
+pub record AreFoundIn (group left found : ClubSet) (test : ℕ → Bool) : Type 0 where
+  pub seen : (x : ℕ) → has_club (clubs_in group) x ≡ true → has_club (clubs_in left) x ≡ false
+      → has_club (clubs_in found) x ≡ test x
+  pub waiting : (x : ℕ) → has_club (clubs_in left) x ≡ true
+      → has_club (clubs_in found) x ≡ false
+  pub outside : (x : ℕ) → has_club (clubs_in group) x ≡ false
+      → has_club (clubs_in found) x ≡ false
 
--- a club of a set is below the number of clubs that a set has room for
-pub below_width : (set : ClubSet) (x : ℕ) (b : Bool)
-    → (nat_lt x 32 && (has_club (clubs_in set) x && b)) ≡ (has_club (clubs_in set) x && b)
-below_width set x b =
-    let is = has_club-clubs_below 32 set.bits x in
-    ap (λ h. nat_lt x 32 && (h && b)) is
-    ∙ and_under (nat_lt x 32) (bit_at set.bits x == 1) b
-    ∙ ap (λ h. h && b) (sym is)
+pub found_none : (group found : ClubSet) (test : ℕ → Bool) → clubs_in found ≡ []
+    → AreFoundIn group group found test
+found_none group found test empty = record {
+  seen = λ x has gone. absurd (false≢true (sym gone ∙ has));
+  waiting = λ x has. empty_left found x empty;
+  outside = λ x out. empty_left found x empty;
+}
+
+pub found_next : (group left rest found more : ClubSet) (test : ℕ → Bool) (at : ℕ)
+    → IsTakenOff left rest at → has_club (clubs_in group) at ≡ true
+    → AreFoundIn group left found test
+    → ((x : ℕ) → has_club (clubs_in more) x
+    ≡ (has_club (clubs_in found) x || ((at == x) && test x)))
+    → AreFoundIn group rest more test
+found_next group left rest found more test at taken inside so_far is =
+    let apart : (x : ℕ) → x ≢ at
+    → has_club (clubs_in more) x ≡ has_club (clubs_in found) x =
+    λ x other. is x ∙ ap (λ b. has_club (clubs_in found) x || (b && test x))
+    (ne_eqb at x (λ same. other (sym same))) ∙ or_false (has_club (clubs_in found) x) in
+    record {
+      seen = each_next (λ x. has_club (clubs_in found) x ≡ test x)
+          (λ x. has_club (clubs_in more) x ≡ test x) group left rest at taken
+          (λ x other before. apart x other ∙ before)
+          (is at
+          ∙ ap (λ b. b || ((at == at) && test at)) (so_far.waiting at taken.among)
+          ∙ ap (λ b. b && test at) (eq-eqb at at refl))
+          so_far.seen;
+      waiting = each_left (λ x. has_club (clubs_in found) x ≡ false)
+          (λ x. has_club (clubs_in more) x ≡ false) left rest at taken
+          (λ x other before. apart x other ∙ before) so_far.waiting;
+      outside = λ x out.
+          apart x (λ same. false≢true (sym out ∙ ap (has_club (clubs_in group)) same ∙ inside))
+          ∙ so_far.outside x out;
+    }
+  where
+    or_false : (b : Bool) → (b || false) ≡ b
+    or_false true = refl
+    or_false false = refl
+
+pub found_all : (group left found : ClubSet) (test : ℕ → Bool)
+    → ((x : ℕ) → has_club (clubs_in left) x ≡ false) → AreFoundIn group left found test
+    → (x : ℕ) → has_club (clubs_in found) x ≡ (has_club (clubs_in group) x && test x)
+found_all group left found test none all x = by (has_club (clubs_in group) x) refl
+  where
+    by : (b : Bool) → has_club (clubs_in group) x ≡ b
+        → has_club (clubs_in found) x ≡ (has_club (clubs_in group) x && test x)
+    by true has = all.seen x has (none x) ∙ sym (ap (λ b. b && test x) has)
+    by false out = all.outside x out ∙ sym (ap (λ b. b && test x) out)
 
 -- orders that agree on the clubs of a group leave a club where it stands
 pub standing_agrees : (order other : ℕ → ℕ → Ordering) (group : List ℕ) (club : ℕ)

@@ -14,6 +14,7 @@ ghost use Rattle.example_finish.specs.ProposedTotals.{by_criterion};
 ghost use Rattle.example_finish.specs.GroupStandings.{IsStandingOf, by_number_in};
 
 use crate::criterion::Comparison;
+use league_core::limits::SET_WIDTH;
 use league_core::{Claim, ClubSet};
 
 /// The clubs of a group that come before one of its clubs, and those level with it, itself among
@@ -35,8 +36,14 @@ impl Standing {
             ahead: ClubSet::empty(),
             level: ClubSet::empty(),
         };
-        for other in 0..32 {
-            standing = standing.with_if(comparison, group, club, other);
+        let mut left = group;
+        for _step in 0..SET_WIDTH {
+            if left.is_empty() {
+                return standing;
+            }
+            let other = left.first_club();
+            standing = standing.with(comparison, club, other);
+            left = left.without(ClubSet::single(other));
         }
         standing
     }
@@ -115,21 +122,18 @@ impl Standing {
         }
     }
 
-    /// With one more of the clubs, where it is of the group.
-    fn with_if(self, comparison: &Comparison, group: ClubSet, club: u8, other: u8) -> Standing
+    /// With one more of the clubs.
+    fn with(self, comparison: &Comparison, club: u8, other: u8) -> Standing
         requires { other < 32 }
         ensures ahead { (x : ℕ) → has_club (clubs_in result.ahead) x
-            ≡ (has_club (clubs_in self.ahead) x || ((other == x) && (has_club (clubs_in group) x
+            ≡ (has_club (clubs_in self.ahead) x || ((other == x)
             && is_lt (by_criterion comparison.now.criterion comparison.now.sheet.now
-            comparison.now.season.now comparison.now.table.now x club)))) }
+            comparison.now.season.now comparison.now.table.now x club))) }
         ensures level { (x : ℕ) → has_club (clubs_in result.level) x
-            ≡ (has_club (clubs_in self.level) x || ((other == x) && (has_club (clubs_in group) x
+            ≡ (has_club (clubs_in self.level) x || ((other == x)
             && is_eq (by_criterion comparison.now.criterion comparison.now.sheet.now
-            comparison.now.season.now comparison.now.table.now x club)))) }
+            comparison.now.season.now comparison.now.table.now x club))) }
     {
-        if !group.has(other) {
-            return self;
-        }
         let order = comparison.order(other, club);
         Standing {
             ahead: self.ahead.with_if(order.is_lt(), other),

@@ -1,16 +1,17 @@
 //! What the matches of the proposed finish add up to for clubs.
 
-ghost use Rattle.std.specs.Prelude.{◌≡◌, ◌≢◌, ℕ, ◌<◌, IsTrue, length};
-ghost use Rattle.league_core.specs.Sums.{has_club, worth_to, sum_among};
+ghost use Rattle.std.specs.Prelude.{◌≡◌, ◌≢◌, ℕ, ◌<◌, length};
+ghost use Rattle.league_core.specs.Sums.{worth_to};
 ghost use Rattle.league_core.specs.ClubSets.{clubs_in};
 ghost use Rattle.tie_criteria.specs.Groups.{IsGroupOf};
-ghost use Rattle.score_box.specs.Totals.{totals_at, no_totals, AreTotals, AreTotalsNear};
+ghost use Rattle.score_box.specs.Totals.{totals_at, no_totals, AreTotalsNear};
 ghost use Rattle.score_box.specs.Totals.{TotalsGrowBy};
 ghost use Rattle.example_finish.specs.ProposalViews.{sheet_asked, season_asked, finish_asked};
 ghost use Rattle.example_finish.specs.ProposedTotals.{AreTotalsAmong, AreTotalsOver};
 ghost use Rattle.example_finish.specs.ProposedTotals.{AreTotalsAllNear, worth_proposed};
 
 use crate::proposed::Proposed;
+use league_core::limits::SET_WIDTH;
 use league_core::{ClubSet, Fixture, Score};
 use score_box::{Totals, ZoneBox};
 
@@ -109,28 +110,18 @@ fn played_among(zone_box: &ZoneBox, group: ClubSet) -> [Totals; 24]
     ensures near { AreTotalsAllNear 5000000 result }
     ensures long { length result ≡ 24 }
 {
+    let _sheet = zone_box.sheet();
     let mut table = no_rows();
-    for club in 0..zone_box.sheet().clubs.len() as u8 {
-        put_played(&mut table, zone_box, group, club);
+    let mut left = group;
+    for _step in 0..SET_WIDTH {
+        if left.is_empty() {
+            return table;
+        }
+        let club = left.first_club();
+        table[club as usize] = zone_box.totals_among(group, club);
+        left = left.without(ClubSet::single(club));
     }
     table
-}
-
-/// Puts the club's row into the table, where the club is of the group.
-fn put_played(table: &mut [Totals], zone_box: &ZoneBox, group: ClubSet, club: u8)
-    requires of_group { IsGroupOf zone_box.now.sheet (clubs_in group) }
-    requires in_range { club < length table.old }
-    requires near { AreTotalsAllNear 5000000 table.old }
-    ensures itself { IsTrue (has_club (clubs_in group) club) → AreTotals (λ worth. sum_among
-        (clubs_in group) worth zone_box.now.sheet zone_box.now.season club)
-        (totals_at table.new club) }
-    ensures others { (other : ℕ) → other ≢ club
-        → totals_at table.new other ≡ totals_at table.old other }
-    ensures near { AreTotalsAllNear 5000000 table.new }
-{
-    if group.has(club) {
-        table[club as usize] = zone_box.totals_among(group, club);
-    }
 }
 
 /// What all played matches add up to for each club.

@@ -7,6 +7,7 @@ ghost use Rattle.tie_bound.specs.Rows.{AreRows, IsRow};
 
 use crate::sums::Sums;
 use league_core::ClubSet;
+use league_core::limits::SET_WIDTH;
 use score_box::ZoneBox;
 
 /// Each club's sums over all matches that are played, by the clubs' numbers.
@@ -21,7 +22,7 @@ pub fn rows_over(zone_box: &ZoneBox) -> [Sums; 24]
     table
 }
 
-/// Each club's sums over those with both ends in the group.
+/// Each club's sums over those with both ends in the group. A club outside it has none.
 pub fn rows_among(zone_box: &ZoneBox, group: ClubSet) -> [Sums; 24]
     requires { (member : ℕ) → has_club (clubs_in group) member ≡ true
         → member < length zone_box.now.sheet.clubs }
@@ -29,9 +30,16 @@ pub fn rows_among(zone_box: &ZoneBox, group: ClubSet) -> [Sums; 24]
         zone_box.now.season.scores result }
     ensures long { length result ≡ 24 }
 {
+    let _sheet = zone_box.sheet();
     let mut table = [Sums::NONE; 24];
-    for club in 0..zone_box.sheet().clubs.len() as u8 {
+    let mut left = group;
+    for _step in 0..SET_WIDTH {
+        if left.is_empty() {
+            return table;
+        }
+        let club = left.first_club();
         table[club as usize] = row_among(zone_box, group, club);
+        left = left.without(ClubSet::single(club));
     }
     table
 }
@@ -43,17 +51,12 @@ fn row_over(zone_box: &ZoneBox, club: u8) -> Sums
     Sums::only(&zone_box.totals(club))
 }
 
-/// A club outside the group has no match in it.
 fn row_among(zone_box: &ZoneBox, group: ClubSet, club: u8) -> Sums
-    requires { (member : ℕ) → has_club (clubs_in group) member ≡ true
+    requires group { (member : ℕ) → has_club (clubs_in group) member ≡ true
         → member < length zone_box.now.sheet.clubs }
+    requires club { has_club (clubs_in group) club ≡ true }
     ensures { IsRow (worth_among (clubs_in group)) zone_box.now.sheet.fixtures
         zone_box.now.season.scores club result }
 {
-    let _sheet = zone_box.sheet();
-    if group.has(club) {
-        Sums::only(&zone_box.totals_among(group, club))
-    } else {
-        Sums::NONE
-    }
+    Sums::only(&zone_box.totals_among(group, club))
 }
