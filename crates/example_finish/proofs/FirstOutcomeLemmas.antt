@@ -1,6 +1,7 @@
 -- The outcome of the first option, by the outcomes that the options have.
 use Rattle.std.proofs.Common.{◌≡◌, ◌≢◌, inl, inr, ◌+ℤ◌, ◌≤ℤ◌, ℤ, pos, neg_ℤ, ◌+◌, Bool, true, false}
-use Rattle.std.proofs.Common.{◌||◌, List, [], ◌∷◌, Some, Ordering, Less, Equal, Greater, refl, sym, ap, ◌∙◌}
+use Rattle.std.proofs.Common.{◌||◌, List, [], ◌∷◌, Some, Ordering, Less, Equal, Greater, refl, sym}
+use Rattle.std.proofs.Common.{ap, ◌∙◌}
 use Rattle.std.proofs.Common.{arith}
 use Rattle.std.specs.List.{list_any}
 use Rattle.std.specs.Ordering.{ordering_then}

@@ -1,5 +1,5 @@
-//! The outcome of the option that a fixture takes. Mostly the outcomes that are left tell it, and no
-//! goals are worked out.
+//! The outcome of the option that a fixture takes. Mostly the outcomes that are left tell it, and
+//! no goals are worked out.
 
 ghost use Rattle.std.specs.Prelude.{◌≡◌, ◌≤ℤ◌, Bool, true, false, pos, List, Some};
 ghost use Rattle.league_core.specs.declared.season.Score.{Score};

@@ -34,7 +34,7 @@ use Rattle.score_box.specs.Cells.{IsCellOf, IsEmptyCell}
 use Rattle.flow_bound.specs.declared.cut.Cut.{Cut}
 use Rattle.flow_bound.specs.declared.cut.Cut.TheVariants.{Floor, Ceiling}
 use Rattle.flow_bound.specs.declared.tally.Pair.{Pair}
-use Rattle.flow_bound.specs.Fixtures.{Worth}
+use Rattle.flow_bound.specs.Fixtures.{MatchWorth}
 use Rattle.flow_bound.specs.Parts.{sum_below, entry, sum_of_side, sum_of_pairs, has_both}
 use Rattle.flow_bound.specs.Parts.{excess_in, IsPartOf}
 use Rattle.flow_bound.specs.Parts.{side_of}
@@ -264,7 +264,7 @@ beyond_over-is cut sheet season zone clubs many finish =
     omega (arith, ints, split)
 
 -- the surplus of a match in which both clubs count
-pub surplus_is : (cut : Cut) (cell : Cell) (options : List Score) (worth : Worth) (set : ClubSet)
+pub surplus_is : (cut : Cut) (cell : Cell) (options : List Score) (worth : MatchWorth) (set : ClubSet)
     (match : Fixture) → match.home ≢ match.away → IsWorthOf cut cell worth
     → IsCellOf cell options
     → beyond_in cut (clubs_in set) match options

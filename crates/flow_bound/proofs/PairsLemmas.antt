@@ -25,7 +25,7 @@ use Rattle.score_box.proofs.SplitLemmas.{unplayed_in_range}
 use Rattle.flow_bound.specs.declared.cut.Cut.{Cut}
 use Rattle.flow_bound.specs.declared.cut.Cut.TheVariants.{Floor, Ceiling}
 use Rattle.flow_bound.specs.declared.tally.Pair.{Pair}
-use Rattle.flow_bound.specs.Fixtures.{Worth}
+use Rattle.flow_bound.specs.Fixtures.{MatchWorth}
 use Rattle.flow_bound.specs.Fixtures.{IsWorthOf, above_nothing, beyond_over, end_of, pair_at}
 use Rattle.flow_bound.specs.Fixtures.{pairs_in, surplus_in}
 use Rattle.flow_bound.specs.Parts.{has_both, side_of, sum_of_pairs}
@@ -68,7 +68,7 @@ unfolding surplus_in
 surplus_in-is cut options some = natural (beyond_sides cut options) (beyond_above cut options some)
 
 -- it is that of a cell's worth
-pub worth_surplus : (cut : Cut) (cell : Cell) (options : List Score) (worth : Worth)
+pub worth_surplus : (cut : Cut) (cell : Cell) (options : List Score) (worth : MatchWorth)
     → IsWorthOf cut cell worth → IsCellOf cell options → worth.surplus ≡ surplus_in cut options
 unfolding surplus_in
 worth_surplus cut cell options worth is of_cell =

@@ -11,7 +11,7 @@ use Rattle.score_box.specs.Points.{AreOutcomesLeft, IsPointsOf, least_of_three, 
 use Rattle.score_box.proofs.LeftLemmas.{none_left, points_left-are}
 use Rattle.flow_bound.specs.declared.cut.Cut.{Cut}
 use Rattle.flow_bound.specs.declared.cut.Cut.TheVariants.{Floor, Ceiling}
-use Rattle.flow_bound.specs.Fixtures.{Worth, surplus_in, surplus_left}
+use Rattle.flow_bound.specs.Fixtures.{MatchWorth, surplus_in, surplus_left}
 use Rattle.flow_bound.proofs.WorthLemmas.{floor_worth, ceiling_worth}
 use Rattle.flow_bound.proofs.PairsLemmas.{worth_surplus}
 
@@ -71,7 +71,7 @@ left_surplus Floor cell left options are some is =
     let home = points_at left true false in
     let away = points_at left false true in
     let both = points_at left true true in
-    let worth : Worth = record {
+    let worth : MatchWorth = record {
       home = pos home.least;
       away = pos away.least;
       surplus = both.least - (home.least + away.least);
@@ -85,7 +85,7 @@ left_surplus Ceiling cell left options are some is =
     let home = points_at left true false in
     let away = points_at left false true in
     let both = points_at left true true in
-    let worth : Worth = record {
+    let worth : MatchWorth = record {
       home = pos 0 -ℤ pos home.most;
       away = pos 0 -ℤ pos away.most;
       surplus = home.most + away.most - both.most;

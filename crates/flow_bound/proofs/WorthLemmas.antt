@@ -21,7 +21,7 @@ use Rattle.score_box.specs.Cells.{is_within, keeps_outcome, allows, IsCellOf, Is
 use Rattle.score_box.specs.Points.{IsPointsOf}
 use Rattle.flow_bound.specs.declared.cut.Cut.{Cut}
 use Rattle.flow_bound.specs.declared.cut.Cut.TheVariants.{Floor, Ceiling}
-use Rattle.flow_bound.specs.Fixtures.{Worth}
+use Rattle.flow_bound.specs.Fixtures.{MatchWorth}
 use Rattle.flow_bound.specs.Fixtures.{end_of, worth_of_sides, IsWorthOf}
 
 -- the scores of a cell, listed
@@ -141,7 +141,7 @@ no_side cut options home away no_home no_away =
     at Ceiling = refl
 
 -- what a fixture is worth to a floor cut
-floor_is : (cell : Cell) (home away both : MatchPoints) (worth : Worth)
+floor_is : (cell : Cell) (home away both : MatchPoints) (worth : MatchWorth)
     → IsPointsOf cell true false home → IsPointsOf cell false true away
     → IsPointsOf cell true true both → AddUp home away both → worth.home ≡ pos home.least
     → worth.away ≡ pos away.least → worth.surplus ≡ both.least - (home.least + away.least)
@@ -166,7 +166,7 @@ floor_is cell home away both worth at_home on_tour together adds home_is away_is
     value options is false false = no_side Floor options false false refl refl
 
 -- and to a ceiling cut
-ceiling_is : (cell : Cell) (home away both : MatchPoints) (worth : Worth)
+ceiling_is : (cell : Cell) (home away both : MatchPoints) (worth : MatchWorth)
     → IsPointsOf cell true false home → IsPointsOf cell false true away
     → IsPointsOf cell true true both → AddUp home away both
     → worth.home ≡ pos 0 -ℤ pos home.most → worth.away ≡ pos 0 -ℤ pos away.most
@@ -191,7 +191,7 @@ ceiling_is cell home away both worth at_home on_tour together adds home_is away_
     value options is false false = no_side Ceiling options false false refl refl
 
 -- the same where the kind of cut is known
-pub floor_worth : (cut : Cut) (cell : Cell) (home away both : MatchPoints) (worth : Worth)
+pub floor_worth : (cut : Cut) (cell : Cell) (home away both : MatchPoints) (worth : MatchWorth)
     → cut ≡ Floor → IsPointsOf cell true false home → IsPointsOf cell false true away
     → IsPointsOf cell true true both → ¬ IsEmptyCell cell → worth.home ≡ pos home.least
     → worth.away ≡ pos away.least → worth.surplus ≡ both.least - (home.least + away.least)
@@ -201,7 +201,7 @@ floor_worth cut cell home away both worth is at_home on_tour together some h a s
     subst (λ (kind : Cut). IsWorthOf kind cell worth) (sym is)
     (floor_is cell home away both worth at_home on_tour together adds h a s)
 
-pub ceiling_worth : (cut : Cut) (cell : Cell) (home away both : MatchPoints) (worth : Worth)
+pub ceiling_worth : (cut : Cut) (cell : Cell) (home away both : MatchPoints) (worth : MatchWorth)
     → cut ≡ Ceiling → IsPointsOf cell true false home → IsPointsOf cell false true away
     → IsPointsOf cell true true both → ¬ IsEmptyCell cell
     → worth.home ≡ pos 0 -ℤ pos home.most → worth.away ≡ pos 0 -ℤ pos away.most

@@ -43,19 +43,19 @@ beyond_over cut sheet season zone clubs =
 
 -- what a fixture adds where one of its clubs is in the set, and what it adds beyond that where both
 -- are; for a ceiling cut the points are counted with the sign turned
-pub record Worth : Type 0 where
+pub record MatchWorth : Type 0 where
   pub home : ℤ
   pub away : ℤ
   pub surplus : ℕ
 
 -- what the sides add that count: each alone, and both beyond that
-abbrev pub worth_of_sides : Worth → Bool → Bool → ℤ
+abbrev pub worth_of_sides : MatchWorth → Bool → Bool → ℤ
 worth_of_sides worth home away =
     (if home then worth.home else pos 0) +ℤ (if away then worth.away else pos 0)
     +ℤ pos (if home && away then worth.surplus else 0)
 
 -- what the options of a cell add
-pub record IsWorthOf (cut : Cut) (cell : Cell) (worth : Worth) : Type 0 where
+pub record IsWorthOf (cut : Cut) (cell : Cell) (worth : MatchWorth) : Type 0 where
   pub value : (options : List Score) → IsCellOf cell options → (home away : Bool)
       → end_of cut (range_of (points_of_sides home away) options) ≡ worth_of_sides worth home away
   pub home_least : neg_ℤ (pos 3) ≤ℤ worth.home

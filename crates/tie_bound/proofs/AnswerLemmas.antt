@@ -1,6 +1,8 @@
--- Tables of answers: a step at each club of a group in turn, and what the steps of the sure order say.
+-- Tables of answers: a step at each club of a group in turn, and what the steps of the sure order
+-- say.
 use Rattle.std.proofs.Common.{◌≡◌, ◌≢◌, ◌⊎◌, inl, inr, ℕ, ◌+◌, ◌<◌, ◌≤◌, ℤ, pos, neg_ℤ, ◌+ℤ◌, ◌-ℤ◌}
-use Rattle.std.proofs.Common.{Bool, true, false, nat_lt, ◌&&◌, ◌||◌, eqb, List, [], ◌∷◌, length, set, slice_index}
+use Rattle.std.proofs.Common.{Bool, true, false, nat_lt, ◌&&◌, ◌||◌, eqb, List, [], ◌∷◌, length}
+use Rattle.std.proofs.Common.{set, slice_index}
 use Rattle.std.proofs.Common.{refl, sym, ap, ◌∙◌, arith}
 use Rattle.std.specs.List.{list_all}
 use Rattle.std.proofs.lemmas.Bool.{false≢true, cases_eq, eq-eqb, or_cases, or_left, or_right}

@@ -75,8 +75,10 @@ at_least_more line few many more is =
 
 pub refutes_more : (box : Setting) (question : Question)
     (above below above_too below_too : ℕ → Bool)
-    → ((x : ℕ) → has_club (rivals_of box.sheet question.club) x ≡ true → above x ≡ true → above_too x ≡ true)
-    → ((x : ℕ) → has_club (rivals_of box.sheet question.club) x ≡ true → below x ≡ true → below_too x ≡ true)
+    → ((x : ℕ) → has_club (rivals_of box.sheet question.club) x ≡ true → above x ≡ true →
+    above_too x ≡ true)
+    → ((x : ℕ) → has_club (rivals_of box.sheet question.club) x ≡ true → below x ≡ true →
+    below_too x ≡ true)
     → refutes_with box question above below ≡ true
     → refutes_with box question above_too below_too ≡ true
 refutes_more box question above below above_too below_too more_above more_below =
@@ -206,13 +208,15 @@ open_by_points box question above below most_above most_below above_is below_is 
     (is_surely_below box.sheet box.season question box.zone) most_above most_below
     (λ x within is.
     most_above_is x
-    ∙ and_from (nat_lt x (length box.sheet.clubs)) (not (below x)) (lt-ltb x _ (rival_below box.sheet question.club x within))
+    ∙ and_from (nat_lt x (length box.sheet.clubs)) (not (below x))
+    (lt-ltb x _ (rival_below box.sheet question.club x within))
     (ap not (below_is x ∙ ap (λ b. nat_lt x (length box.sheet.clubs) && b) (not_below
     (sure_by_points box.sheet box.season (options_in_box box) x question.club) _ is)
     ∙ and_false (nat_lt x (length box.sheet.clubs)))))
     (λ x within is.
     most_below_is x
-    ∙ and_from (nat_lt x (length box.sheet.clubs)) (not (above x)) (lt-ltb x _ (rival_below box.sheet question.club x within))
+    ∙ and_from (nat_lt x (length box.sheet.clubs)) (not (above x))
+    (lt-ltb x _ (rival_below box.sheet question.club x within))
     (ap not (above_is x ∙ ap (λ b. nat_lt x (length box.sheet.clubs) && b) (not_above
     (sure_by_points box.sheet box.season (options_in_box box) x question.club) _ is)
     ∙ and_false (nat_lt x (length box.sheet.clubs)))))

@@ -113,7 +113,8 @@ judged_first sheet options club times group answers level all = record {
 -- a last step after the records
 judged_last : (task : Judging) (times : ℕ) (group : List ℕ) (answers taken last : List Sure)
     (next : ℕ → Sure) → IsJudged task times group answers
-    → StepDecides (length task.sheet.clubs) (λ rival. by_record_ranges task.sheet task.options group rival task.club) answers taken
+    → StepDecides (length task.sheet.clubs)
+    (λ rival. by_record_ranges task.sheet task.options group rival task.club) answers taken
     → StepDecides (length task.sheet.clubs) next taken last
     → ((rival : ℕ) → sure_within times task.sheet task.options group rival task.club
     ≡ sure_then (by_record_ranges task.sheet task.options group rival task.club) (next rival))
@@ -129,7 +130,8 @@ judged_last task times group answers taken last next judged takes lasts round ri
 -- where it is not sure who shares the record, nothing more is
 pub judged_open : (task : Judging) (times : ℕ) (group : List ℕ) (answers taken last : List Sure)
     → IsJudged task (suc times) group answers
-    → StepDecides (length task.sheet.clubs) (λ rival. by_record_ranges task.sheet task.options group rival task.club) answers taken
+    → StepDecides (length task.sheet.clubs)
+    (λ rival. by_record_ranges task.sheet task.options group rival task.club) answers taken
     → StepDecides (length task.sheet.clubs) (λ rival. Unknown) taken last
     → are_all_sure task.sheet task.options group task.club ≡ false → AreWanted task last
 judged_open task times group answers taken last judged takes lasts not_sure =
@@ -139,8 +141,10 @@ judged_open task times group answers taken last judged takes lasts not_sure =
 -- where the whole group shares it, the sums over all matches decide
 pub judged_whole : (task : Judging) (times : ℕ) (group level : List ℕ)
     (answers taken last : List Sure) → IsJudged task (suc times) group answers
-    → StepDecides (length task.sheet.clubs) (λ rival. by_record_ranges task.sheet task.options group rival task.club) answers taken
-    → StepDecides (length task.sheet.clubs) (λ rival. by_overall_ranges task.sheet task.options rival task.club) taken last
+    → StepDecides (length task.sheet.clubs)
+    (λ rival. by_record_ranges task.sheet task.options group rival task.club) answers taken
+    → StepDecides (length task.sheet.clubs)
+    (λ rival. by_overall_ranges task.sheet task.options rival task.club) taken last
     → are_all_sure task.sheet task.options group task.club ≡ true
     → level ≡ filter (is_surely_in task.sheet task.options group task.club) group
     → length level ≡ length group → AreWanted task last
@@ -153,7 +157,8 @@ judged_whole task times group level answers taken last judged takes lasts sure i
 -- else the round is made again
 pub judged_deeper : (task : Judging) (times : ℕ) (group level : List ℕ)
     (answers taken : List Sure) → IsJudged task (suc times) group answers
-    → StepDecides (length task.sheet.clubs) (λ rival. by_record_ranges task.sheet task.options group rival task.club) answers taken
+    → StepDecides (length task.sheet.clubs)
+    (λ rival. by_record_ranges task.sheet task.options group rival task.club) answers taken
     → are_all_sure task.sheet task.options group task.club ≡ true
     → level ≡ filter (is_surely_in task.sheet task.options group task.club) group
     → (length level ≢ length group) → AreLevelIn (length task.sheet.clubs) taken level

@@ -1,6 +1,6 @@
-//! What is sure of clubs against one club, by points first, then in a walk over the matches that are
-//! not played for each group in which the head-to-head record is taken. The groups depend on the one
-//! club alone, so all its rivals are judged together.
+//! What is sure of clubs against one club, by points first, then in a walk over the matches that
+//! are not played for each group in which the head-to-head record is taken. The groups depend on
+//! the one club alone, so all its rivals are judged together.
 
 ghost use Rattle.std.specs.Prelude.{◌≡◌, ◌<◌, ◌≤◌, ℕ, true, IsTrue, length};
 ghost use Rattle.league_core.specs.declared.sheet.Order.TheVariants.{OverallFirst};

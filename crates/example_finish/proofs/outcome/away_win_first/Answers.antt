@@ -1,5 +1,6 @@
 use Rattle.std.proofs.Common.{true, false, sym, ◌∙◌}
-use Rattle.example_finish.proofs.FirstOutcomeLemmas.{away_first-away_win, away_first-draw, home_win_alone}
+use Rattle.example_finish.proofs.FirstOutcomeLemmas.{away_first-away_win, away_first-draw}
+use Rattle.example_finish.proofs.FirstOutcomeLemmas.{home_win_alone}
 use Rattle.example_finish.proofs.outcome.away_win_first.Goals as goal
 
 pub returns-then-left : goal.returns-then-left

@@ -1,5 +1,6 @@
 use Rattle.std.proofs.Common.{false, sym, ◌∙◌}
-use Rattle.example_finish.proofs.FirstOutcomeLemmas.{draw_first-draw, home_win_alone, away_win_alone}
+use Rattle.example_finish.proofs.FirstOutcomeLemmas.{draw_first-draw, home_win_alone}
+use Rattle.example_finish.proofs.FirstOutcomeLemmas.{away_win_alone}
 use Rattle.example_finish.proofs.outcome.draw_or_win.Goals as goal
 
 pub returns-in-true-default-default : goal.returns-in-true-default-default

@@ -1,5 +1,6 @@
 use Rattle.std.proofs.Common.{true, false, sym, ◌∙◌}
-use Rattle.example_finish.proofs.FirstOutcomeLemmas.{home_first-home_win, home_first-draw, away_win_alone}
+use Rattle.example_finish.proofs.FirstOutcomeLemmas.{home_first-home_win, home_first-draw}
+use Rattle.example_finish.proofs.FirstOutcomeLemmas.{away_win_alone}
 use Rattle.example_finish.proofs.outcome.home_win_first.Goals as goal
 
 pub returns-then-left : goal.returns-then-left

@@ -1,5 +1,6 @@
 use Rattle.std.proofs.Common.{true, sym, ◌∙◌}
-use Rattle.example_finish.proofs.FirstOutcomeLemmas.{win_first-home_win, win_first-away_win, draw_alone}
+use Rattle.example_finish.proofs.FirstOutcomeLemmas.{win_first-home_win, win_first-away_win}
+use Rattle.example_finish.proofs.FirstOutcomeLemmas.{draw_alone}
 use Rattle.example_finish.proofs.outcome.win_or_draw.Goals as goal
 
 pub returns-in-true-false : goal.returns-in-true-false

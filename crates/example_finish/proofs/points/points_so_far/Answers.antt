@@ -31,7 +31,8 @@ loop-club-preserved c =
     let is = c.points_so_far.ensures in
     let kept : value ≡ found =
     to_z-of_z w32 found (omega (arith, ints, is, few.low, few.high)) in
-    let within : club < length points = omega (arith, before.long, c.sheet.ensures.limits.most_clubs)
+    let within : club < length points = omega
+    (arith, before.long, c.sheet.ensures.limits.most_clubs)
     in
     record {
       long = length-set points club value ∙ before.long;

@@ -12,7 +12,8 @@ use Rattle.tie_bound.proofs.AnswerLemmas.{by_table-read, next_is}
 use Rattle.tie_bound.proofs.answers.take_parts.Goals as goal
 
 pub loop-step-init : goal.loop-step-init
-loop-step-init c = step_begins (by_table c.args.parts c.args.table.now c.args.club) c.args.group c.args.answers.now
+loop-step-init c = step_begins (by_table c.args.parts c.args.table.now c.args.club) c.args.group
+    c.args.answers.now
 
 pub first_club-rival-requires : goal.first_club-rival-requires
 first_club-rival-requires c = λ none.
@@ -24,13 +25,15 @@ single-requires c = member_low c.loop-step.left c.first_club-rival.result
 
 pub returns-then-is_empty : goal.returns-then-is_empty
 returns-then-is_empty c =
-    step_ends (by_table c.args.parts c.args.table.now c.args.club) c.args.group c.loop-step.left c.loop-step._step c.args.answers.now
+    step_ends (by_table c.args.parts c.args.table.now c.args.club) c.args.group c.loop-step.left
+    c.loop-step._step c.args.answers.now
     c.loop-step.answers c.loop-step.invariant
     (λ club. empty_left c.loop-step.left club (c.is_empty.ensures.0 c.if-is_empty.true))
 
 pub returns : goal.returns
 returns c =
-    step_ends (by_table c.args.parts c.args.table.now c.args.club) c.args.group c.loop-step.left c.loop-step._step c.args.answers.now
+    step_ends (by_table c.args.parts c.args.table.now c.args.club) c.args.group c.loop-step.left
+    c.loop-step._step c.args.answers.now
     c.loop-step.answers c.loop-step.invariant
     (λ club. none_left c.args.group c.loop-step.left c.loop-step._step club
     c.loop-step.invariant.left_is (omega (arith, c.loop-step-test.false)))
@@ -61,12 +64,14 @@ loop-step-preserved c =
 
 pub slice_copy_out-then_parts : goal.slice_copy_out-then_parts
 slice_copy_out-then_parts c =
-    left_has_answer (by_table c.args.parts c.args.table.now c.args.club) c.args.group c.loop-step.left
+    left_has_answer (by_table c.args.parts c.args.table.now c.args.club) c.args.group
+    c.loop-step.left
     c.first_club-rival.result c.loop-step._step c.args.answers.now c.loop-step.answers
     c.loop-step.invariant c.requires c.first_club-rival.ensures.member
 
 pub bounds-answers-rival : goal.bounds-answers-rival
 bounds-answers-rival c =
-    left_has_answer (by_table c.args.parts c.args.table.now c.args.club) c.args.group c.loop-step.left
+    left_has_answer (by_table c.args.parts c.args.table.now c.args.club) c.args.group
+    c.loop-step.left
     c.first_club-rival.result c.loop-step._step c.args.answers.now c.loop-step.answers
     c.loop-step.invariant c.requires c.first_club-rival.ensures.member

@@ -14,7 +14,8 @@ use Rattle.tie_criteria.proofs.MemberLemmas.{empty_left}
 use Rattle.tie_bound.proofs.AnswerLemmas.{others_decided, others_stay, step_decides}
 use Rattle.tie_bound.proofs.AnswerLemmas.{level_have_answers, have_answers_still}
 use Rattle.tie_bound.proofs.RoundLemmas.{IsJudged, task_in, judged_first, judged_open, judged_whole}
-use Rattle.tie_bound.proofs.RoundLemmas.{judged_deeper, judged_all, judged_apart, level_is, one_less}
+use Rattle.tie_bound.proofs.RoundLemmas.{judged_deeper, judged_all, judged_apart, level_is}
+use Rattle.tie_bound.proofs.RoundLemmas.{one_less}
 use Rattle.tie_bound.proofs.TakenLemmas.{taken_records, taken_overall, all_sure-records}
 use Rattle.tie_bound.proofs.rounds.take_rounds.Goals as goal
 

@@ -34,6 +34,7 @@ returns c =
     (outcome_in_finish wishes sheet season zone inside.question fixture
     (record { home = 0; away = 0 }) c.first_outcome.result of_sheet
     c.self.invariant.has_finish within c.self.invariant.wishes_are
-    (λ score is. c.first_outcome.ensures options score c.cell.ensures c.outcomes_left-left.ensures.among
+    (λ score is. c.first_outcome.ensures options score c.cell.ensures
+    c.outcomes_left-left.ensures.among
     (ap₂ (λ (x y : Bool). first_option x y options) c.has-home.ensures c.has-away.ensures
     ∙ ap (λ (match : Fixture). option_at wishes sheet season zone fixture match) sides ∙ is)))
