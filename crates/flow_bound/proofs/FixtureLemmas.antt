@@ -264,7 +264,8 @@ beyond_over-is cut sheet season zone clubs many finish =
     omega (arith, ints, split)
 
 -- the surplus of a match in which both clubs count
-pub surplus_is : (cut : Cut) (cell : Cell) (options : List Score) (worth : MatchWorth) (set : ClubSet)
+pub surplus_is : (cut : Cut) (cell : Cell) (options : List Score) (worth : MatchWorth)
+    (set : ClubSet)
     (match : Fixture) → match.home ≢ match.away → IsWorthOf cut cell worth
     → IsCellOf cell options
     → beyond_in cut (clubs_in set) match options
