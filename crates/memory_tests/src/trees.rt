@@ -1,7 +1,8 @@
 //! Calls on a tree while memory is wanting.
 
-ghost use Rattle.std.specs.Prelude.{◌≡◌, All, IsTrue, IfOk, length};
+ghost use Rattle.std.specs.Prelude.{◌≡◌, true, All, IsTrue, IfOk, length};
 ghost use Rattle.league_core.specs.declared.sheet.Sheet.{Sheet};
+ghost use Rattle.league_core.specs.Trees.{open_leaf, branch};
 ghost use Rattle.league_core.specs.Zones.{is_test_of};
 ghost use Rattle.tree_reuse.specs.Calls.{IsNodeOf, AreTestsOf};
 
@@ -45,6 +46,24 @@ fn leaves_left() -> [TreeNode; 3] {
     ]
 }
 
+const MATCH_WON: Test = Test::Home { fixture: 0 };
+
+/// A new split of which both halves are open.
+#[tactic(auto, using(crate::proofs::HalfLemmas::one_lent))]
+fn two_halves(alloc: Global) -> Result<Tree, OutOfMemory>
+    ensures { IfOk result (λ tree. tree ≡ branch MATCH_WON true open_leaf open_leaf) }
+{
+    let mut tree = Tree::root(alloc)?;
+    let lent = tree.lend(1)?;
+    match lent {
+        Some(_) => {
+            tree.split(1, MATCH_WON);
+            Ok(tree)
+        }
+        None => unreachable!(),
+    }
+}
+
 #[test]
 fn lend_leaves_an_open_leaf(rt: HostRuntime) -> Result<(), Fail> {
     let mut tree = Tree::root(rt.alloc())?;
@@ -56,6 +75,24 @@ fn lend_leaves_an_open_leaf(rt: HostRuntime) -> Result<(), Fail> {
         TreeNode::Open
     };
     assert!(rt; nodes.as_slice() == [node].as_slice());
+    Ok(())
+}
+
+/// The way to the leaf wants memory after the leaf was marked.
+#[test]
+fn lend_leaves_open_halves(rt: HostRuntime) -> Result<(), Fail> {
+    let mut tree = two_halves(rt.alloc())?;
+    let is_lent = tree.lend(1).is_ok();
+    let nodes = tree.nodes()?;
+    let test = MATCH_WON;
+    let fresh = true;
+    let half = if is_lent {
+        TreeNode::Lent(1)
+    } else {
+        TreeNode::Open
+    };
+    let wanted = [TreeNode::Split { test, fresh }, half, TreeNode::Open];
+    assert!(rt; nodes.as_slice() == wanted.as_slice());
     Ok(())
 }
 

@@ -5,7 +5,8 @@ ghost use Rattle.league_core.specs.Trees.{node_count};
 ghost use Rattle.league_core.specs.Lending.{times_lent, lent_count};
 ghost use Rattle.tree_tests.specs.LentNodes.{is_lent_node};
 
-use league_core::{OutOfMemory, TreeNode};
+use league_core::{OutOfMemory, TreeNode, Zone};
+use std::test::Fail;
 use tree_reuse::{MOST_NODES, Tree};
 
 fn is_lent(node: &TreeNode, number: u64) -> bool
@@ -38,4 +39,12 @@ pub fn may_lend(tree: &Tree) -> bool
     ensures { IsTrue result → node_count tree.now + lent_count tree.now ≤ MOST_NODES }
 {
     tree.node_count() < 1_000_000
+}
+
+/// Lends a leaf under a number that is not lent, and answers its zone.
+pub fn lend_next(tree: &mut Tree, number: u64) -> Result<Option<Zone>, Fail> {
+    if !may_lend(tree) || times_lent(tree, number)? != 0 {
+        return Err("the number is lent, or the tree is full".into());
+    }
+    Ok(tree.lend(number)?)
 }

@@ -1,6 +1,6 @@
 //! Both bodies of a tree, driven by one drawn list of calls.
 
-use crate::counts::{may_lend, times_lent};
+use crate::counts::{lend_next, times_lent};
 use boxed_trees::{BoxedTree, Given};
 use league_core::{ClubSet, Reason, Test, Zone};
 use sample_leagues::Draws;
@@ -33,7 +33,7 @@ fn same(is_same: bool, what: &'static str) -> Result<(), Fail> {
 
 /// The arena lends a leaf of its choice, and the boxes lend the same one.
 fn lend(pair: &mut Pair, number: u64) -> Result<(), Fail> {
-    match arena_lends(&mut pair.arena, number)? {
+    match lend_next(&mut pair.arena, number)? {
         Some(zone) => {
             let is_open = pair.boxed.lend(zone.literals.as_slice(), number);
             pair.lent.push(number)?;
@@ -41,13 +41,6 @@ fn lend(pair: &mut Pair, number: u64) -> Result<(), Fail> {
         }
         None => same(!pair.boxed.has_open(), "no leaf was lent, and one is open"),
     }
-}
-
-fn arena_lends(arena: &mut Tree, number: u64) -> Result<Option<Zone>, Fail> {
-    if !may_lend(arena) || times_lent(arena, number)? != 0 {
-        return Err("the number is lent, or the tree is full".into());
-    }
-    Ok(arena.lend(number)?)
 }
 
 /// The leaf of a number comes back to both.

@@ -2,7 +2,7 @@
 
 ghost use Rattle.std.specs.Prelude.{◌≡◌, ◌≤◌, IfOk, length};
 
-use crate::counts::{may_lend, times_lent};
+use crate::counts::{lend_next, times_lent};
 use league_core::{Literal, OutOfMemory, Test, TreeNode, Zone};
 use std::alloc::Global;
 use std::test::Fail;
@@ -130,7 +130,7 @@ fn are_leaves_of_chain(leaves: &[Zone], splits: usize) -> bool {
 }
 
 /// The tree of a list that is one.
-fn tree_or_fail(nodes: Vec<TreeNode>) -> Result<Tree, Fail> {
+pub fn tree_or_fail(nodes: Vec<TreeNode>) -> Result<Tree, Fail> {
     Ok(tree_of(nodes).map_err(|_| "no tree")?)
 }
 
@@ -147,10 +147,7 @@ fn a_chain_of_2_001_nodes_has_its_leaves(rt: HostRuntime) -> Result<(), Fail> {
 
 /// How many literals the zone has that is lent under the number; none where nothing is open.
 fn lent_depth(tree: &mut Tree, number: u64) -> Result<Option<usize>, Fail> {
-    if !may_lend(tree) || times_lent(tree, number)? != 0 {
-        return Err("not to be lent".into());
-    }
-    Ok(tree.lend(number)?.map(|zone| zone.literals.len()))
+    Ok(lend_next(tree, number)?.map(|zone| zone.literals.len()))
 }
 
 fn split_lent(tree: &mut Tree, number: u64) -> Result<(), Fail> {

@@ -1,0 +1,105 @@
+//! Trees that are carried over a result.
+
+ghost use Rattle.std.specs.Prelude.{◌≡◌, All, IsTrue, IfOk, length};
+ghost use Rattle.league_core.specs.declared.sheet.Sheet.{Sheet};
+ghost use Rattle.tree_reuse.specs.Calls.{IsNodeOf, AreTestsOf};
+
+use crate::rows::tree_or_fail;
+use league_core::{Claim, OutOfMemory, Question, Sheet, Test, TreeNode};
+use sample_leagues::sample_of;
+use std::alloc::Global;
+use std::test::Fail;
+use tree_reuse::{Tree, retarget};
+
+/// Two clubs that meet twice, with a goal limit of 5. A won the first match by more than that.
+const WON_12_0: &[u8] = b"league,Tiny,5\nclub,A,1\nclub,B,2\nmatch,A,B\nmatch,B,A\nline,1
+season\nresult,1,12,0\n";
+
+/// The same, and A won by two goals.
+const WON_2_0: &[u8] = b"league,Tiny,5\nclub,A,1\nclub,B,2\nmatch,A,B\nmatch,B,A\nline,1
+season\nresult,1,2,0\n";
+
+const A_FIRST: Question = Question {
+    club: 0,
+    line: 1,
+    claim: Claim::Inside,
+    low: -99,
+    high: 1800,
+};
+
+fn is_node_of(node: &TreeNode, fixtures: usize) -> bool
+    ensures { (sheet : Sheet) → length sheet.fixtures ≡ fixtures → IsTrue result
+        → IsNodeOf sheet node.now }
+{
+    match node {
+        TreeNode::Open | TreeNode::Lent(_) | TreeNode::Refuted { .. } => true,
+        TreeNode::Split { test, .. } => match test {
+            Test::HomeMost { fixture, .. } | Test::AwayMost { fixture, .. } => {
+                (*fixture as usize) < fixtures
+            }
+            Test::Home { .. } | Test::Draw { .. } | Test::Rival { .. } => false,
+        },
+    }
+}
+
+fn are_nodes_of(sheet: &Sheet, nodes: &[TreeNode]) -> bool
+    ensures { IsTrue result → All (IsNodeOf sheet.now) nodes.now }
+{
+    let fixtures = sheet.fixtures.len();
+    nodes.iter().all(|node| is_node_of(node, fixtures))
+}
+
+fn are_tests_of(sheet: &Sheet, tree: &Tree) -> Result<bool, OutOfMemory>
+    ensures { IfOk result (λ are. IsTrue are → AreTestsOf sheet.now tree.now) }
+{
+    let nodes = tree.nodes()?;
+    Ok(are_nodes_of(sheet, nodes.as_slice()))
+}
+
+/// What the season of a text leaves of a tree that is split by the goals of its matches alone.
+fn carried(alloc: Global, text: &[u8], tree: &Tree) -> Result<Tree, Fail> {
+    let sample = sample_of(alloc, text).ok_or("no league")?;
+    if !are_tests_of(&sample.sheet, tree)? || sample.sheet.clubs.is_empty() {
+        return Err("a tree of another sheet".into());
+    }
+    Ok(retarget(alloc, &sample.sheet, &A_FIRST, tree, &sample.season)?)
+}
+
+/// What the win by twelve goals leaves of the tree of a list.
+pub fn carried_over_12_0(alloc: Global, nodes: Vec<TreeNode>) -> Result<Tree, Fail> {
+    carried(alloc, WON_12_0, &tree_or_fail(nodes)?)
+}
+
+/// At most so many goals of B in the second match, both halves open.
+fn goals_of_b(alloc: Global, most: u8, fresh: bool) -> Result<Vec<TreeNode>, OutOfMemory> {
+    let test = Test::HomeMost { fixture: 1, most };
+    Ok(vec![in alloc;
+        TreeNode::Split { test, fresh },
+        TreeNode::Open,
+        TreeNode::Open,
+    ]?)
+}
+
+/// At most two goals of A in the first match; below them at most 3 and at most 4 of B in the second.
+fn goals_of_both(alloc: Global) -> Result<Tree, Fail> {
+    let fresh = true;
+    let test = Test::HomeMost {
+        fixture: 0,
+        most: 2,
+    };
+    let mut nodes = vec![in alloc; TreeNode::Split { test, fresh }]?;
+    nodes.extend_from_slice(goals_of_b(alloc, 3, fresh)?.as_slice())?;
+    nodes.extend_from_slice(goals_of_b(alloc, 4, fresh)?.as_slice())?;
+    tree_or_fail(nodes)
+}
+
+#[test]
+fn a_split_of_a_played_match_becomes_the_half_of_its_score(rt: HostRuntime) -> Result<(), Fail> {
+    let alloc = rt.alloc();
+    let tree = goals_of_both(alloc)?;
+    let more = carried(alloc, WON_12_0, &tree)?.nodes()?;
+    assert!(rt; more.as_slice() == goals_of_b(alloc, 4, false)?.as_slice());
+    let fewer = carried(alloc, WON_2_0, &tree)?.nodes()?;
+    assert!(rt; fewer.as_slice() == goals_of_b(alloc, 3, false)?.as_slice());
+    Ok(())
+}
