@@ -1,6 +1,7 @@
 //! Which question comes next.
 
-ghost use Rattle.std.specs.Prelude.{◌≡◌, ◌<◌, ◌≤◌, ◌+◌, IfNone, IfSome, drop, false, length, position};
+ghost use Rattle.std.specs.Prelude.{◌≡◌, ◌<◌, ◌≤◌, ◌+◌, IfNone, IfSome, drop, false, length};
+ghost use Rattle.std.specs.Prelude.{position};
 ghost use Rattle.branch_pool.specs.States.{has_work, is_workable};
 ghost use Rattle.branch_pool.specs.Calls.{is_untouched, next_place};
 

@@ -52,9 +52,11 @@ invariant_of-self c =
     } in
     let within = (out_is_good pool ticket c.self.invariant own.out).1 in
     kept_sound pool ticket (done_of ticket.piece c.args.finding) _ c.self.invariant given
-    (kept_after pool ticket (done_of ticket.piece c.args.finding) c.index_mut-seat.result.now _ _ own epoch
+    (kept_after pool ticket (done_of ticket.piece c.args.finding) c.index_mut-seat.result.now _ _
+    own epoch
     (found_at pool.seats ticket.place c.index_mut-seat.result.now within
-    c.index_mut-seat.ensures.value) (c.give_found-left.ensures.seat ticket.piece) c.replace-home.ensures.items)
+    c.index_mut-seat.ensures.value) (c.give_found-left.ensures.seat ticket.piece)
+    c.replace-home.ensures.items)
 
 pub returns-clause-keeps : goal.returns-clause-keeps
 returns-clause-keeps c =
@@ -64,10 +66,11 @@ returns-clause-keeps c =
     let epoch = subst (λ (p : PoolState). ticket.epoch ≡ present_epoch p) (sym c.self.view_is)
     c.requires.epoch in
     let within = (out_is_good pool ticket c.self.invariant own.out).1 in
-    rw (← c.self.view_is) (kept_after pool ticket (done_of ticket.piece c.args.finding) c.index_mut-seat.result.now _ _ own
-    epoch
+    rw (← c.self.view_is) (kept_after pool ticket (done_of ticket.piece c.args.finding)
+    c.index_mut-seat.result.now _ _ own epoch
     (found_at pool.seats ticket.place c.index_mut-seat.result.now within
-    c.index_mut-seat.ensures.value) (c.give_found-left.ensures.seat ticket.piece) c.replace-home.ensures.items)
+    c.index_mut-seat.ensures.value) (c.give_found-left.ensures.seat ticket.piece)
+    c.replace-home.ensures.items)
 
 pub returns-clause-example : goal.returns-clause-example
 returns-clause-example c =
