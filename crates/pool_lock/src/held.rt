@@ -147,9 +147,8 @@ impl<J: Job> Held<J> {
         (gave, left)
     }
 
-    // Gives back to the pool what was found at a ticket's piece, takes from it, and shows the
-    // worker all that the pool has been told. What is left of the ticket is handed out, so that it
-    // is let go behind the lock, but for its season, which the next ticket carries.
+    // Gives back what was found at a ticket's piece, takes from the pool, and shows the worker all
+    // that the pool has been told. What is left of the ticket is handed out, but for its season.
     pub fn swap(
         &mut self,
         word: &EpochWord,

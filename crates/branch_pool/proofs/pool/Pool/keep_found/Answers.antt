@@ -67,8 +67,7 @@ returns-clause-keeps c =
     c.requires.epoch in
     let within = (out_is_good pool ticket c.self.invariant own.out).1 in
     rw (← c.self.view_is) (kept_after pool ticket (done_of ticket.piece c.args.finding)
-    c.index_mut-seat.result.now _ _ own
-    epoch
+    c.index_mut-seat.result.now _ _ own epoch
     (found_at pool.seats ticket.place c.index_mut-seat.result.now within
     c.index_mut-seat.ensures.value) (c.give_found-left.ensures.seat ticket.piece)
     c.replace-home.ensures.items)
