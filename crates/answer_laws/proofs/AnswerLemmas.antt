@@ -1,36 +1,27 @@
 -- Each row of an answer has an item, and so each season has an answer.
-use Rattle.std.proofs.Common.{◌≡◌, ◌≢◌, ◌⊎◌, inl, inr, ℕ, ◌+◌, ◌<◌, ◌≤◌, Bool, true, false, List}
-use Rattle.std.proofs.Common.{[], ◌∷◌, ◌++◌, length, map, refl, ap, arith}
-use Rattle.std.proofs.Common.{zero, suc, nat_lt, nat_le}
+use Rattle.std.proofs.Common.{◌≡◌, ◌≢◌, ◌⊎◌, inl, inr, Bool, true, false, List, [], ◌∷◌, ◌++◌}
+use Rattle.std.proofs.Common.{map, refl, ap}
 use Rattle.std.specs.Prelude.{All}
-use Rattle.std.specs.List.{list_all, flat_map, range_with_len}
-use Rattle.std.proofs.lemmas.Bool.{and_parts, ltb-true, leb-true}
-use Rattle.std.proofs.lemmas.List.Elements.{All-nil, All-cons, All-head, All-tail, All-append}
+use Rattle.std.proofs.lemmas.List.Elements.{All-nil, All-cons, All-head, All-tail}
 use Rattle.league_core.specs.declared.sheet.Sheet.{Sheet}
-use Rattle.league_core.specs.declared.question.Claim.{Claim}
 use Rattle.league_core.specs.declared.question.Claim.TheVariants.{Inside, Outside}
 use Rattle.league_core.specs.declared.question.Question.{Question}
 use Rattle.league_core.specs.Results.{Results, are_results}
-use Rattle.league_core.specs.Sheets.{is_line}
 use Rattle.league_core.specs.Seasons.{IsLeague}
-use Rattle.league_core.specs.Questions.{full_question, IsQuestionOf}
+use Rattle.league_core.specs.Questions.{full_question}
 use Rattle.league_core.specs.Verdicts.{HasExample}
 use Rattle.cert_text.specs.declared.proof_line.ProofLine.{ProofLine}
 use Rattle.cert_text.specs.TreeLines.{plain_lines, with_tree_head}
 use Rattle.cert_text.specs.ExampleLines.{example_lines}
 use Rattle.verdict_run.specs.declared.word.Word.{Word}
 use Rattle.verdict_run.specs.declared.word.Word.TheVariants.{Clinched, Lost, Possible, Unsettled}
-use Rattle.verdict_run.specs.Items.{AnswerRow, IsItemShown, answer_rows, answer_rows_of}
-use Rattle.verdict_run.specs.Items.{lines_shown}
+use Rattle.verdict_run.specs.Items.{AnswerRow, IsItemShown, answer_rows, lines_shown}
 use Rattle.verdict_run.proofs.ShownLemmas.{refutation_is_true}
 use Rattle.verdict_run.proofs.VerdictLemmas.{item_without}
-use Rattle.answer_laws.specs.Completeness.{HasRefutation}
+use Rattle.verdict_run.proofs.RowLemmas.{IsRowOf, rows_asked}
+use Rattle.question_laws.specs.Completeness.{HasRefutation}
+use Rattle.question_laws.proofs.DecidedLemmas.{question_decided}
 use Rattle.answer_laws.specs.SeasonAnswers.{AnswerItem, IsKnownItem, AreItemsOf}
-use Rattle.answer_laws.proofs.DecidedLemmas.{question_decided}
-
--- what a row is about, and its two questions are of the sheet
-abbrev pub IsRowOf : Sheet → AnswerRow → Type 0
-IsRowOf sheet row = (claim : Claim) → IsQuestionOf sheet (full_question row.club row.line claim)
 
 -- an item about this row
 pub record HasItem (proofs : Bool) (sheet : Sheet) (season : Results) (row : AnswerRow)
@@ -105,40 +96,6 @@ item_of false sheet season row league results asked =
 
 -- ---- all rows
 
--- a line of the sheet and one of its clubs make a row of it
-row_asked : (sheet : Sheet) (line club : ℕ) → club < length sheet.clubs
-    → is_line (length sheet.clubs) line ≡ true
-    → IsRowOf sheet (record { line = line; club = club })
-row_asked sheet line club within may claim =
-    let parts = and_parts (nat_le 1 line) (nat_lt line (length sheet.clubs)) may in
-    record {
-      club = within;
-      least_line = leb-true 1 line parts.0;
-      most_line = ltb-true line (length sheet.clubs) parts.1;
-    }
-
-clubs_asked : (sheet : Sheet) (line from count : ℕ) → from + count ≤ length sheet.clubs
-    → is_line (length sheet.clubs) line ≡ true
-    → All (IsRowOf sheet) (map (λ club. record { line = line; club = club })
-    (range_with_len from count))
-clubs_asked sheet line from zero few may = All-nil (IsRowOf sheet)
-clubs_asked sheet line from (suc count) few may =
-    All-cons (IsRowOf sheet) (record { line = line; club = from })
-    (map (λ club. record { line = line; club = club }) (range_with_len (from + 1) count))
-    (row_asked sheet line from (omega (arith, few)) may)
-    (clubs_asked sheet line (from + 1) count (omega (arith, few)) may)
-
-pub lines_asked : (sheet : Sheet) (lines : List ℕ)
-    → list_all (is_line (length sheet.clubs)) lines ≡ true
-    → All (IsRowOf sheet) (flat_map (answer_rows_of (length sheet.clubs)) lines)
-lines_asked sheet [] may = All-nil (IsRowOf sheet)
-lines_asked sheet (line ∷ lines) may =
-    let clubs = length sheet.clubs in
-    let parts = and_parts (is_line clubs line) (list_all (is_line clubs) lines) may in
-    All-append (IsRowOf sheet) (answer_rows_of clubs line)
-    (flat_map (answer_rows_of clubs) lines)
-    (clubs_asked sheet line 0 clubs (omega arith) parts.0) (lines_asked sheet lines parts.1)
-
 -- items for some rows
 pub record HasItems (proofs : Bool) (sheet : Sheet) (season : Results) (rows : List AnswerRow)
     : Type 0 where
@@ -169,5 +126,5 @@ pub season_answered : (proofs : Bool) (sheet : Sheet) (season : Results) → IsL
     → (items : List AnswerItem) × AreItemsOf proofs sheet season items
 season_answered proofs sheet season league results =
     let found = items_of proofs sheet season (answer_rows sheet) league results
-    (lines_asked sheet sheet.lines league.limits.lines) in
+    (rows_asked sheet league.limits) in
     (found.items, record { rows = found.about; each = found.each })

@@ -1,7 +1,3 @@
--- Splits that are due, questions that are decided, answers, qualification scores, and tables.
-pub mod DueLemmas
-pub mod DecidedLemmas
+-- Answers, and tables.
 pub mod AnswerLemmas
-pub mod ScoreLemmas
-pub mod SeasonScoreLemmas
 pub mod TableLemmas

@@ -1,6 +1,3 @@
--- Reading order: what is known of each question, then of each season, of qualification scores, and
--- of tables.
-pub mod Completeness
+-- Reading order: what is known of each season, and of tables.
 pub mod SeasonAnswers
-pub mod ScoreLaws
 pub mod TableLaws

@@ -1,4 +1,3 @@
 pub mod AnswerLemmas
 pub mod TableLemmas
-pub mod OutputLemmas
 pub mod VerdictLemmas

@@ -20,8 +20,8 @@ use Rattle.final_rank.specs.Spans.{span_of, spans_of}
 use Rattle.final_rank.proofs.PlaceLemmas.{best_is, worst_is}
 use Rattle.final_rank.proofs.TierLemmas.{below_clubs}
 use Rattle.ask_answers.specs.declared.table_row.TableRow.{TableRow}
-use Rattle.ask_answers.specs.Rows.{ask_row}
-use Rattle.ask_answers.specs.Parts.{IsMadeOf}
+use Rattle.output_rows.specs.Rows.{ask_row}
+use Rattle.output_rows.specs.Parts.{IsMadeOf}
 use Rattle.ask_answers.specs.Tables.{count_if_played, count_played, IsTableRow, IsPlaceRow}
 use Rattle.ask_answers.specs.Tables.{IsTableText}
 use Rattle.ask_answers.specs.Items.{Adds}

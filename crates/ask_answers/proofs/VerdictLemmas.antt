@@ -1,32 +1,23 @@
 -- The items of an answer, piece by piece.
 use Rattle.std.proofs.Common.{◌≡◌, ℕ, suc, ◌+◌, ◌<◌, Bool, true, false, List, ◌++◌, length}
-use Rattle.std.proofs.Common.{drop, get_or, Option, Result, Err, ap, sym, ◌∙◌, subst, inr, add-one}
+use Rattle.std.proofs.Common.{drop, get_or, Option, Result, ap, sym, ◌∙◌, subst, add-one}
 use Rattle.std.specs.Io.KnownBytes.{append_known}
 use Rattle.std.proofs.Math.Seq.{drop-cons}
 use Rattle.league_core.specs.declared.sheet.Sheet.{Sheet}
-use Rattle.league_core.specs.Results.{Results}
 use Rattle.port_core.specs.Ports.{AppendsFront}
 use Rattle.cert_text.specs.declared.proof_line.ProofLine.{ProofLine}
 use Rattle.cert_text.specs.ExampleLines.{text_of_proof_lines}
 use Rattle.verdict_run.specs.declared.word.Word.{Word}
 use Rattle.verdict_run.specs.declared.word.Verdict.{Verdict}
-use Rattle.verdict_run.specs.Items.{AreVerdictsOf, lines_shown}
-use Rattle.ask_answers.specs.declared.output.OutputStop.{OutputStop}
-use Rattle.ask_answers.specs.Rows.{ask_row, line_row, verdict_row}
-use Rattle.ask_answers.specs.Parts.{club_name}
+use Rattle.verdict_run.specs.Items.{lines_shown}
+use Rattle.output_rows.specs.declared.output.OutputStop.{OutputStop}
+use Rattle.output_rows.specs.Rows.{ask_row}
+use Rattle.ask_answers.specs.Rows.{verdict_row}
+use Rattle.output_rows.specs.Parts.{club_name}
 use Rattle.ask_answers.specs.Verdicts.{item_text, text_of_items}
 use Rattle.ask_answers.specs.Verdicts.{text_of_verdicts}
-use Rattle.ask_answers.specs.Outputs.{Puts}
-use Rattle.ask_answers.proofs.OutputLemmas.{front-more, puts-behind}
-
--- the next of the lines that are left
-pub lines-next : (lines : List ProofLine) (i : ℕ) (line : ProofLine) → i < length lines
-    → line ≡ get_or lines i line
-    → text_of_proof_lines (drop i lines) ≡ line_row line ++ text_of_proof_lines (drop (i + 1) lines)
-lines-next lines i line inside is =
-    ap text_of_proof_lines (drop-cons lines i line inside)
-    ∙ ap (λ l. line_row l ++ text_of_proof_lines (drop (suc i) lines)) (sym is)
-    ∙ ap (λ n. line_row line ++ text_of_proof_lines (drop n lines)) (sym (add-one i))
+use Rattle.output_rows.specs.Outputs.{Puts}
+use Rattle.output_rows.proofs.OutputLemmas.{front-more, puts-behind}
 
 -- the next of the verdicts that are left
 pub items-next : (proofs : Bool) (sheet : Sheet) (verdicts : List Verdict) (i : ℕ)

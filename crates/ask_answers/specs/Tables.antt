@@ -11,8 +11,9 @@ use Rattle.league_core.specs.Sums.{points_of, sum_of, goal_difference, goals}
 use Rattle.league_core.specs.Ranking.{IsTable}
 use Rattle.final_rank.specs.Places.{IsBestPlace, IsWorstPlace}
 use Rattle.ask_answers.specs.declared.table_row.TableRow.{TableRow}
-use Rattle.ask_answers.specs.Rows.{ask_row, place_row}
-use Rattle.ask_answers.specs.Parts.{IsMadeOf, club_name}
+use Rattle.output_rows.specs.Rows.{ask_row}
+use Rattle.ask_answers.specs.Rows.{place_row}
+use Rattle.output_rows.specs.Parts.{IsMadeOf, club_name}
 
 -- the club plays in the match, at home or away
 abbrev pub plays_in : ℕ → Fixture → Bool

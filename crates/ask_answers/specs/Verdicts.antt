@@ -6,8 +6,9 @@ use Rattle.cert_text.specs.ExampleLines.{text_of_proof_lines}
 use Rattle.verdict_run.specs.declared.word.Verdict.{Verdict}
 use Rattle.verdict_run.specs.Items.{AreVerdictsOf, lines_shown}
 use Rattle.league_core.specs.Results.{Results}
-use Rattle.ask_answers.specs.Rows.{ask_row, verdict_row}
-use Rattle.ask_answers.specs.Parts.{club_name}
+use Rattle.output_rows.specs.Rows.{ask_row}
+use Rattle.ask_answers.specs.Rows.{verdict_row}
+use Rattle.output_rows.specs.Parts.{club_name}
 
 -- the item of a verdict: its row, then what shows it; refutations where proofs are asked for
 abbrev pub item_text : Bool → Sheet → Verdict → List ℕ

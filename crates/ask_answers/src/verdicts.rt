@@ -1,20 +1,17 @@
 //! The answer of the mode `verdicts`, row by row: the word for every club and every line, and
 //! behind it what shows it.
 
-ghost use Rattle.std.specs.Prelude.{◌≡◌, ◌<◌, All, IsTrue, length};
+ghost use Rattle.std.specs.Prelude.{All, IsTrue};
 ghost use Rattle.cert_text.specs.Ranges.{is_in_range};
 ghost use Rattle.cert_text.specs.ExampleLines.{text_of_proof_lines};
 ghost use Rattle.verdict_run.specs.Items.{AreInRange, IsInRange, lines_shown};
-ghost use Rattle.ask_answers.specs.Outputs.{CountsPut, Puts};
-ghost use Rattle.ask_answers.specs.Rows.{ask_row, line_row, verdict_row};
-ghost use Rattle.ask_answers.specs.Parts.{club_name};
+ghost use Rattle.output_rows.specs.Outputs.{CountsPut, Puts};
+ghost use Rattle.ask_answers.specs.Rows.{verdict_row};
 ghost use Rattle.ask_answers.specs.Verdicts.{item_text, text_of_items, text_of_verdicts};
 
-use crate::names::club_name;
-use crate::output::{OutputStop, put_text};
-use crate::rows::{ask_row, line_row, verdict_row};
-use cert_text::ProofLine;
+use crate::rows::verdict_row;
 use league_core::Sheet;
+use output_rows::{OutputStop, club_name, put_ask, put_lines, put_text};
 use port_core::Sink;
 use std::alloc::Global;
 use verdict_run::{Verdict, Word};
@@ -37,16 +34,6 @@ pub fn put_verdicts<K: Sink>(
     match put_ask(alloc, epoch, sink) {
         Ok(()) => put_items(alloc, proofs, sheet, verdicts, sink),
         Err(stop) => Err(stop),
-    }
-}
-
-fn put_ask<K: Sink>(alloc: Global, epoch: u64, sink: &mut K) -> Result<(), OutputStop>
-    ensures text { Puts (ask_row epoch) (K.holds sink.old) (K.holds sink.new) result }
-    ensures counts { CountsPut (K.faults sink.old) (K.faults sink.new) result }
-{
-    match ask_row(alloc, epoch) {
-        Ok(row) => put_text(sink, row.as_slice()),
-        Err(_) => Err(OutputStop::OutOfMemory),
     }
 }
 
@@ -127,36 +114,5 @@ fn put_shown<K: Sink>(
     match verdict.word {
         Word::Clinched | Word::Lost => Ok(()),
         Word::Possible | Word::Unsettled => put_lines(alloc, verdict.proof.as_slice(), sink),
-    }
-}
-
-/// Writes proof lines, each on a row of its own.
-pub fn put_lines<K: Sink>(
-    alloc: Global,
-    lines: &[ProofLine],
-    sink: &mut K,
-) -> Result<(), OutputStop>
-    requires { All (λ line. IsTrue (is_in_range line)) lines.now }
-    ensures text { Puts (text_of_proof_lines lines.now) (K.holds sink.old) (K.holds sink.new)
-        result }
-    ensures counts { CountsPut (K.faults sink.old) (K.faults sink.new) result }
-{
-    for line in lines {
-        match put_proof_line(alloc, line, sink) {
-            Ok(()) => {}
-            Err(stop) => return Err(stop),
-        }
-    }
-    Ok(())
-}
-
-fn put_proof_line<K: Sink>(alloc: Global, line: &ProofLine, sink: &mut K) -> Result<(), OutputStop>
-    requires { IsTrue (is_in_range line.now) }
-    ensures text { Puts (line_row line.now) (K.holds sink.old) (K.holds sink.new) result }
-    ensures counts { CountsPut (K.faults sink.old) (K.faults sink.new) result }
-{
-    match line_row(alloc, line) {
-        Ok(row) => put_text(sink, row.as_slice()),
-        Err(_) => Err(OutputStop::OutOfMemory),
     }
 }

@@ -31,19 +31,20 @@ use Rattle.final_rank.proofs.TierLemmas.{below_clubs}
 use Rattle.verdict_run.specs.Items.{AnswerRow}
 use Rattle.answer_laws.specs.SeasonAnswers.{AnswerItem, IsKnownItem}
 use Rattle.answer_laws.proofs.AnswerLemmas.{season_answered}
-use Rattle.answer_laws.proofs.SeasonScoreLemmas.{scores_there}
+use Rattle.qual_scores.proofs.SeasonScoreLemmas.{scores_there}
 use Rattle.answer_laws.proofs.TableLemmas.{table_there}
 use Rattle.ask_answers.specs.declared.table_row.TableRow.{TableRow}
-use Rattle.ask_answers.specs.Parts.{IsMadeOf, club_name}
-use Rattle.ask_answers.specs.Rows.{ask_row, place_row, verdict_row}
+use Rattle.output_rows.specs.Parts.{IsMadeOf, club_name}
+use Rattle.output_rows.specs.Rows.{ask_row}
+use Rattle.ask_answers.specs.Rows.{place_row, verdict_row}
 use Rattle.ask_answers.specs.Tables.{IsPlaceRow, IsTableRow, IsTableText, count_played}
 use Rattle.ask_answers.proofs.TableLemmas.{first_lots-range}
-use Rattle.score_answers.specs.ScoreTexts.{IsScoresText, text_of_scores}
+use Rattle.score_answers.specs.ScoreTexts.{text_of_scores}
 use Rattle.futmax_main.specs.declared.session.Answering.{Answering}
 use Rattle.futmax_main.specs.declared.session.Answering.TheVariants.{Verdicts, Table, Scores}
 use Rattle.futmax_main.specs.Plays.{Played, played_behind}
 use Rattle.futmax_main.specs.Courses.{asks_in, course_behind, course_of}
-use Rattle.futmax_main.specs.Answers.{IsAnswerTo, IsItemText, IsVerdictsText}
+use Rattle.futmax_main.specs.Answers.{IsAnswerTo, IsItemText, IsScoresText, IsVerdictsText}
 use Rattle.futmax_main.specs.Texts.{AreAnswers}
 use Rattle.futmax_main.proofs.LimitLemmas.{GivesLimits, sheet-limits}
 

@@ -6,10 +6,13 @@ use Rattle.cert_text.specs.declared.proof_line.ProofLine.{ProofLine}
 use Rattle.cert_text.specs.ExampleLines.{text_of_proof_lines}
 use Rattle.verdict_run.specs.declared.word.Word.{Word}
 use Rattle.verdict_run.specs.Items.{AnswerRow, IsItemShown, answer_rows}
-use Rattle.ask_answers.specs.Parts.{IsMadeOf, club_name}
-use Rattle.ask_answers.specs.Rows.{ask_row, verdict_row}
+use Rattle.output_rows.specs.Parts.{IsMadeOf, club_name}
+use Rattle.output_rows.specs.Rows.{ask_row}
+use Rattle.ask_answers.specs.Rows.{verdict_row}
 use Rattle.ask_answers.specs.Tables.{IsTableText}
-use Rattle.score_answers.specs.ScoreTexts.{IsScoresText}
+use Rattle.score_answers.specs.declared.bound.ClubScores.{ClubScores}
+use Rattle.score_answers.specs.ScoreTexts.{text_of_scores}
+use Rattle.qual_scores.specs.AllScores.{AreScoresOf}
 use Rattle.futmax_main.specs.declared.session.Answering.{Answering}
 use Rattle.futmax_main.specs.declared.session.Answering.TheVariants.{Verdicts, Table, Scores}
 use Rattle.futmax_main.specs.Plays.{Played}
@@ -29,6 +32,12 @@ abbrev pub IsVerdictsText : Bool → Sheet → Results → ℕ → List ℕ → 
 IsVerdictsText proofs sheet season epoch text =
     (items : List ℕ) × (text ≡ ask_row epoch ++ items)
     × IsMadeOf (IsItemText proofs sheet season) (answer_rows sheet) items
+
+-- the text of the season's numbers, for each line and club in the sheet's order
+abbrev pub IsScoresText : Sheet → Results → ℕ → List ℕ → Type 0
+IsScoresText sheet season epoch text =
+    (scores : List ClubScores) × AreScoresOf sheet season scores
+    × (text ≡ text_of_scores sheet epoch scores)
 
 -- the text answers from a season that so many events told
 abbrev pub IsAnswerFrom : Answering → Sheet → Results → ℕ → List ℕ → Type 0

@@ -2,7 +2,7 @@
 use Rattle.std.specs.Prelude.{◌≡◌, ℕ, ◌⊎◌, List, ◌++◌}
 use Rattle.port_core.specs.Ports.{IsFront}
 use Rattle.fixture_sheet.specs.declared.fault.SheetFault.{SheetFault}
-use Rattle.ask_answers.specs.Parts.{IsMadeOf}
+use Rattle.output_rows.specs.Parts.{IsMadeOf}
 use Rattle.futmax_main.specs.declared.status.Status.{Status}
 use Rattle.futmax_main.specs.declared.status.Status.TheVariants.{Done, BadSheet, BadFeed, TooLong}
 use Rattle.futmax_main.specs.declared.session.Answering.{Answering}

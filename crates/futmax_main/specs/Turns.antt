@@ -10,8 +10,8 @@ use Rattle.port_core.specs.Ports.{AppendsFront, Rose}
 use Rattle.port_core.specs.Contents.{Position, input_limit}
 use Rattle.branch_pool.specs.States.{PoolState, out_count}
 use Rattle.verdict_run.specs.AskedQuestions.{questions_of}
-use Rattle.ask_answers.specs.declared.output.OutputStop.{OutputStop}
-use Rattle.ask_answers.specs.declared.output.OutputStop.TheVariants as output
+use Rattle.output_rows.specs.declared.output.OutputStop.{OutputStop}
+use Rattle.output_rows.specs.declared.output.OutputStop.TheVariants as output
 use Rattle.futmax_main.specs.declared.status.Status.{Status}
 use Rattle.futmax_main.specs.declared.status.Status.TheVariants.{BadWords, ReadFault}
 use Rattle.futmax_main.specs.declared.status.Status.TheVariants.{WriteFault, OutOfMemory, NotProved}

@@ -3,14 +3,15 @@
 ghost use Rattle.std.specs.Prelude.{◌≡◌, ◌≤◌, [], All, IfOk, length};
 ghost use Rattle.league_core.specs.Questions.{IsQuestionOf};
 ghost use Rattle.league_core.specs.Sheets.{IsWithinLimits};
-ghost use Rattle.ask_answers.specs.Outputs.{CountsPut};
+ghost use Rattle.output_rows.specs.Outputs.{CountsPut};
 ghost use Rattle.futmax_main.specs.declared.session.Answering.TheVariants.{Verdicts, Table, Scores};
 ghost use Rattle.futmax_main.specs.Turns.{AnswersAsk, IsLive, asked_by};
 
 use crate::session::Answering;
-use ask_answers::{OutputStop, put_text, put_verdicts, table_rows};
+use ask_answers::{put_verdicts, table_rows};
 use branch_pool::Pool;
 use league_core::{OutOfMemory, Question, Sheet};
+use output_rows::{OutputStop, put_text};
 use port_core::Sink;
 use qual_scores::all_scores;
 use score_answers::put_scores;

@@ -9,10 +9,10 @@ ghost use Rattle.futmax_main.specs.Top.{Counts};
 use crate::rows::fault_row;
 use crate::session::{Cause, Fault};
 use crate::status::Status;
-use ask_answers::{number_field, put_rows, text_field};
 use cert_text::write_row;
 use check_run::{CheckFailure, CheckOutcome, ReportFault, check_input};
 use league_core::OutOfMemory;
+use output_rows::{number_field, put_rows, text_field};
 use port_core::{LineReader, Sink, Source};
 use std::alloc::Global;
 

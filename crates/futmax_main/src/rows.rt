@@ -5,9 +5,9 @@ ghost use Rattle.cert_text.specs.Rows.{text_of_row};
 ghost use Rattle.futmax_main.specs.Rows.{cause_text, fault_row, usage_row};
 
 use crate::session::{Cause, Fault};
-use ask_answers::{number_field, text_field};
 use cert_text::write_row;
 use league_core::OutOfMemory;
+use output_rows::{number_field, text_field};
 use std::alloc::Global;
 
 /// `fault,LINE,CODE`, alone.

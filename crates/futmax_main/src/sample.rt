@@ -5,9 +5,9 @@ ghost use Rattle.futmax_main.specs.SampleRows.{CountsSample, IsSampleText, Serve
 ghost use Rattle.futmax_main.specs.SampleRows.{sample_row};
 
 use crate::status::Status;
-use ask_answers::{number_field, put_rows, text_field};
 use cert_text::write_row;
 use league_core::OutOfMemory;
+use output_rows::{number_field, put_rows, text_field};
 use port_core::Sink;
 use sample_counts::{Counts, count_sample};
 use std::alloc::Global;

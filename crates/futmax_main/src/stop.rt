@@ -8,7 +8,7 @@ ghost use Rattle.futmax_main.specs.Turns.{CountsEnd, FaultEnds};
 use crate::rows::fault_row;
 use crate::session::{Cause, Fault};
 use crate::status::Status;
-use ask_answers::put_rows;
+use output_rows::put_rows;
 use port_core::Sink;
 use std::alloc::Global;
 

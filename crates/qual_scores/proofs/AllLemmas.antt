@@ -1,7 +1,7 @@
 -- The numbers so far, as an answer is put together.
 use Rattle.std.specs.Prelude.{All}
 use Rattle.std.specs.List.{list_all}
-use Rattle.qual_scores.specs.AllScores.{IsBoundInRange, IsInLineRange, AreInLineRange}
+use Rattle.score_answers.specs.SpentLines.{IsBoundInRange, IsInLineRange, AreInLineRange}
 use Rattle.std.proofs.Common.{◌≡◌, ℕ, ◌+◌, ◌<◌, List, [], ◌∷◌, ◌++◌, length, map, take, get_or}
 use Rattle.std.proofs.Common.{refl}
 use Rattle.std.proofs.Common.{true, sym, ap, ◌∙◌, subst, arith, append_assoc, append-nil}
@@ -20,10 +20,10 @@ use Rattle.league_core.specs.Questions.{IsQuestionOf, full_question}
 use Rattle.cert_text.specs.declared.proof_line.ProofLine.{ProofLine}
 use Rattle.cert_text.specs.Ranges.{is_in_range}
 use Rattle.verdict_run.specs.Items.{AnswerRow, answer_rows_of}
-use Rattle.qual_scores.specs.declared.bound.Bound.{Bound}
-use Rattle.qual_scores.specs.declared.bound.Bound.TheVariants.{Known, None, Between}
-use Rattle.qual_scores.specs.declared.bound.Score2.{Score2}
-use Rattle.qual_scores.specs.declared.bound.ClubScores.{ClubScores}
+use Rattle.score_answers.specs.declared.bound.Bound.{Bound}
+use Rattle.score_answers.specs.declared.bound.Bound.TheVariants.{Known, None, Between}
+use Rattle.score_answers.specs.declared.bound.Score2.{Score2}
+use Rattle.score_answers.specs.declared.bound.ClubScores.{ClubScores}
 use Rattle.qual_scores.specs.Bounds.{AreRightScores, IsRightBound}
 use Rattle.qual_scores.specs.AllScores.{scores_row, AreRightOf, AreScoresFor, AddsClubs, AddsLine}
 use Rattle.qual_scores.specs.AllScores.{AreScoresOfLines}

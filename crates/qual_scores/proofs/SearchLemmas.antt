@@ -21,8 +21,8 @@ use Rattle.qual_scores.specs.Ways.{ShowsSpan}
 use Rattle.qual_scores.specs.Bounds.{IsRightBound}
 use Rattle.qual_scores.specs.Searching.{HoldsOf, IsNarrowed, IsFirstReach, IsSaid}
 use Rattle.cert_text.specs.declared.proof_line.ProofLine.{ProofLine}
-use Rattle.qual_scores.specs.declared.bound.Bound.{Bound}
-use Rattle.qual_scores.specs.declared.bound.Bound.TheVariants.{Between}
+use Rattle.score_answers.specs.declared.bound.Bound.{Bound}
+use Rattle.score_answers.specs.declared.bound.Bound.TheVariants.{Between}
 use Rattle.qual_scores.specs.declared.window.Said.{Said}
 use Rattle.qual_scores.specs.declared.window.Said.TheVariants.{NotAbove, Above, Spent}
 use Rattle.qual_scores.proofs.PointLemmas.{points_in_window, points_in_reach, from_le}

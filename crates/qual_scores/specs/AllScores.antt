@@ -1,14 +1,10 @@
 -- The numbers of all clubs and lines, as an answer has them.
-use Rattle.std.specs.Prelude.{◌≡◌, ◌<◌, ℕ, IsTrue, List, [], ◌++◌, map, All, length}
+use Rattle.std.specs.Prelude.{◌≡◌, ◌<◌, ℕ, List, ◌++◌, map, All, length}
 use Rattle.std.specs.List.{flat_map}
 use Rattle.league_core.specs.declared.sheet.Sheet.{Sheet}
 use Rattle.league_core.specs.Results.{Results}
 use Rattle.verdict_run.specs.Items.{AnswerRow, answer_rows, answer_rows_of}
-use Rattle.cert_text.specs.declared.proof_line.ProofLine.{ProofLine}
-use Rattle.cert_text.specs.Ranges.{is_in_range}
-use Rattle.qual_scores.specs.declared.bound.Bound.{Bound}
-use Rattle.qual_scores.specs.declared.bound.Bound.TheVariants.{Known, None, Between}
-use Rattle.qual_scores.specs.declared.bound.ClubScores.{ClubScores}
+use Rattle.score_answers.specs.declared.bound.ClubScores.{ClubScores}
 use Rattle.qual_scores.specs.Bounds.{AreRightScores}
 
 -- the row that the numbers are about
@@ -45,23 +41,3 @@ pub record AddsClubs (sheet : Sheet) (season : Results) (line clubs : ℕ)
 -- the numbers about all clubs and a line
 abbrev pub AddsLine : Sheet → Results → ℕ → List ClubScores → List ClubScores → Type 0
 AddsLine sheet season line old new = AddsClubs sheet season line (length sheet.clubs) old new
-
--- the spent tree of a range under its head; no line where there is none
-abbrev pub tree_lines : Bound → List ProofLine
-tree_lines (Known number) = []
-tree_lines None = []
-tree_lines (Between low high spent) = spent.items
-
--- the lines of a tree are in the ranges of their forms
-abbrev pub IsBoundInRange : Bound → Type 0
-IsBoundInRange bound = All (λ line. IsTrue (is_in_range line)) (tree_lines bound)
-
--- the numbers are about one of the clubs, and their lines are in range
-pub record IsInLineRange (sheet : Sheet) (found : ClubScores) : Type 0 where
-  pub club : found.club < length sheet.clubs
-  pub possible : IsBoundInRange found.scores.pqs
-  pub guaranteed : IsBoundInRange found.scores.gqs
-
--- so are those of each line and club
-abbrev pub AreInLineRange : Sheet → List ClubScores → Type 0
-AreInLineRange sheet scores = All (IsInLineRange sheet) scores

@@ -12,9 +12,9 @@ use Rattle.cert_text.specs.declared.proof_line.ProofLine.{ProofLine}
 use Rattle.cert_text.specs.Ranges.{is_in_range}
 use Rattle.cert_text.specs.TreeLines.{IsFairSpentTree, marked_lines, with_window_head}
 use Rattle.verdict_run.specs.NewTrees.{is_all_new}
-use Rattle.qual_scores.specs.declared.bound.Bound.{Bound}
-use Rattle.qual_scores.specs.declared.bound.Bound.TheVariants.{Known, None, Between}
-use Rattle.qual_scores.specs.declared.bound.Score2.{Score2}
+use Rattle.score_answers.specs.declared.bound.Bound.{Bound}
+use Rattle.score_answers.specs.declared.bound.Bound.TheVariants.{Known, None, Between}
+use Rattle.score_answers.specs.declared.bound.Score2.{Score2}
 use Rattle.qual_scores.specs.declared.span.PointSpan.{PointSpan}
 use Rattle.qual_scores.specs.Scores.{IsLeastOf, HasNoPossibleScore}
 use Rattle.qual_scores.specs.Ways.{HoldsOfPoints, ShowsSpan, window_question}

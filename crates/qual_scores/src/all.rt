@@ -3,11 +3,12 @@
 ghost use Rattle.std.specs.Prelude.{IfOk, OnOk, IsTrue, length};
 ghost use Rattle.league_core.specs.Seasons.{IsLeague};
 ghost use Rattle.league_core.specs.Sheets.{is_line};
-ghost use Rattle.qual_scores.specs.AllScores.{AreScoresOf, AreInLineRange, AddsLine};
+ghost use Rattle.score_answers.specs.SpentLines.{AreInLineRange};
+ghost use Rattle.qual_scores.specs.AllScores.{AreScoresOf, AddsLine};
 
-use crate::bound::ClubScores;
 use crate::search::scores;
 use league_core::{OutOfMemory, Season, Sheet};
+use score_answers::ClubScores;
 use std::alloc::Global;
 
 /// The two numbers of each club and line: line by line in the order of the sheet, and for each line

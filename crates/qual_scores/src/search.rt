@@ -7,12 +7,12 @@ ghost use Rattle.league_core.specs.Questions.{IsQuestionOf, full_question};
 ghost use Rattle.qual_scores.specs.Bounds.{AreRightScores, IsRightBound};
 ghost use Rattle.qual_scores.specs.Searching.{IsNarrowed, IsFirstReach};
 
-use crate::bound::{Bound, Score2};
 use crate::reach::reach_of;
 use crate::span::PointSpan;
 use crate::window::{Said, Sought, ask_window};
 use cert_text::ProofLine;
 use league_core::{Claim, OutOfMemory, Season, Sheet};
+use score_answers::{Bound, Score2};
 use std::alloc::Global;
 
 /// The possible and the guaranteed qualification score of a club and a line. Each window question

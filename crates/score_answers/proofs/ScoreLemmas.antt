@@ -1,21 +1,20 @@
 -- The items of an answer, piece by piece.
-use Rattle.std.proofs.Common.{◌≡◌, ℕ, suc, ◌+◌, ◌<◌, List, ◌++◌, length, true, sym, ap, ◌∙◌, subst}
+use Rattle.std.proofs.Common.{◌≡◌, ℕ, suc, ◌+◌, ◌<◌, List, ◌++◌, length, sym, ap, ◌∙◌, subst}
 use Rattle.std.proofs.Common.{drop, get_or, Option, Result, add-one}
 use Rattle.std.specs.Io.KnownBytes.{append_known}
 use Rattle.std.proofs.Math.Seq.{drop-cons}
 use Rattle.league_core.specs.declared.sheet.Sheet.{Sheet}
-use Rattle.league_core.specs.Results.{Results}
 use Rattle.port_core.specs.Ports.{AppendsFront}
 use Rattle.cert_text.specs.ExampleLines.{text_of_proof_lines}
-use Rattle.qual_scores.specs.declared.bound.Score2.{Score2}
-use Rattle.qual_scores.specs.declared.bound.ClubScores.{ClubScores}
-use Rattle.ask_answers.specs.declared.output.OutputStop.{OutputStop}
-use Rattle.ask_answers.specs.Rows.{ask_row}
-use Rattle.ask_answers.specs.Parts.{club_name}
-use Rattle.ask_answers.specs.Outputs.{Puts}
-use Rattle.ask_answers.proofs.OutputLemmas.{front-more, puts-behind}
+use Rattle.score_answers.specs.declared.bound.Score2.{Score2}
+use Rattle.score_answers.specs.declared.bound.ClubScores.{ClubScores}
+use Rattle.output_rows.specs.declared.output.OutputStop.{OutputStop}
+use Rattle.output_rows.specs.Rows.{ask_row}
+use Rattle.output_rows.specs.Parts.{club_name}
+use Rattle.output_rows.specs.Outputs.{Puts}
+use Rattle.output_rows.proofs.OutputLemmas.{front-more, puts-behind}
 use Rattle.score_answers.specs.ScoreRows.{score_row}
-use Rattle.qual_scores.specs.AllScores.{tree_lines}
+use Rattle.score_answers.specs.SpentLines.{tree_lines}
 use Rattle.score_answers.specs.ScoreTexts.{trees_text, score_item}
 use Rattle.score_answers.specs.ScoreTexts.{text_of_score_items, text_of_scores}
 

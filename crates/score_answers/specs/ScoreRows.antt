@@ -2,9 +2,9 @@
 use Rattle.std.specs.Prelude.{ℕ, ℤ, List, [], ◌∷◌, ◌++◌, codes, decimal}
 use Rattle.std.specs.Fmt.{signed_decimal}
 use Rattle.cert_text.specs.Rows.{text_of_row}
-use Rattle.qual_scores.specs.declared.bound.Bound.{Bound}
-use Rattle.qual_scores.specs.declared.bound.Bound.TheVariants.{Known, None, Between}
-use Rattle.qual_scores.specs.declared.bound.Score2.{Score2}
+use Rattle.score_answers.specs.declared.bound.Bound.{Bound}
+use Rattle.score_answers.specs.declared.bound.Bound.TheVariants.{Known, None, Between}
+use Rattle.score_answers.specs.declared.bound.Score2.{Score2}
 
 -- `LOW..HIGH`
 abbrev pub range_text : ℤ → ℤ → List ℕ

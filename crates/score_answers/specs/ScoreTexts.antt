@@ -1,14 +1,13 @@
 -- What the mode `scores` answers: for each line and each club the row of its two numbers, and
 -- behind it the spent trees of those that are a range, that of the possible score first.
-use Rattle.std.specs.Prelude.{◌≡◌, ℕ, List, [], ◌∷◌, ◌++◌}
+use Rattle.std.specs.Prelude.{ℕ, List, [], ◌∷◌, ◌++◌}
 use Rattle.league_core.specs.declared.sheet.Sheet.{Sheet}
-use Rattle.league_core.specs.Results.{Results}
 use Rattle.cert_text.specs.ExampleLines.{text_of_proof_lines}
-use Rattle.qual_scores.specs.declared.bound.Score2.{Score2}
-use Rattle.qual_scores.specs.declared.bound.ClubScores.{ClubScores}
-use Rattle.qual_scores.specs.AllScores.{AreScoresOf, tree_lines}
-use Rattle.ask_answers.specs.Rows.{ask_row}
-use Rattle.ask_answers.specs.Parts.{club_name}
+use Rattle.score_answers.specs.declared.bound.Score2.{Score2}
+use Rattle.score_answers.specs.declared.bound.ClubScores.{ClubScores}
+use Rattle.score_answers.specs.SpentLines.{tree_lines}
+use Rattle.output_rows.specs.Rows.{ask_row}
+use Rattle.output_rows.specs.Parts.{club_name}
 use Rattle.score_answers.specs.ScoreRows.{score_row}
 
 -- both trees as a text, that of the possible score first
@@ -30,9 +29,3 @@ text_of_score_items sheet (found ∷ scores) =
 -- the row of the ask, then the items
 abbrev pub text_of_scores : Sheet → ℕ → List ClubScores → List ℕ
 text_of_scores sheet epoch scores = ask_row epoch ++ text_of_score_items sheet scores
-
--- the text of the season's numbers, for each line and club in the sheet's order
-abbrev pub IsScoresText : Sheet → Results → ℕ → List ℕ → Type 0
-IsScoresText sheet season epoch text =
-    (scores : List ClubScores) × AreScoresOf sheet season scores
-    × (text ≡ text_of_scores sheet epoch scores)

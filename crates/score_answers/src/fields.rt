@@ -3,10 +3,10 @@
 ghost use Rattle.std.specs.Prelude.{◌≡◌, IfOk};
 ghost use Rattle.score_answers.specs.ScoreRows.{bound_text, range_text, score_row};
 
-use ask_answers::{number_field, signed_field, text_field};
+use crate::bound::{Bound, Score2};
 use cert_text::write_row;
 use league_core::OutOfMemory;
-use qual_scores::{Bound, Score2};
+use output_rows::{number_field, signed_field, text_field};
 use std::alloc::Global;
 
 /// `score,K,CLUB,PQS,GQS`, alone.

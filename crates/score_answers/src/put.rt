@@ -1,19 +1,18 @@
 //! The numbers on their way to the sink, row by row.
 
 ghost use Rattle.cert_text.specs.ExampleLines.{text_of_proof_lines};
-ghost use Rattle.ask_answers.specs.Outputs.{CountsPut, Puts};
-ghost use Rattle.ask_answers.specs.Rows.{ask_row};
+ghost use Rattle.output_rows.specs.Outputs.{CountsPut, Puts};
 ghost use Rattle.score_answers.specs.ScoreRows.{score_row};
-ghost use Rattle.qual_scores.specs.AllScores.{AreInLineRange, IsInLineRange, IsBoundInRange};
-ghost use Rattle.qual_scores.specs.AllScores.{tree_lines};
+ghost use Rattle.score_answers.specs.SpentLines.{AreInLineRange, IsInLineRange, IsBoundInRange};
+ghost use Rattle.score_answers.specs.SpentLines.{tree_lines};
 ghost use Rattle.score_answers.specs.ScoreTexts.{trees_text, score_item};
 ghost use Rattle.score_answers.specs.ScoreTexts.{text_of_score_items, text_of_scores};
 
+use crate::bound::{Bound, ClubScores, Score2};
 use crate::fields::score_row;
-use ask_answers::{OutputStop, ask_row, club_name, put_lines, put_text};
 use league_core::Sheet;
+use output_rows::{OutputStop, club_name, put_ask, put_lines, put_text};
 use port_core::Sink;
-use qual_scores::{Bound, ClubScores, Score2};
 use std::alloc::Global;
 
 /// Writes the row of an ask and the row of each line and club, with the spent trees of its ranges
@@ -33,16 +32,6 @@ pub fn put_scores<K: Sink>(
     match put_ask(alloc, epoch, sink) {
         Ok(()) => put_items(alloc, sheet, scores, sink),
         Err(stop) => Err(stop),
-    }
-}
-
-fn put_ask<K: Sink>(alloc: Global, epoch: u64, sink: &mut K) -> Result<(), OutputStop>
-    ensures text { Puts (ask_row epoch) (K.holds sink.old) (K.holds sink.new) result }
-    ensures counts { CountsPut (K.faults sink.old) (K.faults sink.new) result }
-{
-    match ask_row(alloc, epoch) {
-        Ok(row) => put_text(sink, row.as_slice()),
-        Err(_) => Err(OutputStop::OutOfMemory),
     }
 }
 

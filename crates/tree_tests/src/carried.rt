@@ -80,7 +80,8 @@ fn goals_of_b(alloc: Global, most: u8, fresh: bool) -> Result<Vec<TreeNode>, Out
     ]?)
 }
 
-/// At most two goals of A in the first match; below them at most 3 and at most 4 of B in the second.
+/// At most two goals of A in the first match; below them at most 3 and at most 4 of B in the
+/// second.
 fn goals_of_both(alloc: Global) -> Result<Tree, Fail> {
     let fresh = true;
     let test = Test::HomeMost {

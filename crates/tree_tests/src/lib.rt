@@ -1,8 +1,8 @@
 //! The tree in its arena beside the tree in boxes, and trees one node below the other: tests alone.
 //!
 //! `counts` tells a test what a call asks of it; `driven` has both bodies do the same calls; `rows`
-//! has trees worked by hand, and `carried` those that are carried over a result; `order` tells which
-//! leaf is lent first.
+//! has trees worked by hand, and `carried` those that are carried over a result; `order` tells
+//! which leaf is lent first.
 #![tactic(auto)]
 
 #[cfg(test)]

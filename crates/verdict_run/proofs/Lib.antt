@@ -7,5 +7,6 @@ pub mod ShownLemmas
 pub mod ToldLemmas
 pub mod LineLemmas
 pub mod PartLemmas
+pub mod RowLemmas
 pub mod VerdictLemmas
 pub mod SampleLemmas

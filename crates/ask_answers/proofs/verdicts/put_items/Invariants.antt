@@ -1,6 +1,6 @@
 use Rattle.std.proofs.Common.{◌≡◌, drop}
 use Rattle.ask_answers.specs.Verdicts.{text_of_items}
-use Rattle.ask_answers.proofs.OutputLemmas.{IsDue}
+use Rattle.output_rows.proofs.OutputLemmas.{IsDue}
 use Rattle.ask_answers.proofs.verdicts.put_items.Given as goal
 
 -- the items from here on are due

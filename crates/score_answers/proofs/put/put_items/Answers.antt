@@ -1,5 +1,5 @@
 use Rattle.std.proofs.Common.{◌∙◌, arith}
-use Rattle.ask_answers.proofs.OutputLemmas.{due-more, due-front}
+use Rattle.output_rows.proofs.OutputLemmas.{due-more, due-front}
 use Rattle.score_answers.specs.ScoreTexts.{text_of_score_items}
 use Rattle.score_answers.proofs.ScoreLemmas.{items-next}
 use Rattle.score_answers.proofs.put.put_items.Goals as goal

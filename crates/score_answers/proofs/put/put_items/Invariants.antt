@@ -1,5 +1,5 @@
 use Rattle.std.proofs.Common.{◌≡◌, drop}
-use Rattle.ask_answers.proofs.OutputLemmas.{IsDue}
+use Rattle.output_rows.proofs.OutputLemmas.{IsDue}
 use Rattle.score_answers.specs.ScoreTexts.{text_of_score_items}
 use Rattle.score_answers.proofs.put.put_items.Given as goal
 

@@ -1,0 +1,3 @@
+-- Splits that are due, and questions that are decided.
+pub mod DueLemmas
+pub mod DecidedLemmas
