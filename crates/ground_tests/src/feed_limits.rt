@@ -3,10 +3,10 @@
 
 use crate::feed_telling::{is_of, tell_event};
 use crate::rows::{compare, part, rows};
-use fixture_sheet::{fields_of, read_sheet};
+use crate::sheet_telling::sheet_of;
+use fixture_sheet::fields_of;
 use league_core::limits::MOST_EVENTS;
 use league_core::{Season, Sheet};
-use port_core::{LineReader, MemSource};
 use result_log::{Entry, read_event};
 use std::alloc::Global;
 use std::io::Write;
@@ -25,20 +25,15 @@ const FULL: &[u8] = b"result,2,0,0~1=2:1 log_full@result,1,0,0~1=2:1 already_pla
 
 const PAST_ALL: &[u8] = b"void,1~1=2:1 log_full";
 
-fn sheet(alloc: Global) -> Result<Sheet, Fail> {
-    let bytes = Vec::from_slice(alloc, SHEET)?;
-    let mut source = MemSource::new(bytes, 1000, Vec::new(alloc));
-    let mut reader = LineReader::new(alloc)?;
-    match read_sheet(alloc, &mut reader, &mut source) {
-        Ok(sheet) => Ok(sheet),
-        Err(_) => Err("no sheet".into()),
-    }
+fn begun(alloc: Global, sheet: &Sheet) -> Result<Season, Fail> {
+    let clubs = sheet.clubs.len();
+    Ok(Season::unplayed(alloc, clubs, sheet.fixtures.len())?)
 }
 
 // What a record is behind so many events.
 fn told_behind(alloc: Global, events: u64, record: &[u8]) -> Result<Vec<u8>, Fail> {
-    let sheet = sheet(alloc)?;
-    let mut season = Season::unplayed(alloc, sheet.clubs.len(), sheet.fixtures.len())?;
+    let sheet = sheet_of(alloc, SHEET)?;
+    let mut season = begun(alloc, &sheet)?;
     let mut out = Vec::new(alloc);
     tell_record(alloc, &sheet, &mut season, 0, b"result,1,2,1", &mut out)?;
     tell_record(alloc, &sheet, &mut season, events, record, &mut out)?;

@@ -7,6 +7,7 @@
 ghost use Rattle.std.specs.Prelude.{◌<◌, ◌≤◌, IsTrue, length};
 ghost use Rattle.league_core.specs.Seasons.{IsSeasonOf};
 
+use crate::line_telling::memory;
 use fixture_sheet::read_sheet;
 use league_core::{Event, Season, Sheet};
 use port_core::{LineReader, MemSource, ReadStop};
@@ -25,9 +26,7 @@ pub fn told(
 ) -> Result<Vec<u8>, Fail>
     requires { 0 < piece }
 {
-    let bytes = Vec::from_slice(alloc, input)?;
-    let fail = Vec::from_slice(alloc, fail)?;
-    let mut source = MemSource::new(bytes, piece, fail);
+    let mut source = memory(alloc, input, piece, fail)?;
     let mut reader = LineReader::new(alloc)?;
     let mut out = Vec::new(alloc);
     match read_sheet(alloc, &mut reader, &mut source) {

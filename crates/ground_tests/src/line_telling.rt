@@ -18,34 +18,41 @@ pub fn memory(alloc: Global, input: &[u8], piece: usize, fail: &[u64]) -> Result
     Ok(MemSource::new(bytes, piece, fail))
 }
 
+// Tells an answer, and whether nothing more comes.
+fn tell(
+    answer: Result<Line, ReadStop>,
+    reader: &LineReader,
+    out: &mut Vec<u8>,
+) -> Result<bool, Fail> {
+    match answer {
+        Ok(Line::Text { number }) => {
+            out.extend_from_slice(reader.text())?;
+            write!(out, "{number}|")?;
+            return Ok(false);
+        }
+        Err(ReadStop::ReadFault) => {
+            out.push(b'!')?;
+            return Ok(false);
+        }
+        Ok(Line::End { number }) => write!(out, ".{number}")?,
+        Err(ReadStop::LineTooLong { number }) => write!(out, ">{number}")?,
+        Err(ReadStop::InputTooLong { number }) => write!(out, ">>{number}")?,
+    }
+    Ok(true)
+}
+
 /// All that a reader answers, up to and with the second answer that nothing more comes.
 pub fn answers<S: Source>(alloc: Global, source: &mut S) -> Result<Vec<u8>, Fail> {
     let mut reader = LineReader::new(alloc)?;
     let mut out = Vec::new(alloc);
-    let mut ends = 0;
+    let mut ended = false;
     for _ in 0..60 {
-        match reader.next(source) {
-            Ok(Line::Text { number }) => {
-                out.extend_from_slice(reader.text())?;
-                write!(out, "{number}|")?;
-            }
-            Ok(Line::End { number }) => {
-                write!(out, ".{number}")?;
-                ends = if ends == 0 { 1 } else { 2 };
-            }
-            Err(ReadStop::ReadFault) => write!(out, "!")?,
-            Err(ReadStop::LineTooLong { number }) => {
-                write!(out, ">{number}")?;
-                ends = if ends == 0 { 1 } else { 2 };
-            }
-            Err(ReadStop::InputTooLong { number }) => {
-                write!(out, ">>{number}")?;
-                ends = if ends == 0 { 1 } else { 2 };
-            }
-        }
-        if ends == 2 {
+        let answer = reader.next(source);
+        let ends = tell(answer, &reader, &mut out)?;
+        if ends && ended {
             return Ok(out);
         }
+        ended = ended || ends;
     }
     Ok(out)
 }

@@ -1,8 +1,14 @@
 //! Seasons that are told, sheets that are copied, finishes that are kept.
 
-use league_core::{Club, Event, Finish, Fixture, Listing, Name, Order, Score, Season, Sheet};
+use crate::sheet_telling::sheet_of;
+use league_core::{Event, Finish, Order, Score, Season};
 use std::alloc::Global;
 use std::test::Fail;
+
+const CUP: &[u8] = b"league,Cup,5,100,overall_first\nclub,Alder,3\nclub,Birch,3\n\
+    match,Alder,Birch\nline,1\nseason\n";
+
+const PAIR: &[u8] = b"league,Pair,2\nclub,A,1\nclub,B,2\nmatch,A,B\nmatch,B,A\nseason\n";
 
 #[test]
 fn a_season_is_told_corrected_and_annulled(rt: HostRuntime) -> Result<(), Fail> {
@@ -32,20 +38,7 @@ fn a_later_deduction_replaces_an_earlier_one(rt: HostRuntime) -> Result<(), Fail
 
 #[test]
 fn a_sheet_is_copied_with_its_names(rt: HostRuntime) -> Result<(), Fail> {
-    let mut sheet = Sheet {
-        name: Name::new(String::from_str(rt.alloc(), "Cup")?),
-        clubs: Listing::new(rt.alloc()),
-        fixtures: Listing::from_vec([Fixture { home: 0, away: 1 }].to_vec(rt.alloc())?),
-        lines: Listing::from_vec([1].to_vec(rt.alloc())?),
-        goal_limit: 5,
-        budget: 100,
-        order: Order::OverallFirst,
-    };
-    for name in ["Alder", "Birch"] {
-        let name = Name::new(String::from_str(rt.alloc(), name)?);
-        let club = Club { name, rank: 3 };
-        sheet.clubs.push(club).ok().ok_or("room")?;
-    }
+    let sheet = sheet_of(rt.alloc(), CUP)?;
     let copy = sheet.copy(rt.alloc()).ok().ok_or("room")?;
     assert!(rt; copy.name.as_str() == "Cup" && copy.clubs.len() == 2);
     assert!(rt; copy.clubs.as_slice()[1].name.as_str() == "Birch");
@@ -82,15 +75,7 @@ fn first_drawn(alloc: Global) -> Result<Season, Fail> {
 #[test]
 fn a_result_can_end_a_kept_finish(rt: HostRuntime) -> Result<(), Fail> {
     let alloc = rt.alloc();
-    let sheet = Sheet {
-        name: Name::new("".to_string(alloc)?),
-        clubs: Listing::new(alloc),
-        fixtures: Listing::new(alloc),
-        lines: Listing::new(alloc),
-        goal_limit: 2,
-        budget: 1,
-        order: Order::HeadFirst,
-    };
+    let sheet = sheet_of(alloc, PAIR)?;
     let finish = Finish::of_season(both_won(alloc)?).ok().ok_or("played")?;
     let unplayed = Season::unplayed(alloc, 2, 2).ok().ok_or("room")?;
     assert!(rt; finish.is_of(&sheet, &unplayed));

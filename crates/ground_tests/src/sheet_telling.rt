@@ -4,9 +4,10 @@
 
 ghost use Rattle.std.specs.Prelude.{◌<◌};
 
+use crate::line_telling::memory;
 use fixture_sheet::{SheetStop, read_sheet};
 use league_core::{Order, Sheet};
-use port_core::{Line, LineReader, MemSource, ReadStop, Source};
+use port_core::{Line, LineReader, ReadStop, Source};
 use std::alloc::Global;
 use std::io::Write;
 use std::test::Fail;
@@ -15,9 +16,7 @@ use std::test::Fail;
 pub fn told(alloc: Global, input: &[u8], piece: usize, fail: &[u64]) -> Result<Vec<u8>, Fail>
     requires { 0 < piece }
 {
-    let bytes = Vec::from_slice(alloc, input)?;
-    let fail = Vec::from_slice(alloc, fail)?;
-    let mut source = MemSource::new(bytes, piece, fail);
+    let mut source = memory(alloc, input, piece, fail)?;
     let mut reader = LineReader::new(alloc)?;
     let mut out = Vec::new(alloc);
     match read_sheet(alloc, &mut reader, &mut source) {
@@ -26,6 +25,16 @@ pub fn told(alloc: Global, input: &[u8], piece: usize, fail: &[u64]) -> Result<V
     }
     tell_next(&mut reader, &mut source, &mut out)?;
     Ok(out)
+}
+
+/// The sheet of a text.
+pub fn sheet_of(alloc: Global, text: &[u8]) -> Result<Sheet, Fail> {
+    let mut source = memory(alloc, text, 1000, &[])?;
+    let mut reader = LineReader::new(alloc)?;
+    match read_sheet(alloc, &mut reader, &mut source) {
+        Ok(sheet) => Ok(sheet),
+        Err(_) => Err("no sheet".into()),
+    }
 }
 
 fn tell_sheet(sheet: &Sheet, out: &mut Vec<u8>) -> Result<(), Fail> {
