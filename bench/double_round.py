@@ -1,7 +1,8 @@
 """A double round of 20 clubs with its last rounds open, for the benches of the whole program."""
 
-import resource
+import os
 import subprocess
+import tempfile
 import time
 
 CLUBS, GOALS = 20, 9
@@ -42,23 +43,36 @@ def league(left, seed=1, budget=None):
 
 
 def run(program, lines, *words):
-    """Processor seconds, greatest memory in kilobytes, and output."""
-    before = resource.getrusage(resource.RUSAGE_CHILDREN)
-    done = subprocess.run([program, *words], input="\n".join(lines).encode() + b"\n",
-                          stdout=subprocess.PIPE, check=True)
-    after = resource.getrusage(resource.RUSAGE_CHILDREN)
-    seconds = after.ru_utime + after.ru_stime - before.ru_utime - before.ru_stime
-    return seconds, after.ru_maxrss, done.stdout
+    """Processor seconds, seconds by the clock, and output of a run over these lines in a file."""
+    with tempfile.TemporaryFile() as source, tempfile.TemporaryFile() as sink:
+        source.write("\n".join([*lines, ""]).encode())
+        source.seek(0)
+        begun = time.monotonic()
+        started = subprocess.Popen([program, *words], stdin=source, stdout=sink)
+        _, status, used = os.wait4(started.pid, 0)
+        clock = time.monotonic() - begun
+        started.returncode = os.waitstatus_to_exitcode(status)
+        if started.returncode != 0:
+            raise subprocess.CalledProcessError(started.returncode, started.args)
+        sink.seek(0)
+        return used.ru_utime + used.ru_stime, clock, sink.read()
+
+
+def memory(program, lines, *words):
+    """The greatest memory of a run in kilobytes, as GNU time tells it: what the system tells of a
+    process that python starts is never less than python's own."""
+    with tempfile.TemporaryFile() as source:
+        source.write("\n".join([*lines, ""]).encode())
+        source.seek(0)
+        told = subprocess.run(["/usr/bin/time", "-f", "%M", program, *words], stdin=source,
+                              stdout=subprocess.DEVNULL, stderr=subprocess.PIPE, check=True)
+    return int(told.stderr.split()[-1])
 
 
 def least_of(times, program, lines, *words):
     """The least processor seconds and the least seconds by the clock of so many runs."""
-    processor, clock = [], []
-    for _ in range(times):
-        begun = time.monotonic()
-        processor.append(run(program, lines, *words)[0])
-        clock.append(time.monotonic() - begun)
-    return min(processor), min(clock)
+    runs = [run(program, lines, *words) for _ in range(times)]
+    return min(it[0] for it in runs), min(it[1] for it in runs)
 
 
 def counted(output):
