@@ -63,7 +63,8 @@ def functions(words):
     return found, told.stdout.decode()
 
 
-def solver(path):
-    """The words that run another search over a file: those of SOLVER, with FILE for its name."""
+def solver(path, variable="SOLVER"):
+    """The words that run another search over a file: those of SOLVER, or of another variable, with
+    FILE for its name."""
     return [path if word == "FILE" else word.replace("=FILE", f"={path}")
-            for word in os.environ["SOLVER"].split()]
+            for word in os.environ[variable].split()]
