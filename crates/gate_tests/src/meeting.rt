@@ -61,6 +61,7 @@ fn two_workers_are_inside_at_once(rt: HostRuntime) -> Result<(), Fail> {
     let mut sink = sink_of(alloc)?;
     let is_answered = is_answered(&rt, "2", &mut source, &mut sink, &gate)?;
     assert!(rt; is_answered);
+    assert!(rt; is_set(&gate.held));
     assert!(rt; is_set(&gate.given));
     assert!(rt; !is_set(&gate.missed));
     Ok(())
