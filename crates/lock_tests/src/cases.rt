@@ -3,14 +3,13 @@
 ghost use Rattle.std.specs.Prelude.{◌≡◌, IfOk};
 ghost use Rattle.league_core.specs.Seasons.{IsEventOf, season_after};
 ghost use Rattle.league_core.specs.Sheets.{IsWithinLimits};
-ghost use Rattle.reason_core.specs.Dones.{IsTrueDone};
 ghost use Rattle.pool_lock.specs.Lends.{IsWorkAfter};
 
-use branch_pool::{Gave, Ticket};
-use branch_rules::work;
-use league_core::{Event, OutOfMemory, Score, Sheet, Zone};
+use crate::found::{finding_at, found_at, lose};
+use branch_pool::{Gave, Ticket, Took};
+use league_core::{Event, OutOfMemory, Score, Sheet};
 use pool_lock::{Front, Job, LentOut, PoolLock, WorkBadge};
-use reason_core::{Done, Piece};
+use reason_core::Done;
 use std::alloc::Global;
 use std::sync::Wait;
 use std::test::Fail;
@@ -19,6 +18,8 @@ use std::test::Fail;
 pub enum Case {
     /// Each works on its piece, and gives back what it found.
     Worked,
+    /// One works on both pieces: it takes the second as it gives back what it found at the first.
+    InTurn,
     /// The first gives back what was found at the piece of the second, who gives back nothing.
     OtherPiece,
     /// Neither gives back.
@@ -31,7 +32,7 @@ pub enum Case {
 pub fn event_of(case: Case) -> Event {
     let home = match case {
         Case::Overtaken => 0,
-        Case::Worked | Case::OtherPiece | Case::Lost => 1,
+        Case::Worked | Case::InTurn | Case::OtherPiece | Case::Lost => 1,
     };
     Event::Set {
         fixture: 0,
@@ -59,7 +60,7 @@ pub fn meet<J: Job, R: Wait>(
     let mut two = badges.pop().ok_or("no badge")?;
     match case {
         Case::Overtaken => be_overtaken(rt, lock, front, &mut one, &mut two, event),
-        Case::Worked | Case::OtherPiece | Case::Lost => {
+        Case::Worked | Case::InTurn | Case::OtherPiece | Case::Lost => {
             tell(rt, lock, front, &mut one, event)?;
             lock.rest(rt, front);
             play(rt, alloc, sheet, lock, &mut one, &mut two, case)
@@ -108,6 +109,10 @@ fn play<J: Job, R: Wait>(
             let second = work_once(rt, alloc, sheet, lock, two)?;
             Ok(Some((first, second)))
         }
+        Case::InTurn => {
+            let gave = work_twice(rt, alloc, sheet, lock, one)?;
+            Ok(Some(gave))
+        }
         Case::OtherPiece => {
             let first = ticket_of(rt, lock, one)?;
             let gave = swap(rt, alloc, sheet, lock, one, two, first)?;
@@ -148,6 +153,33 @@ fn work_once<J: Job, R: Wait>(
     let ticket = ticket_of(rt, lock, badge)?;
     let done = found_at(alloc, sheet, badge, &ticket);
     Ok(lock.back(rt, badge, ticket, done))
+}
+
+// The first ticket goes back with what was found at its piece, and the second one is taken with it.
+fn work_twice<J: Job, R: Wait>(
+    rt: &R,
+    alloc: Global,
+    sheet: &Sheet,
+    lock: &PoolLock<J>,
+    badge: &mut WorkBadge<J>,
+) -> Result<(Gave, Gave), Fail>
+    requires of_job { sheet.now ≡ J.sheet }
+    requires limits { IsWithinLimits sheet.now }
+{
+    let ticket = ticket_of(rt, lock, badge)?;
+    match finding_at(alloc, sheet, badge, &ticket) {
+        Ok(finding) => match lock.swap(rt, badge, ticket, finding) {
+            (gave, Took::Lent(next)) => {
+                let done = found_at(alloc, sheet, badge, &next);
+                Ok((gave, lock.back(rt, badge, next, done)))
+            }
+            (_, Took::Rest | Took::Over | Took::OutOfMemory) => Err("no next ticket".into()),
+        },
+        Err(OutOfMemory) => {
+            lose(ticket);
+            Err("no memory".into())
+        }
+    }
 }
 
 // The first ticket goes back with what was found at the second, and the second undone.
@@ -194,10 +226,11 @@ fn be_overtaken<J: Job, R: Wait>(
             let told = lock.report(rt, front, event).is_ok();
             let gave = give_undone(rt, lock, one, first);
             let other = give_undone(rt, lock, two, second);
-            if told {
+            lock.rest(rt, front);
+            if told && next_number(rt, lock, one)? == 0 {
                 Ok(Some((gave, other)))
             } else {
-                Err("not told".into())
+                Err("not told, or not all at home".into())
             }
         }
         Err(fail) => {
@@ -216,40 +249,14 @@ fn give_undone<J: Job, R: Wait>(
     lock.back(rt, badge, ticket, Done::Undone)
 }
 
-// What is found at a ticket; nothing where memory is wanting.
-fn found_at<J: Job>(alloc: Global, sheet: &Sheet, badge: &WorkBadge<J>, ticket: &Ticket) -> Done
-    requires of_job { sheet.now ≡ J.sheet }
-    requires limits { IsWithinLimits sheet.now }
-    requires work { IsWorkAfter J.sheet badge.now.list ticket.now }
-    ensures { IsTrueDone J.sheet result }
-{
-    let _ = badge;
-    match copy_of(alloc, &ticket.piece) {
-        Ok(piece) => match work(alloc, sheet, piece) {
-            Ok(done) => done,
-            Err(OutOfMemory) => Done::Undone,
-        },
-        Err(OutOfMemory) => Done::Undone,
-    }
-}
-
-fn copy_of(alloc: Global, piece: &Piece) -> Result<Piece, OutOfMemory>
-    ensures { IfOk result (λ copy. copy ≡ piece.now) }
-{
-    let season = piece.season.copy(alloc)?;
-    let literals = piece.zone.literals.copy(alloc)?;
-    Ok(Piece {
-        season,
-        question: piece.question,
-        zone: Zone { literals },
-    })
-}
-
-fn lose(ticket: Ticket) {
-    let Ticket {
-        number: _,
-        epoch: _,
-        place: _,
-        piece: _,
-    } = ticket;
+// The number of what is lent next; it goes back.
+fn next_number<J: Job, R: Wait>(
+    rt: &R,
+    lock: &PoolLock<J>,
+    badge: &mut WorkBadge<J>,
+) -> Result<u64, Fail> {
+    let ticket = ticket_of(rt, lock, badge)?;
+    let number = ticket.number;
+    let _ = give_undone(rt, lock, badge, ticket);
+    Ok(number)
 }

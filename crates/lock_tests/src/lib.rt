@@ -6,4 +6,6 @@ mod cases;
 #[cfg(test)]
 mod epochs;
 #[cfg(test)]
+mod found;
+#[cfg(test)]
 mod rounds;

@@ -146,6 +146,14 @@ fn what_is_found_comes_to_the_pool(rt: HostRuntime) -> Result<(), Fail> {
 }
 
 #[test]
+fn what_is_found_comes_with_the_next_loan(rt: HostRuntime) -> Result<(), Fail> {
+    let (gave, pool) = round_of(&rt, rt.alloc(), Case::InTurn)?;
+    assert_eq!(rt; gave, Some((Gave::Kept, Gave::Kept)));
+    assert_eq!(rt; first_two(&pool)?, (Answer::Won, Answer::Refuted));
+    Ok(())
+}
+
+#[test]
 fn what_is_of_another_piece_counts_as_nothing(rt: HostRuntime) -> Result<(), Fail> {
     let (gave, pool) = round_of(&rt, rt.alloc(), Case::OtherPiece)?;
     assert_eq!(rt; gave, Some((Gave::Kept, Gave::Kept)));
