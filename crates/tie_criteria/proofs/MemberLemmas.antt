@@ -11,23 +11,7 @@ use Rattle.league_core.specs.declared.club_set.ClubSet.{ClubSet}
 use Rattle.league_core.specs.Sums.{has_club}
 use Rattle.league_core.specs.ClubSets.{clubs_in, clubs_below}
 use Rattle.league_core.proofs.ClubSetLemmas.{has_club-clubs_below, length-fewer}
-
--- a club of a set is below its width
-pub member_low : (set : ClubSet) (club : ℕ) → has_club (clubs_in set) club ≡ true → club < 32
-member_low set club has =
-    ltb-true club 32
-    (and_parts (ltb club 32) (eqb (bit_at set.bits club) 1)
-    (sym (has_club-clubs_below 32 set.bits club) ∙ has)).0
-
--- a set has no more clubs than its width
-few_members : (set : ClubSet) → length (clubs_in set) ≤ 32
-unfolding clubs_below
-few_members set =
-    let test : ℕ → Bool = λ club. eqb (bit_at set.bits club) 1 in
-    let same = length-filter test (range_with_len 0 32) in
-    let fewer = count_by-le-length test (range_with_len 0 32) in
-    let long = length-range_with_len 0 32 in
-    omega arith
+use Rattle.league_core.proofs.ClubCountLemmas.{few_members}
 
 -- what is left of a set after so many of its clubs were taken off
 pub record IsLeftOf (set left : ClubSet) (steps : ℕ) : Type 0 where
