@@ -25,7 +25,7 @@ use Rattle.league_core.proofs.OptionLemmas.{length-options_from, get_or-options_
 use Rattle.league_core.proofs.OptionLemmas.{has_score-options_of, same_score-true}
 use Rattle.league_core.proofs.ProposalLemmas.{is_some-first_option, first_option_is}
 use Rattle.league_core.proofs.FinishLemmas.{may_end_is_score}
-use Rattle.league_core.proofs.LiteralLemmas.{option_at}
+use Rattle.league_core.proofs.LiteralLemmas as literals
 use Rattle.score_box.specs.Unplayed.{is_unplayed, unplayed_in}
 use Rattle.score_box.proofs.SplitLemmas.{keeps_played}
 use Rattle.example_finish.specs.declared.wishes.Wishes.{Wishes}
@@ -40,7 +40,7 @@ has_option-at : (sheet : Sheet) (season : Results) (zone : List Literal) (k : �
     → has_option (get_or (options_in sheet season zone) k []) ≡ true
 has_option-at sheet season zone k some within =
     let long = length-options_from sheet.goal_limit zone 0 season.scores in
-    option_at sheet season zone k some (omega (arith, long))
+    literals.option_at sheet season zone k some (omega (arith, long))
 
 some_is : {X : Type 0} (o : Option X) → is_some o ≡ true → IsSome o
 some_is None is = absurd (false≢true is)
