@@ -164,7 +164,7 @@ turns_leave_less old new sound works = rw (same_sheet, seats_are)
 -- ---- nothing left
 
 -- where no number is out nothing is out under any
-nothing_out : (loans : List (Option Loan)) (number : ℕ) → out_count loans ≡ 0
+pub nothing_out : (loans : List (Option Loan)) (number : ℕ) → out_count loans ≡ 0
     → loan_at loans number ≡ None
 nothing_out [] number none = refl
 nothing_out (None ∷ loans) zero none = refl

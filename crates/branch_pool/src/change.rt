@@ -35,6 +35,20 @@ impl Pool {
         }
     }
 
+    /// Reports an event where the log has room for one more. After an `Err` the pool is as before.
+    pub fn tell(&mut self, event: Event) -> Result<(), OutOfMemory>
+        requires may_be { IsEventOf self.old.season event }
+        requires room { length self.old.log < most_events }
+        ensures ok { OnOk result (Changes self.old event self.new) }
+        ensures log { OnOk result (self.new.log ≡ self.old.log ++ event ∷ []) }
+        ensures err { OnErr result (self.new ≡ self.old) }
+        ensures sheet { self.new.sheet ≡ self.old.sheet }
+        ensures questions { self.new.questions ≡ self.old.questions }
+        ensures home { self.new.loans ≡ self.old.loans }
+    {
+        self.report(event)
+    }
+
     // No more events fit into the log.
     fn is_full(&self) -> bool
         ensures full { IsTrue result ↔ (length self.now.log ≡ most_events) }

@@ -19,21 +19,21 @@ use Rattle.league_core.specs.Options.{has_finish}
 use Rattle.league_core.specs.Options.{has_one_score, has_one_outcome, is_single, is_home_win}
 use Rattle.league_core.specs.Options.{is_draw}
 use Rattle.league_core.specs.Options.{is_away_win}
-use Rattle.league_core.proofs.PlainLemmas.{list_all-at}
+use Rattle.league_core.proofs.PlainLemmas.{list_all-at, all_from}
 use Rattle.league_core.proofs.OptionLemmas.{same_score-itself, has_score-first, all_options}
 use Rattle.league_core.proofs.OptionLemmas.{length-options_from}
+use Rattle.league_core.proofs.LiteralLemmas.{options_at}
 use Rattle.score_box.specs.declared.cell.Cell.{Cell}
 use Rattle.score_box.specs.declared.cell.goals.Goals.{Goals}
 use Rattle.score_box.specs.Cells.{allows, IsCellOf, IsAllowed, IsSpanOf, HasOneOutcome}
 use Rattle.score_box.specs.Settings.{Setting, HasFinish}
 use Rattle.score_box.specs.Unplayed.{is_unplayed, unplayed_in}
-use Rattle.score_box.proofs.BoxLemmas.{options_at}
 use Rattle.score_box.proofs.OutcomeLemmas.{all_home_wins, all_draws, all_away_wins, one_outcome_of}
 use Rattle.branch_rules.specs.declared.rated.Rated.{Rated}
 use Rattle.branch_rules.specs.Choices.{IsDivided, IsGoalSplit, options_at_fixture}
 use Rattle.branch_rules.specs.GoalTests.{DividesByGoals, HasOneAtMost, AreSame}
 use Rattle.example_finish.proofs.UnplayedLemmas.{each_fixture}
-use Rattle.branch_rules.proofs.SplitLemmas.{all_from, home_most_is_proper, away_most_is_proper}
+use Rattle.branch_rules.proofs.SplitLemmas.{home_most_is_proper, away_most_is_proper}
 
 -- ---- what parts the scores of a cell
 

@@ -25,46 +25,21 @@ use Rattle.league_core.proofs.OutcomeLemmas.{no_two_winners}
 use Rattle.league_core.proofs.OutcomeLemmas.{no_lost_draw, same_outcome-home, same_outcome-draw}
 use Rattle.league_core.proofs.OutcomeLemmas.{same_outcome-away, same_outcome-itself}
 use Rattle.league_core.proofs.OutcomeLemmas.{same_outcome-joined}
+use Rattle.league_core.proofs.PlainLemmas.{all_from}
+use Rattle.league_core.proofs.OptionTestLemmas.{any_gives, any_shows}
+use Rattle.league_core.proofs.LiteralLemmas.{options_at}
 use Rattle.score_box.specs.declared.cell.Cell.{Cell}
 use Rattle.score_box.specs.declared.cell.goals.Goals.{Goals}
 use Rattle.score_box.specs.Cells.{IsCellOf, AllowsNone, IsSpanOf}
 use Rattle.score_box.specs.Settings.{Setting, HasFinish}
 use Rattle.score_box.specs.Unplayed.{is_unplayed, unplayed_in}
-use Rattle.score_box.proofs.BoxLemmas.{options_at}
 use Rattle.branch_rules.specs.declared.left.Outcomes.{Outcomes}
 use Rattle.branch_rules.specs.Choices.{IsOutcomeSplit, options_at_fixture}
 use Rattle.branch_rules.specs.Outcomes.{AreOutcomesOf}
 use Rattle.example_finish.proofs.UnplayedLemmas.{each_fixture}
-use Rattle.branch_rules.proofs.SplitLemmas.{all_from, home_is_proper, draw_is_proper}
+use Rattle.branch_rules.proofs.SplitLemmas.{home_is_proper, draw_is_proper}
 
 -- ---- what is among the options
-
--- an option that passes shows that one does
-any_shows : (test : Score → Bool) (options : List Score) (score : Score)
-    → has_score options score ≡ true → test score ≡ true → list_any test options ≡ true
-any_shows test [] score is passed = absurd (false≢true is)
-any_shows test (first ∷ options) score is passed =
-    elim (or_cases (same_score score first) (has_score options score) is) as
-    (λ _. list_any test (first ∷ options) ≡ true) [
-      | inl same ↦
-          or_left (test first) (list_any test options)
-          (ap test (sym (same_score-true score first same)) ∙ passed)
-      | inr later ↦
-          or_right (test first) (list_any test options) (any_shows test options score later passed)
-    ]
-
--- where one passes, there is one that does
-any_gives : (test : Score → Bool) (options : List Score) → list_any test options ≡ true
-    → (score : Score) × (has_score options score ≡ true) × (test score ≡ true)
-any_gives test [] some = absurd (false≢true some)
-any_gives test (first ∷ options) some =
-    elim (or_cases (test first) (list_any test options) some) as
-    (λ _. (score : Score) × (has_score (first ∷ options) score ≡ true) × (test score ≡ true)) [
-      | inl here ↦ (first, has_score-first first options, here)
-      | inr later ↦
-          let one = any_gives test options later in
-          (one.0, or_right (same_score one.0 first) (has_score options one.0) one.1, one.2)
-    ]
 
 -- where none passes, none does
 none_shows : (test : Score → Bool) (options : List Score)

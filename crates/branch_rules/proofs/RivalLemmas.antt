@@ -19,13 +19,6 @@ use Rattle.league_core.specs.ClubSets.{clubs_in}
 use Rattle.league_core.proofs.ClubLemmas.{all_in_range}
 use Rattle.league_core.proofs.ClubSetLemmas.{has_club-clubs_below}
 
--- a club of a set is one that a set has room for
-pub member_is_below : (set : ClubSet) (club : ℕ) → has_club (clubs_in set) club ≡ true → club < 32
-member_is_below set club has =
-    ltb-true club 32
-    (and_parts (ltb club 32) (eqb (bit_at set.bits club) 1)
-    (sym (has_club-clubs_below 32 set.bits club) ∙ has)).0
-
 -- what all that are kept pass
 all_kept : (test keep : ℕ → Bool) (xs : List ℕ)
     → list_all (λ x. not (keep x) || test x) xs ≡ true → list_all test (filter keep xs) ≡ true

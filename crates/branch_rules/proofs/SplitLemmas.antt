@@ -20,30 +20,11 @@ use Rattle.league_core.specs.Options.{meets_literal, options_in, has_score}
 use Rattle.league_core.specs.Options.{has_option}
 use Rattle.league_core.specs.Options.{has_finish}
 use Rattle.league_core.specs.Splits.{have_both_finish, is_proper}
-use Rattle.league_core.proofs.PlainLemmas.{list_all-at}
+use Rattle.league_core.proofs.PlainLemmas.{list_all-at, all_from}
 use Rattle.league_core.proofs.OptionLemmas.{length-options_from, has_score-first}
-use Rattle.score_box.proofs.BoxLemmas.{options_at-with}
+use Rattle.league_core.proofs.OptionTestLemmas.{has_option-some, first_shown}
+use Rattle.league_core.proofs.LiteralLemmas.{options_at-with}
 use Rattle.branch_rules.specs.Choices.{IsDivided}
-
--- where each of a list passes, all do
-pub all_from : {X : Type 0} (test : X → Bool) (xs : List X) (d : X)
-    → ((k : ℕ) → k < length xs → test (get_or xs k d) ≡ true) → list_all test xs ≡ true
-all_from test [] d each = refl
-all_from test (x ∷ xs) d each =
-    and_from (test x) (list_all test xs) (each 0 (omega arith))
-    (all_from test xs d (λ k within. each (suc k) (omega arith)))
-
--- an option shows that there is one
-option_shows : (options : List Score) (score : Score) → has_score options score ≡ true
-    → has_option options ≡ true
-option_shows [] score is = absurd (false≢true is)
-option_shows (first ∷ options) score is = refl
-
--- where there is an option, there is one to show
-first_shown : (options : List Score) → has_option options ≡ true
-    → (score : Score) × (has_score options score ≡ true)
-first_shown [] some = absurd (false≢true some)
-first_shown (first ∷ options) some = (first, has_score-first first options)
 
 -- the half of a zone in which a score's test is as said has a finish, where some option of its
 -- fixture is as said
@@ -64,7 +45,7 @@ half_has sheet season zone test holds fixture score on some is passed =
     → meets_literal k s literal ≡ true
     → has_option (get_or (options_in sheet season half) k []) ≡ true =
     λ k s within old meets.
-    option_shows (get_or (options_in sheet season half) k []) s
+    has_option-some (get_or (options_in sheet season half) k []) s
     (options_at-with sheet.goal_limit zone literal season.scores k s within
     ∙ and_from _ _ old meets) in
     all_from has_option (options_in sheet season half) [] (λ k below.

@@ -36,7 +36,7 @@ pub fn goal_test(zone_box: &ZoneBox, question: &Question, totals: &Totals) -> Op
     test_of(best)
 }
 
-/// The test of a fixture's goals, where it has several scores.
+// The test of a fixture's goals, where it has several scores.
 fn rated_goals(
     zone_box: &ZoneBox,
     question: &Question,
@@ -59,8 +59,8 @@ fn rated_goals(
     }
 }
 
-/// A hundred for each side that is level with the question's club at the least points, and for the
-/// club itself.
+// A hundred for each side that is level with the question's club at the least points, and for the
+// club itself.
 fn level_sides(question: &Question, totals: &Totals, sides: Fixture) -> i32 {
     let own = totals.least_of(question.club);
     let home = i32::from(totals.least_of(sides.home) == own);
@@ -69,8 +69,8 @@ fn level_sides(question: &Question, totals: &Totals, sides: Fixture) -> i32 {
     100 * (home + away + plays)
 }
 
-/// A test of goals that splits what the cell has left of its first outcome; none where that is one
-/// score.
+// A test of goals that splits what the cell has left of its first outcome; none where that is one
+// score.
 fn goal_split(cell: &Cell, fixture: u16) -> Option<Rated>
     ensures some { IfSome result (λ one. DividesByGoals cell.now fixture one.test) }
     ensures none { IfNone result (HasOneOutcome cell.now → HasOneAtMost cell.now) }
@@ -85,7 +85,7 @@ fn goal_split(cell: &Cell, fixture: u16) -> Option<Rated>
     split_of(goals, fixture)
 }
 
-/// The middle of the wider of two ranges; none where both have one number.
+// The middle of the wider of two ranges; none where both have one number.
 fn split_of(goals: Goals, fixture: u16) -> Option<Rated>
     ensures some { IfSome result (λ one. (cell : Cell) (test : Score → Bool)
         → IsSpanOf cell test goals → DividesByGoals cell fixture one.test) }

@@ -36,8 +36,8 @@ pub fn outcome_test(zone_box: &ZoneBox, question: &Question, totals: &Totals) ->
     test_of(best)
 }
 
-/// The best test so far, or a test of a fixture's outcome that is rated higher. Where no such test
-/// can be, none is rated.
+// The best test so far, or a test of a fixture's outcome that is rated higher. Where no such test
+// can be, none is rated.
 fn better_of(
     zone_box: &ZoneBox,
     question: &Question,
@@ -67,7 +67,7 @@ fn better_of(
     )
 }
 
-/// The better of the two tests of a fixture's outcome; none where it has one outcome.
+// The better of the two tests of a fixture's outcome; none where it has one outcome.
 fn rated_outcome(
     zone_box: &ZoneBox,
     question: &Question,
@@ -87,7 +87,7 @@ fn rated_outcome(
     better(home, draw)
 }
 
-/// The test of a home win, where it splits the zone.
+// The test of a home win, where it splits the zone.
 fn rated_home(
     zone_box: &ZoneBox,
     question: &Question,
@@ -116,7 +116,7 @@ fn rated_home(
     }
 }
 
-/// The test of a draw, where it splits the zone.
+// The test of a draw, where it splits the zone.
 fn rated_draw(
     zone_box: &ZoneBox,
     question: &Question,

@@ -26,7 +26,7 @@ pub fn work(alloc: Global, sheet: &Sheet, piece: Piece) -> Result<Done, OutOfMem
     Ok(Done::of(piece, finding))
 }
 
-/// What is found in a zone of a season, over a box of its own.
+// What is found in a zone of a season, over a box of its own.
 fn find_in<'a>(
     alloc: Global,
     sheet: &'a Sheet,

@@ -88,7 +88,7 @@ impl<'a> Pressure<'a> {
         }
     }
 
-    /// The same in a match of the question's club against a rival.
+    // The same in a match of the question's club against a rival.
     fn own_outlook(&self, own: Step, rival: u8, step: Step) -> Outlook {
         let club = self.question.club;
         let most = self.totals.most_of(club).wrapping_sub(own.fall);
@@ -106,7 +106,7 @@ impl<'a> Pressure<'a> {
         }
     }
 
-    /// What becomes of one rival, which this step brings nearer to its bounds.
+    // What becomes of one rival, which this step brings nearer to its bounds.
     fn seen(&self, rival: u8, step: Step) -> Outlook {
         self.outlook_of(self.rises.of(rival), self.falls.of(rival), step)
     }
@@ -122,7 +122,7 @@ impl<'a> Pressure<'a> {
     }
 }
 
-/// By how many points the least of each rival of a set may rise until it meets this number.
+// By how many points the least of each rival of a set may rise until it meets this number.
 fn rises_of(marked: ClubSet, question: &Question, totals: &Totals, most: i32) -> Rooms {
     let mut rooms = Rooms::ample();
     let mut left = marked;
@@ -139,7 +139,7 @@ fn rises_of(marked: ClubSet, question: &Question, totals: &Totals, most: i32) ->
     rooms
 }
 
-/// By how many points the most of each rival of a set may fall until it meets this number.
+// By how many points the most of each rival of a set may fall until it meets this number.
 fn falls_of(marked: ClubSet, question: &Question, totals: &Totals, least: i32) -> Rooms {
     let mut rooms = Rooms::ample();
     let mut left = marked;
@@ -166,7 +166,7 @@ impl Outlook {
 }
 
 impl Step {
-    /// From the least and the most points that a side had left to those of a half.
+    // From the least and the most points that a side had left to those of a half.
     fn between(left: (i32, i32), half: (i32, i32)) -> Step {
         Step {
             rise: half.0.wrapping_sub(left.0),

@@ -91,15 +91,15 @@ impl<'a> Rater<'a> {
         points_if(!first.levels, 4) + points_if(second.levels, 2) + points_if(is_home, 1)
     }
 
-    /// The match is the club's own, and its points may miss the window.
+    // The match is the club's own, and its points may miss the window.
     fn counts_own(&self, sides: Fixture) -> bool {
         self.excess > 0 && self.pressure.is_own(sides)
     }
 }
 
 impl<'a> Rater<'a> {
-    /// The rating of one of the club's own matches: how near its yes half brings the club to the
-    /// window, and whether the opponent's mark agrees.
+    // The rating of one of the club's own matches: how near its yes half brings the club to the
+    // window, and whether the opponent's mark agrees.
     fn rate_own(&self, sides: Fixture, left: Outcomes, yes: Outcomes) -> i32 {
         let at_home = sides.home == self.question.club;
         let opponent = if at_home { sides.away } else { sides.home };
@@ -121,7 +121,7 @@ impl<'a> Rater<'a> {
         OWN_MATCH + nearness(moved, self.wanted_step()) + points_if(agrees, 50)
     }
 
-    /// By how many points the next match is best moved.
+    // By how many points the next match is best moved.
     fn wanted_step(&self) -> i32 {
         match self.question.claim {
             Claim::Inside => match self.excess {
@@ -143,7 +143,7 @@ fn points_if(counts: bool, points: i32) -> i32
     if counts { points } else { 0 }
 }
 
-/// Less the farther a step is from the wanted one; least where it leads away.
+// Less the farther a step is from the wanted one; least where it leads away.
 fn nearness(step: i32, wanted: i32) -> i32
     ensures { (neg_ℤ (pos 5000) ≤ℤ result) × (result ≤ℤ pos 0) }
 {

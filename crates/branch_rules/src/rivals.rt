@@ -28,7 +28,7 @@ pub fn unmarked_rival(zone_box: &ZoneBox, question: &Question, totals: &Totals) 
     }
 }
 
-/// The rivals of a club that the zone does not mark.
+// The rivals of a club that the zone does not mark.
 fn unmarked_rivals(zone_box: &ZoneBox, club: u8) -> ClubSet
     requires { club < length zone_box.now.sheet.clubs }
     ensures { (rival : ℕ) → has_club (clubs_in result) rival
@@ -40,8 +40,8 @@ fn unmarked_rivals(zone_box: &ZoneBox, club: u8) -> ClubSet
     ClubSet::single(club).others(clubs).without(marked)
 }
 
-/// The rival of the set that is tried first: one that breaks its bound alone on one side, else the
-/// one with the most points at the least and at the most together.
+// The rival of the set that is tried first: one that breaks its bound alone on one side, else the
+// one with the most points at the least and at the most together.
 fn best_rival(rivals: ClubSet, question: &Question, totals: &Totals) -> u8
     requires { clubs_in rivals ≢ [] }
     ensures { IsTrue (has_club (clubs_in rivals) result) }

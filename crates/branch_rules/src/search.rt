@@ -29,7 +29,7 @@ pub fn find(alloc: Global, zone_box: &ZoneBox, question: &Question) -> Result<Fi
     }
 }
 
-/// The proposed finish, with the lots that favour the claim.
+// The proposed finish, with the lots that favour the claim.
 fn won(alloc: Global, zone_box: &ZoneBox, question: &Question) -> Result<Finding, OutOfMemory>
     requires has_finish { HasFinish zone_box.now }
     requires of_sheet { IsQuestionOf zone_box.now.sheet question.now }
@@ -45,7 +45,7 @@ fn won(alloc: Global, zone_box: &ZoneBox, question: &Question) -> Result<Finding
     Ok(Finding::Won(finish, lots))
 }
 
-/// The first reason where one holds, otherwise a split.
+// The first reason where one holds, otherwise a split.
 fn reason_or_split(
     alloc: Global,
     zone_box: &ZoneBox,

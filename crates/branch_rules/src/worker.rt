@@ -62,7 +62,7 @@ impl<'a> Solver for Worker<'a> {
     }
 }
 
-/// Makes the box that of another zone.
+// Makes the box that of another zone.
 fn move_to(zone_box: &mut ZoneBox, zone: &[Literal]) -> Result<(), OutOfMemory>
     requires { IsTrue (is_zone_of zone_box.old.sheet zone.now) }
     ensures ok { OnOk result (zone_box.new ≡ record zone_box.old { zone = zone.now }) }
@@ -74,7 +74,7 @@ fn move_to(zone_box: &mut ZoneBox, zone: &[Literal]) -> Result<(), OutOfMemory>
     go_on(zone_box, &zone[common..])
 }
 
-/// How many literals both zones have in front.
+// How many literals both zones have in front.
 fn common_front(zone: &[Literal], other: &[Literal]) -> usize
     ensures one { result ≤ length zone.now }
     ensures two { result ≤ length other.now }
@@ -95,7 +95,7 @@ fn are_same(literal: &Literal, other: &Literal) -> bool
     literal == other
 }
 
-/// Takes literals off the box until so many are left.
+// Takes literals off the box until so many are left.
 fn go_back(zone_box: &mut ZoneBox, left: usize)
     requires { left ≤ length zone_box.old.zone }
     ensures { zone_box.new ≡ record zone_box.old { zone = take left zone_box.old.zone } }
@@ -105,7 +105,7 @@ fn go_back(zone_box: &mut ZoneBox, left: usize)
     }
 }
 
-/// Puts literals at the end of the box's zone.
+// Puts literals at the end of the box's zone.
 fn go_on(zone_box: &mut ZoneBox, literals: &[Literal]) -> Result<(), OutOfMemory>
     requires { IsTrue (is_zone_of zone_box.old.sheet literals.now) }
     ensures ok { OnOk result

@@ -33,6 +33,7 @@ use Rattle.cert_text.specs.TreeLines.{is_test_for, are_tests_for, marked_line}
 use Rattle.cert_check.specs.declared.dues.TreeKind.TheVariants.{Refutation, Spent}
 use Rattle.cert_check.specs.Dues.{Basis, is_path_for, is_reason_for}
 use Rattle.league_core.specs.Questions.{full_question, holds_at}
+use Rattle.league_core.proofs.LendingLemmas.{new_count-all_opened}
 use Rattle.cert_text.specs.declared.proof_line.ProofLine.{ProofLine}
 use Rattle.cert_text.specs.TreeLines.{IsRefutationTree, IsSpentTree}
 use Rattle.cert_text.specs.ExampleLines.{score_lines, lots_line}
@@ -204,14 +205,6 @@ marked_lines-opened (branch test fresh yes_half no_half) =
     ∙ ap (λ it. map marked_line (preorder yes_half) ++ it) (marked_lines-opened no_half)
     ∙ sym (map-append marked_line (preorder yes_half) (preorder no_half)))
 
--- and as many new nodes
-pub new_count-opened : (tree : Tree) → new_count (all_opened tree) ≡ new_count tree
-new_count-opened open_leaf = refl
-new_count-opened (lent_leaf number) = refl
-new_count-opened (refuted_leaf reason fresh) = refl
-new_count-opened (branch test fresh yes_half no_half) =
-    omega (arith, new_count-opened yes_half, new_count-opened no_half)
-
 -- and an open leaf where it had one
 pub has_open-opened : (tree : Tree) → has_open tree ≡ true → has_open (all_opened tree) ≡ true
 has_open-opened open_leaf open_one = refl
@@ -266,7 +259,7 @@ spent_part basis question lines shown =
         and_from (0 + new_count (all_opened tree) == basis.sheet.budget)
             (false || has_open (all_opened tree))
             (ap (λ it. it == basis.sheet.budget)
-            (zero-add (new_count (all_opened tree)) ∙ new_count-opened tree) ∙ both.0)
+            (zero-add (new_count (all_opened tree)) ∙ new_count-all_opened tree) ∙ both.0)
             (has_open-opened tree both.1),
         ap (map Proof) (shown.1.2 ∙ sym (marked_lines-opened tree))
             ∙ lines_of_nodes (line_of_node Spent) (preorder (all_opened tree))

@@ -18,6 +18,7 @@ use Rattle.league_core.specs.Trees.{Tree, refuted_leaf}
 use Rattle.league_core.specs.LotsFor.{lots_for_claim}
 use Rattle.league_core.proofs.LotsLemmas.{lots_for_claim-are_lots}
 use Rattle.league_core.proofs.OptionLemmas.{same_score-itself}
+use Rattle.league_core.proofs.FinishLemmas.{may_all_end-ended, ended_of}
 use Rattle.cert_text.specs.declared.proof_line.ProofLine.TheVariants as line
 use Rattle.cert_text.specs.ExampleLines.{score_lines, lots_line}
 use Rattle.cert_check.specs.declared.token.Token.{Token}
@@ -71,24 +72,6 @@ some_nodes basis kind question zones tally = (
   ),
 )
 
--- a match ends as it did, or without goals
-ended_somehow : Option Score → Option Score
-ended_somehow None = Some (record { home = 0; away = 0 })
-ended_somehow (Some played) = Some played
-
--- so all may end
-all_end : (limit : ℕ) (left : List (Option Score))
-    → may_all_end limit left (map ended_somehow left) ≡ true
-unfolding ended_somehow
-all_end limit [] = refl
-all_end limit (None ∷ left) =
-    and_from (nat_le 0 limit && nat_le 0 limit) (may_all_end limit left (map ended_somehow left))
-    (and_from (nat_le 0 limit) (nat_le 0 limit) (le-leb 0 limit (omega arith))
-    (le-leb 0 limit (omega arith))) (all_end limit left)
-all_end limit (Some played ∷ left) =
-    and_from (same_score played played) (may_all_end limit left (map ended_somehow left))
-    (same_score-itself played played refl) (all_end limit left)
-
 -- some lots of so many clubs
 some_lots : (clubs : ℕ) → (drawn : List ℕ) × (are_lots clubs drawn ≡ true)
 some_lots zero = ([], refl)
@@ -102,12 +85,12 @@ some_rest : (basis : Basis) (question : Question) (ended left : List (Option Sco
     → (tokens : List Token) × IsExampleFrom false basis question ended left tokens
 some_rest basis question ended left =
     let drawn = some_lots (length basis.sheet.clubs) in
-    let scores = map ended_somehow left in (
+    let scores = map ended_of left in (
       map Proof (score_lines (length ended) left scores ++ lots_line drawn.0 ∷ []),
       (
         scores,
         drawn.0,
-        all_end basis.sheet.goal_limit left,
+        may_all_end-ended basis.sheet.goal_limit left,
         drawn.1,
         asked_not (IsTrue (holds_at basis.sheet question (finish_with basis.season (ended ++
             scores))

@@ -4,7 +4,7 @@ use Rattle.std.specs.Prelude.{◌↔◌, IsTrue}
 use Rattle.std.specs.List.{list_all}
 use Rattle.std.proofs.Math.Bool.{not-not}
 use Rattle.league_core.specs.Sums.{has_club}
-use Rattle.cert_text.proofs.MemberLemmas.{each_member, all_members, no_member}
+use Rattle.league_core.proofs.ClubLemmas.{each_member, all_members, no_member}
 
 -- the rest of a list behind those that pass is empty exactly where all pass
 pub list_all-rest_empty : (test : ℕ → Bool) (clubs rest : List ℕ) (is_empty : Bool)

@@ -14,9 +14,9 @@ use Rattle.league_core.specs.Questions.{full_question}
 use Rattle.league_core.specs.Trees.{Tree}
 use Rattle.league_core.proofs.TreeLemmas.{NodesMeet-weaker}
 use Rattle.league_core.proofs.ClubSetLemmas.{has_club-range}
+use Rattle.league_core.proofs.ClubLemmas.{all_members}
 use Rattle.reason_laws.specs.Refutations.{IsRefutedLeaf}
 use Rattle.reason_laws.proofs.RefutationLemmas.{refutation_shows}
-use Rattle.cert_text.proofs.MemberLemmas.{all_members}
 use Rattle.cert_check.specs.declared.token.Token.{Token}
 use Rattle.cert_check.specs.declared.dues.RowWord.{RowWord}
 use Rattle.cert_check.specs.declared.dues.RowWord.TheVariants.{Clinched, Lost, Possible, Unsettled}

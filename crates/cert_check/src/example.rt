@@ -139,26 +139,8 @@ impl<'a> Report<'a> {
             holds ≡ holds_at self.now.basis.sheet question finish.now drawn.now) }
     {
         let place = place(self.alloc, self.sheet, finish, drawn, question.club)?;
-        let on_side = is_on_side(place <= question.line, question.claim);
-        Ok(self.is_in_window(question, finish) && on_side)
-    }
-
-    fn is_in_window(&self, question: Question, finish: &Season) -> bool
-        requires question { IsQuestionOf self.now.basis.sheet question }
-        requires of_sheet { IsSeasonOf self.now.basis.sheet finish.now }
-        ensures { result ≡ questions.is_in_window question
-            (sums.points_of self.now.basis.sheet finish.now question.club) }
-    {
+        let on_side = question.claim.is_on_side(place <= question.line);
         let points = points_of(self.sheet, finish, question.club);
-        question.low <= points && points <= question.high
-    }
-}
-
-fn is_on_side(inside: bool, claim: Claim) -> bool
-    ensures { result ≡ questions.is_on_side inside claim }
-{
-    match claim {
-        Claim::Inside => inside,
-        Claim::Outside => !inside,
+        Ok(question.is_in_window(points) && on_side)
     }
 }

@@ -11,10 +11,10 @@ use Rattle.league_core.specs.Results.{Results, is_score, is_score_or_none, are_r
 use Rattle.league_core.specs.Seasons.{IsLeague}
 use Rattle.league_core.specs.Finishes.{may_end, may_all_end}
 use Rattle.league_core.specs.Questions.{IsExample}
+use Rattle.league_core.proofs.FinishLemmas.{may_end_is_score}
 use Rattle.cert_text.specs.Ranges.{is_fixture_number, is_club_number, is_in_range}
 use Rattle.cert_text.specs.ExampleLines.{score_line_if, score_lines, lots_line, example_lines}
 use Rattle.cert_text.proofs.LotRangeLemmas.{lots_in_range}
-use Rattle.cert_text.proofs.ProperLemmas.{ends_with_score}
 
 line_if_in_range : (limit fixture : ℕ) (played ended : Option Score) → limit ≤ 20 → fixture < 600
     → is_score_or_none played ≡ true → may_end limit played ended ≡ true
@@ -24,7 +24,7 @@ line_if_in_range limit fixture None None few inside may_be ends = refl
 line_if_in_range limit fixture None (Some score) few inside may_be ends =
     and_from (is_fixture_number fixture && is_score score) true
     (and_from (is_fixture_number fixture) (is_score score) (lt-ltb fixture 600 inside)
-    (ends_with_score limit None score few may_be ends)) refl
+    (may_end_is_score limit None score (omega (arith, few)) may_be ends)) refl
 
 score_lines_in_range : (limit fixture : ℕ) (season finish : List (Option Score)) → limit ≤ 20
     → fixture + length season ≤ 600 → list_all is_score_or_none season ≡ true

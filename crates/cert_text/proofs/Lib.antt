@@ -5,7 +5,6 @@ pub mod RowLemmas
 pub mod SetLemmas
 pub mod SetListLemmas
 pub mod ReadLemmas
-pub mod MemberLemmas
 pub mod RangeLemmas
 pub mod BitSumLemmas
 pub mod FormLemmas

@@ -9,20 +9,7 @@ use Rattle.std.proofs.lemmas.Bool.{eq-eqb, ne_eqb, lt-ltb, ltb-true, cases_lt, f
 use Rattle.std.proofs.lemmas.Map.Steps.{le-length_from_below}
 use Rattle.league_core.specs.Sums.{has_club}
 use Rattle.league_core.specs.Ranking.{are_lots}
-use Rattle.league_core.proofs.ClubLemmas.{has_club-append, each_in_range}
-
--- a list of numbers has one whichever side the test has it on
-any_from_has : (lots : List ℕ) (club : ℕ) → has_club lots club ≡ true
-    → list_any (eqb club) lots ≡ true
-any_from_has [] club has = absurd (false≢true has)
-any_from_has (drawn ∷ lots) club has =
-    elim (or_cases (drawn == club) (has_club lots club) has) as (λ _.
-    (eqb club drawn || list_any (eqb club) lots) ≡ true) [
-      | inl here ↦ or_left (eqb club drawn) (list_any (eqb club) lots)
-          (eq-eqb club drawn (sym (eqb-true drawn club here)))
-      | inr later ↦ or_right (eqb club drawn) (list_any (eqb club) lots)
-          (any_from_has lots club later)
-    ]
+use Rattle.league_core.proofs.ClubLemmas.{has_club-append, each_in_range, any_from_has}
 
 -- without an entry past the clubs the list would be too short for them
 drawn_below : (clubs : ℕ) (done later : List ℕ) (drawn : ℕ)

@@ -109,7 +109,7 @@ small_claim : (claim : Claim) → list_all is_printed (claim_word claim) ≡ tru
 small_claim Inside = refl
 small_claim Outside = refl
 
-small_fixture : (fixture : ℕ) → is_fixture_number fixture ≡ true
+pub small_fixture : (fixture : ℕ) → is_fixture_number fixture ≡ true
     → nat_lt (number_in_text fixture) 10000 ≡ true
 small_fixture fixture known =
     let below = ltb-true fixture 600 known in
@@ -121,12 +121,12 @@ small_club club known =
     lt-ltb (number_in_text club) 10000 (omega arith)
 
 -- at most 99 goals
-small_goals : (goals most : ℕ) → most < 10000 → nat_le goals most ≡ true → nat_lt goals 10000 ≡ true
+pub small_goals : (goals most : ℕ) → most < 10000 → nat_le goals most ≡ true → nat_lt goals 10000 ≡ true
 small_goals goals most small known =
     let within = leb-true goals most known in
     lt-ltb goals 10000 (omega arith)
 
-alone : (b : Bool) → b ≡ true → (b && true) ≡ true
+pub alone : (b : Bool) → b ≡ true → (b && true) ≡ true
 alone b e = and_from b true e refl
 
 pair : (a b : Bool) → a ≡ true → b ≡ true → (a && (b && true)) ≡ true
@@ -148,7 +148,7 @@ small_test (AwayMost fixture most) known =
     (small_fixture fixture parts.0) (small_goals most 98 (omega arith) parts.1)
 small_test (Rival club) known = alone (nat_lt (number_in_text club) 10000) (small_club club known)
 
-small_set : (set : ClubSet) → is_set_in_range set ≡ true
+pub small_set : (set : ClubSet) → is_set_in_range set ≡ true
     → (list_all is_club_number (clubs_in set) && true) ≡ true
 small_set set known =
     alone (list_all is_club_number (clubs_in set))
@@ -162,7 +162,7 @@ small_reason (Low set) known = small_set set known
 small_reason (High set) known = small_set set known
 small_reason Tie known = refl
 
-small_score : (fixture : ℕ) (score : Score) → (is_fixture_number fixture && is_score score) ≡ true
+pub small_score : (fixture : ℕ) (score : Score) → (is_fixture_number fixture && is_score score) ≡ true
     → (nat_lt (number_in_text fixture) 10000
     && (nat_lt score.home 10000 && (nat_lt score.away 10000 && true))) ≡ true
 small_score fixture score known =

@@ -25,27 +25,10 @@ use Rattle.league_core.proofs.OptionLemmas.{same_score-true, has_score-with, has
 use Rattle.league_core.proofs.OptionLemmas.{has_score-first, get_or-options_from}
 use Rattle.league_core.proofs.OptionLemmas.{length-options_from}
 use Rattle.league_core.proofs.PlainLemmas.{list_all-at}
+use Rattle.league_core.proofs.OptionTestLemmas.{first_shown}
+use Rattle.league_core.proofs.FinishLemmas.{may_end_is_score}
 use Rattle.cert_text.specs.Ranges.{is_fixture_number, is_goal_bound}
 use Rattle.cert_text.specs.TreeLines.{is_test_for, are_tests_for}
-
--- a fixture ends with a score that a match may have
-pub ends_with_score : (limit : ℕ) (played : Option Score) (score : Score) → limit ≤ 20
-    → is_score_or_none played ≡ true → may_end limit played (Some score) ≡ true
-    → is_score score ≡ true
-ends_with_score limit None score few may_be ends =
-    let parts = and_parts (nat_le score.home limit) (nat_le score.away limit) ends in
-    let home = leb-true score.home limit parts.0 in
-    let away = leb-true score.away limit parts.1 in
-    and_from (nat_le score.home 99) (nat_le score.away 99)
-    (le-leb score.home 99 (omega (arith, home, few)))
-    (le-leb score.away 99 (omega (arith, away, few)))
-ends_with_score limit (Some played) score few may_be ends =
-    subst (λ (s : Score). is_score s ≡ true) (same_score-true played score ends) may_be
-
-some_option : (options : List Score) → has_option options ≡ true
-    → (score : Score) × (has_score options score ≡ true)
-some_option [] some = absurd (false≢true some)
-some_option (score ∷ options) some = (score, has_score-first score options)
 
 -- where a test of a fixture misses, its no half has a score that misses
 missed_score : (limit : ℕ) (zone : List Literal) (test : Test) (fixture : ℕ) (played : Option Score)
@@ -54,7 +37,7 @@ missed_score : (limit : ℕ) (zone : List Literal) (test : Test) (fixture : ℕ)
     → (score : Score) × (is_score score ≡ true) × (passes test score ≡ false)
 missed_score limit zone test fixture played on few may_be some =
     let literal : Literal = record { test = test; yes = false } in
-    let found = some_option (options_of limit (with_test zone test false) fixture played) some in
+    let found = first_shown (options_of limit (with_test zone test false) fixture played) some in
     let score = found.0 in
     let both = and_parts (has_score (options_of limit zone fixture played) score)
     (meets_literal fixture score literal)
@@ -63,7 +46,11 @@ missed_score limit zone test fixture played on few may_be some =
     (sym (has_score-options_of limit zone fixture played score) ∙ both.0)).1 in
     let misses : not (passes test score) ≡ true =
     ap (λ b. not b || not (passes test score)) (sym on) ∙ both.1 in
-    (score, ends_with_score limit played score few may_be ends, not-true (passes test score) misses)
+    (
+      score,
+      may_end_is_score limit played score (omega (arith, few)) may_be ends,
+      not-true (passes test score) misses,
+    )
 
 -- at a fixture of the season
 missed_in : (sheet : Sheet) (season : Results) (zone : List Literal) (test : Test) (fixture : ℕ)

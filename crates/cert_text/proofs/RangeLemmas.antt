@@ -7,15 +7,8 @@ use Rattle.std.proofs.Math.Bool.{not-not}
 use Rattle.league_core.specs.Sums.{has_club}
 use Rattle.league_core.specs.Reasons.{has_member}
 use Rattle.league_core.proofs.ClubSetLemmas.{has_club-range}
+use Rattle.league_core.proofs.ClubLemmas.{each_member, all_members, no_member}
 use Rattle.cert_text.specs.Ranges.{is_club_number}
-use Rattle.cert_text.proofs.MemberLemmas.{each_member, all_members, no_member}
-
--- a list has a club, or it is empty
-pub has_member-not_empty : (clubs : List ℕ) (is_empty : Bool) → (IsTrue is_empty ↔ (clubs ≡ []))
-    → not is_empty ≡ has_member clubs
-has_member-not_empty [] is_empty says = ap not (says.1 refl)
-has_member-not_empty (club ∷ clubs) true says = absurd (let e = says.0 refl in cc)
-has_member-not_empty (club ∷ clubs) false says = refl
 
 -- where a list has the clubs of another but the numbers of clubs, all of the other are such numbers
 -- where it is empty

@@ -25,12 +25,12 @@ use Rattle.league_core.specs.Reasons.{has_member, has_reason, refutes, times}
 use Rattle.league_core.specs.Trees.{Tree, open_leaf, lent_leaf, refuted_leaf, branch, preorder}
 use Rattle.league_core.specs.Splits.{AreReasonsTrue}
 use Rattle.league_core.proofs.HalfLemmas.{list_all-with}
+use Rattle.league_core.proofs.ClubLemmas.{each_member, all_members}
 use Rattle.cert_text.specs.declared.proof_line.ProofLine.{ProofLine}
 use Rattle.cert_text.specs.Ranges.{is_club_number, is_test_in_range, is_reason_in_range}
 use Rattle.cert_text.specs.Ranges.{is_in_range}
 use Rattle.cert_text.specs.TreeLines.{plain_line, marked_line, plain_lines, marked_lines}
 use Rattle.cert_text.specs.TreeLines.{is_test_for, are_tests_for}
-use Rattle.cert_text.proofs.MemberLemmas.{all_members, each_member}
 
 -- each literal's test is in range
 abbrev is_zone_in_range : List Literal → Bool

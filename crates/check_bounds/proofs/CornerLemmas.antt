@@ -15,7 +15,7 @@ use Rattle.league_core.specs.Finishes.{same_score}
 use Rattle.league_core.specs.Options.{is_home_win, is_draw, is_away_win, has_score, same_outcome}
 use Rattle.league_core.specs.Options.{score_of}
 use Rattle.league_core.proofs.OptionLemmas.{each_option, same_score-itself, same_score-true}
-use Rattle.league_core.proofs.OptionLemmas.{same_score-swap}
+use Rattle.league_core.proofs.OptionLemmas.{same_score-swap, has_score-first}
 use Rattle.league_core.proofs.OutcomeLemmas.{same_outcome-home, same_outcome-draw}
 use Rattle.league_core.proofs.OutcomeLemmas.{same_outcome-away, same_outcome-itself}
 use Rattle.check_bounds.specs.declared.scope.Scope.{Scope}
@@ -44,10 +44,6 @@ wider part whole score among is = record {
     corner : (Passes : Score → Type 0) → HasCorner part score Passes
         → HasCorner whole score Passes
     corner Passes found = (found.0, among found.0 found.1, found.2, found.3)
-
--- the places of four corners, and of two
-first_of : (a : Score) (rest : List Score) → has_score (a ∷ rest) a ≡ true
-first_of a rest = or_left (same_score a a) (has_score rest a) (same_score-itself a a refl)
 
 later_of : (a b : Score) (rest : List Score) → has_score rest b ≡ true
     → has_score (a ∷ rest) b ≡ true
@@ -159,24 +155,24 @@ home_between scope true (Some wins) score is are home away won =
     let within = are.within score.home score.away (home, away, above) in
     let at_tight : (has_score (tight ∷ wide ∷ high ∷ near ∷ []) tight ≡ true)
     × (same_outcome tight score ≡ true) = (
-      first_of tight (wide ∷ high ∷ near ∷ []),
+      has_score-first tight (wide ∷ high ∷ near ∷ []),
       same_outcome-home tight score (lt-ltb tight.away tight.home are.tight.2) won,
     ) in
     let at_wide : (has_score (tight ∷ wide ∷ high ∷ near ∷ []) wide ≡ true)
     × (same_outcome wide score ≡ true) = (
-      later_of tight wide (wide ∷ high ∷ near ∷ []) (first_of wide (high ∷ near ∷ [])),
+      later_of tight wide (wide ∷ high ∷ near ∷ []) (has_score-first wide (high ∷ near ∷ [])),
       same_outcome-home wide score (lt-ltb wide.away wide.home are.wide.2) won,
     ) in
     let at_high : (has_score (tight ∷ wide ∷ high ∷ near ∷ []) high ≡ true)
     × (same_outcome high score ≡ true) = (
       later_of tight high (wide ∷ high ∷ near ∷ []) (later_of wide high
-          (high ∷ near ∷ []) (first_of high (near ∷ []))),
+          (high ∷ near ∷ []) (has_score-first high (near ∷ []))),
       same_outcome-home high score (lt-ltb high.away high.home are.high.2) won,
     ) in
     let at_near : (has_score (tight ∷ wide ∷ high ∷ near ∷ []) near ≡ true)
     × (same_outcome near score ≡ true) = (
       later_of tight near (wide ∷ high ∷ near ∷ []) (later_of wide near
-          (high ∷ near ∷ []) (later_of high near (near ∷ []) (first_of near []))),
+          (high ∷ near ∷ []) (later_of high near (near ∷ []) (has_score-first near []))),
       same_outcome-home near score (lt-ltb near.away near.home are.near.2) won,
     ) in
     record {
@@ -228,24 +224,24 @@ away_between scope true (Some wins) score is are home away won =
     let within = are.within score.away score.home (away, home, above) in
     let at_tight : (has_score (tight ∷ wide ∷ high ∷ near ∷ []) tight ≡ true)
     × (same_outcome tight score ≡ true) = (
-      first_of tight (wide ∷ high ∷ near ∷ []),
+      has_score-first tight (wide ∷ high ∷ near ∷ []),
       same_outcome-away tight score (lt-ltb tight.home tight.away are.tight.2) won,
     ) in
     let at_wide : (has_score (tight ∷ wide ∷ high ∷ near ∷ []) wide ≡ true)
     × (same_outcome wide score ≡ true) = (
-      later_of tight wide (wide ∷ high ∷ near ∷ []) (first_of wide (high ∷ near ∷ [])),
+      later_of tight wide (wide ∷ high ∷ near ∷ []) (has_score-first wide (high ∷ near ∷ [])),
       same_outcome-away wide score (lt-ltb wide.home wide.away are.wide.2) won,
     ) in
     let at_high : (has_score (tight ∷ wide ∷ high ∷ near ∷ []) high ≡ true)
     × (same_outcome high score ≡ true) = (
       later_of tight high (wide ∷ high ∷ near ∷ []) (later_of wide high
-          (high ∷ near ∷ []) (first_of high (near ∷ []))),
+          (high ∷ near ∷ []) (has_score-first high (near ∷ []))),
       same_outcome-away high score (lt-ltb high.home high.away are.high.2) won,
     ) in
     let at_near : (has_score (tight ∷ wide ∷ high ∷ near ∷ []) near ≡ true)
     × (same_outcome near score ≡ true) = (
       later_of tight near (wide ∷ high ∷ near ∷ []) (later_of wide near
-          (high ∷ near ∷ []) (later_of high near (near ∷ []) (first_of near []))),
+          (high ∷ near ∷ []) (later_of high near (near ∷ []) (has_score-first near []))),
       same_outcome-away near score (lt-ltb near.home near.away are.near.2) won,
     ) in
     record {
@@ -296,12 +292,12 @@ draw_between scope true (Some draws) score is are home away drawn =
     let high : Score = score_of draws.most draws.most in
     let at_low : (has_score (low ∷ high ∷ []) low ≡ true)
     × (same_outcome low score ≡ true) = (
-      first_of low (high ∷ []),
+      has_score-first low (high ∷ []),
       same_outcome-draw low score (eq-eqb draws.least draws.least refl) drawn,
     ) in
     let at_high : (has_score (low ∷ high ∷ []) high ≡ true)
     × (same_outcome high score ≡ true) = (
-      later_of low high (high ∷ []) (first_of high []),
+      later_of low high (high ∷ []) (has_score-first high []),
       same_outcome-draw high score (eq-eqb draws.most draws.most refl) drawn,
     ) in
     record {
@@ -395,7 +391,7 @@ corners_are scope home away draws home_are draws_are away_are options is =
 -- a score lies between itself and itself
 between_itself : (only : Score) → LiesBetween (only ∷ []) only
 between_itself only =
-    let there = first_of only [] in
+    let there = has_score-first only [] in
     let same = same_outcome-itself only in
     record {
       fewest_home = (only, there, same, omega arith);

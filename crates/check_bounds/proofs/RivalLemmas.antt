@@ -23,6 +23,7 @@ use Rattle.league_core.specs.Reasons.{has_member, too_many}
 use Rattle.league_core.proofs.PlainLemmas.{eqb-swap, times-suc}
 use Rattle.league_core.proofs.ClubSetLemmas.{clubs_below-filter_range, has_club-range}
 use Rattle.league_core.proofs.ClubSetLemmas.{filter-filter, filter_agree_in, has_club-filter}
+use Rattle.league_core.proofs.ClubLemmas.{each_member, all_members, no_member}
 
 -- the rivals of a set, counted
 pub count_rivals-is : (clubs club bits chosen without first single : ℕ) → clubs ≤ 32
@@ -95,42 +96,6 @@ any_counted test (x ∷ xs) =
     counted true all rest later more is = lt-ltb 0 all (omega (arith, more))
     counted false all rest later more is =
         let none : all ≡ rest = omega (arith, more) in ap (nat_lt 0) none ∙ is
-
--- what all of a list's clubs pass, each of them passes
-each_member : (test : ℕ → Bool) (clubs : List ℕ) → list_all test clubs ≡ true → (club : ℕ)
-    → has_club clubs club ≡ true → test club ≡ true
-each_member test [] all club has = absurd (false≢true has)
-each_member test (first ∷ clubs) all club has =
-    let parts = and_parts (test first) (list_all test clubs) all in
-    elim (first == club) as (λ b. (first == club) ≡ b → (b || has_club clubs club) ≡ true
-    → test club ≡ true) [
-      | true ↦ λ same has. subst (λ (x : ℕ). test x ≡ true) (eqb-true first club same) parts.0
-      | false ↦ λ other has. each_member test clubs parts.1 club has
-    ] refl has
-
--- and what each of them passes, all of them pass
-all_members : (test : ℕ → Bool) (clubs : List ℕ)
-    → ((club : ℕ) → has_club clubs club ≡ true → test club ≡ true) → list_all test clubs ≡ true
-all_members test [] each = refl
-all_members test (first ∷ clubs) each =
-    and_from (test first) (list_all test clubs)
-    (each first (ap (λ b. b || has_club clubs first) (eq-eqb first first refl)))
-    (all_members test clubs
-    (λ club has. each club (or_right (first == club) (has_club clubs club) has)))
-
--- a list that has no club is empty
-no_member : (clubs : List ℕ) → ((club : ℕ) → has_club clubs club ≡ false) → clubs ≡ []
-no_member [] none = refl
-no_member (first ∷ clubs) none =
-    absurd (false≢true (sym (none first)
-    ∙ ap (λ b. b || has_club clubs first) (eq-eqb first first refl)))
-
--- a list has a club, or it is empty
-pub has_member-not_empty : (clubs : List ℕ) (is_empty : Bool) → (IsTrue is_empty ↔ (clubs ≡ []))
-    → not is_empty ≡ has_member clubs
-has_member-not_empty [] is_empty says = ap not (says.1 refl)
-has_member-not_empty (club ∷ clubs) true says = absurd (let e = says.0 refl in cc)
-has_member-not_empty (club ∷ clubs) false says = refl
 
 -- all of a list are in another where nothing is left of it without the other
 pub all_within : (clubs others rest : List ℕ) (is_empty : Bool)

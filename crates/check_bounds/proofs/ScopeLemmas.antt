@@ -26,45 +26,12 @@ use Rattle.league_core.specs.Options.{meets_literal, options_of, options_from, o
 use Rattle.league_core.specs.Options.{has_score}
 use Rattle.league_core.proofs.OptionLemmas.{has_score-options_of, has_score-with}
 use Rattle.league_core.proofs.OptionLemmas.{length-options_from, get_or-options_from}
+use Rattle.league_core.proofs.LiteralLemmas.{options_at, options_at-with, meets-other, meets-own}
 use Rattle.check_bounds.specs.declared.scope.Scope.{Scope}
 use Rattle.check_bounds.specs.Scopes.{is_left, IsScopeOf}
 use Rattle.check_bounds.specs.Corners.{AreCornersOf}
 use Rattle.check_bounds.specs.Zones.{AreAllCornersOf, CutsBy, IsTestWithin, is_mark}
 use Rattle.check_bounds.specs.Zones.{marked_as}
-
--- the options of a fixture by its number in the sheet
-pub options_at : (limit : ℕ) (zone : List Literal) (scores : List (Option Score)) (k : ℕ)
-    → k < length scores
-    → get_or (options_from limit zone 0 scores) k [] ≡ options_of limit zone k
-    (get_or scores k None)
-options_at limit zone scores k within =
-    let same : 0 + k ≡ k = omega arith in
-    get_or-options_from limit zone 0 scores k within
-    ∙ ap (λ f. options_of limit zone f (get_or scores k None)) same
-
--- one literal more at the options of a fixture
-options_at-with : (limit : ℕ) (zone : List Literal) (literal : Literal)
-    (scores : List (Option Score)) (k : ℕ) (score : Score) → k < length scores
-    → has_score (get_or (options_from limit (zone ++ literal ∷ []) 0 scores) k []) score ≡
-    (has_score (get_or (options_from limit zone 0 scores) k []) score
-    && meets_literal k score literal)
-options_at-with limit zone literal scores k score within =
-    ap (λ options. has_score options score)
-    (options_at limit (zone ++ literal ∷ []) scores k within)
-    ∙ has_score-with limit zone literal k (get_or scores k None) score
-    ∙ ap (λ options. has_score options score && meets_literal k score literal)
-    (sym (options_at limit zone scores k within))
-
--- a literal of another fixture, or of a rival, takes nothing away
-meets-other : (k : ℕ) (score : Score) (literal : Literal) → is_on k literal.test ≡ false
-    → meets_literal k score literal ≡ true
-meets-other k score literal off = ap
-    (λ b. not b || is_as_said literal.yes (passes literal.test score)) off
-
-meets-own : (k : ℕ) (score : Score) (literal : Literal) → is_on k literal.test ≡ true
-    → meets_literal k score literal ≡ is_as_said literal.yes (passes literal.test score)
-meets-own k score literal on = ap
-    (λ b. not b || is_as_said literal.yes (passes literal.test score)) on
 
 -- where no fixture is tested, each scope stays
 pub takes_mark : (scopes : List Scope) (literal : Literal)

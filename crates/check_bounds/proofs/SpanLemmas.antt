@@ -5,25 +5,9 @@ use Rattle.std.specs.Int.{int_min, int_max}
 use Rattle.std.proofs.lemmas.Int.{ints, clamps}
 use Rattle.league_core.specs.declared.season.Score.{Score}
 use Rattle.league_core.specs.PointRanges.{Range, one_value, added, widened, range_of}
+use Rattle.league_core.proofs.RangeLemmas.{same_range}
 use Rattle.check_bounds.specs.declared.span.Span.{Span}
 use Rattle.check_bounds.specs.Spans.{range_of_span, IsSpanWithin}
-
--- ranges are one where both ends are
-pub same_range : (range other : Range) → range.least ≡ other.least → range.greatest ≡ other.greatest
-    → range ≡ other
-same_range range other least greatest = λ j. record { least = least j; greatest = greatest j }
-
-pub added-none : (range : Range) → added range (one_value (pos 0)) ≡ range
-added-none range = same_range (added range (one_value (pos 0))) range (omega (arith, ints))
-    (omega (arith, ints))
-
-pub none-added : (range : Range) → added (one_value (pos 0)) range ≡ range
-none-added range = same_range (added (one_value (pos 0)) range) range (omega (arith, ints))
-    (omega (arith, ints))
-
-pub added-assoc : (a b c : Range) → added (added a b) c ≡ added a (added b c)
-added-assoc a b c = same_range (added (added a b) c) (added a (added b c)) (omega (arith, ints))
-    (omega (arith, ints))
 
 -- sums of near spans are near
 pub near_plus : (bound more : ℕ) (a b c : Span)
@@ -61,14 +45,6 @@ near_wider bound more span fewer near =
       greatest_above = omega (arith, ints, fewer, ag);
       greatest_below = omega (arith, ints, fewer, bg);
     }
-
--- the ranges of values that agree are one
-pub range_of-nothing : (options : List Score)
-    → range_of (λ score. pos 0) options ≡ one_value (pos 0)
-range_of-nothing [] = refl
-range_of-nothing (score ∷ []) = refl
-range_of-nothing (score ∷ other ∷ options) =
-    ap (widened (pos 0)) (range_of-nothing (other ∷ options))
 
 -- a value more does not take a range further from 0 than the value is
 pub near_widened : (value : ℤ) (old new : Span)

@@ -15,18 +15,6 @@ use Rattle.league_core.proofs.ClubSetLemmas.{has_club-filter}
 use Rattle.check_bounds.specs.declared.span.Span.{Span}
 use Rattle.check_bounds.specs.Steps.{sure_at, sure_by_tables, is_level_by_tables, TakesNext}
 
-pub sure_then-assoc : (a b c : Sure) → sure_then (sure_then a b) c ≡ sure_then a (sure_then b c)
-sure_then-assoc Above b c = refl
-sure_then-assoc Below b c = refl
-sure_then-assoc Level b c = refl
-sure_then-assoc Unknown b c = refl
-
-pub sure_then-level : (a : Sure) → sure_then a Level ≡ a
-sure_then-level Above = refl
-sure_then-level Below = refl
-sure_then-level Level = refl
-sure_then-level Unknown = refl
-
 -- the clubs below a number have taken the next answer, and the others have not
 pub record IsTakenBelow (old now : List Sure) (count : ℕ) (next : ℕ → Sure) : Type 0 where
   pub long : length now ≡ 32

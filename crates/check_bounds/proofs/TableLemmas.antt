@@ -23,13 +23,13 @@ use Rattle.league_core.proofs.ClubBitLemmas.{clubs_below-ones}
 use Rattle.league_core.proofs.ClubSetLemmas.{has_club-range}
 use Rattle.league_core.proofs.PointRangeLemmas.{range_from-more, range_from-all, range_of-same}
 use Rattle.league_core.proofs.PointRangeLemmas.{points_together-sides}
+use Rattle.league_core.proofs.RangeLemmas.{added-none, none-added, added-assoc, range_of-none}
 use Rattle.check_bounds.specs.declared.look.Kind.{Kind}
 use Rattle.check_bounds.specs.declared.span.Span.{Span}
 use Rattle.check_bounds.specs.Looks.{worth_by, side_worth}
 use Rattle.check_bounds.specs.Spans.{range_of_span, span_at, no_span, IsSpanWithin}
 use Rattle.check_bounds.specs.Tables.{IsTableOf}
-use Rattle.check_bounds.proofs.SpanLemmas.{added-none, none-added, added-assoc}
-use Rattle.check_bounds.proofs.SpanLemmas.{near_wider, range_of-nothing}
+use Rattle.check_bounds.proofs.SpanLemmas.{near_wider}
 
 -- each club's sum so far, and that of the matches that are left, make the whole; none is far from 0
 pub record IsTableSoFar (value : ℕ → Fixture → Score → ℤ) (fixtures : List Fixture)
@@ -123,7 +123,7 @@ match_adds group kind match corners table middle new home away counts apart home
         ap range_of_span (away_others club (λ e. not_away (sym e))
         ∙ home_others club (λ e. not_home (sym e)))
         ∙ sym (added-none (range_of_span (span_at table club)))
-        ∙ ap (added (range_of_span (span_at table club))) (sym (range_of-nothing corners))
+        ∙ ap (added (range_of_span (span_at table club))) (sym (range_of-none corners))
         ∙ ap (λ b. added (range_of_span (span_at table club)) (range_of (side false b) corners))
         (sym (ne_eqb match.away club not_away))
         ∙ ap (λ b. added (range_of_span (span_at table club))
@@ -154,7 +154,7 @@ pub match_adds_nothing : (group : List ℕ) (kind : Kind) (match : Fixture) (cor
     (range_of (worth_among group (worth_by kind) club match) corners)
 match_adds_nothing group kind match corners table counts is none club =
     sym (added-none (range_of_span (span_at table club)))
-    ∙ ap (added (range_of_span (span_at table club))) (sym (range_of-nothing corners))
+    ∙ ap (added (range_of_span (span_at table club))) (sym (range_of-none corners))
     ∙ ap (λ b. added (range_of_span (span_at table club))
     (range_of (λ score. cond b (worth_to (worth_by kind) club match score) (pos 0)) corners))
     (sym (sym is ∙ none))
@@ -263,43 +263,12 @@ match_near bound match table middle new apart all home_grows home_others away_gr
         (sym (home_others match.away (λ e. apart (sym e)))) (all match.away)))
     by_away (inr other) = by_home other (cases_eq match.home club)
 
--- the two clubs of a match are two
-pub teams_apart : (count : ℕ) (match : Fixture) → is_fixture count match ≡ true
-    → match.home ≢ match.away
-teams_apart count match is =
-    let parts = and_parts (nat_lt match.home count && nat_lt match.away count)
-    (not (eqb match.home match.away)) is in
-    eqb-false match.home match.away (not-true (eqb match.home match.away) parts.1)
-
 pub ranks_none : (sheet : Sheet) → AreRanksBelow sheet (replicate 32 no_span) 0
 ranks_none sheet = record {
   long = refl;
   done = λ club below. absurd (omega (arith, below));
   left = λ club above. ap range_of_span (nothing_at 32 club);
 }
-
--- in the group of all clubs every match counts
-pub among_all : (group : List ℕ) (worth : Worth) (club : ℕ) (matches : List Fixture)
-    (corners : List (List Score)) → ((x : ℕ) → x < 24 → has_club group x ≡ true)
-    → list_all (is_fixture 24) matches ≡ true
-    → range_from (worth_among group worth club) matches corners ≡ range_from (worth_to worth club)
-    matches corners
-among_all group worth club [] corners has are = refl
-among_all group worth club (match ∷ matches) [] has are = refl
-among_all group worth club (match ∷ matches) (o ∷ corners) has are =
-    let here = and_parts (is_fixture 24 match) (list_all (is_fixture 24) matches) are in
-    let ends = and_parts (nat_lt match.home 24 && nat_lt match.away 24)
-    (not (eqb match.home match.away)) here.0 in
-    let both = and_parts (nat_lt match.home 24) (nat_lt match.away 24) ends.0 in
-    let counts : (has_club group match.home && has_club group match.away) ≡ true =
-    and_from (has_club group match.home) (has_club group match.away)
-    (has match.home (ltb-true match.home 24 both.0))
-    (has match.away (ltb-true match.away 24 both.1)) in
-    ap (λ r. added r (range_from (worth_among group worth club) matches corners))
-    (range_of-same (worth_among group worth club match) (worth_to worth club match) o
-    (λ score. ap (λ b. cond b (worth_to worth club match score) (pos 0)) counts))
-    ∙ ap (added (range_of (worth_to worth club match) o))
-    (among_all group worth club matches corners has here.1)
 
 -- the set of all numbers has each of them
 pub all_clubs : (x : ℕ) → x < 24 → has_club (clubs_below 32 (2 ^ 32 - 1)) x ≡ true

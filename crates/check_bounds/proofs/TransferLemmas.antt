@@ -18,12 +18,12 @@ use Rattle.league_core.specs.Finishes.{same_score}
 use Rattle.league_core.proofs.OutcomeLemmas.{same_outcome-joined, same_outcome-itself}
 use Rattle.league_core.proofs.PointRangeLemmas.{least_reached, greatest_reached}
 use Rattle.league_core.proofs.PointRangeLemmas.{range_bounds, least-is, greatest-is}
+use Rattle.league_core.proofs.RangeLemmas.{same_range}
 use Rattle.check_bounds.specs.declared.look.Kind.{Kind}
 use Rattle.check_bounds.specs.declared.look.Kind.TheVariants as kind
 use Rattle.check_bounds.specs.Looks.{worth_by, side_worth}
 use Rattle.check_bounds.specs.Corners.{AreCornersOf}
 use Rattle.check_bounds.specs.Zones.{AreAllCornersOf}
-use Rattle.check_bounds.proofs.SpanLemmas.{same_range}
 
 -- there is a corner where there is an option
 pub some_same : (corners options : List Score) → AreCornersOf corners options

@@ -11,12 +11,12 @@ use Rattle.league_core.specs.Results.{Results}
 use Rattle.league_core.specs.Sums.{match_points, worth_to}
 use Rattle.league_core.specs.PointRanges.{Range, one_value, added, range_of, range_from}
 use Rattle.league_core.specs.PointRanges.{points_range, deducted_from}
+use Rattle.league_core.proofs.RangeLemmas.{same_range, range_of-none}
 use Rattle.check_bounds.specs.declared.look.Kind.TheVariants as kind
 use Rattle.check_bounds.specs.declared.span.Span.{Span}
 use Rattle.check_bounds.specs.Looks.{side_worth}
 use Rattle.check_bounds.specs.Spans.{range_of_span, span_at, IsSpanWithin}
 use Rattle.check_bounds.specs.Cells.{AreWonIn, points_by_table}
-use Rattle.check_bounds.proofs.SpanLemmas.{same_range, range_of-nothing}
 use Rattle.check_bounds.proofs.TableLemmas.{points_alone}
 
 -- from 0 to so much
@@ -192,10 +192,10 @@ match_exchanged match old new table middle now home_old home_new away_old away_n
         (subst (λ (b : Bool). added (range_of_span (span_at now club)) (sides false b old)
         ≡ added (range_of_span (span_at table club)) (sides false b new))
         (sym (ne_eqb match.away club not_away))
-        (ap (added (range_of_span (span_at now club))) (range_of-nothing old)
+        (ap (added (range_of_span (span_at now club))) (range_of-none old)
         ∙ ap (λ s. added (range_of_span s) (one_value (pos 0)))
         (away_others club (λ e. not_away (sym e)) ∙ home_others club (λ e. not_home (sym e)))
-        ∙ ap (added (range_of_span (span_at table club))) (sym (range_of-nothing new))))
+        ∙ ap (added (range_of_span (span_at table club))) (sym (range_of-none new))))
 
 -- the sums where one match has other corners
 range_from-set : (value : Fixture → Score → ℤ) (matches : List Fixture)

@@ -41,9 +41,10 @@ use Rattle.cert_text.specs.Ranges.{are_points, is_test_in_range, is_set_in_range
 use Rattle.cert_text.specs.Ranges.{is_reason_in_range}
 use Rattle.cert_text.specs.Forms.{line_in, line_of_value}
 use Rattle.cert_text.proofs.LineLemmas.{line_text}
-use Rattle.cert_text.proofs.PrintedLemmas.{line_printed}
+use Rattle.cert_text.proofs.PrintedLemmas.{line_printed, alone, small_fixture, small_goals}
 use Rattle.cert_text.proofs.ReadLemmas.{json_of-utf8}
 use Rattle.cert_text.proofs.FormLemmas.{line_back}
+use Rattle.cert_text.proofs.PrintedLemmas.{small_set, small_score}
 use Rattle.cert_check.specs.declared.token.Token.TheVariants.{Proof}
 use Rattle.cert_check.specs.Tokens.{token_of, token_of_line}
 use Rattle.check_run.specs.WrittenLines.{IsWritable}
@@ -168,67 +169,33 @@ parts_stand (part ∷ parts) known =
 
 -- ---- the parts of a line in range are narrow
 
-alone : (b : Bool) → b ≡ true → (b && true) ≡ true
-alone b e = and_from b true e refl
-
-narrow_fixture : (fixture : ℕ) → is_fixture_number fixture ≡ true
-    → nat_lt (number_in_text fixture) 10000 ≡ true
-narrow_fixture fixture known =
-    let below = ltb-true fixture 600 known in
-    lt-ltb (number_in_text fixture) 10000 (omega arith)
-
-narrow_goals : (goals most : ℕ) → most < 10000 → nat_le goals most ≡ true
-    → nat_lt goals 10000 ≡ true
-narrow_goals goals most small known =
-    let within = leb-true goals most known in
-    lt-ltb goals 10000 (omega arith)
-
 narrow_bounded : (fixture most : ℕ) → (is_fixture_number fixture && is_goal_bound most) ≡ true
     → (nat_lt (number_in_text fixture) 10000 && (nat_lt most 10000 && true)) ≡ true
 narrow_bounded fixture most known =
     let parts = and_parts (is_fixture_number fixture) (is_goal_bound most) known in
     and_from (nat_lt (number_in_text fixture) 10000) (nat_lt most 10000 && true)
-    (narrow_fixture fixture parts.0)
-    (alone (nat_lt most 10000) (narrow_goals most 98 (omega arith) parts.1))
+    (small_fixture fixture parts.0)
+    (alone (nat_lt most 10000) (small_goals most 98 (omega arith) parts.1))
 
 narrow_test : (test : Test) → is_test_in_range test ≡ true
     → list_all is_narrow (test_parts test) ≡ true
 narrow_test (Home fixture) known =
-    alone (nat_lt (number_in_text fixture) 10000) (narrow_fixture fixture known)
+    alone (nat_lt (number_in_text fixture) 10000) (small_fixture fixture known)
 narrow_test (Draw fixture) known =
-    alone (nat_lt (number_in_text fixture) 10000) (narrow_fixture fixture known)
+    alone (nat_lt (number_in_text fixture) 10000) (small_fixture fixture known)
 narrow_test (HomeMost fixture most) known = narrow_bounded fixture most known
 narrow_test (AwayMost fixture most) known = narrow_bounded fixture most known
 narrow_test (Rival club) known =
     let below = ltb-true club 24 known in
     alone (nat_lt (number_in_text club) 10000) (lt-ltb (number_in_text club) 10000 (omega arith))
 
-narrow_set : (set : ClubSet) → is_set_in_range set ≡ true
-    → (list_all is_club_number (clubs_in set) && true) ≡ true
-narrow_set set known =
-    alone (list_all is_club_number (clubs_in set))
-    (and_parts (has_member (clubs_in set)) (list_all is_club_number (clubs_in set)) known).1
-
 narrow_reason : (reason : Reason) → is_reason_in_range reason ≡ true
     → list_all is_narrow (reason_parts reason) ≡ true
 narrow_reason Count known = refl
 narrow_reason Window known = refl
-narrow_reason (Low set) known = narrow_set set known
-narrow_reason (High set) known = narrow_set set known
+narrow_reason (Low set) known = small_set set known
+narrow_reason (High set) known = small_set set known
 narrow_reason Tie known = refl
-
-narrow_score : (fixture : ℕ) (score : Score) → (is_fixture_number fixture && is_score score) ≡ true
-    → (nat_lt (number_in_text fixture) 10000
-    && (nat_lt score.home 10000 && (nat_lt score.away 10000 && true))) ≡ true
-narrow_score fixture score known =
-    let parts = and_parts (is_fixture_number fixture) (is_score score) known in
-    let goals = and_parts (nat_le score.home 99) (nat_le score.away 99) parts.1 in
-    and_from (nat_lt (number_in_text fixture) 10000)
-    (nat_lt score.home 10000 && (nat_lt score.away 10000 && true))
-    (narrow_fixture fixture parts.0)
-    (and_from (nat_lt score.home 10000) (nat_lt score.away 10000 && true)
-    (narrow_goals score.home 99 (omega arith) goals.0)
-    (alone (nat_lt score.away 10000) (narrow_goals score.away 99 (omega arith) goals.1)))
 
 narrow_line : (x : ProofLine) → is_in_range x ≡ true → list_all is_narrow (parts_of x) ≡ true
 narrow_line (line.Tree claim) known = refl
@@ -242,7 +209,7 @@ narrow_line (line.Leaf reason) known = narrow_reason reason known
 narrow_line (line.NewLeaf reason) known = narrow_reason reason known
 narrow_line line.OpenLeaf known = refl
 narrow_line (line.Finish claim) known = refl
-narrow_line (line.Score fixture score) known = narrow_score fixture score known
+narrow_line (line.Score fixture score) known = small_score fixture score known
 narrow_line (line.Lots lots) known = alone (list_all is_club_number lots.list) known
 
 -- ---- the text of a line

@@ -16,23 +16,8 @@ use Rattle.league_core.specs.Proposals.{weighed, weighed_together, first_option}
 use Rattle.league_core.proofs.OutcomeLemmas.{outcome_cases}
 use Rattle.league_core.proofs.OptionLemmas.{has_score-first, same_score-true}
 use Rattle.league_core.proofs.ProposalLemmas.{first_option_is}
+use Rattle.league_core.proofs.OptionTestLemmas.{any_gives}
 use Rattle.example_finish.proofs.OrderLemmas.{home_win_points, draw_points, away_win_points}
-
--- where some option passes, one does
-some_passes : (test : Score → Bool) (options : List Score) → list_any test options ≡ true
-    → (score : Score) × (has_score options score ≡ true) × (test score ≡ true)
-some_passes test [] some = absurd (false≢true some)
-some_passes test (first ∷ options) some =
-    elim (or_cases (test first) (list_any test options) some) as
-    (λ _. (score : Score) × (has_score (first ∷ options) score ≡ true) × (test score ≡ true)) [
-      | inl here ↦ (first, has_score-first first options, here)
-      | inr later ↦
-          let found = some_passes test options later in (
-            found.0,
-            or_right (same_score found.0 first) (has_score options found.0) found.1,
-            found.2,
-          )
-    ]
 
 -- where none passes, no option does
 none_passes : (test : Score → Bool) (options : List Score) (score : Score)
@@ -101,7 +86,7 @@ home_win_brings : (home away : Bool) (options : List Score) (score : Score)
     → (weighed home (pos 3) +ℤ weighed away (pos 0))
     ≤ℤ weighed_together match_points home away score
 home_win_brings home away options score some is =
-    let found = some_passes is_home_win options some in
+    let found = any_gives is_home_win options some in
     let meets = first_meets home away options score found.0 is found.1 in
     let theirs = home_win_points home away found.0 found.2 in
     omega (arith, ints, meets, theirs)
@@ -111,7 +96,7 @@ draw_brings : (home away : Bool) (options : List Score) (score : Score)
     → (weighed home (pos 1) +ℤ weighed away (pos 1))
     ≤ℤ weighed_together match_points home away score
 draw_brings home away options score some is =
-    let found = some_passes is_draw options some in
+    let found = any_gives is_draw options some in
     let meets = first_meets home away options score found.0 is found.1 in
     let theirs = draw_points home away found.0 found.2 in
     omega (arith, ints, meets, theirs)
@@ -121,7 +106,7 @@ away_win_brings : (home away : Bool) (options : List Score) (score : Score)
     → (weighed home (pos 0) +ℤ weighed away (pos 3))
     ≤ℤ weighed_together match_points home away score
 away_win_brings home away options score some is =
-    let found = some_passes is_away_win options some in
+    let found = any_gives is_away_win options some in
     let meets = first_meets home away options score found.0 is found.1 in
     let theirs = away_win_points home away found.0 found.2 in
     omega (arith, ints, meets, theirs)

@@ -10,12 +10,7 @@ use Rattle.league_core.specs.Sums.{match_points, goal_difference}
 use Rattle.league_core.specs.HeadToHead.{greater_first, by_first_difference}
 use Rattle.league_core.specs.Options.{is_home_win, is_draw, is_away_win}
 use Rattle.league_core.specs.Proposals.{weighed, weighed_together, wishes_met, option_order}
-
-greater_first-greater : (number other : ℤ) → number <ℤ other → greater_first number other ≡ Greater
-greater_first-greater number other h = grind (arith, ints)
-
-greater_first-equal : (number other : ℤ) → number ≡ other → greater_first number other ≡ Equal
-greater_first-equal number other h = grind (arith, ints)
+use Rattle.league_core.proofs.OrderingLemmas.{greater_first-greater, greater_first-same}
 
 then_first : (first second : Ordering) → first ≡ Greater → ordering_then first second ≢ Less
 then_first Greater second is = λ e. cc
@@ -53,7 +48,7 @@ by_first_difference-no_greater a b c d e f g h is =
         (greater_first-greater number other less)
     step number other numbers others rest (inr same) =
         then_second (greater_first number other) (by_first_difference numbers others)
-        (greater_first-equal number other same.0) (rest same.1)
+        (greater_first-same number other same.0) (rest same.1)
 
 -- a score that meets the wishes no more than another is not taken before it
 pub not_before : (home away : Bool) (score other : Score)

@@ -22,7 +22,7 @@ use Rattle.league_core.specs.Ranking.{ranks_before, place_of, tied_group_of, lot
 use Rattle.league_core.specs.LotsFor.{lots_for_claim, order_without_lots}
 use Rattle.league_core.proofs.ClubSetLemmas.{clubs_below-filter_range, has_club-range}
 use Rattle.league_core.proofs.RankingLemmas.{ranks_before-itself}
-use Rattle.final_rank.proofs.TableLemmas.{count_by-range_suc}
+use Rattle.league_core.proofs.ClubCountLemmas.{count_by-range_suc, count_suc, length-passing}
 use Rattle.final_rank.proofs.TierLemmas.{by_points_total}
 use Rattle.final_rank.proofs.SpanLemmas.{best_place_of-around, worst_place_of-around}
 use Rattle.example_finish.specs.declared.standing.Standing.{Standing}
@@ -54,13 +54,6 @@ place_outside sheet season club standing both limits below is union =
     (record { ahead = standing.ahead; level = standing.level }) both (omega arith) below
     (record { ahead = is.ahead; level = is.level }) union
 
-count_next : (p : ℕ → Bool) (clubs : ℕ)
-    → count_by p (range_with_len 0 (suc clubs))
-    ≡ count_by p (range_with_len 0 clubs) + cond (p clubs) 1 0
-count_next p clubs =
-    let next : suc clubs ≡ clubs + 1 = omega arith in
-    ap (λ n. count_by p (range_with_len 0 n)) next ∙ count_by-range_suc p clubs
-
 -- a test that passes no more clubs counts no more
 count_fewer : (p q : ℕ → Bool) (clubs : ℕ) → ((x : ℕ) → p x ≡ true → q x ≡ true)
     → count_by p (range_with_len 0 clubs) ≤ count_by q (range_with_len 0 clubs)
@@ -69,7 +62,7 @@ count_fewer p q (suc clubs) within =
     let rest = count_fewer p q clubs within in
     let here : cond {A = ℕ} (p clubs) 1 0 ≤ cond {A = ℕ} (q clubs) 1 0 =
     one (p clubs) (q clubs) (within clubs) in
-    omega (arith, count_next p clubs, count_next q clubs, rest, here)
+    omega (arith, count_suc p clubs, count_suc q clubs, rest, here)
   where
     one : (b c : Bool) → (b ≡ true → c ≡ true) → cond {A = ℕ} b 1 0 ≤ cond {A = ℕ} c 1 0
     one false c sub = omega arith
@@ -90,27 +83,18 @@ count_misses p q (suc clubs) club below within out among =
           ap (λ b. cond {A = ℕ} b 1 0) (ap p (sym same) ∙ out) in
           let one : cond {A = ℕ} (q clubs) 1 0 ≡ 1 =
           ap (λ b. cond {A = ℕ} b 1 0) (ap q (sym same) ∙ among) in
-          omega (arith, count_next p clubs, count_next q clubs, rest, none, one)
+          omega (arith, count_suc p clubs, count_suc q clubs, rest, none, one)
       | inr other ↦
           let rest = count_misses p q clubs club (omega arith) within out among in
           let here : cond {A = ℕ} (p clubs) 1 0 ≤ cond {A = ℕ} (q clubs) 1 0 =
           no_more (p clubs) (q clubs) (within clubs) in
-          omega (arith, count_next p clubs, count_next q clubs, rest, here)
+          omega (arith, count_suc p clubs, count_suc q clubs, rest, here)
     ]
   where
     no_more : (b c : Bool) → (b ≡ true → c ≡ true) → cond {A = ℕ} b 1 0 ≤ cond {A = ℕ} c 1 0
     no_more false c sub = omega arith
     no_more true true sub = omega arith
     no_more true false sub = absurd (false≢true (sub refl))
-
--- a set of the sheet's clubs that pass a test has as many as pass it
-length-of_passing : (sheet : Sheet) (set : ClubSet) (p : ℕ → Bool) → length sheet.clubs ≤ 32
-    → ((x : ℕ) → has_club (clubs_in set) x ≡ (has_club (clubs_of sheet) x && p x))
-    → length (clubs_in set) ≡ count_by p (clubs_of sheet)
-length-of_passing sheet set p few are =
-    ap length (clubs_below-filter_range 32 set.bits (length sheet.clubs) p few
-    (λ x. are x ∙ ap (λ b. b && p x) (has_club-range (length sheet.clubs) x)))
-    ∙ length-filter p (clubs_of sheet)
 
 first_decides : (first rest : Ordering) → is_lt first ≡ true
     → is_lt (ordering_then first rest) ≡ true
@@ -131,7 +115,7 @@ pub behind_by_points : (sheet : Sheet) (season : Results) (lots : List ℕ) (clu
     → 1 + length (clubs_in tier.ahead) ≤ place_of sheet season lots club
 behind_by_points sheet season lots club tier limits is =
     let most = limits.most_clubs in
-    let long = length-of_passing sheet tier.ahead (λ x. is_lt (by_points_in sheet season x club))
+    let long = length-passing sheet tier.ahead (λ x. is_lt (by_points_in sheet season x club))
     (omega arith) is.ahead in
     let fewer = count_fewer (λ x. is_lt (by_points_in sheet season x club))
     (λ x. ranks_before sheet season lots x club) (length sheet.clubs)
@@ -153,7 +137,7 @@ before_by_points sheet season lots club tier both limits below is union =
     let among = λ (x : ℕ).
     union x ∙ (λ i. is.ahead x i || is.level x i)
     ∙ together (has_club (clubs_of sheet) x) (is_lt (order x)) (is_eq (order x)) in
-    let long = length-of_passing sheet both (λ x. is_lt (order x) || is_eq (order x))
+    let long = length-passing sheet both (λ x. is_lt (order x) || is_eq (order x))
     (omega arith) among in
     let fewer = count_misses (λ x. ranks_before sheet season lots x club)
     (λ x. is_lt (order x) || is_eq (order x)) (length sheet.clubs) club below

@@ -24,6 +24,8 @@ use Rattle.league_core.proofs.PlainLemmas.{list_all-at}
 use Rattle.league_core.proofs.OptionLemmas.{length-options_from, get_or-options_from}
 use Rattle.league_core.proofs.OptionLemmas.{has_score-options_of, same_score-true}
 use Rattle.league_core.proofs.ProposalLemmas.{is_some-first_option, first_option_is}
+use Rattle.league_core.proofs.FinishLemmas.{may_end_is_score}
+use Rattle.league_core.proofs.LiteralLemmas as literals
 use Rattle.score_box.specs.Unplayed.{is_unplayed, unplayed_in}
 use Rattle.score_box.proofs.SplitLemmas.{keeps_played}
 use Rattle.example_finish.specs.declared.wishes.Wishes.{Wishes}
@@ -36,10 +38,9 @@ use Rattle.example_finish.proofs.UnplayedLemmas.{each_fixture}
 has_option-at : (sheet : Sheet) (season : Results) (zone : List Literal) (k : ℕ)
     → has_finish sheet season zone ≡ true → k < length season.scores
     → has_option (get_or (options_in sheet season zone) k []) ≡ true
-unfolding has_finish
 has_option-at sheet season zone k some within =
     let long = length-options_from sheet.goal_limit zone 0 season.scores in
-    list_all-at has_option (options_in sheet season zone) k [] (omega (arith, long)) some
+    literals.option_at sheet season zone k some (omega (arith, long))
 
 some_is : {X : Type 0} (o : Option X) → is_some o ≡ true → IsSome o
 some_is None is = absurd (false≢true is)
@@ -55,19 +56,6 @@ option_is_there sheet season zone k home away found some within is =
     some_is found (ap is_some is
     ∙ is_some-first_option home away (get_or (options_in sheet season zone) k [])
     ∙ has_option-at sheet season zone k some within)
-
--- an option is a score that a match may have
-may_end_is_score : (limit : ℕ) (played : Option Score) (score : Score) → limit ≤ most_goals
-    → is_score_or_none played ≡ true → may_end limit played (Some score) ≡ true
-    → is_score score ≡ true
-may_end_is_score limit None score low may ends =
-    let parts = and_parts (nat_le score.home limit) (nat_le score.away limit) ends in
-    let home = leb-true score.home limit parts.0 in
-    let away = leb-true score.away limit parts.1 in
-    and_from _ _ (le-leb score.home most_goals (omega arith))
-    (le-leb score.away most_goals (omega arith))
-may_end_is_score limit (Some played) score low may ends =
-    subst (λ s. is_score s ≡ true) (same_score-true played score ends) may
 
 pub option_is_score : (sheet : Sheet) (season : Results) (zone : List Literal) (k : ℕ)
     (home away : Bool) (score : Score) → IsWithinLimits sheet → are_results season ≡ true

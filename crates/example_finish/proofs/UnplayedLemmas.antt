@@ -14,56 +14,6 @@ use Rattle.league_core.specs.declared.season.Score.{Score}
 use Rattle.score_box.specs.Unplayed.{is_unplayed, unplayed_below, unplayed_in}
 use Rattle.score_box.proofs.PathLemmas.{unplayed_below-zero, unplayed_below-suc}
 
--- each number of a list is below another
-abbrev AllBelow : List ℕ → ℕ → Type 0
-AllBelow xs n = (j : ℕ) → j < length xs → get_or xs j 0 < n
-
--- one number more at the end, or none
-below-push : (keep : Bool) (xs : List ℕ) (n : ℕ) → AllBelow xs n
-    → AllBelow (xs ++ cond keep (n ∷ []) []) (n + 1)
-below-push true xs n each j within =
-    let long = length_push xs n in
-    elim (cases_lt j (length xs)) as (λ _. get_or (xs ++ n ∷ []) j 0 < n + 1) [
-      | inl before ↦
-          let same = get_or_append_left xs (n ∷ []) 0 j before in
-          let less = each j before in
-          omega (arith, same, less)
-      | inr last ↦
-          let same = get_or_push xs n 0 j (omega (arith, long)) in
-          omega (arith, same)
-    ]
-below-push false xs n each j within =
-    let same = append-nil xs in
-    let less = each j (omega (arith, ap (λ (l : List ℕ). length l) same)) in
-    omega (arith, ap (λ (l : List ℕ). get_or l j 0) same, less)
-
-below : (scores : List (Option Score)) (count : ℕ) → AllBelow (unplayed_below count scores) count
-below scores zero =
-    subst (λ xs. AllBelow xs 0) (sym (unplayed_below-zero scores)) (λ j within. absurd (omega
-    arith))
-below scores (suc count) =
-    let next : count + 1 ≡ suc count = omega arith in
-    subst (λ (n : ℕ). AllBelow (unplayed_below n scores) n) next
-    (subst (λ xs. AllBelow xs (count + 1)) (sym (unplayed_below-suc count scores))
-    (below-push (is_unplayed (get_or scores count None)) (unplayed_below count scores) count
-    (below scores count)))
-
--- each of them is a fixture
-pub unplayed_in_range : (scores : List (Option Score)) (j : ℕ) → j < length (unplayed_in scores)
-    → get_or (unplayed_in scores) j 0 < length scores
-unplayed_in_range scores j within = below scores (length scores) j within
-
--- they are no more than the fixtures
-pub unplayed_few : (scores : List (Option Score)) → length (unplayed_in scores) ≤ length scores
-unfolding unplayed_below
-unplayed_few scores =
-    let test : ℕ → Bool = λ fixture. is_unplayed (get_or scores fixture None) in
-    let all = range_with_len 0 (length scores) in
-    let same = length-filter test all in
-    let fewer = count_by-le-length test all in
-    let long = length-range_with_len 0 (length scores) in
-    omega arith
-
 -- what holds of each number of a list
 abbrev HoldOf : (ℕ → Type 0) → List ℕ → Type 0
 HoldOf P xs = (j : ℕ) → j < length xs → P (get_or xs j 0)

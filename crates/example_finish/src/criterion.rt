@@ -1,7 +1,6 @@
 //! What clubs are compared by, and the comparison.
 
 ghost use Rattle.std.specs.Prelude.{◌≡◌};
-ghost use Rattle.league_core.specs.Ahead.{rank_of};
 ghost use Rattle.score_box.specs.Totals.{totals_at};
 ghost use Rattle.example_finish.specs.ProposedTotals.{by_criterion};
 
@@ -42,8 +41,8 @@ impl<'a> Comparison<'a> {
             Criterion::Record => record_of(&one).order(&record_of(&two)),
             Criterion::Goals => record_of(&one).order_by_goals(&record_of(&two)),
             Criterion::Overall => {
-                let tail = tail_of(&one, rank_of(self.sheet, club));
-                tail.order(&tail_of(&two, rank_of(self.sheet, other)))
+                let tail = tail_of(&one, self.sheet.rank_of(club));
+                tail.order(&tail_of(&two, self.sheet.rank_of(other)))
             }
         }
     }
@@ -87,15 +86,5 @@ fn tail_of(totals: &Totals, rank: u16) -> Tail
         wins: totals.wins,
         away_wins: totals.away_wins,
         rank,
-    }
-}
-
-/// The club's fixed rank; 0 for a number that is no club's.
-fn rank_of(sheet: &Sheet, club: u8) -> u16
-    ensures { result ≡ rank_of sheet.now club }
-{
-    match sheet.clubs.as_slice().get(club as usize) {
-        Some(found) => found.rank,
-        None => 0,
     }
 }

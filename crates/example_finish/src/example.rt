@@ -3,7 +3,7 @@
 ghost use Rattle.std.specs.Prelude.{◌≡◌, ◌<◌, ◌&&◌, int_le, IfNone, IfOk, IfSome, IsTrue, List};
 ghost use Rattle.std.specs.Prelude.{ℕ, length, nat_le};
 ghost use Rattle.league_core.specs.Seasons.{IsLeague};
-ghost use Rattle.league_core.specs.Questions.{holds_at, is_in_window, is_on_side};
+ghost use Rattle.league_core.specs.Questions.{holds_at, is_in_window};
 ghost use Rattle.league_core.specs.LotsFor.{lots_for_claim};
 ghost use Rattle.league_core.specs.Ranking.{are_lots, is_inside};
 ghost use Rattle.league_core.specs.Sums.{points_of};
@@ -52,7 +52,7 @@ pub fn try_example(
     }
 }
 
-/// The question holds at a season that is played to its end, with these lots.
+// The question holds at a season that is played to its end, with these lots.
 fn holds(
     alloc: Global,
     sheet: &Sheet,
@@ -68,8 +68,8 @@ fn holds(
 {
     let points = points(alloc, sheet, season)?;
     let place = place(alloc, sheet, season, lots, question.club)?;
-    let in_window = is_in_window(question, points[question.club as usize]);
-    Ok(in_window && is_on_side(place <= question.line, question.claim))
+    let in_window = question.is_in_window(points[question.club as usize]);
+    Ok(in_window && question.claim.is_on_side(place <= question.line))
 }
 
 /// The proposed finish of the box's zone is an example of the question with the lots that favour
@@ -86,10 +86,10 @@ pub fn is_example(zone_box: &ZoneBox, question: &Question) -> bool
     let proposed = Proposed::of(zone_box, question);
     let points = proposed.points_over();
     has_points_in_window(&proposed, &points)
-        && is_on_side(is_inside(&proposed, &points), question.claim)
+        && question.claim.is_on_side(is_inside(&proposed, &points))
 }
 
-/// The club's points are in the question's window.
+// The club's points are in the question's window.
 fn has_points_in_window(proposed: &Proposed, points: &[i32]) -> bool
     requires long { length points.now ≡ 24 }
     requires near { ArePointsNear 1000000 points.now }
@@ -101,11 +101,11 @@ fn has_points_in_window(proposed: &Proposed, points: &[i32]) -> bool
 {
     let _sheet = proposed.sheet();
     let question = proposed.question();
-    is_in_window(question, points[question.club as usize])
+    question.is_in_window(points[question.club as usize])
 }
 
-/// The club is inside the line, with the lots that favour the claim. Where its points alone say so,
-/// nothing else is looked at.
+// The club is inside the line, with the lots that favour the claim. Where its points alone say so,
+// nothing else is looked at.
 fn is_inside(proposed: &Proposed, points: &[i32]) -> bool
     requires long { length points.now ≡ 24 }
     requires points { ArePointsOver (sheet_asked proposed.now) (finish_asked proposed.now)
@@ -125,19 +125,4 @@ fn is_inside(proposed: &Proposed, points: &[i32]) -> bool
     }
     let near = stand_in(proposed, tier.level, question.club);
     tier.then(near).place(question.claim) <= question.line
-}
-
-fn is_in_window(question: &Question, points: i32) -> bool
-    ensures { result ≡ is_in_window question.now points }
-{
-    question.low <= points && points <= question.high
-}
-
-fn is_on_side(inside: bool, claim: Claim) -> bool
-    ensures { result ≡ is_on_side inside claim }
-{
-    match claim {
-        Claim::Inside => inside,
-        Claim::Outside => !inside,
-    }
 }

@@ -44,7 +44,7 @@ pub fn stand_in(proposed: &Proposed, group: ClubSet, club: u8) -> Standing
     }
 }
 
-/// By difference and goals over all matches, then among the clubs that share them.
+// By difference and goals over all matches, then among the clubs that share them.
 fn stand_overall_first(proposed: &Proposed, group: ClubSet, club: u8) -> Standing
     requires of_group { IsGroupOf (sheet_asked proposed.now) (clubs_in group) }
     requires among { IsTrue (has_club (clubs_in group) club) }
@@ -56,7 +56,7 @@ fn stand_overall_first(proposed: &Proposed, group: ClubSet, club: u8) -> Standin
     outer.then(inner)
 }
 
-/// By the record in the group, then by what decides after it.
+// By the record in the group, then by what decides after it.
 #[cycle(lead)]
 fn lead(proposed: &Proposed, group: ClubSet, club: u8) -> Standing
     requires of_group { IsGroupOf (sheet_asked proposed.now) (clubs_in group) }
@@ -72,8 +72,8 @@ fn lead(proposed: &Proposed, group: ClubSet, club: u8) -> Standing
     outer.then(inner)
 }
 
-/// Among the clubs that the record leaves level: by the sums over all matches where these are the
-/// whole group, else by their own record.
+// Among the clubs that the record leaves level: by the sums over all matches where these are the
+// whole group, else by their own record.
 #[cycle(lead)]
 fn after_record(proposed: &Proposed, group: ClubSet, level: ClubSet, club: u8) -> Standing
     requires of_group { IsGroupOf (sheet_asked proposed.now) (clubs_in level) }

@@ -94,7 +94,7 @@ fn small_win(cell: &Cell) -> Option<Score>
     }
 }
 
-/// The win with fewer goals; of two with as many, the one with more of them at home.
+// The win with fewer goals; of two with as many, the one with more of them at home.
 fn fewer_goals(home: Score, away: Score) -> Score
     ensures { (cell : Cell) (wish : Bool)
         → IsFirstScore cell is_home_win wish wish home

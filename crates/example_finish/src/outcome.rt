@@ -22,7 +22,7 @@ pub enum Outcome {
 }
 
 impl Outcome {
-    /// The outcome of a score.
+    // The outcome of a score.
     fn of(score: Score) -> Outcome
         ensures { IsOutcomeOf result score }
     {
@@ -77,7 +77,7 @@ pub fn first_outcome(cell: &Cell, left: OutcomesLeft, home: bool, away: bool) ->
     }
 }
 
-/// The home side alone is wished points.
+// The home side alone is wished points.
 fn home_win_first(left: OutcomesLeft) -> Outcome
     ensures { (options : List Score) (score : Score) → AreOutcomesAmong options left
         → first_option true false options ≡ Some score → IsOutcomeOf result score }
@@ -91,7 +91,7 @@ fn home_win_first(left: OutcomesLeft) -> Outcome
     }
 }
 
-/// The away side alone is wished points.
+// The away side alone is wished points.
 fn away_win_first(left: OutcomesLeft) -> Outcome
     ensures { (options : List Score) (score : Score) → AreOutcomesAmong options left
         → first_option false true options ≡ Some score → IsOutcomeOf result score }
@@ -105,7 +105,7 @@ fn away_win_first(left: OutcomesLeft) -> Outcome
     }
 }
 
-/// Both sides are wished points.
+// Both sides are wished points.
 fn win_or_draw(cell: &Cell, left: OutcomesLeft) -> Outcome
     ensures { (options : List Score) (score : Score) → IsCellOf cell.now options
         → AreOutcomesAmong options left → first_option true true options ≡ Some score
@@ -119,7 +119,7 @@ fn win_or_draw(cell: &Cell, left: OutcomesLeft) -> Outcome
     }
 }
 
-/// Neither side is wished points.
+// Neither side is wished points.
 fn draw_or_win(cell: &Cell, left: OutcomesLeft) -> Outcome
     ensures { (options : List Score) (score : Score) → IsCellOf cell.now options
         → AreOutcomesAmong options left → first_option false false options ≡ Some score
@@ -133,7 +133,7 @@ fn draw_or_win(cell: &Cell, left: OutcomesLeft) -> Outcome
     }
 }
 
-/// By the first option itself, where both sides are wished alike.
+// By the first option itself, where both sides are wished alike.
 fn of_first(cell: &Cell, wish: bool) -> Outcome
     ensures { (options : List Score) (score : Score) → IsCellOf cell.now options
         → first_option wish wish options ≡ Some score → IsOutcomeOf result score }

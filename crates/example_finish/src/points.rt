@@ -22,7 +22,7 @@ impl<'a> Proposed<'a> {
         points
     }
 
-    /// Adds the points of the matches that are not played.
+    // Adds the points of the matches that are not played.
     fn add_points(&self, points: &mut [i32])
         requires long { length points.old ≡ 24 }
         requires near { ArePointsNear 200000 points.old }
@@ -39,7 +39,7 @@ impl<'a> Proposed<'a> {
         }
     }
 
-    /// Adds the points of one match.
+    // Adds the points of one match.
     fn add_points_of(&self, points: &mut [i32], fixture: u16)
         requires in_range { fixture < length (season_asked self.now).scores }
         requires long { length points.old ≡ 24 }
@@ -54,7 +54,7 @@ impl<'a> Proposed<'a> {
     }
 }
 
-/// Adds points to those of one club.
+// Adds points to those of one club.
 fn raise(points: &mut [i32], club: u8, by: i32)
     requires in_range { club < length points.old }
     requires near { ArePointsNear 2000000 points.old }
@@ -65,7 +65,7 @@ fn raise(points: &mut [i32], club: u8, by: i32)
     points[club as usize] += by;
 }
 
-/// The points of each club from the matches that are played.
+// The points of each club from the matches that are played.
 fn points_so_far(zone_box: &ZoneBox) -> [i32; 24]
     ensures points { ArePointsOver zone_box.now.sheet zone_box.now.season result }
     ensures near { ArePointsNear 200000 result }
@@ -79,7 +79,7 @@ fn points_so_far(zone_box: &ZoneBox) -> [i32; 24]
     points
 }
 
-/// A table of clubs without a point.
+// A table of clubs without a point.
 fn no_points() -> [i32; 24]
     ensures none { (club : ℕ) → end_at result club ≡ pos 0 }
     ensures long { length result ≡ 24 }

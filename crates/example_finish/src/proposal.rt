@@ -30,8 +30,8 @@ pub fn propose(
     Ok(Finish::of_season(season).unwrap())
 }
 
-/// Gives each fixture that is not played the first of its options. A match that is played has its
-/// score for its one option already.
+// Gives each fixture that is not played the first of its options. A match that is played has its
+// score for its one option already.
 fn take_options(season: &mut Season, zone_box: &ZoneBox, wishes: Wishes)
     requires has_finish { HasFinish zone_box.now }
     requires season_is { season.old ≡ zone_box.now.season }

@@ -103,7 +103,7 @@ impl Standing {
         }
     }
 
-    /// With one more of the clubs, by their points.
+    // With one more of the clubs, by their points.
     fn with_points(self, points: &[i32], club: u8, other: u8) -> Standing
         requires long { length points.now ≡ 24 }
         requires club { club < 24 }
@@ -122,7 +122,7 @@ impl Standing {
         }
     }
 
-    /// With one more of the clubs.
+    // With one more of the clubs.
     fn with(self, comparison: &Comparison, club: u8, other: u8) -> Standing
         requires { other < 32 }
         ensures ahead { (x : ℕ) → has_club (clubs_in result.ahead) x

@@ -37,7 +37,7 @@ impl<'a> Proposed<'a> {
         table
     }
 
-    /// Adds the matches among the group's clubs that are not played.
+    // Adds the matches among the group's clubs that are not played.
     fn add_proposed(&self, table: &mut [Totals], group: ClubSet)
         requires of_group { IsGroupOf (sheet_asked self.now) (clubs_in group) }
         requires long { length table.old ≡ 24 }
@@ -55,7 +55,7 @@ impl<'a> Proposed<'a> {
         }
     }
 
-    /// Adds a match, if both its sides are of the group.
+    // Adds a match, if both its sides are of the group.
     fn add_if_counted(&self, table: &mut [Totals], group: ClubSet, fixture: u16)
         requires in_range { fixture < length (season_asked self.now).scores }
         requires long { length table.old ≡ 24 }
@@ -71,7 +71,7 @@ impl<'a> Proposed<'a> {
     }
 }
 
-/// Adds a match to the rows of its two clubs.
+// Adds a match to the rows of its two clubs.
 fn add(table: &mut [Totals], sides: Fixture, score: Score)
     requires different { sides.home ≢ sides.away }
     requires home { sides.home < length table.old }
@@ -86,7 +86,7 @@ fn add(table: &mut [Totals], sides: Fixture, score: Score)
     table[sides.away as usize] = on_tour;
 }
 
-/// The row with one match more.
+// The row with one match more.
 fn with_match(totals: &Totals, scored: u8, conceded: u8, away: bool) -> Totals
     requires { AreTotalsNear 100000000 totals.now }
     ensures { TotalsGrowBy (λ worth. worth scored conceded away) totals.now result }
@@ -94,7 +94,7 @@ fn with_match(totals: &Totals, scored: u8, conceded: u8, away: bool) -> Totals
     totals.with(&Totals::NONE.plus(scored, conceded, away))
 }
 
-/// A table of clubs without a match.
+// A table of clubs without a match.
 fn no_rows() -> [Totals; 24]
     ensures none { (club : ℕ) → totals_at result club ≡ no_totals }
     ensures long { length result ≡ 24 }
@@ -102,7 +102,7 @@ fn no_rows() -> [Totals; 24]
     [Totals::NONE; 24]
 }
 
-/// What the played matches among the clubs of a group add up to for each of these.
+// What the played matches among the clubs of a group add up to for each of these.
 fn played_among(zone_box: &ZoneBox, group: ClubSet) -> [Totals; 24]
     requires { IsGroupOf zone_box.now.sheet (clubs_in group) }
     ensures totals { AreTotalsAmong zone_box.now.sheet zone_box.now.season (clubs_in group)
@@ -124,7 +124,7 @@ fn played_among(zone_box: &ZoneBox, group: ClubSet) -> [Totals; 24]
     table
 }
 
-/// What all played matches add up to for each club.
+// What all played matches add up to for each club.
 fn played_over(zone_box: &ZoneBox) -> [Totals; 24]
     ensures totals { AreTotalsOver zone_box.now.sheet zone_box.now.season result }
     ensures near { AreTotalsAllNear 5000000 result }

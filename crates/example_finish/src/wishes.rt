@@ -41,7 +41,7 @@ impl Wishes {
     }
 }
 
-/// The question's club, of which a set has room.
+// The question's club, of which a set has room.
 fn own_club(zone_box: &ZoneBox, question: &Question) -> u8
     requires { question.now.club < length zone_box.now.sheet.clubs }
     ensures club { result ≡ question.now.club }

@@ -10,6 +10,7 @@ use Rattle.std.proofs.lemmas.List.FromFn.{map-range_with_len_more}
 use Rattle.std.proofs.lemmas.List.Sums.{sum_by-append, prefix_len-le-length}
 use mir.Val.{bool_byte}
 use Rattle.league_core.specs.LotsFor.{others_of}
+use Rattle.league_core.proofs.ClubCountLemmas.{range_with_len-suc}
 
 -- of one club more, all but the one are the others so far, and this club where it is another
 pub others_of-suc : (clubs club : ℕ)
@@ -19,21 +20,6 @@ others_of-suc clubs club =
     let more = filter_of_map_range_with_len_more (λ other. not (eqb other club)) (λ (x : ℕ). x) 0
     clubs clubs (omega arith) in
     rw (map-id, map-id) at more
-
-range_with_len-suc : (clubs : ℕ) → range_with_len 0 (clubs + 1) ≡ range_with_len 0 clubs ++ clubs ∷
-    []
-range_with_len-suc clubs =
-    let more = map-range_with_len_more (λ (x : ℕ). x) 0 clubs clubs (omega arith) in
-    rw (map-id, map-id) at more
-
--- a count over one club more
-pub count_by-range_suc : (p : ℕ → Bool) (clubs : ℕ)
-    → count_by p (range_with_len 0 (clubs + 1)) ≡ count_by p (range_with_len 0 clubs) + cond
-    (p clubs) 1 0
-count_by-range_suc p clubs =
-    ap (count_by p) (range_with_len-suc clubs)
-    ∙ sum_by-append (λ x. cond (p x) 1 0) (range_with_len 0 clubs) (clubs ∷ [])
-    ∙ ap (λ n. count_by p (range_with_len 0 clubs) + n) (zero-add (cond (p clubs) 1 0))
 
 -- where a place is found it is the first, and where none is the length stands for it
 pub unwrap_or-position : (p : ℕ → Bool) (xs : List ℕ)
@@ -48,11 +34,6 @@ unwrap_or-position p xs = by_place (cases_lt (position_or_len p xs) (length xs))
       ap (λ b. unwrap_or (cond b (Some (position_or_len p xs)) None) (length xs))
       (le-ltb (position_or_len p xs) (length xs) none)
       ∙ omega (arith, prefix_len-le-length (λ x. not (p x)) xs)
-
--- a test counts one at most
-pub one_at_most : (b : Bool) → cond b 1 0 ≤ 1
-one_at_most true = omega arith
-one_at_most false = omega arith
 
 -- a test as a number
 pub bool_byte-is : (b : Bool) → bool_byte b ≡ cond b 1 0

@@ -42,7 +42,7 @@ fn club_last(alloc: Global, clubs: u8, club: u8) -> Result<Vec<u8>, AllocError>
     Ok(order)
 }
 
-/// Adds the clubs but this one at the end, in the order of their numbers.
+// Adds the clubs but this one at the end, in the order of their numbers.
 fn push_others(order: &mut Vec<u8>, clubs: u8, club: u8) -> Result<(), AllocError>
     ensures { OnOk result (order.new.items ≡ order.old.items ++ others_of clubs club) }
 {

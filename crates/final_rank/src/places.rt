@@ -66,7 +66,7 @@ pub fn worst_place(
     Ok(around.span().worst)
 }
 
-/// The other is ahead of the club, or level with it and earlier in the lots than this lot.
+// The other is ahead of the club, or level with it and earlier in the lots than this lot.
 fn is_before(around: Around, lots: &Lots, lot: usize, other: u8) -> bool
     ensures { result ≡ (has_club (clubs_in around.ahead) other
         || (has_club (clubs_in around.level) other && nat_lt (lot_of lots.now other) lot)) }

@@ -10,14 +10,7 @@ use Rattle.std.proofs.lemmas.List.{length-take-le}
 use Rattle.std.proofs.lemmas.Int.Digits.{digits_value-lt}
 use Rattle.std.proofs.Math.Nat.{pow-le-pow_right}
 use Rattle.fixture_sheet.specs.Texts.{is_number}
-
--- each element of a list that passes passes
-list_all-at : {X : Type 0} (p : X → Bool) (xs : List X) (i : ℕ) (d : X) → list_all p xs ≡ true
-    → i < length xs → p (get_or xs i d) ≡ true
-list_all-at p [] i d all inside = absurd (omega arith)
-list_all-at p (x ∷ xs) zero d all inside = (and_parts (p x) (list_all p xs) all).0
-list_all-at p (x ∷ xs) (suc i) d all inside =
-    list_all-at p xs i d (and_parts (p x) (list_all p xs) all).1 (omega arith)
+use Rattle.league_core.proofs.PlainLemmas.{list_all-at}
 
 -- the front of a list that passes passes
 list_all-take : {X : Type 0} (p : X → Bool) (i : ℕ) (xs : List X) → list_all p xs ≡ true
@@ -42,7 +35,7 @@ pub digit_value-at : (text : List ℕ) (i : ℕ) → is_number text ≡ true →
 digit_value-at text i number inside =
     let parts = and_parts (nat_le 1 (length text) && nat_le (length text) 6)
     (list_all is_ascii_digit text) number in
-    digit_value-from (get_or text i 0) (list_all-at is_ascii_digit text i 0 parts.1 inside)
+    digit_value-from (get_or text i 0) (list_all-at is_ascii_digit text i 0 inside parts.1)
 
 -- digits are digits
 AllDigits-from : (text : List ℕ) → list_all is_ascii_digit text ≡ true → AllDigits 10 text

@@ -51,11 +51,6 @@ rest_of_pairs table pairs other rest (Some set) same best = record {
       best.contained side part (omega (arith, ints));
 }
 
--- what holds is said of an error
-pub on_error : {T E : Type 0} (result : Result T E) (P : Type 0) → P → OnErr result P
-on_error (Ok value) P holds = tt
-on_error (Err error) P holds = holds
-
 -- what the clubs alone and the peel leave open
 pub left_open : (table : List ℤ) (pairs : List Pair) (whole : ℕ → Bool) (rest : ClubSet)
     → NoneOver table whole → KeepsExcess table pairs whole (side_of rest) → clubs_in rest ≢ []

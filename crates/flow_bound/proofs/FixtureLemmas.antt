@@ -29,6 +29,7 @@ use Rattle.league_core.proofs.ClubSetLemmas.{clubs_below-none}
 use Rattle.league_core.proofs.OptionLemmas.{length-options_from}
 use Rattle.league_core.proofs.PointRangeLemmas.{range_of-same, total_of-next, total_of-same}
 use Rattle.league_core.proofs.PointRangeLemmas.{total_of-sum}
+use Rattle.league_core.proofs.RangeLemmas.{range_of-none}
 use Rattle.score_box.specs.declared.cell.Cell.{Cell}
 use Rattle.score_box.specs.Cells.{IsCellOf, IsEmptyCell}
 use Rattle.flow_bound.specs.declared.cut.Cut.{Cut}
@@ -64,13 +65,6 @@ is_end cut = record { none = none cut; adds = end_of-added cut }
     none : (cut : Cut) → end_of cut (one_value (pos 0)) ≡ pos 0
     none Floor = refl
     none Ceiling = refl
-
--- a fixture that has options has a cell that is not empty
-pub cell_of_option : (cell : Cell) (options : List Score) → IsCellOf cell options
-    → has_option options ≡ true → ¬ IsEmptyCell cell
-cell_of_option cell [] is some none = false≢true some
-cell_of_option cell (score ∷ options) is some none =
-    false≢true (sym (none score) ∙ is score ∙ has_score-first score options)
 
 -- the values of a set's clubs, as those of a side
 side_total : (value : ℕ → ℤ) (count bits : ℕ) → count ≤ 32
@@ -119,37 +113,6 @@ excess_over-is cut sheet season zone level clubs =
     let last = end_of-one cut off in
     omega (arith, ints)
 
--- a fixture of a sheet has two different clubs of it
-pub fixture_of_sheet : (sheet : Sheet) (i : ℕ) (d : Fixture) → IsWithinLimits sheet
-    → i < length sheet.fixtures
-    → ((get_or sheet.fixtures i d).home < 32) × ((get_or sheet.fixtures i d).away < 32)
-    × ((get_or sheet.fixtures i d).home ≢ (get_or sheet.fixtures i d).away)
-fixture_of_sheet sheet i d limits within =
-    let match = get_or sheet.fixtures i d in
-    let clubs = length sheet.clubs in
-    let is = AllPass-from_list_all (is_fixture clubs) sheet.fixtures limits.fixtures i d within in
-    let parts = and_parts (nat_lt match.home clubs && nat_lt match.away clubs) (not (match.home ==
-    match.away)) is in
-    let low = and_parts (nat_lt match.home clubs) (nat_lt match.away clubs) parts.0 in
-    let home = ltb-true match.home clubs low.0 in
-    let away = ltb-true match.away clubs low.1 in (
-      omega (arith, limits.most_clubs),
-      omega (arith, limits.most_clubs),
-      eqb-false match.home match.away (not_true (match.home == match.away) parts.1),
-    )
-  where
-    not_true : (b : Bool) → not b ≡ true → b ≡ false
-    not_true true h = absurd (false≢true h)
-    not_true false h = refl
-
--- in a zone that has a finish each fixture has an option
-pub option_at : (sheet : Sheet) (season : Results) (zone : List Literal) (i : ℕ)
-    → has_finish sheet season zone ≡ true → i < length (options_in sheet season zone)
-    → has_option (get_or (options_in sheet season zone) i []) ≡ true
-unfolding has_finish
-option_at sheet season zone i finish within =
-    AllPass-from_list_all has_option (options_in sheet season zone) finish i [] within
-
 -- a club's own end is that of its matches, less what is taken off
 own_end-is : (cut : Cut) (sheet : Sheet) (season : Results) (zone : List Literal) (club : ℕ)
     → own_end cut sheet season zone club
@@ -169,12 +132,6 @@ no_worth : (club : ℕ) (match : Fixture) (score : Score) → match.home ≢ clu
 no_worth club match score home away =
     rw (ne_eqb match.home club home, ne_eqb match.away club away) (omega (arith, ints))
 
-pub nothing_of : (options : List Score) → range_of (λ score. pos 0) options ≡ one_value (pos 0)
-nothing_of [] = refl
-nothing_of (score ∷ []) = refl
-nothing_of (score ∷ other ∷ options) =
-    ap (λ (r : Range). widened (pos 0) r) (nothing_of (other ∷ options))
-
 alone_past : (cut : Cut) (clubs club : ℕ) (matches : List Fixture) (options : List (List Score))
     → list_all (is_fixture clubs) matches ≡ true → clubs ≤ club
     → end_of cut (alone_over matches options club) ≡ pos 0
@@ -191,7 +148,7 @@ alone_past cut clubs club (match ∷ matches) (scores ∷ options) all past =
     let first : end_of cut (range_of (points_together (club ∷ []) match) scores) ≡ pos 0 =
     ap (end_of cut) (range_of-same (points_together (club ∷ []) match) (λ score. pos 0) scores
     (λ score. no_worth club match score (λ e. omega arith) (λ e. omega arith))
-    ∙ nothing_of scores) ∙ (is_end cut).none in
+    ∙ range_of-none scores) ∙ (is_end cut).none in
     let sum = end_of-added cut (range_of (points_together (club ∷ []) match) scores)
     (alone_over matches options club) in
     omega (arith, ints, rest, first, sum)
@@ -300,7 +257,7 @@ surplus_none cut options set match apart none =
     come true true = omega (arith, ints)
     come true false = omega (arith, ints)
     come false true = omega (arith, ints)
-    come false false = ap (end_of cut) (nothing_of options) ∙ (is_end cut).none
+    come false false = ap (end_of cut) (range_of-none options) ∙ (is_end cut).none
 
 -- a part of a side has both clubs of a match only where the side has
 pub part_of_both : (part whole : ℕ → Bool) (home away : ℕ) → IsPartOf part whole
@@ -310,14 +267,6 @@ part_of_both part whole home away inside none =
     let parts = and_parts (part home) (part away) both in
     false≢true (sym none ∙ and_from (whole home) (whole away) (inside home parts.0)
     (inside away parts.1)))
-
--- a number of the list of those that are not played is a fixture's
-pub open_fixture : (scores : List (Option Score)) (unplayed : List ℕ) (i d : ℕ)
-    → unplayed ≡ unplayed_in scores → i < length unplayed → get_or unplayed i d < length scores
-open_fixture scores unplayed i d are within =
-    let same = ap (λ (xs : List ℕ). get_or xs i d) are in
-    let low = unplayed_in_range scores i d (omega (arith, within, ap length are)) in
-    omega (arith, same, low)
 
 -- one match more
 pub pair_more : (cut : Cut) (set : ClubSet) (matches : List Fixture) (options : List (List Score))

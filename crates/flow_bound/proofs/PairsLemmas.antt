@@ -16,6 +16,9 @@ use Rattle.league_core.specs.PointRanges.{range_of, points_of_sides, total_of}
 use Rattle.league_core.specs.Sheets.{IsWithinLimits}
 use Rattle.league_core.proofs.OptionLemmas.{length-options_from}
 use Rattle.league_core.proofs.PointRangeLemmas.{least_reached, greatest_reached, range_bounds}
+use Rattle.league_core.proofs.RangeLemmas.{range_of-none}
+use Rattle.league_core.proofs.LiteralLemmas.{option_at}
+use Rattle.league_core.proofs.FixtureLemmas.{fixture_of_sheet}
 use Rattle.score_box.specs.declared.cell.Cell.{Cell}
 use Rattle.score_box.specs.Cells.{IsCellOf}
 use Rattle.score_box.specs.Settings.{HasFinish, Setting}
@@ -29,8 +32,7 @@ use Rattle.flow_bound.specs.Fixtures.{MatchWorth}
 use Rattle.flow_bound.specs.Fixtures.{IsWorthOf, above_nothing, beyond_over, end_of, pair_at}
 use Rattle.flow_bound.specs.Fixtures.{pairs_in, surplus_in}
 use Rattle.flow_bound.specs.Parts.{has_both, side_of, sum_of_pairs}
-use Rattle.flow_bound.proofs.FixtureLemmas.{beyond_over-is, fixture_of_sheet, is_end, nothing_of}
-use Rattle.flow_bound.proofs.FixtureLemmas.{option_at}
+use Rattle.flow_bound.proofs.FixtureLemmas.{beyond_over-is, is_end}
 use Rattle.flow_bound.proofs.PartLemmas.{cond_pos, sum_of_pairs-cons}
 
 -- what options come to for the sides that count
@@ -95,7 +97,7 @@ beyond_is cut options set match apart =
     come true true = omega (arith, ints)
     come true false = omega (arith, ints)
     come false true = omega (arith, ints)
-    come false false = ap (end_of cut) (nothing_of options) ∙ (is_end cut).none
+    come false false = ap (end_of cut) (range_of-none options) ∙ (is_end cut).none
 
 -- the match of a number has two clubs, and an option
 abbrev IsOpenAt : Setting → ℕ → Type 0

@@ -60,17 +60,3 @@ place_back bits club within has =
     ap (λ xs. get_or xs place 0) round.1
     ∙ get_or_append_left (clubs_below club bits ++ club ∷ []) round.0 0 place below
     ∙ get_or_push (clubs_below club bits) club 0 place refl
-
--- no more clubs than are looked at
-pub clubs_few : (count bits : ℕ) → count ≤ 32 → length (clubs_below count bits) ≤ count
-clubs_few zero bits within = omega (arith, ap length (clubs_below-none bits))
-clubs_few (suc count) bits within =
-    let rest = clubs_few count bits (omega arith) in
-    let next = length-clubs_below-suc count bits (omega arith) in
-    let same = ap (λ n. length (clubs_below n bits)) (add-one count) in
-    let one = at_most_one (has_club (clubs_below 32 bits) count) in
-    omega arith
-  where
-    at_most_one : (b : Bool) → cond {A = ℕ} b 1 0 ≤ 1
-    at_most_one true = omega arith
-    at_most_one false = omega arith

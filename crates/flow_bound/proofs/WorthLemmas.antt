@@ -19,6 +19,7 @@ use Rattle.score_box.specs.declared.cell.Cell.{Cell}
 use Rattle.score_box.specs.declared.points.outcomes.MatchPoints.{MatchPoints}
 use Rattle.score_box.specs.Cells.{is_within, keeps_outcome, allows, IsCellOf, IsEmptyCell}
 use Rattle.score_box.specs.Points.{IsPointsOf}
+use Rattle.score_box.proofs.BoxLemmas.{option_of_cell}
 use Rattle.flow_bound.specs.declared.cut.Cut.{Cut}
 use Rattle.flow_bound.specs.declared.cut.Cut.TheVariants.{Floor, Ceiling}
 use Rattle.flow_bound.specs.Fixtures.{MatchWorth}
@@ -65,12 +66,6 @@ is_cell-options cell score =
         (within_most cell.home_least cell.home_most limit score.home (omega arith) sides.0)
         (within_most cell.away_least cell.away_most limit score.away (omega arith) sides.1)
 
--- a cell that is not empty has an option
-some_option : (cell : Cell) (options : List Score) → IsCellOf cell options → ¬ IsEmptyCell cell
-    → has_option options ≡ true
-some_option cell [] is some = absurd (some is)
-some_option cell (score ∷ options) is some = refl
-
 -- a match takes no points away
 no_less : (scored conceded : ℕ) (away : Bool) → pos 0 ≤ℤ match_points scored conceded away
 no_less scored conceded away = by_outcome (nat_lt conceded scored) (scored == conceded)
@@ -93,7 +88,7 @@ pub sides_add_up : (cell : Cell) (home away both : MatchPoints) → IsPointsOf c
 sides_add_up cell home away both at_home on_tour together some =
     let options = options_for cell in
     let is = is_cell-options cell in
-    let option = some_option cell options is some in
+    let option = option_of_cell cell options is some in
     let low = least_reached (points_of_sides true true) options option in
     let high = greatest_reached (points_of_sides true true) options option in
     let top = greatest_reached (points_of_sides true false) options option in

@@ -46,7 +46,7 @@ pub fn choose(
     Ok(found)
 }
 
-/// The first club of a set whose own entry is above 0.
+// The first club of a set whose own entry is above 0.
 fn first_over(alone: &Table, marked: ClubSet) -> Option<u8>
     requires { IsClubTable most_credits alone.now }
     ensures { MatchOption result (NoneOver alone.now (side_of marked))

@@ -16,7 +16,7 @@ ghost use Rattle.flow_bound.specs.Excess.{IsChosen, IsLeftOpen, ceiling_excess, 
 use crate::choice::choose;
 use crate::tally::own_entries;
 use league_core::{ClubSet, OutOfMemory, Question};
-use score_box::ZoneBox;
+use score_box::{ZoneBox, own_least, own_most};
 use std::alloc::Global;
 
 /// The two kinds of cut.
@@ -90,26 +90,4 @@ pub fn high_cut(
     let alone = own_entries(zone_box, Cut::Ceiling, i64::from(least));
     let chosen = choose(alloc, zone_box, Cut::Ceiling, &alone, rivals)?;
     Ok(chosen)
-}
-
-/// The most points of the question's club in its window.
-fn own_most(zone_box: &ZoneBox, question: &Question) -> i32
-    requires has_finish { HasFinish zone_box.now }
-    requires of_sheet { question.now.club < length zone_box.now.sheet.clubs }
-    ensures value { result
-        ≡ own_most zone_box.now.sheet zone_box.now.season question.now zone_box.now.zone }
-    ensures within { result ≤ℤ most_points }
-{
-    question.high.min(zone_box.high(question.club))
-}
-
-/// The least points of the question's club in its window.
-fn own_least(zone_box: &ZoneBox, question: &Question) -> i32
-    requires has_finish { HasFinish zone_box.now }
-    requires of_sheet { question.now.club < length zone_box.now.sheet.clubs }
-    ensures value { result
-        ≡ own_least zone_box.now.sheet zone_box.now.season question.now zone_box.now.zone }
-    ensures within { neg_ℤ most_taken_off ≤ℤ result }
-{
-    question.low.max(zone_box.low(question.club))
 }

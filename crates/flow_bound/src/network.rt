@@ -60,7 +60,7 @@ pub fn greatest(
     }
 }
 
-/// Each club's own entry with the surplus of its pairs at home, where only clubs of `rest` count.
+// Each club's own entry with the surplus of its pairs at home, where only clubs of `rest` count.
 fn weights_of(alone: &Table, pairs: &[Pair], rest: ClubSet) -> Table
     requires sized { IsClubTable most_credits alone.now }
     requires pairs { ArePairs most_fixtures pairs.now }
@@ -76,7 +76,7 @@ fn weights_of(alone: &Table, pairs: &[Pair], rest: ClubSet) -> Table
     weights
 }
 
-/// Adds the surplus of a pair of the set to the entry of its home club.
+// Adds the surplus of a pair of the set to the entry of its home club.
 fn credit_home(table: &mut Table, pair: Pair, set: ClubSet)
     requires small { pair.surplus ≤ 3 }
     requires sized { (credits : ℕ) × (credits < 5 * most_fixtures) × IsClubTable credits table.old }
@@ -92,9 +92,9 @@ fn credit_home(table: &mut Table, pair: Pair, set: ClubSet)
     credit(table, pair.home, i64::from(pair.surplus));
 }
 
-/// Adds an arc for each club of the set, and answers the positive weights together. The source
-/// comes
-/// after the clubs, and the sink after the source.
+// Adds an arc for each club of the set, and answers the positive weights together. The source
+// comes
+// after the clubs, and the sink after the source.
 fn add_clubs(net: &mut Net, weights: &Table, set: ClubSet, places: &Places, source: u16) -> u64
     requires empty { length net.old.arcs ≡ 0 }
     requires room { set_width ≤ net.old.room }
@@ -118,8 +118,8 @@ fn add_clubs(net: &mut Net, weights: &Table, set: ClubSet, places: &Places, sour
     total
 }
 
-/// Adds the arc of a club of the set, from the source or to the sink, and answers its weight where
-/// that is positive.
+// Adds the arc of a club of the set, from the source or to the sink, and answers its weight where
+// that is positive.
 fn add_club(net: &mut Net, set: ClubSet, club: u8, node: u16, source: u16, weight: i64) -> u64
     requires room { length net.old.arcs < net.old.room }
     requires nodes { net.old.nodes ≡ source + 2 }
@@ -148,7 +148,7 @@ fn add_club(net: &mut Net, set: ClubSet, club: u8, node: u16, source: u16, weigh
     }
 }
 
-/// Adds an arc for each pair in the set.
+// Adds an arc for each pair in the set.
 fn add_pairs(net: &mut Net, pairs: &[Pair], set: ClubSet, places: &Places)
     requires room { length net.old.arcs + length pairs.now ≤ net.old.room }
     requires nodes { net.old.nodes ≡ length (clubs_in set) + 2 }
@@ -163,7 +163,7 @@ fn add_pairs(net: &mut Net, pairs: &[Pair], set: ClubSet, places: &Places)
     }
 }
 
-/// Adds the arc of a pair, where it is in the set.
+// Adds the arc of a pair, where it is in the set.
 fn add_pair(net: &mut Net, pair: Pair, set: ClubSet, places: &Places)
     requires room { length net.old.arcs < net.old.room }
     requires nodes { net.old.nodes ≡ length (clubs_in set) + 2 }
@@ -186,7 +186,7 @@ fn add_pair(net: &mut Net, pair: Pair, set: ClubSet, places: &Places)
     );
 }
 
-/// The clubs of a set whose nodes are marked.
+// The clubs of a set whose nodes are marked.
 fn clubs_of(marks: &[bool], set: ClubSet, places: &Places) -> ClubSet
     requires many { length (clubs_in set) ≤ length marks.now }
     requires numbered { IsNumbering set places.now }

@@ -52,8 +52,8 @@ fn are_as_many(set: ClubSet, other: ClubSet) -> bool
     set.len() == other.len()
 }
 
-/// What each club can add at most where only clubs of `rest` are taken: its own entry, and all
-/// its pairs there.
+// What each club can add at most where only clubs of `rest` are taken: its own entry, and all
+// its pairs there.
 fn reach(zone_box: &ZoneBox, cut: Cut, alone: &Table, rest: ClubSet) -> Table
     requires has_finish { HasFinish zone_box.now }
     requires sized { IsClubTable most_credits alone.now }
@@ -72,7 +72,7 @@ fn reach(zone_box: &ZoneBox, cut: Cut, alone: &Table, rest: ClubSet) -> Table
     reach
 }
 
-/// Adds the surplus of a match to the entries of both its clubs, where both are in the set.
+// Adds the surplus of a match to the entries of both its clubs, where both are in the set.
 fn credit_match(table: &mut Table, zone_box: &ZoneBox, cut: Cut, number: u16, set: ClubSet)
     requires has_finish { HasFinish zone_box.now }
     requires in_range { number < length zone_box.now.season.scores }
@@ -93,7 +93,7 @@ fn credit_match(table: &mut Table, zone_box: &ZoneBox, cut: Cut, number: u16, se
     }
 }
 
-/// The clubs of a set with an entry above 0.
+// The clubs of a set with an entry above 0.
 fn positive(table: &Table, set: ClubSet) -> ClubSet
     ensures { (club : ℕ) → side_of result club
         ≡ (side_of set club && int_lt (pos 0) (entry table.now club)) }

@@ -36,7 +36,7 @@ pub fn alone_table(zone_box: &ZoneBox, cut: Cut, level: i64) -> Table
     table
 }
 
-/// The end of a club's points that the cut counts.
+// The end of a club's points that the cut counts.
 fn end_of(zone_box: &ZoneBox, cut: Cut, club: u8) -> i64
     requires has_finish { HasFinish zone_box.now }
     requires in_range { club < length zone_box.now.sheet.clubs }

@@ -77,7 +77,7 @@ pub fn pair_within(zone_box: &ZoneBox, cut: Cut, number: u16, set: ClubSet) -> O
     })
 }
 
-/// The set has both clubs of the match.
+// The set has both clubs of the match.
 fn are_both(set: ClubSet, fixture: Fixture) -> bool
     ensures { result ≡ (side_of set fixture.home && side_of set fixture.away) }
 {
@@ -107,7 +107,7 @@ pub fn pairs_of(
     Ok(pairs)
 }
 
-/// Adds the pair of a match, where both its clubs are in the set.
+// Adds the pair of a match, where both its clubs are in the set.
 fn push_pair(
     pairs: &mut Vec<Pair>,
     zone_box: &ZoneBox,

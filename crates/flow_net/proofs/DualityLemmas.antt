@@ -18,6 +18,7 @@ use Rattle.flow_net.proofs.ShareLemmas.{share}
 use Rattle.flow_net.proofs.CapacityLemmas.{carried-le-limit, carried_full, carried_none}
 use Rattle.flow_net.proofs.CapacityLemmas.{full_from_carried, none_from_carried}
 use Rattle.flow_net.proofs.SideLemmas.{over-but_one, over-carried}
+use Rattle.league_core.proofs.PlainLemmas.{eqb-swap}
 
 -- the arc leads into the side
 abbrev pub comes_back : (ℕ → Bool) → Arc → Bool
@@ -64,10 +65,6 @@ HasEnds-node_bound (arc ∷ arcs) more zero below = record { from = omega arith;
 HasEnds-node_bound (arc ∷ arcs) more (suc place) below =
     let rest = HasEnds-node_bound arcs more place (omega arith) in
     record { from = omega (arith, rest.from); to = omega (arith, rest.to) }
-
--- a test of two numbers does not depend on their order
-same_test : (x y : ℕ) → (x == y) ≡ (y == x)
-same_test x y = grind (arith, nat_tests)
 
 module _ (arcs : List Arc) (source sink : ℕ) (flow : List ℕ)
     (whole : IsWholeFlow arcs source sink flow) where
@@ -130,7 +127,7 @@ module _ (arcs : List Arc) (source sink : ℕ) (flow : List ℕ)
       share-into : (from to amount : ℕ)
           → share (to == sink) amount ≡ share (not (sink == from) && not (not (sink == to))) amount
           + share (from == sink && to == sink) amount
-      share-into from to amount = rw (same_test sink from, same_test sink to)
+      share-into from to amount = rw (eqb-swap sink from, eqb-swap sink to)
           (parts-into (from == sink) (to == sink) amount)
 
       parts-out : (from to : Bool) (amount : ℕ)
@@ -144,7 +141,7 @@ module _ (arcs : List Arc) (source sink : ℕ) (flow : List ℕ)
           → share (from == sink) amount ≡ share
           (not (sink == to) && not (not (sink == from))) amount + share
           (from == sink && to == sink) amount
-      share-out from to amount = rw (same_test sink from, same_test sink to)
+      share-out from to amount = rw (eqb-swap sink from, eqb-swap sink to)
           (parts-out (from == sink) (to == sink) amount)
 
   -- a whole flow of which so much leaves the source is one of that value

@@ -12,7 +12,7 @@ use crate::ends::{Ends, is_between};
 use crate::graph::Graph;
 use crate::search::Search;
 
-/// Begins with nothing on any arc, unless the flow is held for these two nodes.
+// Begins with nothing on any arc, unless the flow is held for these two nodes.
 fn restart(held: Option<Ends>, flow: &mut [u32], source: u16, sink: u16)
     ensures { flow.new ≡ start_of held flow.old source sink }
 {
@@ -21,7 +21,7 @@ fn restart(held: Option<Ends>, flow: &mut [u32], source: u16, sink: u16)
     }
 }
 
-/// Goes on from a whole flow until no more can be sent. The search is left where it stuck.
+// Goes on from a whole flow until no more can be sent. The search is left where it stuck.
 fn fill(graph: &Graph, flow: &mut [u32], search: &mut Search, source: u16, sink: u16)
     requires graph { IsGraph graph.now }
     requires whole { IsWholeFlow graph.now.arcs.items source sink flow.old }

@@ -95,7 +95,7 @@ impl Graph {
         total
     }
 
-    /// Whether no arc carries more than its capacity.
+    // Whether no arc carries more than its capacity.
     fn is_within(&self, flow: &[u32]) -> bool
         requires one_each { length flow.now ≡ length self.now.arcs.items }
         ensures { IsTrue result ↔ IsWithinArcs self.now.arcs.items flow.now }
@@ -108,7 +108,7 @@ impl Graph {
         true
     }
 
-    /// Whether as much leaves the node as enters it.
+    // Whether as much leaves the node as enters it.
     fn is_passed_on(&self, flow: &[u32], node: u16) -> bool
         requires graph { IsGraph self.now }
         requires one_each { length flow.now ≡ length self.now.arcs.items }

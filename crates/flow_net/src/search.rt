@@ -45,7 +45,7 @@ impl Search {
         Ok(Search { reached, queue })
     }
 
-    /// Starts anew with the source alone.
+    // Starts anew with the source alone.
     fn begin(&mut self, source: u16)
         requires sized { IsSized (length self.old.reached.items) self.old }
         requires source_in_range { source < length self.old.reached.items }
@@ -67,8 +67,8 @@ impl Search {
         self.queue.push(start).unwrap();
     }
 
-    /// Reaches the far end of an arc from a place of the queue, if there is room and it is new.
-    /// True where this is the sink.
+    // Reaches the far end of an arc from a place of the queue, if there is room and it is new.
+    // True where this is the sink.
     #[inline]
     fn step(
         &mut self,
@@ -114,7 +114,7 @@ impl Search {
         node == sink
     }
 
-    /// Looks at the arcs of one way from a place of the queue. True where the sink was reached.
+    // Looks at the arcs of one way from a place of the queue. True where the sink was reached.
     fn scan(&mut self, graph: &Graph, flow: &[u32], way: Way, place: usize, sink: u16) -> bool
         requires graph { IsGraph graph.now }
         requires within { IsWithinArcs graph.now.arcs.items flow.now }

@@ -13,7 +13,8 @@ use Rattle.futmax_main.specs.declared.status.Status.TheVariants.{ReadFault, Writ
 use Rattle.futmax_main.specs.declared.status.Status.TheVariants.{NotProved, TooLong}
 use Rattle.futmax_main.specs.Checks.{ComesTo, ServesCheck, check_row, status_of_check}
 use Rattle.futmax_main.specs.Judging.{OutcomeEnds}
-use Rattle.futmax_main.proofs.TurnLemmas.{append_known-none, fresh-contents}
+use Rattle.futmax_main.proofs.TurnLemmas.{fresh-contents}
+use Rattle.output_rows.proofs.OutputLemmas.{append_known-nothing}
 
 -- no outcome is a fault of the source
 not_a_fault : (outcome : CheckOutcome) → status_of_check outcome ≡ ReadFault → ⊥
@@ -58,7 +59,7 @@ check-ends input left outcome old now ReadFault comes at_end ends =
 check-ends input left outcome old now WriteFault comes at_end ends =
     (ends.0, ends.2, (outcome, comes, ends.1))
 check-ends input left outcome old now OutOfMemory comes at_end ends =
-    ([], ends ∙ append_known-none old, refl)
+    ([], ends ∙ append_known-nothing old, refl)
 check-ends input left outcome old now NotProved comes at_end ends =
     (check_row outcome, ends.1, (outcome, comes, ends.0, refl))
 check-ends input left outcome old now TooLong comes at_end ends =
@@ -81,10 +82,10 @@ check-serves reader new (Some input) left outcome old now status fresh checks le
 pub check-fails : (input left old : Option (List ℕ))
     → ServesCheck input left old old ReadFault
 check-fails None left old = tt
-check-fails (Some input) left old = ([], append_known-none old, refl)
+check-fails (Some input) left old = ([], append_known-nothing old, refl)
 
 -- want of memory, which leaves none
 pub check-starved : (input left old : Option (List ℕ))
     → ServesCheck input left old old OutOfMemory
 check-starved None left old = tt
-check-starved (Some input) left old = ([], append_known-none old, refl)
+check-starved (Some input) left old = ([], append_known-nothing old, refl)

@@ -16,22 +16,7 @@ use Rattle.port_core.specs.Contents.{Position, line_stop, stop_due, ended}
 use Rattle.port_core.specs.Readers.{contents_behind}
 use Rattle.port_core.proofs.LineLemmas.{AreLines-lines_of, concat-lines_of, lines_of-ended}
 use Rattle.port_core.proofs.LineLemmas.{lines_of-front, text_of_line-front, text_of_line-open}
-use Rattle.port_core.proofs.StopLemmas.{contents-stopped, stop-none}
-
--- a line is too long before the input is
-stop-long : (position : Position) (line : List ℕ) → 1024 < length (text_of_line line)
-    → position.bytes + 1024 ≤ 67108864 → line_stop position line ≡ Some (LineTooLong (position.lines
-    + 1))
-stop-long position line long first = grind (arith, nat_tests)
-
--- the input is too long, and no line before
-stop-past : (position : Position) (line : List ℕ) → 67108864 < position.bytes + length line
-    → (length (text_of_line line) ≤ 1024) ⊎ (67108864 < position.bytes + 1024)
-    → line_stop position line ≡ Some (InputTooLong (position.lines + 1))
-stop-past position line past first = elim first [
-  | inl short ↦ grind (arith, nat_tests)
-  | inr late ↦ grind (arith, nat_tests)
-]
+use Rattle.port_core.proofs.StopLemmas.{contents-stopped, stop-none, stop-long, stop-past}
 
 -- a line without its end that is too long, or too far, stays so with more bytes
 stop-grown : (position : Position) (line more : List ℕ) (stop : ReadStop) → HasNoLineFeed line

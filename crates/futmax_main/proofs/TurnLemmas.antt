@@ -36,11 +36,7 @@ use Rattle.futmax_main.specs.Turns.{FaultEnds, TurnBegins, TurnGives}
 use Rattle.futmax_main.proofs.SheetLemmas.{same-lines, sheet-elsewhere, sheet-reading}
 use Rattle.futmax_main.proofs.TextLemmas.{reached-start}
 use Rattle.futmax_main.proofs.EndLemmas.{fault-serves, memory-serves}
-
--- nothing written leaves the sink's bytes
-pub append_known-none : (old : Option (List ℕ)) → old ≡ append_known old []
-append_known-none None = refl
-append_known-none (Some bytes) = ap Some (sym (append-nil bytes))
+use Rattle.output_rows.proofs.OutputLemmas.{append_known-nothing}
 
 -- a run that found no memory before it read
 pub serves-nothing : (answering : Answering) (input left : Option (List ℕ)) (told : Bool)
@@ -48,12 +44,12 @@ pub serves-nothing : (answering : Answering) (input left : Option (List ℕ)) (t
 serves-nothing answering None left told old = tt
 serves-nothing answering (Some input) left told old =
     memory-serves answering input [] left told old old (course_of (contents_of input))
-    (reached-start answering input (course_of (contents_of input)) refl) (append_known-none old)
+    (reached-start answering input (course_of (contents_of input)) refl) (append_known-nothing old)
 
 -- nothing was written, since the words wanted memory
 pub serves-no_memory : (answering : Option Answering) (input left : Option (List ℕ)) (told : Bool)
     (old : Option (List ℕ)) → Serves answering input left told old old OutOfMemory
-serves-no_memory None input left told old = ([], append_known-none old, refl)
+serves-no_memory None input left told old = ([], append_known-nothing old, refl)
 serves-no_memory (Some answering) input left told old = serves-nothing answering input left told old
 
 -- ---- the contents of lines that were passed
@@ -85,7 +81,7 @@ sheet-path answering input after told told' to given sheet old passed reads =
     sheet (all-contents input after told told' to given passed) reads in (
       given,
       [],
-      append_known-none old,
+      append_known-nothing old,
       passed,
       record {
         asks = [];
@@ -154,7 +150,7 @@ turn-no_sheet answering (Some input) (Some after) told told' to given stop fault
     reads in
     fault-serves answering input [] left told' old old now fault status
     (reached-start answering input (course_ended (Refused fault))
-    (ap course_of_reading read ∙ ap course_ended is)) (append_known-none old) ends
+    (ap course_of_reading read ∙ ap course_ended is)) (append_known-nothing old) ends
 
 -- ---- a fault of the source
 
@@ -195,7 +191,7 @@ fails-early answering input held left told told' to given old passed draft leads
     ap (λ lines. course_of (with_lines lines (ended (Ok number)))) same
     ∙ ap course_of_reading (leads.2 (ended (Ok number))) in (
       [],
-      append_known-none old,
+      append_known-nothing old,
       (
         passed.lines,
         held,

@@ -2,14 +2,17 @@
 -- stands.
 use Rattle.std.proofs.Common.{◌≡◌, ◌≢◌, ℕ, zero, suc, ◌+◌, ◌<◌, ◌≤◌, Bool, true, false, not, ◌||◌}
 use Rattle.std.proofs.Common.{◌==◌, cond, List, [], ◌∷◌, length, get_or, count_by, refl, ◌∙◌, subst}
-use Rattle.std.proofs.Common.{arith}
-use Rattle.std.specs.List.{list_all, range_with_len}
+use Rattle.std.proofs.Common.{arith, eqb, sym, ap, inl, inr}
+use Rattle.std.specs.Prelude.{IsTrue, ◌↔◌}
+use Rattle.std.specs.List.{list_all, list_any, range_with_len}
 use Rattle.std.proofs.lemmas.Bool.{and_parts, and_from, eqb-true, eqb-false, eq-eqb, false≢true}
+use Rattle.std.proofs.lemmas.Bool.{or_cases, or_left, or_right}
 use Rattle.std.proofs.lemmas.List.Sums.{sum_by-cons}
 use Rattle.std.proofs.lemmas.List.Folds.{list_any_at}
 use Rattle.std.proofs.lemmas.List.FromFn.{length-range_with_len, get_or-range_with_len}
 use Rattle.league_core.specs.Sums.{has_club}
 use Rattle.league_core.specs.Ranking.{lot_of}
+use Rattle.league_core.specs.Reasons.{has_member}
 use Rattle.std.proofs.Common.{◌++◌}
 use Rattle.std.proofs.lemmas.List.Folds.{list_any-append}
 
@@ -85,3 +88,52 @@ lot_of-within (drawn ∷ lots) club h =
       | true ↦ λ e. omega arith
       | false ↦ λ e. omega (arith, lot_of-within lots club e)
     ] h
+
+-- a list of numbers has one whichever side the test has it on
+pub any_from_has : (lots : List ℕ) (club : ℕ) → has_club lots club ≡ true
+    → list_any (eqb club) lots ≡ true
+any_from_has [] club has = absurd (false≢true has)
+any_from_has (drawn ∷ lots) club has =
+    elim (or_cases (drawn == club) (has_club lots club) has) as (λ _.
+    (eqb club drawn || list_any (eqb club) lots) ≡ true) [
+      | inl here ↦ or_left (eqb club drawn) (list_any (eqb club) lots)
+          (eq-eqb club drawn (sym (eqb-true drawn club here)))
+      | inr later ↦ or_right (eqb club drawn) (list_any (eqb club) lots)
+          (any_from_has lots club later)
+    ]
+
+-- what all of a list's clubs pass, each of them passes
+pub each_member : (test : ℕ → Bool) (clubs : List ℕ) → list_all test clubs ≡ true → (club : ℕ)
+    → has_club clubs club ≡ true → test club ≡ true
+each_member test [] all club has = absurd (false≢true has)
+each_member test (first ∷ clubs) all club has =
+    let parts = and_parts (test first) (list_all test clubs) all in
+    elim (first == club) as (λ b. (first == club) ≡ b → (b || has_club clubs club) ≡ true
+    → test club ≡ true) [
+      | true ↦ λ same has. subst (λ (x : ℕ). test x ≡ true) (eqb-true first club same) parts.0
+      | false ↦ λ other has. each_member test clubs parts.1 club has
+    ] refl has
+
+-- and what each of them passes, all of them pass
+pub all_members : (test : ℕ → Bool) (clubs : List ℕ)
+    → ((club : ℕ) → has_club clubs club ≡ true → test club ≡ true) → list_all test clubs ≡ true
+all_members test [] each = refl
+all_members test (first ∷ clubs) each =
+    and_from (test first) (list_all test clubs)
+    (each first (ap (λ b. b || has_club clubs first) (eq-eqb first first refl)))
+    (all_members test clubs
+    (λ club has. each club (or_right (first == club) (has_club clubs club) has)))
+
+-- a list that has no club is empty
+pub no_member : (clubs : List ℕ) → ((club : ℕ) → has_club clubs club ≡ false) → clubs ≡ []
+no_member [] none = refl
+no_member (first ∷ clubs) none =
+    absurd (false≢true (sym (none first)
+    ∙ ap (λ b. b || has_club clubs first) (eq-eqb first first refl)))
+
+-- a list has a club, or it is empty
+pub has_member-not_empty : (clubs : List ℕ) (is_empty : Bool) → (IsTrue is_empty ↔ (clubs ≡ []))
+    → not is_empty ≡ has_member clubs
+has_member-not_empty [] is_empty says = ap not (says.1 refl)
+has_member-not_empty (club ∷ clubs) true says = absurd (let e = says.0 refl in cc)
+has_member-not_empty (club ∷ clubs) false says = refl

@@ -1,15 +1,48 @@
 -- Finishes: a season that is played to its end has one, which is the season itself; and what every
 -- finish of a season has.
 use Rattle.std.proofs.Common.{◌≡◌, ◌<◌, ℕ, zero, suc, true, List, [], ◌∷◌, length, get_or, Option}
+use Rattle.std.proofs.Common.{◌≤◌, ◌&&◌, nat_le, map, subst}
 use Rattle.std.proofs.Common.{Some, None, is_some, refl, sym, ap, ap₂, ◌∙◌, arith}
 use Rattle.std.specs.List.{list_all}
-use Rattle.std.proofs.lemmas.Bool.{false≢true, and_parts, and_from}
+use Rattle.std.proofs.lemmas.Bool.{false≢true, and_parts, and_from, le-leb, leb-true}
 use Rattle.league_core.specs.declared.sheet.Sheet.{Sheet}
 use Rattle.league_core.specs.declared.season.Score.{Score}
-use Rattle.league_core.specs.Results.{Results}
+use Rattle.league_core.specs.Limits.{most_goals}
+use Rattle.league_core.specs.Results.{Results, is_score, is_score_or_none}
 use Rattle.league_core.specs.Seasons.{IsSeasonOf}
 use Rattle.league_core.specs.Finishes.{same_score, may_end, may_all_end, IsFinishOf, is_played}
 use Rattle.league_core.proofs.OptionLemmas.{same_score-true, same_score-itself}
+
+-- what is not played ends without goals
+abbrev pub ended_of : Option Score → Option Score
+ended_of None = Some (record { home = 0; away = 0 })
+ended_of (Some score) = Some score
+
+-- so each season may end
+pub may_all_end-ended : (limit : ℕ) (season : List (Option Score))
+    → may_all_end limit season (map ended_of season) ≡ true
+may_all_end-ended limit [] = refl
+may_all_end-ended limit (None ∷ season) =
+    and_from (nat_le 0 limit && nat_le 0 limit) (may_all_end limit season (map ended_of season))
+    (and_from (nat_le 0 limit) (nat_le 0 limit) (le-leb 0 limit (omega arith))
+    (le-leb 0 limit (omega arith)))
+    (may_all_end-ended limit season)
+may_all_end-ended limit (Some score ∷ season) =
+    and_from (same_score score score) (may_all_end limit season (map ended_of season))
+    (same_score-itself score score refl) (may_all_end-ended limit season)
+
+-- a fixture ends with a score that a match may have
+pub may_end_is_score : (limit : ℕ) (played : Option Score) (score : Score) → limit ≤ most_goals
+    → is_score_or_none played ≡ true → may_end limit played (Some score) ≡ true
+    → is_score score ≡ true
+may_end_is_score limit None score low may ends =
+    let parts = and_parts (nat_le score.home limit) (nat_le score.away limit) ends in
+    let home = leb-true score.home limit parts.0 in
+    let away = leb-true score.away limit parts.1 in
+    and_from _ _ (le-leb score.home most_goals (omega arith))
+    (le-leb score.away most_goals (omega arith))
+may_end_is_score limit (Some played) score low may ends =
+    subst (λ s. is_score s ≡ true) (same_score-true played score ends) may
 
 -- what is played ends as it was played
 may_all_end-played : (limit : ℕ) (season finish : List (Option Score))

@@ -1,12 +1,12 @@
 -- The halves of a zone: which options and which finishes a test leaves in them.
 use Rattle.std.proofs.Common.{◌≡◌, ℕ, suc, ◌≤◌, Bool, true, false, not, ◌&&◌, nat_le}
 use Rattle.std.proofs.Common.{nat_lt, List, [], ◌∷◌, length, Option, Some, None, refl, ap}
-use Rattle.std.proofs.Common.{◌∙◌, arith}
+use Rattle.std.proofs.Common.{◌∙◌, ◌||◌, arith}
 use Rattle.std.specs.List.{list_all}
 use Rattle.std.proofs.lemmas.Bool.{false≢true, and_parts, and_from, or_left, eq-eqb}
 use Rattle.std.proofs.lemmas.Bool.{le-leb}
 use Rattle.std.proofs.lemmas.List.Elements.{filter_agree}
-use Rattle.std.proofs.lemmas.List.Folds.{list_all-append}
+use Rattle.std.proofs.lemmas.List.Folds.{list_all-append, list_any-append}
 use Rattle.league_core.specs.declared.sheet.Sheet.{Sheet}
 use Rattle.league_core.specs.declared.season.Score.{Score}
 use Rattle.league_core.specs.declared.question.Question.{Question}
@@ -15,12 +15,14 @@ use Rattle.league_core.specs.declared.zone.Test.TheVariants.{Home, Draw, HomeMos
 use Rattle.league_core.specs.declared.zone.Literal.{Literal}
 use Rattle.league_core.specs.Results.{Results}
 use Rattle.league_core.specs.Zones.{passes, is_on, is_of_rival, is_as_said, with_test}
-use Rattle.league_core.specs.Options.{score_of, endings, has_score, meets_literal, meets}
+use Rattle.league_core.specs.Zones.{is_of_score, marked_before, marked_after}
+use Rattle.league_core.specs.Options.{score_of, endings, meets_literal, meets}
 use Rattle.league_core.specs.Options.{options_of, options_from, options_in, has_option, has_finish}
 use Rattle.league_core.specs.Trees.{Tree, open_leaf, lent_leaf, refuted_leaf, branch, NodesMeet}
 use Rattle.league_core.specs.Splits.{have_both_finish, is_proper, IsProperNode}
 use Rattle.league_core.proofs.OptionLemmas.{has_score-options_of}
-use Rattle.std.proofs.Math.Bool.{and-true}
+use Rattle.league_core.proofs.OptionTestLemmas.{has_option-some}
+use Rattle.std.proofs.Math.Bool.{and-true, or-false}
 
 -- what all of a zone pass and the new literal passes, the half passes
 pub list_all-with : (p : Literal → Bool) (zone : List Literal) (test : Test) (holds : Bool)
@@ -127,12 +129,6 @@ nodes_have_finish sheet season question (branch test fresh yes_half no_half) zon
       (half_has_finish sheet season question zone test false some proper.0) proper.2,
 )
 
--- a list with some option has one
-some_option : (options : List Score) (score : Score) → has_score options score ≡ true
-    → has_option options ≡ true
-some_option [] score is = absurd (false≢true is)
-some_option (first ∷ options) score is = refl
-
 -- without a literal each fixture has an end
 has_endings : (limit : ℕ) (season : List (Option Score)) (fixture : ℕ)
     → list_all has_option (options_from limit [] fixture season) ≡ true
@@ -141,7 +137,7 @@ has_endings limit (Some score ∷ season) fixture = has_endings limit season (su
 has_endings limit (None ∷ season) fixture =
     and_from (has_option (options_of limit [] fixture None))
     (list_all has_option (options_from limit [] (suc fixture) season))
-    (some_option (options_of limit [] fixture None) (score_of 0 0)
+    (has_option-some (options_of limit [] fixture None) (score_of 0 0)
     (has_score-options_of limit [] fixture None (score_of 0 0) ∙ within))
     (has_endings limit season (suc fixture))
   where
@@ -153,3 +149,30 @@ has_endings limit (None ∷ season) fixture =
 pub root_has_finish : (sheet : Sheet) (season : Results) → has_finish sheet season [] ≡ true
 unfolding has_finish
 root_has_finish sheet season = has_endings sheet.goal_limit season.scores 0
+
+-- ---- marks
+
+-- a test of a score is of no rival
+pub no_rival : (test : Test) (rival : ℕ) → is_of_score test ≡ true → is_of_rival rival test ≡ false
+no_rival (Home fixture) rival of_score = refl
+no_rival (Draw fixture) rival of_score = refl
+no_rival (HomeMost fixture most) rival of_score = refl
+no_rival (AwayMost fixture most) rival of_score = refl
+no_rival (Rival club) rival of_score = absurd (false≢true of_score)
+
+-- a half has the marks of the zone and that of its test
+pub before_in_half : (zone : List Literal) (test : Test) (holds : Bool) (rival : ℕ)
+    → marked_before (with_test zone test holds) rival ≡
+    (marked_before zone rival || (is_of_rival rival test && holds))
+before_in_half zone test holds rival =
+    list_any-append (λ (literal : Literal). is_of_rival rival literal.test && literal.yes) zone
+    (record { test = test; yes = holds } ∷ [])
+    ∙ ap (λ b. marked_before zone rival || b) (or-false (is_of_rival rival test && holds))
+
+pub after_in_half : (zone : List Literal) (test : Test) (holds : Bool) (rival : ℕ)
+    → marked_after (with_test zone test holds) rival ≡
+    (marked_after zone rival || (is_of_rival rival test && not holds))
+after_in_half zone test holds rival =
+    list_any-append (λ (literal : Literal). is_of_rival rival literal.test && not literal.yes) zone
+    (record { test = test; yes = holds } ∷ [])
+    ∙ ap (λ b. marked_after zone rival || b) (or-false (is_of_rival rival test && not holds))

@@ -1,6 +1,7 @@
 -- Lemmas on one notion each: results, logs, comparisons, lists of clubs, sets of clubs, standings,
 -- the ranking, places, lots, finishes, points and verdicts, options, boxes, proposed finishes,
--- ranges of points, trees, lent leaves, trees as lists, halves of a zone.
+-- ranges of points, the sure order, trees, lent leaves, trees as lists, halves of a zone, sums,
+-- fixtures of a sheet and pairs of clubs.
 pub mod PlainLemmas
 pub mod ResultsLemmas
 pub mod LogLemmas
@@ -9,6 +10,7 @@ pub mod OrderingLemmas
 pub mod ClubLemmas
 pub mod ClubSetLemmas
 pub mod ClubBitLemmas
+pub mod ClubCountLemmas
 pub mod StandingLemmas
 pub mod TimesLemmas
 pub mod RankingLemmas
@@ -25,12 +27,16 @@ pub mod OneVerdictLemmas
 pub mod EachVerdictLemmas
 pub mod WorkedVerdicts
 pub mod OptionLemmas
+pub mod OptionTestLemmas
+pub mod LiteralLemmas
 pub mod BoxLemmas
 pub mod ProposalLemmas
 pub mod OutcomeLemmas
 pub mod PointRangeLemmas
+pub mod RangeLemmas
 pub mod WorthLemmas
 pub mod ExtentLemmas
+pub mod SureLemmas
 pub mod TreeLemmas
 pub mod LendingLemmas
 pub mod PutLemmas
@@ -39,4 +45,5 @@ pub mod TreeListLemmas
 pub mod HalfLemmas
 pub mod ScoreHalfLemmas
 pub mod SumLemmas
+pub mod FixtureLemmas
 pub mod PairLemmas

@@ -20,25 +20,12 @@ use Rattle.league_core.proofs.ClubSetLemmas.{has_club-range}
 use Rattle.league_core.proofs.OthersLemmas.{lot_of-absent}
 use Rattle.league_core.proofs.RankingLemmas.{lots_have}
 use Rattle.league_core.proofs.TableLemmas.{order_of-wanted}
-use Rattle.league_core.proofs.ClubLemmas.{has_club-append}
+use Rattle.league_core.proofs.ClubLemmas.{has_club-append, any_from_has}
 
 -- the list has every club below a number, and no more entries than there are such clubs
 record NameEach (clubs : ℕ) (lots : List ℕ) : Type 0 where
   pub long : length lots ≡ clubs
   pub each : (club : ℕ) → club < clubs → has_club lots club ≡ true
-
--- a list of numbers has one whichever side the test has it on
-any_from_has : (lots : List ℕ) (club : ℕ) → has_club lots club ≡ true
-    → list_any (eqb club) lots ≡ true
-any_from_has [] club has = absurd (false≢true has)
-any_from_has (drawn ∷ lots) club has =
-    elim (or_cases (drawn == club) (has_club lots club) has) as (λ _.
-    (eqb club drawn || list_any (eqb club) lots) ≡ true) [
-      | inl here ↦ or_left (eqb club drawn) (list_any (eqb club) lots)
-          (eq-eqb club drawn (sym (eqb-true drawn club here)))
-      | inr later ↦ or_right (eqb club drawn) (list_any (eqb club) lots)
-          (any_from_has lots club later)
-    ]
 
 -- a club that a list has beside another entry is there without that entry
 has_without : (done later : List ℕ) (drawn club : ℕ) → drawn ≢ club

@@ -1,42 +1,23 @@
 -- No two verdicts hold together: each season has a finish, and each finish leaves the club on one
 -- side of the line.
-use Rattle.std.proofs.Common.{◌≡◌, ℕ, ◌<◌, Bool, true, false, ◌&&◌, nat_le, nat_eq, List, [], ◌∷◌}
-use Rattle.std.proofs.Common.{length, map, Option, Some, None, refl, sym, subst, arith}
+use Rattle.std.proofs.Common.{◌≡◌, ℕ, ◌<◌, Bool, true, false, nat_le, List}
+use Rattle.std.proofs.Common.{length, map, refl, sym, subst}
 use Rattle.std.specs.List.{list_all}
-use Rattle.std.proofs.lemmas.Bool.{and_from, eq-eqb, le-leb}
+use Rattle.std.proofs.lemmas.Bool.{and_from}
 use Rattle.league_core.specs.declared.sheet.Sheet.{Sheet}
-use Rattle.league_core.specs.declared.season.Score.{Score}
 use Rattle.league_core.specs.declared.question.Claim.{Claim}
 use Rattle.league_core.specs.declared.question.Claim.TheVariants.{Inside, Outside}
 use Rattle.league_core.specs.Results.{Results, are_results}
 use Rattle.league_core.specs.Sheets.{IsWithinLimits}
 use Rattle.league_core.specs.Sums.{points_of}
 use Rattle.league_core.specs.Ranking.{are_lots, is_inside}
-use Rattle.league_core.specs.Finishes.{same_score, may_all_end, IsFinishOf}
+use Rattle.league_core.specs.Finishes.{IsFinishOf}
 use Rattle.league_core.specs.Questions.{is_on_side, is_in_window, IsExample, full_question}
 use Rattle.league_core.specs.Verdicts.{IsClinched, IsLost, IsPossible}
 use Rattle.league_core.specs.LotsFor.{first_lots}
+use Rattle.league_core.proofs.FinishLemmas.{ended_of, may_all_end-ended}
 use Rattle.league_core.proofs.LotsLemmas.{first_lots-are_lots}
 use Rattle.league_core.proofs.PointsLemmas.{points_in_full_window, results-deductions}
-
--- what is not played ends without goals
-abbrev ended_of : Option Score → Option Score
-ended_of None = Some (record { home = 0; away = 0 })
-ended_of (Some score) = Some score
-
-may_all_end-ended : (limit : ℕ) (season : List (Option Score))
-    → may_all_end limit season (map ended_of season) ≡ true
-may_all_end-ended limit [] = refl
-may_all_end-ended limit (None ∷ season) =
-    and_from (nat_le 0 limit && nat_le 0 limit) (may_all_end limit season (map ended_of season))
-    (and_from (nat_le 0 limit) (nat_le 0 limit) (le-leb 0 limit (omega arith))
-    (le-leb 0 limit (omega arith)))
-    (may_all_end-ended limit season)
-may_all_end-ended limit (Some score ∷ season) =
-    and_from (same_score score score) (may_all_end limit season (map ended_of season))
-    (and_from (nat_eq score.home score.home) (nat_eq score.away score.away)
-    (eq-eqb score.home score.home refl) (eq-eqb score.away score.away refl))
-    (may_all_end-ended limit season)
 
 -- each season has a finish
 pub some_finish : (sheet : Sheet) (season : Results)

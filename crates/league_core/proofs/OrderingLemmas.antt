@@ -1,9 +1,11 @@
 -- What one comparison after another says, whatever is compared.
 use Rattle.std.proofs.Common.{◌≡◌, ℕ, ◌<◌, true, Ordering, Less, Equal, Greater, nat_cmp, nat_lt}
-use Rattle.std.proofs.Common.{is_lt, refl, arith}
+use Rattle.std.proofs.Common.{ℤ, ◌<ℤ◌, int_cmp, is_lt, refl, arith}
 use Rattle.std.specs.Ordering.{ordering_then}
+use Rattle.std.proofs.lemmas.Int.{ints}
 use Rattle.std.proofs.lemmas.Bool.{false≢true}
 use Rattle.std.proofs.lemmas.Bool.Decides.{nat_tests}
+use Rattle.league_core.specs.HeadToHead.{greater_first}
 
 -- only where the first comparison does not decide need the next ones agree
 pub then_agree : (first next other : Ordering) → (first ≡ Equal → next ≡ other)
@@ -67,3 +69,17 @@ nat_cmp-less m n h = grind (arith, nat_tests)
 -- a higher number is Greater
 pub nat_cmp-greater : (m n : ℕ) → n < m → nat_cmp m n ≡ Greater
 nat_cmp-greater m n h = grind (arith, nat_tests)
+
+-- the same of whole numbers
+pub int_cmp-less : (low high : ℤ) → low <ℤ high → int_cmp low high ≡ Less
+int_cmp-less low high h = grind (arith, ints)
+
+pub int_cmp-greater : (high low : ℤ) → low <ℤ high → int_cmp high low ≡ Greater
+int_cmp-greater high low h = grind (arith, ints)
+
+-- of two numbers the greater one comes first, and equal ones are level
+pub greater_first-greater : (number other : ℤ) → number <ℤ other → greater_first number other ≡ Greater
+greater_first-greater number other h = grind (arith, ints)
+
+pub greater_first-same : (number other : ℤ) → number ≡ other → greater_first number other ≡ Equal
+greater_first-same number other h = grind (arith, ints)

@@ -1,12 +1,12 @@
 -- Head-to-head sums add up over the pairs of a group: each match of a club in a group is one
 -- against one other club.
 use Rattle.std.proofs.Common.{◌≡◌, ◌≢◌, ◌⊎◌, ℕ, ℤ, pos, ◌+ℤ◌, Bool, true, false, not, ◌&&◌, ◌||◌}
-use Rattle.std.proofs.Common.{◌==◌, nat_eq, nat_lt, cond, List, [], ◌∷◌, filter, length, refl, sym}
+use Rattle.std.proofs.Common.{◌==◌, nat_eq, cond, List, [], ◌∷◌, filter, length, refl, sym}
 use Rattle.std.proofs.Common.{ap, ◌∙◌, subst, inl, inr, arith}
 use Rattle.std.specs.List.{list_any}
 use Rattle.std.proofs.Math.Bool.{and-true, or-false}
 use Rattle.std.proofs.lemmas.Int.{ints}
-use Rattle.std.proofs.lemmas.Bool.{not-true, and_parts, cases_eq, eq-eqb, ne_eqb, true≢false}
+use Rattle.std.proofs.lemmas.Bool.{not-true, and_parts, cases_eq, eq-eqb, ne_eqb}
 use Rattle.std.proofs.lemmas.Bool.Decides.{nat_tests}
 use Rattle.league_core.specs.declared.sheet.Sheet.{Sheet}
 use Rattle.league_core.specs.declared.sheet.Fixture.{Fixture}
@@ -16,6 +16,7 @@ use Rattle.league_core.specs.Results.{Results}
 use Rattle.league_core.specs.Sums.{Worth, has_club, worth_among, sum_among}
 use Rattle.league_core.specs.PointRanges.{total_of}
 use Rattle.league_core.specs.PairSums.{sum_against}
+use Rattle.league_core.proofs.FixtureLemmas.{clubs_apart}
 use Rattle.league_core.proofs.PointRangeLemmas.{total_of-same}
 use Rattle.league_core.proofs.SumLemmas.{sum_over-zero, sum_over-agree, total_of-sum_over}
 use Rattle.league_core.proofs.SumLemmas.{total_of-zero, total_of-others}
@@ -56,7 +57,7 @@ total_of-one x number (club ∷ clubs) different =
         turned club other x same = grind (arith, nat_tests)
 
 -- a home match of the club counts against the one rival that is away
-home_pair : (worth : Worth) (club : ℕ) (match : Fixture) (score : Score) → match.home ≡ club
+pub home_pair : (worth : Worth) (club : ℕ) (match : Fixture) (score : Score) → match.home ≡ club
     → match.away ≢ club → (rival : ℕ) → worth_among (club ∷ rival ∷ []) worth club match score
     ≡ cond (rival == match.away) (worth score.home score.away false) (pos 0)
 home_pair worth club match score home away rival =
@@ -68,7 +69,7 @@ home_pair worth club match score home away rival =
     (ap (λ b. cond b (worth score.home score.away false) (pos 0)) (or-false (rival == match.away)))
 
 -- an away match against the one that is at home
-away_pair : (worth : Worth) (club : ℕ) (match : Fixture) (score : Score) → match.home ≢ club
+pub away_pair : (worth : Worth) (club : ℕ) (match : Fixture) (score : Score) → match.home ≢ club
     → match.away ≡ club → (rival : ℕ) → worth_among (club ∷ rival ∷ []) worth club match score
     ≡ cond (rival == match.home) (worth score.away score.home true) (pos 0)
 away_pair worth club match score home away rival =
@@ -82,7 +83,7 @@ away_pair worth club match score home away rival =
     (and-true ((rival == match.home) || false) ∙ or-false (rival == match.home)))
 
 -- any other match counts for nothing, in whatever group
-no_pair : (group : List ℕ) (worth : Worth) (club : ℕ) (match : Fixture) (score : Score)
+pub no_pair : (group : List ℕ) (worth : Worth) (club : ℕ) (match : Fixture) (score : Score)
     → match.home ≢ club → match.away ≢ club → worth_among group worth club match score ≡ pos 0
 no_pair group worth club match score home away =
     rw (ne_eqb match.home club home, ne_eqb match.away club away)
@@ -145,14 +146,6 @@ own_pair worth club match score apart =
             | inr away ↦ no_pair (club ∷ club ∷ []) worth club match score home away
           ]
     ]
-
--- a match has two different clubs
-clubs_apart : (clubs : ℕ) (match : Fixture) → is_fixture clubs match ≡ true
-    → match.home ≢ match.away
-clubs_apart clubs match is same =
-    let different = (and_parts (nat_lt match.home clubs && nat_lt match.away clubs)
-    (not (match.home == match.away)) is).1 in
-    true≢false (sym different ∙ ap not (eq-eqb match.home match.away same))
 
 -- so the sum in a group is that of the pairs
 pub sum_among-pairs : (worth : Worth) (sheet : Sheet) (season : Results) (group : List ℕ)

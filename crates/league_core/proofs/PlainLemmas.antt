@@ -2,9 +2,11 @@
 -- here is of a league. That `b || false` is `b`, and its kin, stand in
 -- `Rattle.std.proofs.Math.Bool`.
 use Rattle.std.proofs.Common.{◌≡◌, ℕ, suc, ◌<◌, ◌≤◌, ℤ, pos, ◌+ℤ◌, ◌*ℤ◌, ◌<ℤ◌, ◌≤ℤ◌, Bool, true}
-use Rattle.std.proofs.Common.{false, ◌||◌, ◌==◌, cond, List, length, get_or, arith}
-use Rattle.std.specs.Prelude.{int_lt}
+use Rattle.std.proofs.Common.{false, ◌||◌, ◌==◌, cond, List, [], ◌∷◌, length, get_or, refl, sym}
+use Rattle.std.proofs.Common.{Result, Ok, Err, arith}
+use Rattle.std.specs.Prelude.{int_lt, OnErr}
 use Rattle.std.specs.List.{list_all}
+use Rattle.std.proofs.lemmas.Bool.{and_from}
 use Rattle.std.proofs.lemmas.Bool.Decides.{nat_tests}
 use Rattle.std.proofs.lemmas.Int.{ints}
 use Rattle.std.proofs.lemmas.List.Sums.{AllPass-from_list_all}
@@ -15,6 +17,12 @@ use Rattle.std.proofs.lemmas.List.Sums.{AllPass-from_list_all}
 pub or-other : (a b : Bool) → (a || b) ≡ true → a ≡ false → b ≡ true
 or-other true b either none = absurd (let e : true ≡ false = none in cc)
 or-other false b either none = either
+
+-- two that follow from each other are one
+pub same_tests : (a b : Bool) → (a ≡ true → b ≡ true) → (b ≡ true → a ≡ true) → a ≡ b
+same_tests true b to back = sym (to refl)
+same_tests false true to back = back refl
+same_tests false false to back = refl
 
 -- one at most counts
 pub one_if-most : (b : Bool) → cond {A = ℕ} b 1 0 ≤ 1
@@ -48,3 +56,18 @@ times-suc n number = omega (arith, ints)
 pub list_all-at : {X : Type 0} (test : X → Bool) (xs : List X) (i : ℕ) (d : X) → i < length xs
     → list_all test xs ≡ true → test (get_or xs i d) ≡ true
 list_all-at test xs i d within all = AllPass-from_list_all test xs all i d within
+
+-- and what each of them passes, all pass
+pub all_from : {X : Type 0} (test : X → Bool) (xs : List X) (d : X)
+    → ((k : ℕ) → k < length xs → test (get_or xs k d) ≡ true) → list_all test xs ≡ true
+all_from test [] d each = refl
+all_from test (x ∷ xs) d each =
+    and_from (test x) (list_all test xs) (each 0 (omega arith))
+    (all_from test xs d (λ k within. each (suc k) (omega arith)))
+
+-- ---- calls
+
+-- what holds anyhow holds of a call that failed
+pub err-holds : {A E : Type 0} (result : Result A E) (P : Type 0) → P → OnErr result P
+err-holds (Ok done) P holds = tt
+err-holds (Err stop) P holds = holds

@@ -16,6 +16,7 @@ use Rattle.league_core.specs.Options.{has_score, has_option}
 use Rattle.league_core.specs.PointRanges.{one_value, added, range_of, range_from, total_of}
 use Rattle.league_core.specs.PointRanges.{points_together, points_of_sides}
 use Rattle.league_core.proofs.OptionLemmas.{same_score-true, has_score-first}
+use Rattle.league_core.proofs.OptionTestLemmas.{has_option-some}
 use Rattle.league_core.proofs.ClubSetLemmas.{has_club-clubs_below, clubs_below-suc}
 use Rattle.std.proofs.lemmas.Bool.{or_right}
 
@@ -110,12 +111,6 @@ greatest_reached value (first ∷ other ∷ options) some =
       | inr later ↦ reaches_later value first (other ∷ options) greatest
           (int_max (value first) greatest) later (greatest_reached value (other ∷ options) refl)
     ]
-
--- a list with an option is not empty
-has_option-some : (options : List Score) (score : Score) → has_score options score ≡ true
-    → has_option options ≡ true
-has_option-some [] score is = absurd (false≢true is)
-has_option-some (first ∷ options) score is = refl
 
 -- a bound that an option reaches is the least value, or the greatest
 pub least-is : (value : Score → ℤ) (options : List Score) (low : ℤ)
@@ -223,7 +218,7 @@ total_of-sum value other [] = refl
 total_of-sum value other (club ∷ clubs) = omega (arith, ints, total_of-sum value other clubs)
 
 -- what one club is worth, a set has where it has the club
-total_of-one : (x : ℕ) (number : ℤ) (count bits : ℕ)
+pub total_of-one : (x : ℕ) (number : ℤ) (count bits : ℕ)
     → total_of (λ club. cond (eqb x club) number (pos 0)) (clubs_below count bits) ≡ cond
     (ltb x count && eqb (bit_at bits x) 1) number (pos 0)
 unfolding clubs_below

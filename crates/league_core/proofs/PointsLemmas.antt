@@ -61,7 +61,7 @@ sum_worth value each (match ∷ matches) (Some score ∷ scores) =
     record { least = omega (arith, ints); most = omega (arith, ints) }
 
 -- no deduction is above the greatest one that may be
-deduction-le : (deductions : List ℕ) (club : ℕ)
+pub deduction-le : (deductions : List ℕ) (club : ℕ)
     → list_all (λ points. nat_le points 99) deductions ≡ true → slice_index deductions club ≤ 99
 deduction-le [] club h = omega arith
 deduction-le (points ∷ deductions) zero h =

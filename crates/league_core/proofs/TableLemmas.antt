@@ -1,10 +1,10 @@
 -- What the order says of points, of lots that are a table that is wanted, and of events.
-use Rattle.std.proofs.Common.{◌≡◌, ℕ, ◌<◌, ℤ, ◌<ℤ◌, ◌≤ℤ◌, true, List, [], ◌∷◌, ◌++◌, length}
-use Rattle.std.proofs.Common.{Ordering, Less, Equal, Greater, is_lt, nat_cmp, int_cmp, refl, sym}
-use Rattle.std.proofs.Common.{◌∙◌, ap, arith}
+use Rattle.std.proofs.Common.{◌≡◌, ℕ, ◌<◌, ◌<ℤ◌, ◌≤ℤ◌, true, List, [], ◌∷◌, ◌++◌, length}
+use Rattle.std.proofs.Common.{Ordering, Less, Equal, Greater, is_lt, nat_cmp, refl, sym}
+use Rattle.std.proofs.Common.{◌∙◌, ap}
 use Rattle.std.specs.Ordering.{ordering_then, ordering_reverse}
 use Rattle.std.proofs.lemmas.Bool.{false≢true}
-use Rattle.std.proofs.lemmas.Int.{ints, by_lt_z}
+use Rattle.std.proofs.lemmas.Int.{by_lt_z}
 use Rattle.std.proofs.lemmas.List.Sums.{fold_push}
 use Rattle.league_core.specs.declared.sheet.Sheet.{Sheet}
 use Rattle.league_core.specs.Results.{Results}
@@ -14,13 +14,9 @@ use Rattle.league_core.specs.Sums.{points_of}
 use Rattle.league_core.specs.Ahead.{standing_in}
 use Rattle.league_core.specs.Ranking.{lot_of, tied_group_of, order_of, ranks_before}
 use Rattle.league_core.specs.LotsFor.{order_without_lots}
-use Rattle.league_core.proofs.OrderingLemmas.{nat_cmp-less, nat_cmp-greater}
+use Rattle.league_core.proofs.OrderingLemmas.{nat_cmp-less, nat_cmp-greater, int_cmp-less}
 use Rattle.league_core.proofs.RankingLemmas.{order_of-lots, order_of_total}
 use Rattle.league_core.proofs.RankingLemmas.{order_without_lots_total}
-
--- the lower number is Less
-int_cmp-less : (low high : ℤ) → low <ℤ high → int_cmp low high ≡ Less
-int_cmp-less low high h = grind (arith, ints)
 
 -- more points come first
 pub order_of-points : (sheet : Sheet) (season : Results) (lots : List ℕ) (club other : ℕ)

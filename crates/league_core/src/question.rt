@@ -1,5 +1,8 @@
 //! What can be asked of a season.
 
+ghost use Rattle.std.specs.Prelude.{◌≡◌};
+ghost use Rattle.league_core.specs.Questions.{is_in_window, is_on_side};
+
 /// The side of the line that a question asks for.
 #[derive(Clone, Copy, Debug, PartialEq, Eq)]
 pub enum Claim {
@@ -7,6 +10,18 @@ pub enum Claim {
     Inside,
     /// The club ends behind the first k.
     Outside,
+}
+
+impl Claim {
+    /// A club that ends inside the line, or behind it, is on the side that is asked for.
+    pub fn is_on_side(self, inside: bool) -> bool
+        ensures { result ≡ is_on_side inside self }
+    {
+        match self {
+            Claim::Inside => inside,
+            Claim::Outside => !inside,
+        }
+    }
 }
 
 /// Whether a club can end on one side of a line with its points in a window.
@@ -21,4 +36,13 @@ pub struct Question {
     pub low: i32,
     /// The greatest points of the window.
     pub high: i32,
+}
+
+impl Question {
+    /// The points are in the window.
+    pub fn is_in_window(&self, points: i32) -> bool
+        ensures { result ≡ is_in_window self.now points }
+    {
+        self.low <= points && points <= self.high
+    }
 }

@@ -4,6 +4,7 @@
 //! sheet has to be is `IsWithinLimits` of `specs/Sheets.antt`.
 
 ghost use Rattle.std.specs.Prelude.{◌≡◌, IfOk};
+ghost use Rattle.league_core.specs.Ahead.{rank_of};
 
 use crate::listing::{Listing, Name};
 use crate::memory::OutOfMemory;
@@ -76,6 +77,16 @@ impl Sheet {
             budget: self.budget,
             order: self.order,
         })
+    }
+
+    /// The club's fixed rank; 0 for a number that is no club's.
+    pub fn rank_of(&self, club: u8) -> u16
+        ensures { result ≡ rank_of self.now club }
+    {
+        match self.clubs.as_slice().get(club as usize) {
+            Some(found) => found.rank,
+            None => 0,
+        }
     }
 }
 

@@ -7,11 +7,7 @@ use Rattle.league_core.specs.Codes.{has_code}
 use Rattle.league_core.proofs.LogLemmas.{IsEventOf-same, has_code-told, season_after_of}
 use Rattle.branch_pool.specs.States.{PoolState}
 use Rattle.branch_pool.specs.Goodness.{IsSoundPool}
-
--- the pool's season is one of its sheet
-season_is_of_sheet : (pool : PoolState) → IsSoundPool pool → IsSeasonOf pool.sheet pool.season
-season_is_of_sheet pool sound =
-    subst (IsSeasonOf pool.sheet) (sym sound.season) (season_after_of pool.sheet pool.log)
+use Rattle.branch_pool.proofs.GoodLemmas.{sound_season}
 
 -- what the season after some events of the sheet may be told, the pool may be told
 pub IsEventOf-pool : (pool : PoolState) (sheet : Sheet) (events : List Event) (event : Event)
@@ -20,11 +16,11 @@ pub IsEventOf-pool : (pool : PoolState) (sheet : Sheet) (events : List Event) (e
 IsEventOf-pool pool sheet events event sound same may_be =
     IsEventOf-same sheet (season_after sheet events) pool.season event
     (season_after_of sheet events)
-    (subst (λ of. IsSeasonOf of pool.season) same (season_is_of_sheet pool sound)) may_be
+    (subst (λ of. IsSeasonOf of pool.season) same (sound_season pool sound)) may_be
 
 -- what the pool may be told has a code
 pub has_code-pool : (pool : PoolState) (event : Event) → IsSoundPool pool
     → IsEventOf pool.season event → IsTrue (has_code event)
 has_code-pool pool event sound may_be =
     has_code-told pool.sheet pool.season event
-    (record { limits = sound.limits; of_sheet = season_is_of_sheet pool sound }) may_be
+    (record { limits = sound.limits; of_sheet = sound_season pool sound }) may_be

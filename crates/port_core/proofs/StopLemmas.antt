@@ -24,12 +24,12 @@ pub stop-none : (position : Position) (line : List ℕ) → length (text_of_line
     → position.bytes + length line ≤ 67108864 → line_stop position line ≡ None
 stop-none position line short inside = grind (arith, nat_tests)
 
-stop-long : (position : Position) (line : List ℕ) → 1024 < length (text_of_line line)
+pub stop-long : (position : Position) (line : List ℕ) → 1024 < length (text_of_line line)
     → position.bytes + 1024 ≤ 67108864 → line_stop position line ≡ Some (LineTooLong (position.lines
     + 1))
 stop-long position line long first = grind (arith, nat_tests)
 
-stop-past : (position : Position) (line : List ℕ) → 67108864 < position.bytes + length line
+pub stop-past : (position : Position) (line : List ℕ) → 67108864 < position.bytes + length line
     → (length (text_of_line line) ≤ 1024) ⊎ (67108864 < position.bytes + 1024)
     → line_stop position line ≡ Some (InputTooLong (position.lines + 1))
 stop-past position line past first = elim first [

@@ -12,7 +12,7 @@ use Rattle.league_core.specs.declared.season.Score.{Score}
 use Rattle.league_core.specs.Results.{Results, are_results}
 use Rattle.league_core.specs.Options.{options_in}
 use Rattle.league_core.specs.PointRanges.{range_of, range_from, points_together, least_points_of}
-use Rattle.league_core.proofs.PointsLemmas.{match_worth, results-deductions}
+use Rattle.league_core.proofs.PointsLemmas.{match_worth, results-deductions, deduction-le}
 
 least_of_two : (a b : ℤ) → pos 0 ≤ℤ a → pos 0 ≤ℤ b → pos 0 ≤ℤ int_min a b
 least_of_two a b h k = omega (arith, ints, clamps)
@@ -38,24 +38,13 @@ sum_not_negative value each (match ∷ matches) (options ∷ more) =
     let rest = sum_not_negative value each matches more in
     omega (arith, ints)
 
--- no deduction is above 99
-deduction_most : (deductions : List ℕ) (club : ℕ)
-    → list_all (λ points. nat_le points 99) deductions ≡ true → slice_index deductions club ≤ 99
-deduction_most [] club h = omega arith
-deduction_most (points ∷ deductions) zero h =
-    leb-true points 99
-    (and_parts (nat_le points 99) (list_all (λ points. nat_le points 99) deductions) h).0
-deduction_most (points ∷ deductions) (suc club) h =
-    deduction_most deductions club
-    (and_parts (nat_le points 99) (list_all (λ points. nat_le points 99) deductions) h).1
-
 pub least_reach : (sheet : Sheet) (season : Results) (club : ℕ) → are_results season ≡ true
     → negsuc 98 ≤ℤ least_points_of sheet season [] (club ∷ [])
 unfolding least_points_of
 least_reach sheet season club results =
     let won = sum_not_negative (points_together (club ∷ []))
     (λ match score. not_negative match score) sheet.fixtures (options_in sheet season []) in
-    let off = deduction_most season.deductions club (results-deductions season results) in
+    let off = deduction-le season.deductions club (results-deductions season results) in
     omega (arith, ints)
   where
     not_negative : (match : Fixture) (score : Score)

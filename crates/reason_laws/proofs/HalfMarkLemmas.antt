@@ -17,24 +17,7 @@ use Rattle.league_core.specs.Zones.{is_marked, with_test, is_test_of, is_zone_of
 use Rattle.league_core.specs.Trees.{Tree, open_leaf, lent_leaf, refuted_leaf, branch}
 use Rattle.league_core.specs.Trees.{NodesMeet}
 use Rattle.league_core.specs.Splits.{have_both_finish, is_proper, IsProperNode}
-use Rattle.league_core.proofs.HalfLemmas.{list_all-with}
-
--- a half has the marks of the zone and that of its test
-pub before_in_half : (zone : List Literal) (test : Test) (holds : Bool) (rival : ℕ)
-    → marked_before (with_test zone test holds) rival ≡
-    (marked_before zone rival || (is_of_rival rival test && holds))
-before_in_half zone test holds rival =
-    list_any-append (λ (literal : Literal). is_of_rival rival literal.test && literal.yes) zone
-    (record { test = test; yes = holds } ∷ [])
-    ∙ ap (λ b. marked_before zone rival || b) (or-false (is_of_rival rival test && holds))
-
-pub after_in_half : (zone : List Literal) (test : Test) (holds : Bool) (rival : ℕ)
-    → marked_after (with_test zone test holds) rival ≡
-    (marked_after zone rival || (is_of_rival rival test && not holds))
-after_in_half zone test holds rival =
-    list_any-append (λ (literal : Literal). is_of_rival rival literal.test && not literal.yes) zone
-    (record { test = test; yes = holds } ∷ [])
-    ∙ ap (λ b. marked_after zone rival || b) (or-false (is_of_rival rival test && not holds))
+use Rattle.league_core.proofs.HalfLemmas.{list_all-with, before_in_half, after_in_half}
 
 -- a test that is not of the rival leaves its marks
 pub before_kept : (zone : List Literal) (test : Test) (holds : Bool) (rival : ℕ)

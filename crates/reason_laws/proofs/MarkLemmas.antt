@@ -16,18 +16,12 @@ use Rattle.league_core.specs.Zones.{is_of_score, is_of_rival, marked_before, mar
 use Rattle.league_core.specs.Zones.{is_marked, rivals_of, with_test}
 use Rattle.league_core.specs.Splits.{is_proper}
 use Rattle.league_core.proofs.OthersLemmas.{length-others_of}
+use Rattle.league_core.proofs.HalfLemmas.{no_rival, before_in_half, after_in_half}
 use Rattle.reason_laws.specs.Weights.{unmarked_in}
-use Rattle.reason_laws.proofs.HalfMarkLemmas.{before_in_half, after_in_half, before_kept}
+use Rattle.reason_laws.proofs.HalfMarkLemmas.{before_kept}
 use Rattle.reason_laws.proofs.HalfMarkLemmas.{after_kept}
 use Rattle.reason_laws.proofs.CountLemmas.{count_by-parts, count_by-filter, count_by-agree}
 use Rattle.reason_laws.proofs.CountLemmas.{count_by-one, filter-all}
-
-no_rival : (test : Test) (rival : ℕ) → is_of_score test ≡ true → is_of_rival rival test ≡ false
-no_rival (Home fixture) rival of_score = refl
-no_rival (Draw fixture) rival of_score = refl
-no_rival (HomeMost fixture most) rival of_score = refl
-no_rival (AwayMost fixture most) rival of_score = refl
-no_rival (Rival club) rival of_score = absurd (false≢true of_score)
 
 pub marks_kept : (zone : List Literal) (test : Test) (holds : Bool) (rival : ℕ)
     → is_of_score test ≡ true

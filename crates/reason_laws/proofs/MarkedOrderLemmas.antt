@@ -21,40 +21,22 @@ use Rattle.league_core.specs.Zones.{is_of_rival, is_test_true}
 use Rattle.league_core.specs.Zones.{is_as_said, is_literal_true, are_literals_true}
 use Rattle.league_core.specs.Zones.{marked_before, marked_after}
 use Rattle.league_core.proofs.PlainLemmas.{lt-int_lt}
-
--- the first comparison says which of two numbers is the greater
-pub ahead_is : (x y : ℤ) → y <ℤ x → int_cmp y x ≡ Less
-ahead_is x y below =
-    ap (λ b. cond b Less (cond (int_lt x y) Greater Equal)) (lt-int_lt y x below)
-
-pub behind_is : (x y : ℤ) → x <ℤ y → int_cmp y x ≡ Greater
-behind_is x y below =
-    ap (λ b. cond b Less (cond (int_lt x y) Greater Equal)) (not_under x y below)
-    ∙ ap (λ b. cond b Greater Equal) (lt-int_lt x y below)
-  where
-    not_under : (a b : ℤ) → a <ℤ b → int_lt b a ≡ false
-    not_under a b h = grind (arith, ints)
+use Rattle.league_core.proofs.OrderingLemmas.{int_cmp-less, int_cmp-greater}
 
 -- who ranks before another has as many points or more, and who does not has as many or fewer
 pub lead_says : (x y : ℤ) (rest : Ordering) → is_lt (ordering_then (int_cmp y x) rest) ≡ true
     → y ≤ℤ x
 lead_says x y rest before =
     by_lt_z x y (λ below. absurd
-    (false≢true (sym (ap (λ o. is_lt (ordering_then o rest)) (behind_is x y below)) ∙ before)))
+    (false≢true (sym (ap (λ o. is_lt (ordering_then o rest)) (int_cmp-greater y x below)) ∙ before)))
     (λ at_least. at_least)
 
 pub trail_says : (x y : ℤ) (rest : Ordering) → is_lt (ordering_then (int_cmp y x) rest) ≡ false
     → x ≤ℤ y
 trail_says x y rest not_before =
     by_lt_z y x (λ above. absurd
-    (true≢false (sym (ap (λ o. is_lt (ordering_then o rest)) (ahead_is x y above)) ∙ not_before)))
+    (true≢false (sym (ap (λ o. is_lt (ordering_then o rest)) (int_cmp-less y x above)) ∙ not_before)))
     (λ at_most. at_most)
-
-pub points_before : (sheet : Sheet) (finish : Results) (lots : List ℕ) (club other : ℕ)
-    → ranks_before sheet finish lots club other ≡ true
-    → points_of sheet finish other ≤ℤ points_of sheet finish club
-points_before sheet finish lots club other before =
-    lead_says (points_of sheet finish club) (points_of sheet finish other) _ before
 
 pub points_not_before : (sheet : Sheet) (finish : Results) (lots : List ℕ) (club other : ℕ)
     → ranks_before sheet finish lots club other ≡ false

@@ -15,9 +15,9 @@ use Rattle.league_core.specs.HeadToHead.{greater_first, by_first_difference}
 use Rattle.league_core.specs.PointRanges.{Range}
 use Rattle.league_core.specs.SureOrder.{has_one_value, sure_by_range, sure_then, sure_by_ranges}
 use Rattle.league_core.specs.SureOrder.{is_apart}
-use Rattle.league_core.proofs.OrderingLemmas.{then-equal}
-use Rattle.reason_laws.proofs.MarkedOrderLemmas.{ahead_is, behind_is}
+use Rattle.league_core.proofs.OrderingLemmas.{then-equal, greater_first-same, int_cmp-less}
 use Rattle.league_core.proofs.PlainLemmas.{int_lt-true, int_lt-false}
+use Rattle.league_core.proofs.OrderingLemmas.{int_cmp-greater}
 
 -- how the rival surely stands against the club is how the two compare; where that is unknown
 -- nothing is said
@@ -52,9 +52,6 @@ AreInRanges (range ∷ ranges) (number ∷ numbers) = IsInRange range number
 pub one_value_is : (range : Range) → has_one_value range ≡ true → range.least ≡ range.greatest
 one_value_is range one = (Decides-int_eq range.least range.greatest).0 one
 
-pub same_is : (x y : ℤ) → x ≡ y → greater_first x y ≡ Equal
-same_is x y same = ap (int_cmp y) same ∙ tied_itself int_cmp_total y
-
 -- what two ranges say of two numbers in them is how these compare
 pub range_agrees : (rival club : Range) (x y : ℤ) → IsInRange rival x → IsInRange club y
     → Agrees (sure_by_range rival club) (greater_first x y)
@@ -69,17 +66,17 @@ range_agrees rival club x y in_rival in_club =
         (greater_first x y)
     by_tests true below level a b c =
         let more = int_lt-true club.greatest rival.least a in
-        ahead_is x y (omega (arith, ints))
+        int_cmp-less y x (omega (arith, ints))
     by_tests false true level a b c =
         let fewer = int_lt-true rival.greatest club.least b in
-        behind_is x y (omega (arith, ints))
+        int_cmp-greater y x (omega (arith, ints))
     by_tests false false true a b c =
         let both = and_parts (has_one_value rival) (has_one_value club) c in
         let mine = one_value_is rival both.0 in
         let theirs = one_value_is club both.1 in
         let at_least = int_lt-false club.greatest rival.least a in
         let at_most = int_lt-false rival.greatest club.least b in
-        same_is x y (omega (arith, ints))
+        greater_first-same x y (omega (arith, ints))
     by_tests false false false a b c = tt
 
 -- list by list

@@ -27,10 +27,11 @@ use Rattle.league_core.proofs.ClubLemmas.{range_has}
 use Rattle.league_core.proofs.RankingLemmas.{ranks_before-itself}
 use Rattle.reason_laws.proofs.MemberLemmas.{member_in_box, points_in_box, total_at_most}
 use Rattle.reason_laws.proofs.MemberLemmas.{total_at_least}
-use Rattle.reason_laws.proofs.MarkedOrderLemmas.{points_before, points_not_before}
+use Rattle.reason_laws.proofs.MarkedOrderLemmas.{points_not_before}
 use Rattle.reason_laws.proofs.MarkedOrderLemmas.{before_is, after_is}
 use Rattle.reason_laws.proofs.RivalCountLemmas.{count_by-front, count_by-three, count_by-own}
 use Rattle.league_core.proofs.PlainLemmas.{int_lt-true}
+use Rattle.league_core.proofs.TableLemmas.{ranks_before-points}
 
 -- with too many rivals before the club its place is not inside the line, with too many behind it is
 pub too_many_says : (sheet : Sheet) (question : Question) (finish : Results) (lots : List ℕ)
@@ -173,7 +174,7 @@ ceiling_says sheet season question zone clubs finish lots member reason holds =
     let each : (club :
     ℕ) → marked_before zone club ≡ true
     → own_least sheet season question zone ≤ℤ points_of sheet finish club =
-    λ club marked. let h = points_before sheet finish lots club question.club
+    λ club marked. let h = ranks_before-points sheet finish lots club question.club
     (before_is sheet question.club finish lots zone club member.literals marked) in omega
     (arith, ints) in
     let together = total_at_least (points_of sheet finish) (own_least sheet season question

@@ -2,11 +2,10 @@
 
 ghost use Rattle.std.specs.Prelude.{◌<◌, ◌≤◌, IfOk, OnOk, length};
 ghost use Rattle.league_core.specs.Limits.{most_events};
-ghost use Rattle.league_core.specs.Seasons.{AreEventsOf, IsEventOf};
-ghost use Rattle.branch_pool.specs.Steps.{Changes};
+ghost use Rattle.league_core.specs.Seasons.{AreEventsOf};
 ghost use Rattle.sample_counts.specs.SampleCounts.{IsSamplePool, IsBegun, HasHeard};
 
-use branch_pool::{ChangeStop, Pool};
+use branch_pool::Pool;
 use league_core::{Event, OutOfMemory};
 use std::alloc::Global;
 use verdict_run::{make_sample, questions};
@@ -32,20 +31,7 @@ fn tell_all(pool: &mut Pool, events: &[Event]) -> Result<(), OutOfMemory>
 {
     for event in events {
         pool.is_sound();
-        tell(pool, *event)?;
+        pool.tell(*event)?;
     }
     Ok(())
-}
-
-// Tells one event more. There is room in the log.
-fn tell(pool: &mut Pool, event: Event) -> Result<(), OutOfMemory>
-    requires may_be { IsEventOf pool.old.season event }
-    requires room { length pool.old.log < most_events }
-    ensures { OnOk result (Changes pool.old event pool.new) }
-{
-    match pool.change(event) {
-        Ok(_) => Ok(()),
-        Err(ChangeStop::OutOfMemory) => Err(OutOfMemory),
-        Err(ChangeStop::LogFull) => unreachable!(),
-    }
 }

@@ -28,43 +28,10 @@ use Rattle.league_core.proofs.OptionLemmas.{same_score-true, same_score-itself, 
 use Rattle.league_core.proofs.OptionLemmas.{has_score-options_of, has_score-with}
 use Rattle.league_core.proofs.OptionLemmas.{length-options_from, get_or-options_from, all_options}
 use Rattle.league_core.proofs.OptionLemmas.{each_option}
+use Rattle.league_core.proofs.LiteralLemmas.{options_at, options_at-with, meets-other, meets-own}
 use Rattle.score_box.specs.declared.cell.Cell.{Cell}
 use Rattle.score_box.specs.Cells.{allows, IsCellOf, IsEmptyCell, IsExactCell, HasOneScore}
 use Rattle.score_box.specs.Boxes.{AreCellsOf, IsTestBelow}
-
--- the options of a fixture by its number in the sheet
-pub options_at : (limit : ℕ) (zone : List Literal) (scores : List (Option Score)) (k : ℕ)
-    → k < length scores
-    → get_or (options_from limit zone 0 scores) k [] ≡ options_of limit zone k
-    (get_or scores k None)
-options_at limit zone scores k within =
-    let same : 0 + k ≡ k = omega arith in
-    get_or-options_from limit zone 0 scores k within
-    ∙ ap (λ f. options_of limit zone f (get_or scores k None)) same
-
--- one literal more at the options of a fixture
-pub options_at-with : (limit : ℕ) (zone : List Literal) (literal : Literal)
-    (scores : List (Option Score)) (k : ℕ) (score : Score) → k < length scores
-    → has_score (get_or (options_from limit (zone ++ literal ∷ []) 0 scores) k []) score ≡
-    (has_score (get_or (options_from limit zone 0 scores) k []) score
-    && meets_literal k score literal)
-options_at-with limit zone literal scores k score within =
-    ap (λ options. has_score options score)
-    (options_at limit (zone ++ literal ∷ []) scores k within)
-    ∙ has_score-with limit zone literal k (get_or scores k None) score
-    ∙ ap (λ options. has_score options score && meets_literal k score literal)
-    (sym (options_at limit zone scores k within))
-
--- a literal of another fixture, or of a rival, takes nothing away
-pub meets-other : (k : ℕ) (score : Score) (literal : Literal) → is_on k literal.test ≡ false
-    → meets_literal k score literal ≡ true
-meets-other k score literal off = ap
-    (λ b. not b || is_as_said literal.yes (passes literal.test score)) off
-
-meets-own : (k : ℕ) (score : Score) (literal : Literal) → is_on k literal.test ≡ true
-    → meets_literal k score literal ≡ is_as_said literal.yes (passes literal.test score)
-meets-own k score literal on = ap
-    (λ b. not b || is_as_said literal.yes (passes literal.test score)) on
 
 -- cells of a zone become those of the zone with one literal more
 abbrev pub TakesLiteral : List Cell → List Cell → Literal → Type 0
@@ -194,12 +161,12 @@ first_options limit scores k cell within may score =
     ∙ ap (λ options. has_score options score) (sym (options_at limit [] scores k within))
 
 -- a cell is not empty exactly where its fixture has an option
-option_of_cell : (cell : Cell) (options : List Score) → IsCellOf cell options → ¬ IsEmptyCell cell
+pub option_of_cell : (cell : Cell) (options : List Score) → IsCellOf cell options → ¬ IsEmptyCell cell
     → has_option options ≡ true
 option_of_cell cell [] is some = absurd (some is)
 option_of_cell cell (score ∷ options) is some = refl
 
-cell_of_option : (cell : Cell) (options : List Score) → IsCellOf cell options
+pub cell_of_option : (cell : Cell) (options : List Score) → IsCellOf cell options
     → has_option options ≡ true → ¬ IsEmptyCell cell
 cell_of_option cell [] is some none = false≢true some
 cell_of_option cell (score ∷ options) is some none =

@@ -28,6 +28,8 @@ use Rattle.league_core.specs.PointRanges.{Range, one_value, added, widened, rang
 use Rattle.league_core.specs.PointRanges.{points_together, points_of_sides}
 use Rattle.league_core.proofs.OptionLemmas.{has_score-first}
 use Rattle.league_core.proofs.PointRangeLemmas.{range_of-same}
+use Rattle.league_core.proofs.RangeLemmas.{range_of-none}
+use Rattle.league_core.proofs.FixtureLemmas.{fixture_of_sheet}
 use Rattle.score_box.specs.declared.cell.Cell.{Cell}
 use Rattle.score_box.specs.declared.points.outcomes.MatchPoints.{MatchPoints}
 use Rattle.score_box.specs.Cells.{IsCellOf, IsEmptyCell}
@@ -168,13 +170,6 @@ alone_sides club match score apart =
     at false true home away not_both = omega (arith, ints)
     at false false home away not_both = omega (arith, ints)
 
--- options that all are worth nothing
-range_none : (options : List Score) → range_of (λ score. pos 0) options ≡ one_value (pos 0)
-range_none [] = refl
-range_none (score ∷ []) = refl
-range_none (score ∷ other ∷ options) =
-    ap (λ (r : Range). widened (pos 0) r) (range_none (other ∷ options))
-
 -- what a cell leaves a club, from what it leaves each side
 pub alone_is : (club : ℕ) (match : Fixture) (cell : Cell) (options : List Score)
     (home away : MatchPoints) → match.home ≢ match.away → IsCellOf cell options
@@ -204,8 +199,8 @@ alone_is club match cell options home away apart is home_is away_is =
     at true false not_both = (sym (home_is.least options is), sym (home_is.most options is))
     at false true not_both = (sym (away_is.least options is), sym (away_is.most options is))
     at false false not_both = (
-      ap (λ (r : Range). r.least) (range_none options),
-      ap (λ (r : Range). r.greatest) (range_none options),
+      ap (λ (r : Range). r.least) (range_of-none options),
+      ap (λ (r : Range). r.greatest) (range_of-none options),
     )
 
 -- a cell without a score leaves no points
@@ -491,26 +486,11 @@ zero_at clubs club =
 
 -- ---- sheets
 
-not_true : (b : Bool) → not b ≡ true → b ≡ false
-not_true true h = absurd (false≢true h)
-not_true false h = refl
-
 -- each fixture of a sheet is a match
 pub matches_of : (sheet : Sheet) → IsWithinLimits sheet → All IsMatch sheet.fixtures
 matches_of sheet limits i d within =
-    let match = get_or sheet.fixtures i d in
-    let clubs = length sheet.clubs in
-    let is = AllPass-from_list_all (is_fixture clubs) sheet.fixtures limits.fixtures i d within in
-    let parts = and_parts (nat_lt match.home clubs && nat_lt match.away clubs) (not (match.home ==
-    match.away)) is in
-    let low = and_parts (nat_lt match.home clubs) (nat_lt match.away clubs) parts.0 in
-    let home = ltb-true match.home clubs low.0 in
-    let away = ltb-true match.away clubs low.1 in
-    record {
-      home = omega (arith, limits.most_clubs);
-      away = omega (arith, limits.most_clubs);
-      apart = eqb-false match.home match.away (not_true (match.home == match.away) parts.1);
-    }
+    let ends = fixture_of_sheet sheet i d limits within in
+    record { home = ends.0; away = ends.1; apart = ends.2 }
 
 -- all pass exactly where none fails
 none_fails : {X : Type 0} (test : X → Bool) (xs : List X)

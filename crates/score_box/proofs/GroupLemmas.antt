@@ -16,6 +16,7 @@ use Rattle.league_core.specs.ClubSets.{clubs_below, clubs_in}
 use Rattle.league_core.specs.PointRanges.{total_of}
 use Rattle.league_core.proofs.ClubSetLemmas.{has_club-clubs_below, clubs_below-none}
 use Rattle.league_core.proofs.PointRangeLemmas.{total_of-next}
+use Rattle.league_core.proofs.ClubCountLemmas.{member_below}
 
 -- the rest of a set are its clubs but one
 pub record IsRest (left rest : ClubSet) (first : ℕ) : Type 0 where
@@ -38,13 +39,6 @@ is_rest left rest first has is = record {
       (ne_eqb first club (λ e. other (sym e)))
       ∙ and-true (has_club (clubs_in left) club);
 }
-
--- a club of a set is below its width
-pub member_below : (set : ClubSet) (club : ℕ) → has_club (clubs_in set) club ≡ true → club < 32
-member_below set club has =
-    ltb-true club 32
-    (and_parts (nat_lt club 32) (eqb (bit_at set.bits club) 1)
-    (sym (has_club-clubs_below 32 set.bits club) ∙ has)).0
 
 -- of what the clubs below a number come to, the one club's part stands apart
 apart_below : (value : ℕ → ℤ) (left rest : ClubSet) (first count : ℕ) → count ≤ 32
@@ -117,22 +111,6 @@ rest_less left rest first is =
     let l = count_is (clubs_in left) in
     let r = count_is (clubs_in rest) in
     omega (arith, ints, all, l, r)
-
--- a set has no more clubs than its width
-pub few_below : (count bits : ℕ) → count ≤ 32 → length (clubs_below count bits) ≤ count
-few_below zero bits within = omega (arith, ap length (clubs_below-none bits))
-few_below (suc count) bits within =
-    let rest = few_below count bits (omega arith) in
-    let next = total_of-next (λ club. pos 1) count bits (omega arith) in
-    let l = count_is (clubs_below (count + 1) bits) in
-    let r = count_is (clubs_below count bits) in
-    let same = ap (λ n. length (clubs_below n bits)) (add-one count) in
-    let one = at_most_one (has_club (clubs_below 32 bits) count) in
-    omega (arith, ints, rest, next, l, r, same, one)
-  where
-    at_most_one : (b : Bool) → cond b (pos 1) (pos 0) ≤ℤ pos 1
-    at_most_one true = omega (arith, ints)
-    at_most_one false = omega (arith, ints)
 
 -- no club is left of none, and none comes to nothing
 pub nothing_left : (value : ℕ → ℤ) (clubs : List ℕ) → length clubs ≤ 0

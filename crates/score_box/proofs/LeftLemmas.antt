@@ -9,6 +9,7 @@ use Rattle.league_core.specs.Finishes.{same_score}
 use Rattle.league_core.specs.Options.{is_home_win, is_draw, is_away_win, has_score}
 use Rattle.league_core.proofs.OptionLemmas.{same_score-true, has_score-first}
 use Rattle.league_core.proofs.OutcomeLemmas.{outcome_cases}
+use Rattle.league_core.proofs.OptionTestLemmas.{any_shows, any_gives}
 use Rattle.score_box.specs.declared.cell.Cell.{Cell}
 use Rattle.score_box.specs.declared.points.left.OutcomesLeft.{OutcomesLeft}
 use Rattle.score_box.specs.declared.points.outcomes.MatchPoints.{MatchPoints}
@@ -114,35 +115,6 @@ points_left-are cell left home away points are some least_is most_is =
     ∙ ap (λ b. most_of_three b left.draw left.away_win home away) are.home_win.is
     ∙ ap (λ b. most_of_three h b left.away_win home away) are.draw.is
     ∙ ap (λ b. most_of_three h d b home away) are.away_win.is)
-
--- a score that passes shows that one does, and where one does there is such a score
-any_shows : (test : Score → Bool) (options : List Score) (score : Score)
-    → has_score options score ≡ true → test score ≡ true → list_any test options ≡ true
-any_shows test [] score is passed = absurd (false≢true is)
-any_shows test (first ∷ options) score is passed =
-    elim (or_cases (same_score score first) (has_score options score) is) as
-    (λ _. list_any test (first ∷ options) ≡ true) [
-      | inl same ↦
-          or_left (test first) (list_any test options)
-          (ap test (sym (same_score-true score first same)) ∙ passed)
-      | inr later ↦
-          or_right (test first) (list_any test options) (any_shows test options score later passed)
-    ]
-
-any_gives : (test : Score → Bool) (options : List Score) → list_any test options ≡ true
-    → (score : Score) × (has_score options score ≡ true) × (test score ≡ true)
-any_gives test [] some = absurd (false≢true some)
-any_gives test (first ∷ options) some =
-    elim (or_cases (test first) (list_any test options) some) as
-    (λ _. (score : Score) × (has_score (first ∷ options) score ≡ true) × (test score ≡ true)) [
-      | inl passed ↦ (first, has_score-first first options, passed)
-      | inr later ↦
-          let found = any_gives test options later in (
-            found.0,
-            or_right (same_score found.0 first) (has_score options found.0) found.1,
-            found.2,
-          )
-    ]
 
 -- the cell has a score that passes exactly where the options have one
 passing_among : (cell : Cell) (options : List Score) (test : Score → Bool) (has : Bool)

@@ -26,6 +26,7 @@ use Rattle.league_core.specs.Zones.{is_on, is_of_rival, is_test_of, is_zone_of}
 use Rattle.league_core.specs.Options.{meets_literal, options_of, options_from}
 use Rattle.league_core.specs.Options.{has_score}
 use Rattle.league_core.proofs.OptionLemmas.{length-options_from}
+use Rattle.league_core.proofs.LiteralLemmas.{options_at, options_at-with, meets-other}
 use Rattle.score_box.specs.declared.cell.Cell.{Cell}
 use Rattle.score_box.specs.Cells.{allows, IsCellOf, IsExactCell}
 use Rattle.score_box.specs.Unplayed.{is_unplayed, unplayed_below}
@@ -37,7 +38,7 @@ use Rattle.score_box.specs.Stages.{IsBoxOf, IsUndoOf}
 use Rattle.score_box.proofs.TrailLemmas.{trail_more, trail_less}
 use Rattle.score_box.specs.declared.totals.Totals.{Totals}
 use Rattle.score_box.proofs.EndLemmas.{set_is}
-use Rattle.score_box.proofs.BoxLemmas.{options_at, options_at-with, meets-other, exact_set}
+use Rattle.score_box.proofs.BoxLemmas.{exact_set}
 use Rattle.score_box.proofs.BoxLemmas.{marked_before-push, marked_after-push}
 
 -- none is below 0, and the next fixture follows those before it if it is not played

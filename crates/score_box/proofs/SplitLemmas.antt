@@ -27,13 +27,13 @@ use Rattle.league_core.proofs.ClubSetLemmas.{has_club-clubs_below}
 use Rattle.league_core.proofs.OptionLemmas.{length-options_from}
 use Rattle.league_core.proofs.PlainLemmas.{list_all-at}
 use Rattle.league_core.proofs.PointRangeLemmas.{range_of-same, total_of-same, total_of-sum}
-use Rattle.league_core.proofs.PointRangeLemmas.{points_together-sides, total_of-suc}
+use Rattle.league_core.proofs.PointRangeLemmas.{points_together-sides, total_of-suc, total_of-one}
 use Rattle.league_core.proofs.PointRangeLemmas.{total_of-append}
 use Rattle.score_box.proofs.PathLemmas.{unplayed_below-zero, unplayed_below-suc}
 use Rattle.league_core.proofs.SumLemmas.{total_of-zero}
+use Rattle.league_core.proofs.LiteralLemmas.{options_at}
 use Rattle.score_box.specs.Unplayed.{is_unplayed, unplayed_below, unplayed_in}
 use Rattle.score_box.specs.Ends.{alone_in, alone_over}
-use Rattle.score_box.proofs.BoxLemmas.{options_at}
 use Rattle.score_box.proofs.EndLemmas.{alone_sides}
 
 -- a range of numbers that begins one later
@@ -179,6 +179,14 @@ few_below scores (suc count) =
 pub unplayed_in_range : (scores : List (Option Score)) (i d : ℕ) → i < length (unplayed_in scores)
     → get_or (unplayed_in scores) i d < length scores
 unplayed_in_range scores i d within = below_count scores (length scores) i d within
+
+-- the same, where the list of them is known by another name
+pub open_fixture : (scores : List (Option Score)) (unplayed : List ℕ) (i d : ℕ)
+    → unplayed ≡ unplayed_in scores → i < length unplayed → get_or unplayed i d < length scores
+open_fixture scores unplayed i d are within =
+    let same = ap (λ (xs : List ℕ). get_or xs i d) are in
+    let low = unplayed_in_range scores i d (omega (arith, within, ap length are)) in
+    omega (arith, same, low)
 
 -- and there are no more of them than fixtures
 pub unplayed_few : (scores : List (Option Score)) → length (unplayed_in scores) ≤ length scores
@@ -370,45 +378,6 @@ set_split end is clubs matches scores options many many_options keeps =
         ap (λ (o : List Score). beyond_alone end clubs (get_or matches k no_match) o) found.2
         ∙ omega (arith, ints, one)
 
--- what one club is worth, a set has where it has the club
-pub one_of_set : (x : ℕ) (number : ℤ) (count bits : ℕ)
-    → total_of (λ club. cond (eqb x club) number (pos 0)) (clubs_below count bits)
-    ≡ cond (ltb x count && eqb (bit_at bits x) 1) number (pos 0)
-unfolding clubs_below
-one_of_set x number zero bits =
-    sym (ap (λ b. cond (b && eqb (bit_at bits x) 1) number (pos 0)) (le-ltb x 0 (omega arith)))
-one_of_set x number (suc count) bits =
-    ap (λ n. total_of (λ club. cond (eqb x club) number (pos 0)) (clubs_below n bits))
-    (sym (add-one count))
-    ∙ total_of-suc (λ club. cond (eqb x club) number (pos 0)) count bits
-    ∙ ap (λ n. n +ℤ cond (eqb (bit_at bits count) 1) (cond (eqb x count) number (pos 0)) (pos 0))
-    (one_of_set x number count bits)
-    ∙ step (cases_eq x count)
-  where
-    either : (b : Bool) (n : ℤ) → cond b n n ≡ n
-    either true n = refl
-    either false n = refl
-
-    step : (x ≡ count) ⊎ (x ≢ count)
-        → cond (ltb x count && eqb (bit_at bits x) 1) number (pos 0) +ℤ cond
-        (eqb (bit_at bits count) 1) (cond (eqb x count) number (pos 0)) (pos 0) ≡ cond
-        (ltb x (suc count) && eqb (bit_at bits x) 1) number (pos 0)
-    step (inl same) =
-        rw (le-ltb x count (omega arith), eq-eqb x count same, lt-ltb x (suc count) (omega arith))
-        (here (ap (λ n. eqb (bit_at bits n) 1) same))
-      where
-        here : eqb (bit_at bits x) 1 ≡ eqb (bit_at bits count) 1
-            → pos 0 +ℤ cond (eqb (bit_at bits count) 1) number (pos 0) ≡ cond
-            (eqb (bit_at bits x) 1) number (pos 0)
-        here e = ap (λ b. pos 0 +ℤ cond b number (pos 0)) (sym e) ∙ omega (arith, ints)
-    step (inr other) =
-        rw (ne_eqb x count other, same_below)
-        (ap (λ n. cond (ltb x (suc count) && eqb (bit_at bits x) 1) number (pos 0) +ℤ n)
-        (either (eqb (bit_at bits count) 1) (pos 0)) ∙ omega (arith, ints))
-      where
-        same_below : ltb x count ≡ ltb x (suc count)
-        same_below = grind (arith, nat_tests)
-
 -- what the two sides of a match add alone, and beyond that together
 abbrev pub sides_come_to : (Range → ℤ) → List Score → ℤ → ℤ → ℤ → Type 0
 sides_come_to end options home away both =
@@ -447,7 +416,7 @@ beyond_of_sides end bits match options home away both apart come =
         → total_of (λ club. cond (eqb x club) number (pos 0)) (clubs_below 32 bits)
         ≡ cond (has_club (clubs_below 32 bits) x) number (pos 0)
     side x number =
-        one_of_set x number 32 bits
+        total_of-one x number 32 bits
         ∙ ap (λ b. cond b number (pos 0)) (sym (has_club-clubs_below 32 bits x))
 
     not_both : (h a : Bool) → (h ≡ true → a ≡ true → ⊥)

@@ -22,9 +22,10 @@ use Rattle.league_core.specs.Sums.{sum_among}
 use Rattle.league_core.specs.PairSums.{sum_against}
 use Rattle.league_core.specs.PointRanges.{total_of}
 use Rattle.league_core.proofs.ClubSetLemmas.{has_club-clubs_below}
-use Rattle.league_core.proofs.PointRangeLemmas.{total_of-same}
+use Rattle.league_core.proofs.PointRangeLemmas.{total_of-same, total_of-one}
 use Rattle.league_core.proofs.SumLemmas.{sum_over-agree, total_of-sum_over, total_of-zero}
-use Rattle.score_box.proofs.SplitLemmas.{one_of_set}
+use Rattle.league_core.proofs.PairLemmas.{no_pair, home_pair, away_pair}
+use Rattle.league_core.proofs.PlainLemmas.{eqb-swap}
 use Rattle.score_box.specs.declared.totals.Totals.{Totals}
 use Rattle.score_box.specs.Totals.{Column, points_column, difference_column, goals_column}
 use Rattle.score_box.specs.Totals.{away_goals_column, wins_column, away_wins_column}
@@ -340,73 +341,12 @@ near_wider bound more totals fewer near column =
 
 -- ---- a group, from its pairs
 
--- a home match of the club counts against the one rival that is away
-home_match : (worth : Worth) (club : ℕ) (match : Fixture) (score : Score) → match.home ≡ club
-    → match.away ≢ club → (rival : ℕ) → worth_among (club ∷ rival ∷ []) worth club match score
-    ≡ cond (eqb match.away rival) (worth score.home score.away false) (pos 0)
-home_match worth club match score home away rival = at (cases_eq match.away rival)
-  where
-    at : (match.away ≡ rival) ⊎ (match.away ≢ rival)
-        → worth_among (club ∷ rival ∷ []) worth club match score
-        ≡ cond (eqb match.away rival) (worth score.home score.away false) (pos 0)
-    at (inl same) =
-        rw (
-          eq-eqb club match.home (sym home),
-          ne_eqb club match.away (λ e. away (sym e)),
-          eq-eqb rival match.away (sym same),
-          eq-eqb match.home club home,
-          eq-eqb match.away rival same,
-        ) refl
-    at (inr other) =
-        rw (
-          eq-eqb club match.home (sym home),
-          ne_eqb club match.away (λ e. away (sym e)),
-          ne_eqb rival match.away (λ e. other (sym e)),
-          ne_eqb match.away rival other,
-        ) refl
-
--- an away match against the one that is at home
-away_match : (worth : Worth) (club : ℕ) (match : Fixture) (score : Score) → match.home ≢ club
-    → match.away ≡ club → (rival : ℕ) → worth_among (club ∷ rival ∷ []) worth club match score
-    ≡ cond (eqb match.home rival) (worth score.away score.home true) (pos 0)
-away_match worth club match score home away rival = at (cases_eq match.home rival)
-  where
-    at : (match.home ≡ rival) ⊎ (match.home ≢ rival)
-        → worth_among (club ∷ rival ∷ []) worth club match score
-        ≡ cond (eqb match.home rival) (worth score.away score.home true) (pos 0)
-    at (inl same) =
-        rw (
-          ne_eqb club match.home (λ e. home (sym e)),
-          eq-eqb club match.away (sym away),
-          eq-eqb rival match.home (sym same),
-          ne_eqb match.home club home,
-          eq-eqb match.away club away,
-          eq-eqb match.home rival same,
-        ) refl
-    at (inr other) =
-        rw (
-          ne_eqb club match.home (λ e. home (sym e)),
-          ne_eqb rival match.home (λ e. other (sym e)),
-          ne_eqb match.home rival other,
-        ) refl
-
--- any other match counts for nothing, in whatever group
-other_match : (group : List ℕ) (worth : Worth) (club : ℕ) (match : Fixture) (score : Score)
-    → match.home ≢ club → match.away ≢ club → worth_among group worth club match score ≡ pos 0
-other_match group worth club match score home away =
-    rw (ne_eqb match.home club home, ne_eqb match.away club away)
-    (either (has_club group match.home && has_club group match.away))
-  where
-    either : (b : Bool) → cond b (pos 0) (pos 0) ≡ pos 0
-    either true = refl
-    either false = refl
-
 -- what one club of a set is worth
 pub one_in_set : (x : ℕ) (number : ℤ) (bits : ℕ)
     → total_of (λ club. cond (eqb x club) number (pos 0)) (clubs_below 32 bits)
     ≡ cond (has_club (clubs_below 32 bits) x) number (pos 0)
 one_in_set x number bits =
-    one_of_set x number 32 bits
+    total_of-one x number 32 bits
     ∙ ap (λ b. cond b number (pos 0)) (sym (has_club-clubs_below 32 bits x))
 
 -- what a match is worth in a group, it is worth against all of its clubs together
@@ -428,7 +368,9 @@ match_among bits worth club match score member apart =
         rw (ap (has_club (clubs_below 32 bits)) home ∙ member, eq-eqb match.home club home)
         (sym (one_in_set match.away (worth score.home score.away false) bits))
         ∙ sym (total_of-same _ _ (clubs_below 32 bits)
-        (home_match worth club match score home away))
+        (λ rival. home_pair worth club match score home away rival
+        ∙ ap (λ b. cond b (worth score.home score.away false) (pos 0))
+        (eqb-swap rival match.away)))
     by_side (inr home) (inl away) =
         rw (
           ap (has_club (clubs_below 32 bits)) away ∙ member,
@@ -439,11 +381,13 @@ match_among bits worth club match score member apart =
         (and-true (has_club (clubs_below 32 bits) match.home))
         ∙ sym (one_in_set match.home (worth score.away score.home true) bits))
         ∙ sym (total_of-same _ _ (clubs_below 32 bits)
-        (away_match worth club match score home away))
+        (λ rival. away_pair worth club match score home away rival
+        ∙ ap (λ b. cond b (worth score.away score.home true) (pos 0))
+        (eqb-swap rival match.home)))
     by_side (inr home) (inr away) =
-        other_match (clubs_below 32 bits) worth club match score home away
+        no_pair (clubs_below 32 bits) worth club match score home away
         ∙ sym (total_of-same _ (λ rival. pos 0) (clubs_below 32 bits)
-        (λ rival. other_match (club ∷ rival ∷ []) worth club match score home away)
+        (λ rival. no_pair (club ∷ rival ∷ []) worth club match score home away)
         ∙ total_of-zero (clubs_below 32 bits))
 
 -- so a club's sum in a group is that of its pairs with the clubs of the group

@@ -11,12 +11,12 @@ use Rattle.league_core.specs.declared.zone.Test.TheVariants.{Home, Draw, HomeMos
 use Rattle.league_core.specs.Zones.{is_on}
 use Rattle.league_core.specs.Options.{options_from, has_score}
 use Rattle.league_core.proofs.OptionLemmas.{length-options_from}
+use Rattle.league_core.proofs.LiteralLemmas.{options_at}
 use Rattle.score_box.specs.declared.cell.Cell.{Cell}
 use Rattle.score_box.specs.declared.trail.Undo.{Undo}
 use Rattle.score_box.specs.Cells.{allows, IsExactCell}
 use Rattle.score_box.specs.Boxes.{AreCellsOf, IsTestBelow}
 use Rattle.score_box.specs.Stages.{IsCellBefore, IsUndoOf, IsTrailOf}
-use Rattle.score_box.proofs.BoxLemmas.{options_at}
 
 -- a literal is on a fixture that is there
 below_on : (test : Test) (fixtures clubs number : ℕ) → IsTestBelow fixtures clubs test

@@ -152,7 +152,7 @@ impl Cell {
         }
     }
 
-    /// Leaves no score.
+    // Leaves no score.
     fn cut_all(&mut self)
         ensures empty { IsEmptyCell self.new }
     {

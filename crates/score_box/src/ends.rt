@@ -50,7 +50,7 @@ impl Ends {
     }
 }
 
-/// Adds what each fixture leaves to numbers that have nothing yet.
+// Adds what each fixture leaves to numbers that have nothing yet.
 fn add_all(lows: &mut [i32], highs: &mut [i32], fixtures: &[Fixture], cells: &[Cell])
     requires many { length fixtures.now ≡ length cells.now }
     requires few { length fixtures.now ≤ most_fixtures }
@@ -113,7 +113,7 @@ pub fn replace(cells: &mut [Cell], ends: &mut Ends, fixtures: &[Fixture], number
     cells[number as usize] = cell;
 }
 
-/// Moves the ends on where a fixture has another cell.
+// Moves the ends on where a fixture has another cell.
 fn move_ends(ends: &mut Ends, fixtures: &[Fixture], number: u16, was: &Cell, now: &Cell)
     requires few { length fixtures.now ≤ most_fixtures }
     requires matches { All IsMatch fixtures.now }
@@ -139,7 +139,7 @@ fn move_ends(ends: &mut Ends, fixtures: &[Fixture], number: u16, was: &Cell, now
     ends.several = moved_count(ends.several, !before.are_one(), !after.are_one());
 }
 
-/// A count with one thing more or less, by whether it counted and whether it counts now.
+// A count with one thing more or less, by whether it counted and whether it counts now.
 fn moved_count(count: usize, was: bool, now: bool) -> usize
     requires few { count ≤ most_fixtures }
     requires counted { (if was then 1 else 0) ≤ count }
@@ -154,7 +154,7 @@ fn one_if(counts: bool) -> usize
     if counts { 1 } else { 0 }
 }
 
-/// Moves the numbers of a match's two clubs, where its cell had some outcomes and has others now.
+// Moves the numbers of a match's two clubs, where its cell had some outcomes and has others now.
 fn move_spans(
     lows: &mut [i32],
     highs: &mut [i32],

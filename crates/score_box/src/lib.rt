@@ -10,6 +10,7 @@
 mod cell;
 mod ends;
 mod marks;
+mod own;
 mod played;
 mod points;
 mod tables;
@@ -18,6 +19,7 @@ mod trail;
 mod zone_box;
 
 pub use cell::{Cell, Goals};
+pub use own::{own_least, own_most};
 pub use played::Played;
 pub use points::{MatchPoints, OutcomesLeft, PointRange};
 pub use totals::Totals;

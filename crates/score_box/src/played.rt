@@ -144,7 +144,7 @@ impl<'a> Played<'a> {
     }
 }
 
-/// The fixtures without a score, in order.
+// The fixtures without a score, in order.
 fn unplayed_fixtures(alloc: Global, scores: &[Option<Score>]) -> Result<Vec<u16>, OutOfMemory>
     requires { length scores.now ≤ most_fixtures }
     ensures { IfOk result (λ found. found.items ≡ unplayed_in scores.now) }

@@ -27,7 +27,7 @@ pub struct PointRange {
 }
 
 impl PointRange {
-    /// Both ends with those of one fixture more.
+    // Both ends with those of one fixture more.
     fn with(self, points: MatchPoints) -> PointRange
         requires least { (pos 0 ≤ℤ self.least) × (self.least <ℤ pos 1000000) }
         requires most { (pos 0 ≤ℤ self.most) × (self.most <ℤ pos 1000000) }

@@ -112,7 +112,7 @@ fn points_if(counts: bool, totals: &Totals) -> i32
     if counts { totals.points } else { 0 }
 }
 
-/// Adds all matches that are played to tables that have none yet.
+// Adds all matches that are played to tables that have none yet.
 fn add_all(
     clubs: &mut [Totals],
     pairs: &mut [Totals],
@@ -133,8 +133,8 @@ fn add_all(
     }
 }
 
-/// Adds a match, if it is played, to the rows of its two clubs, and to those of each against the
-/// other.
+// Adds a match, if it is played, to the rows of its two clubs, and to those of each against the
+// other.
 fn add_if_played(clubs: &mut [Totals], pairs: &mut [Totals], fixture: Fixture, score: Option<Score>)
     requires fixture { IsMatch fixture }
     requires clubs { length clubs.old ≡ 24 }
@@ -160,7 +160,7 @@ fn add_if_played(clubs: &mut [Totals], pairs: &mut [Totals], fixture: Fixture, s
     }
 }
 
-/// Adds a match to two rows: what it is worth at home to the one, and away to the other.
+// Adds a match to two rows: what it is worth at home to the one, and away to the other.
 fn add(table: &mut [Totals], home: usize, away: usize, score: Score)
     requires different { home ≢ away }
     requires home { home < length table.old }

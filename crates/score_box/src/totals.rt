@@ -64,7 +64,7 @@ impl Totals {
     }
 }
 
-/// Three for a win, one for a draw.
+// Three for a win, one for a draw.
 fn points_for(scored: u8, conceded: u8) -> i32
     ensures value { result ≡ match_points scored conceded false }
     ensures within { (pos 0 ≤ℤ result) × (result ≤ℤ pos 3) }

@@ -104,7 +104,7 @@ impl<'a> ZoneBox<'a> {
         Ok(zone_box)
     }
 
-    /// The box of the zone without a literal.
+    // The box of the zone without a literal.
     fn start(alloc: Global, played: &Played<'a>) -> Result<ZoneBox<'a>, OutOfMemory>
         ensures { IfOk result (λ b. b ≡ record {
           sheet = played.now.sheet;

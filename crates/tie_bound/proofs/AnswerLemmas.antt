@@ -165,19 +165,6 @@ pub have_answers_still : (group : List ℕ) (old new : List Sure) → length old
 have_answers_still group old new same answered club has =
     let low = answered club has in omega arith
 
--- steps one after the other
-pub sure_then-assoc : (a b c : Sure) → sure_then (sure_then a b) c ≡ sure_then a (sure_then b c)
-sure_then-assoc Above b c = refl
-sure_then-assoc Below b c = refl
-sure_then-assoc Level b c = refl
-sure_then-assoc Unknown b c = refl
-
-pub sure_then-level : (a : Sure) → sure_then a Level ≡ a
-sure_then-level Above = refl
-sure_then-level Below = refl
-sure_then-level Level = refl
-sure_then-level Unknown = refl
-
 pub is_level-then : (a b : Sure) → is_level (sure_then a b) ≡ (is_level a && is_level b)
 is_level-then Above b = refl
 is_level-then Below b = refl
@@ -230,26 +217,6 @@ overall_spans_of-is sheet options table club are =
     let away_wins = are.each club AwayWins in
     (λ j. difference j ∷ goals j ∷ away_goals j ∷ wins j ∷ away_wins j ∷ one_value
     (neg_ℤ (pos (rank_of sheet club))) ∷ [])
-
--- what all clubs of a list pass each of them passes, and the other way round
-pub each_club : (test : ℕ → Bool) (clubs : List ℕ) (club : ℕ) → list_all test clubs ≡ true
-    → has_club clubs club ≡ true → test club ≡ true
-each_club test [] club all has = absurd (false≢true has)
-each_club test (first ∷ clubs) club all has =
-    let both = and_parts (test first) (list_all test clubs) all in
-    elim (or_cases (eqb first club) (has_club clubs club) has) as (λ _. test club ≡ true) [
-      | inl same ↦ ap test (sym (eqb-true first club same)) ∙ both.0
-      | inr later ↦ each_club test clubs club both.1 later
-    ]
-
-pub all_clubs : (test : ℕ → Bool) (clubs : List ℕ)
-    → ((club : ℕ) → has_club clubs club ≡ true → test club ≡ true) → list_all test clubs ≡ true
-all_clubs test [] each = refl
-all_clubs test (first ∷ clubs) each =
-    and_from (test first) (list_all test clubs)
-    (each first (or_left (eqb first first) (has_club clubs first) (eq-eqb first first refl)))
-    (all_clubs test clubs (λ club has. each club
-    (or_right (eqb first club) (has_club clubs club) has)))
 
 -- the test of one club by the sums that were read from the table
 pub is_sure_by-read : (parts : Parts) (table : List Sums) (club other : ℕ) (sums own : Sums)

@@ -18,6 +18,7 @@ use Rattle.league_core.specs.Zones.{rivals_of, marked_before, marked_after}
 use Rattle.league_core.specs.Reasons.{too_many, is_surely_above, is_surely_below}
 use Rattle.league_core.specs.SureOrder.{sure_then, sure_by_points}
 use Rattle.league_core.specs.SureOrder.{sure_order, is_above, is_below}
+use Rattle.league_core.proofs.PlainLemmas.{same_tests}
 use Rattle.score_box.specs.Settings.{Setting}
 use Rattle.tie_bound.specs.Boxes.{options_in_box}
 use Rattle.tie_bound.specs.Rivals.{are_too_many_with, is_wrong_with, refutes_with, refutes_surely}
@@ -121,19 +122,13 @@ refutes_more box question above below above_too below_too more_above more_below 
         (λ x has. or_more (marked_after box.zone x) (below x) (below_too x)
         (more_below x has)))
 
--- where the same clubs of the sheet are above and below, the same is refuted
-both_true : (a b : Bool) → (a ≡ true → b ≡ true) → (b ≡ true → a ≡ true) → a ≡ b
-both_true true b gives from = sym (gives refl)
-both_true false true gives from = from refl
-both_true false false gives from = refl
-
 pub refutes_same : (box : Setting) (question : Question)
     (above below above_too below_too : ℕ → Bool)
     → ((x : ℕ) → has_club (rivals_of box.sheet question.club) x ≡ true → above x ≡ above_too x)
     → ((x : ℕ) → has_club (rivals_of box.sheet question.club) x ≡ true → below x ≡ below_too x)
     → refutes_with box question above below ≡ refutes_with box question above_too below_too
 refutes_same box question above below above_too below_too same_above same_below =
-    both_true (refutes_with box question above below)
+    same_tests (refutes_with box question above below)
     (refutes_with box question above_too below_too)
     (refutes_more box question above below above_too below_too
     (λ x within is. sym (same_above x within) ∙ is)

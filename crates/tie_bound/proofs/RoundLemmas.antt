@@ -11,8 +11,9 @@ use Rattle.league_core.specs.SureOrder.{is_surely_in, are_all_sure, sure_within,
 use Rattle.league_core.specs.ClubSets.{clubs_below}
 use Rattle.league_core.proofs.ClubSetLemmas.{clubs_below-filter}
 use Rattle.league_core.specs.Sums.{has_club}
+use Rattle.league_core.proofs.SureLemmas.{sure_then-assoc, sure_then-level}
 use Rattle.tie_bound.specs.Answers.{answer_at, AreLevelIn, StepDecides}
-use Rattle.tie_bound.proofs.AnswerLemmas.{sure_then-assoc, sure_then-level, is_level-then}
+use Rattle.tie_bound.proofs.AnswerLemmas.{is_level-then}
 use Rattle.tie_bound.proofs.AnswerLemmas.{not_level, not_level_keeps}
 
 -- one round of the sure order within a group: where it is not sure who shares the club's record

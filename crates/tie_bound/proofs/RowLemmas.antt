@@ -17,6 +17,8 @@ use Rattle.league_core.specs.Sheets.{IsWithinLimits, is_fixture}
 use Rattle.league_core.specs.Sums.{Worth, has_club, worth_to, worth_among, sum_over}
 use Rattle.league_core.specs.PointRanges.{Range, one_value, range_of, range_from, total_of}
 use Rattle.league_core.proofs.SumLemmas.{sum_over-agree, sum_over-zero}
+use Rattle.league_core.proofs.RangeLemmas.{same_range}
+use Rattle.league_core.proofs.FixtureLemmas.{ends_low}
 use Rattle.tie_criteria.specs.declared.measure.Measure.{Measure}
 use Rattle.tie_criteria.specs.declared.measure.Measure.TheVariants.{Points, Difference, Goals}
 use Rattle.tie_criteria.specs.declared.measure.Measure.TheVariants.{AwayGoals, Wins, AwayWins}
@@ -33,7 +35,6 @@ use Rattle.tie_bound.specs.Spans.{IsSpanNear}
 use Rattle.tie_bound.specs.Sums.{range_by, no_sums, sums_at, AreNear, SpansGrowBy}
 use Rattle.tie_bound.specs.Tables.{Value}
 use Rattle.tie_bound.specs.Rows.{column_of, IsRow, AreRows}
-use Rattle.tie_bound.proofs.TableLemmas.{same_range}
 use Rattle.tie_bound.proofs.SoFarLemmas.{no_sums-is}
 
 -- the column of a measure counts what the measure does
@@ -89,15 +90,6 @@ row_of_none value clubs fixtures scores club all nothing = record {
       near_one 0 5000000 (pos 0) (range_by no_sums measure) (omega arith) (no_sums-is measure)
       (omega (arith, ints)) (omega (arith, ints));
 }
-
--- the two clubs of a match
-ends_low : (clubs : ℕ) (match : Fixture) → is_fixture clubs match ≡ true
-    → (match.home < clubs) × (match.away < clubs)
-ends_low clubs match is =
-    let both = and_parts (nat_lt match.home clubs && nat_lt match.away clubs)
-    (not (match.home == match.away)) is in
-    let low = and_parts (nat_lt match.home clubs) (nat_lt match.away clubs) both.0 in
-    (ltb-true match.home clubs low.0, ltb-true match.away clubs low.1)
 
 not_there : (worth : Worth) (club : ℕ) (match : Fixture) (score : Score) → match.home ≢ club
     → match.away ≢ club → worth_to worth club match score ≡ pos 0
@@ -278,32 +270,7 @@ open_all value fixtures scores options unplayed i club sums measure are past man
     ∙ sym (range_split (λ range. range.greatest) greatest_end (λ n. refl) v fixtures scores options
     many many_options keeps))
 
--- a number of the list of those that are not played is a fixture's
-pub open_fixture : (scores : List (Option Score)) (unplayed : List ℕ) (i d : ℕ)
-    → unplayed ≡ unplayed_in scores → i < length unplayed → get_or unplayed i d < length scores
-open_fixture scores unplayed i d are within =
-    let same = ap (λ (xs : List ℕ). get_or xs i d) are in
-    let low = unplayed_in_range scores i d (omega (arith, within, ap length are)) in
-    omega (arith, same, low)
-
 -- and there are no more of them than fixtures
 pub open_few : (scores : List (Option Score)) (unplayed : List ℕ) → unplayed ≡ unplayed_in scores
     → length unplayed ≤ length scores
 open_few scores unplayed are = omega (arith, ap length are, unplayed_few scores)
-
--- a fixture of a sheet has two different clubs of it
-pub fixture_of_sheet : (sheet : Sheet) (k : ℕ) (d : Fixture) → IsWithinLimits sheet
-    → k < length sheet.fixtures
-    → ((get_or sheet.fixtures k d).home < 24) × ((get_or sheet.fixtures k d).away < 24)
-    × ((get_or sheet.fixtures k d).home ≢ (get_or sheet.fixtures k d).away)
-fixture_of_sheet sheet k d limits within =
-    let match = get_or sheet.fixtures k d in
-    let clubs = length sheet.clubs in
-    let is = AllPass-from_list_all (is_fixture clubs) sheet.fixtures limits.fixtures k d within in
-    let parts = and_parts (nat_lt match.home clubs && nat_lt match.away clubs)
-    (not (match.home == match.away)) is in
-    let low = ends_low clubs match is in (
-      omega (arith, low.0, limits.most_clubs),
-      omega (arith, low.1, limits.most_clubs),
-      λ same. true≢false (sym parts.1 ∙ ap not (eq-eqb match.home match.away same)),
-    )

@@ -11,6 +11,7 @@ use Rattle.league_core.specs.Sheets.{is_fixture}
 use Rattle.league_core.specs.Sums.{has_club, Worth, worth_to, worth_among}
 use Rattle.league_core.specs.PointRanges.{Range, one_value, added, range_of, range_from}
 use Rattle.league_core.proofs.PointRangeLemmas.{range_of-same, range_from-more, range_from-all}
+use Rattle.league_core.proofs.RangeLemmas.{added-none, none-added, added-assoc}
 use Rattle.tie_criteria.specs.declared.measure.Measure.{Measure}
 use Rattle.tie_criteria.specs.declared.measure.Measure.TheVariants.{Points, Difference, Goals}
 use Rattle.tie_criteria.specs.declared.measure.Measure.TheVariants.{AwayGoals, Wins, AwayWins}
@@ -19,7 +20,6 @@ use Rattle.tie_bound.specs.declared.sums.Sums.{Sums}
 use Rattle.tie_bound.specs.Spans.{IsSpanNear}
 use Rattle.tie_bound.specs.Sums.{range_by, no_sums, AreNear, SpansGrowBy}
 use Rattle.tie_bound.specs.Tables.{Value}
-use Rattle.tie_bound.proofs.TableLemmas.{added-assoc, added-none, none-added}
 
 -- the sums so far: with what is left of the matches they are the whole
 pub record IsSoFar (matches : List Fixture) (options : List (List Score)) (value : Value)
@@ -85,26 +85,3 @@ so_far_all matches options value i club sums measure past so_far =
     (range_from-all (value (worth_of measure) club) matches options i past)
     ∙ added-none (range_by sums measure))
     ∙ so_far.whole measure
-
--- in the group of all clubs every match counts
-pub among_all : (group : List ℕ) (clubs : ℕ) (worth : Worth) (club : ℕ) (matches : List Fixture)
-    (options : List (List Score)) → ((x : ℕ) → x < clubs → has_club group x ≡ true)
-    → list_all (is_fixture clubs) matches ≡ true
-    → range_from (worth_among group worth club) matches options ≡ range_from (worth_to worth club)
-    matches options
-among_all group clubs worth club [] options has are = refl
-among_all group clubs worth club (match ∷ matches) [] has are = refl
-among_all group clubs worth club (match ∷ matches) (o ∷ options) has are =
-    let here = and_parts (is_fixture clubs match) (list_all (is_fixture clubs) matches) are in
-    let ends = and_parts (nat_lt match.home clubs && nat_lt match.away clubs)
-    (not (eqb match.home match.away)) here.0 in
-    let both = and_parts (nat_lt match.home clubs) (nat_lt match.away clubs) ends.0 in
-    let counts : (has_club group match.home && has_club group match.away) ≡ true =
-    and_from (has_club group match.home) (has_club group match.away)
-    (has match.home (ltb-true match.home clubs both.0))
-    (has match.away (ltb-true match.away clubs both.1)) in
-    ap (λ r. added r (range_from (worth_among group worth club) matches options))
-    (range_of-same (worth_among group worth club match) (worth_to worth club match) o
-    (λ score. ap (λ b. cond b (worth_to worth club match score) (pos 0)) counts))
-    ∙ ap (added (range_of (worth_to worth club match) o))
-    (among_all group clubs worth club matches options has here.1)

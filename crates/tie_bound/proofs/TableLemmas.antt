@@ -10,6 +10,7 @@ use Rattle.league_core.specs.declared.sheet.Fixture.{Fixture}
 use Rattle.league_core.specs.declared.season.Score.{Score}
 use Rattle.league_core.specs.Sums.{has_club, worth_to, worth_among}
 use Rattle.league_core.specs.PointRanges.{Range, one_value, added, range_of}
+use Rattle.league_core.proofs.RangeLemmas.{same_range, added-none, range_of-none}
 use Rattle.tie_criteria.specs.declared.measure.Measure.{Measure}
 use Rattle.tie_criteria.specs.Measures.{worth_of}
 use Rattle.score_box.specs.declared.cell.Cell.{Cell}
@@ -18,23 +19,6 @@ use Rattle.tie_bound.specs.declared.sums.Sums.{Sums}
 use Rattle.tie_bound.specs.Spans.{IsSpanNear}
 use Rattle.tie_bound.specs.Sums.{range_by, no_sums, sums_at, AreNear, SpansGrowBy}
 use Rattle.tie_bound.specs.Sides.{to_side, AreSumsOf}
-
--- ranges are one where both ends are
-pub same_range : (range other : Range) → range.least ≡ other.least → range.greatest ≡ other.greatest
-    → range ≡ other
-same_range range other least greatest = λ j. record { least = least j; greatest = greatest j }
-
-pub added-none : (range : Range) → added range (one_value (pos 0)) ≡ range
-added-none range = same_range (added range (one_value (pos 0))) range (omega (arith, ints))
-    (omega (arith, ints))
-
-pub none-added : (range : Range) → added (one_value (pos 0)) range ≡ range
-none-added range = same_range (added (one_value (pos 0)) range) range (omega (arith, ints))
-    (omega (arith, ints))
-
-pub added-assoc : (a b c : Range) → added (added a b) c ≡ added a (added b c)
-added-assoc a b c = same_range (added (added a b) c) (added a (added b c)) (omega (arith, ints))
-    (omega (arith, ints))
 
 near_added : (bound more : ℕ) (range other : Range) → IsSpanNear bound range → IsSpanNear more other
     → IsSpanNear (bound + more) (added range other)
@@ -57,16 +41,6 @@ near_in bound more range fewer near = record {
 pub wider : (bound more : ℕ) (sums : Sums) → bound ≤ more → AreNear bound sums → AreNear more sums
 wider bound more sums fewer near measure = near_in bound more (range_by sums measure) fewer
     (near measure)
-
--- a value of nothing leaves nothing
-pub range_of-none : (options : List Score) → range_of (λ score. pos 0) options ≡ one_value (pos 0)
-range_of-none [] = refl
-range_of-none (score ∷ []) = refl
-range_of-none (score ∷ other ∷ options) = ap
-    (λ (r : Range). record {
-      least = int_min (pos 0) r.least;
-      greatest = int_max (pos 0) r.greatest;
-    }) (range_of-none (other ∷ options))
 
 same_sums : (options : List Score) (sums : Sums)
     → SpansGrowBy (λ measure. range_of (λ score. pos 0) options) sums sums

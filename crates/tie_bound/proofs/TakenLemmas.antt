@@ -19,6 +19,7 @@ use Rattle.league_core.specs.SureOrder.{are_all_sure_overall, surely_level_overa
 use Rattle.league_core.specs.SureOrder.{sure_by, level_on_points, sure_order}
 use Rattle.league_core.specs.ClubSets.{clubs_below}
 use Rattle.league_core.proofs.ClubSetLemmas.{clubs_below-filter_range}
+use Rattle.league_core.proofs.SureLemmas.{sure_then-assoc}
 use Rattle.score_box.specs.Settings.{Setting}
 use Rattle.tie_bound.specs.declared.parts.Parts.TheVariants.{Record, FirstSums}
 use Rattle.tie_bound.specs.declared.sums.Sums.{Sums}
@@ -28,7 +29,7 @@ use Rattle.tie_bound.specs.Tables.{AreSums}
 use Rattle.tie_bound.specs.Answers.{record_spans_of, first_spans_of, overall_spans_of, by_table}
 use Rattle.tie_bound.specs.Answers.{by_overall_table, is_sure_by, answer_at, AreLevelIn}
 use Rattle.tie_bound.specs.Answers.{StepDecides, IsStepIn}
-use Rattle.tie_bound.proofs.AnswerLemmas.{sure_then-assoc, record_spans_of-is, overall_spans_of-is}
+use Rattle.tie_bound.proofs.AnswerLemmas.{record_spans_of-is, overall_spans_of-is}
 use Rattle.tie_bound.proofs.AnswerLemmas.{first_spans_of-is, step_decides, AreOthersDecided}
 
 -- a step in the group of the clubs that are level, by what it says of each

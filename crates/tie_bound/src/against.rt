@@ -32,8 +32,8 @@ pub fn answers_against(zone_box: &ZoneBox, asked: ClubSet, club: u8) -> [Sure; 2
     answers
 }
 
-/// The answers of the sheet's clubs by points. Without a finish, or against a number that is no
-/// club's, the box keeps no ends of points to look at.
+// The answers of the sheet's clubs by points. Without a finish, or against a number that is no
+// club's, the box keeps no ends of points to look at.
 fn on_points(zone_box: &ZoneBox, club: u8) -> [Sure; 24]
     requires { IsTrue (have_one_outcome zone_box.now) }
     ensures answers { (rival : ℕ) → rival < length zone_box.now.sheet.clubs
@@ -49,7 +49,7 @@ fn on_points(zone_box: &ZoneBox, club: u8) -> [Sure; 24]
     }
 }
 
-/// Takes the criteria within the group of all clubs that are level on points, in the sheet's order.
+// Takes the criteria within the group of all clubs that are level on points, in the sheet's order.
 fn take_criteria(answers: &mut [Sure], zone_box: &ZoneBox, asked: ClubSet, group: ClubSet, club: u8)
     requires outcomes { IsTrue (have_one_outcome zone_box.now) }
     requires long { length answers.old ≡ 24 }
@@ -64,8 +64,8 @@ fn take_criteria(answers: &mut [Sure], zone_box: &ZoneBox, asked: ClubSet, group
     }
 }
 
-/// Takes difference and goals over all matches, and then the criteria among the clubs of the group
-/// that surely share them, if it is sure which these are.
+// Takes difference and goals over all matches, and then the criteria among the clubs of the group
+// that surely share them, if it is sure which these are.
 fn take_overall_first(
     answers: &mut [Sure],
     zone_box: &ZoneBox,

@@ -65,7 +65,7 @@ pub fn by_points(zone_box: &ZoneBox, overall: &[Sums], club: u8) -> [Sure; 24]
     answers
 }
 
-/// The club's points: these match points, less what is taken off.
+// The club's points: these match points, less what is taken off.
 fn points_of(season: &Season, won: Span, club: u8) -> Span
     requires { IsSpanNear 6000000 (as_range won) }
     ensures { as_range result ≡ added (as_range won)
@@ -74,7 +74,7 @@ fn points_of(season: &Season, won: Span, club: u8) -> Span
     won.plus(Span::only(-deducted(season.deductions(), club)))
 }
 
-/// The points that are taken off the club, in match points.
+// The points that are taken off the club, in match points.
 fn deducted(deductions: &[u8], club: u8) -> i32
     ensures value { result ≡ pos (slice_index deductions.now club) }
     ensures small { result ≤ℤ pos 255 }
@@ -100,7 +100,7 @@ pub fn take_parts(answers: &mut [Sure], parts: Parts, table: &[Sums], group: Clu
     }
 }
 
-/// The answer, where it decides; else what these parts say.
+// The answer, where it decides; else what these parts say.
 fn then_parts(answer: Sure, parts: Parts, table: &[Sums], rival: u8, own: &Sums) -> Sure
     ensures { result ≡ sure_then answer
         (sure_by_ranges (ranges_of parts (sums_at table.now rival)) (ranges_of parts own.now)) }
@@ -120,7 +120,7 @@ pub fn take_overall(answers: &mut [Sure], sheet: &Sheet, overall: &[Sums], group
         answers.new }
 {
     let own = sums_at(overall, club);
-    let own_rank = rank_of(sheet, club);
+    let own_rank = sheet.rank_of(club);
     let mut left = group;
     for _step in 0..SET_WIDTH {
         if left.is_empty() {
@@ -133,7 +133,7 @@ pub fn take_overall(answers: &mut [Sure], sheet: &Sheet, overall: &[Sums], group
     }
 }
 
-/// The answer, where it decides; else what the sums over all matches say, and the ranks.
+// The answer, where it decides; else what the sums over all matches say, and the ranks.
 fn then_overall(
     answer: Sure,
     sheet: &Sheet,
@@ -150,20 +150,10 @@ fn then_overall(
         Sure::Above => Sure::Above,
         Sure::Below => Sure::Below,
         Sure::Level => {
-            let rank = rank_of(sheet, rival);
+            let rank = sheet.rank_of(rival);
             by_overall(&sums_at(overall, rival), own, rank, own_rank)
         }
         Sure::Unknown => Sure::Unknown,
-    }
-}
-
-/// The club's fixed rank; 0 for a number that is no club's.
-fn rank_of(sheet: &Sheet, club: u8) -> u16
-    ensures { result ≡ rank_of sheet.now club }
-{
-    match sheet.clubs.as_slice().get(club as usize) {
-        Some(found) => found.rank,
-        None => 0,
     }
 }
 

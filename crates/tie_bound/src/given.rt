@@ -8,11 +8,10 @@ ghost use Rattle.league_core.specs.Reasons.{has_reason, has_member, times};
 ghost use Rattle.score_box.specs.Boxes.{IsSetOf};
 ghost use Rattle.score_box.specs.Settings.{HasFinish};
 
-use crate::own::{own_least, own_most};
 use crate::rivals::rivals_of;
 use crate::tie::tie_reason;
 use league_core::{Claim, ClubSet, Question, Reason};
-use score_box::ZoneBox;
+use score_box::{ZoneBox, own_least, own_most};
 
 /// The reason holds in the box: the zone has a finish, and the reason says that the question holds
 /// nowhere there.
@@ -87,7 +86,7 @@ pub fn high_reason(zone_box: &ZoneBox, question: &Question, clubs: ClubSet) -> b
         && i64::from(zone_box.high_points(clubs)) < times(clubs, own_least(zone_box, question))
 }
 
-/// The clubs are one or more of the set, which has those that pass a test.
+// The clubs are one or more of the set, which has those that pass a test.
 fn are_some_of(clubs: ClubSet, set: ClubSet) -> bool
     ensures { (test : ℕ → Bool) → IsSetOf set test
         → result ≡ (has_member (clubs_in clubs) && list_all test (clubs_in clubs)) }
@@ -95,7 +94,7 @@ fn are_some_of(clubs: ClubSet, set: ClubSet) -> bool
     !clubs.is_empty() && clubs.without(set).is_empty()
 }
 
-/// So many points for each of the clubs.
+// So many points for each of the clubs.
 fn times(clubs: ClubSet, points: i32) -> i64
     ensures { result ≡ times (clubs_in clubs) points }
 {

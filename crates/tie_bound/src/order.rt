@@ -50,8 +50,8 @@ pub fn by_parts(parts: Parts, rival: &Sums, club: &Sums) -> Sure
     }
 }
 
-/// The head-to-head records, by the sums over the matches of a group: points, then goal difference,
-/// then goals.
+// The head-to-head records, by the sums over the matches of a group: points, then goal difference,
+// then goals.
 fn by_record(rival: &Sums, club: &Sums) -> Sure
     ensures { result ≡ sure_by_ranges (record_spans_of rival.now) (record_spans_of club.now) }
 {
@@ -60,7 +60,7 @@ fn by_record(rival: &Sums, club: &Sums) -> Sure
     then(by_span(rival.points, club.points), by_difference)
 }
 
-/// Goal difference, then goals, by the sums over all matches.
+// Goal difference, then goals, by the sums over all matches.
 fn by_first_sums(rival: &Sums, club: &Sums) -> Sure
     ensures { result ≡ sure_by_ranges (first_spans_of rival.now) (first_spans_of club.now) }
 {
@@ -81,7 +81,7 @@ pub fn by_overall(rival: &Sums, club: &Sums, rival_rank: u16, club_rank: u16) ->
     then(by_span(rival.difference, club.difference), by_goals)
 }
 
-/// A rank as a sum that is better the greater it is.
+// A rank as a sum that is better the greater it is.
 fn rank_span(rank: u16) -> Span
     ensures { as_range result ≡ one_value (neg_ℤ (pos rank)) }
 {

@@ -70,7 +70,7 @@ fn away_goals(goals: &Goals) -> GoalSpan
     }
 }
 
-/// The sums of a side that wins with these goals against those of the other.
+// The sums of a side that wins with these goals against those of the other.
 fn won(own: GoalSpan, other: GoalSpan, away: bool) -> Sums
     ensures { (cell : Cell) → Wins cell away → AreGoalsOf cell away own
         → AreGoalsOf cell (not away) other → AreSumsOf cell away result }

@@ -81,8 +81,8 @@ impl GoalSpan {
     }
 }
 
-/// The least that a win can be won by, where the side has at least so many goals and the other at
-/// most.
+// The least that a win can be won by, where the side has at least so many goals and the other at
+// most.
 fn closest(least: u8, most: u8) -> i32
     ensures { result ≡ (if nat_lt most least then pos least -ℤ pos most else pos 1) }
 {

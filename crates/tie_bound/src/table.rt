@@ -50,7 +50,7 @@ pub fn sums_among(zone_box: &ZoneBox, group: ClubSet) -> [Sums; 24]
     }
 }
 
-/// Adds the matches of a group of all clubs that are not played.
+// Adds the matches of a group of all clubs that are not played.
 fn add_all_open(table: &mut [Sums], zone_box: &ZoneBox, all: ClubSet)
     requires outcomes { IsTrue (have_one_outcome zone_box.now) }
     requires has_finish { HasFinish zone_box.now }
@@ -66,7 +66,7 @@ fn add_all_open(table: &mut [Sums], zone_box: &ZoneBox, all: ClubSet)
     add_open(table, zone_box, all);
 }
 
-/// Adds the matches of the group that are not played to a table that has those that are.
+// Adds the matches of the group that are not played to a table that has those that are.
 fn add_open(table: &mut [Sums], zone_box: &ZoneBox, group: ClubSet)
     requires outcomes { IsTrue (have_one_outcome zone_box.now) }
     requires has_finish { HasFinish zone_box.now }
@@ -89,7 +89,7 @@ fn add_open(table: &mut [Sums], zone_box: &ZoneBox, group: ClubSet)
     }
 }
 
-/// Each club's sums over the matches with both ends in the group, by a walk over all matches.
+// Each club's sums over the matches with both ends in the group, by a walk over all matches.
 fn sums_by_all(zone_box: &ZoneBox, group: ClubSet) -> [Sums; 24]
     requires { IsTrue (have_one_outcome zone_box.now) }
     ensures { AreSums (worth_among (clubs_in group)) zone_box.now.sheet.fixtures
@@ -100,7 +100,7 @@ fn sums_by_all(zone_box: &ZoneBox, group: ClubSet) -> [Sums; 24]
     table
 }
 
-/// Adds all matches of the group to a table that has none yet.
+// Adds all matches of the group to a table that has none yet.
 fn add_all(table: &mut [Sums], zone_box: &ZoneBox, group: ClubSet)
     requires outcomes { IsTrue (have_one_outcome zone_box.now) }
     requires clubs { 24 ≤ length table.old }
@@ -114,7 +114,7 @@ fn add_all(table: &mut [Sums], zone_box: &ZoneBox, group: ClubSet)
     }
 }
 
-/// Adds the match to the sums of its two clubs, where both are of the group.
+// Adds the match to the sums of its two clubs, where both are of the group.
 fn add_if_counted(table: &mut [Sums], group: ClubSet, fixture: Fixture, cell: &Cell)
     requires one { HasOneOutcome cell.now }
     requires different { fixture.home ≢ fixture.away }
@@ -128,7 +128,7 @@ fn add_if_counted(table: &mut [Sums], group: ClubSet, fixture: Fixture, cell: &C
     }
 }
 
-/// Both clubs of the match are of the group.
+// Both clubs of the match are of the group.
 fn counts(group: ClubSet, fixture: Fixture) -> bool
     ensures { result
         ≡ (has_club (clubs_in group) fixture.home && has_club (clubs_in group) fixture.away) }

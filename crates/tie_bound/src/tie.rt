@@ -43,8 +43,8 @@ fn is_refuted(zone_box: &ZoneBox, question: &Question) -> bool
     }
 }
 
-/// What points alone tell: whether the question is refuted whoever the criteria put in front, or
-/// not refuted at all.
+// What points alone tell: whether the question is refuted whoever the criteria put in front, or
+// not refuted at all.
 fn by_points(zone_box: &ZoneBox, question: &Question, rivals: &Rivals) -> Option<bool>
     requires has_finish { HasFinish zone_box.now }
     requires rivals { AreRivalsIn zone_box.now question.now.club rivals.now }
@@ -73,7 +73,7 @@ fn by_criteria(zone_box: &ZoneBox, question: &Question, rivals: &Rivals) -> bool
     refutes(zone_box, question, rivals, apart)
 }
 
-/// Who is above and who is below refutes the question.
+// Who is above and who is below refutes the question.
 fn refutes(zone_box: &ZoneBox, question: &Question, rivals: &Rivals, apart: Apart) -> bool
     requires { AreRivalsIn zone_box.now question.now.club rivals.now }
     ensures { result ≡ refutes_with zone_box.now question.now (has_club (clubs_in apart.above))
@@ -83,7 +83,7 @@ fn refutes(zone_box: &ZoneBox, question: &Question, rivals: &Rivals, apart: Apar
         || is_one_wrong(zone_box, question, rivals, apart)
 }
 
-/// Too many rivals are marked, or stand, on the other side.
+// Too many rivals are marked, or stand, on the other side.
 fn are_too_many(zone_box: &ZoneBox, question: &Question, rivals: &Rivals, apart: Apart) -> bool
     requires { AreRivalsIn zone_box.now question.now.club rivals.now }
     ensures { result ≡ are_too_many_with zone_box.now question.now
@@ -102,7 +102,7 @@ fn are_too_many(zone_box: &ZoneBox, question: &Question, rivals: &Rivals, apart:
     }
 }
 
-/// A rival stands where the zone says that it does not.
+// A rival stands where the zone says that it does not.
 fn is_one_wrong(zone_box: &ZoneBox, question: &Question, rivals: &Rivals, apart: Apart) -> bool
     requires { AreRivalsIn zone_box.now question.now.club rivals.now }
     ensures { result ≡ list_any (is_wrong_with zone_box.now (has_club (clubs_in apart.above))

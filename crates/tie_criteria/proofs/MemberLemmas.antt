@@ -1,33 +1,13 @@
 -- The clubs of a set, taken off it one by one.
-use Rattle.std.proofs.Common.{◌≡◌, ◌≢◌, inl, inr, ℕ, ◌+◌, ◌<◌, ◌≤◌, Bool, true, false, not, ◌&&◌}
-use Rattle.std.proofs.Common.{◌||◌, eqb, ltb, List, [], ◌∷◌, length, refl, sym, ap, ◌∙◌, subst}
+use Rattle.std.proofs.Common.{◌≡◌, ◌≢◌, inl, inr, ℕ, ◌+◌, ◌≤◌, Bool, true, false, not, ◌&&◌}
+use Rattle.std.proofs.Common.{◌||◌, List, [], ◌∷◌, length, refl, sym, ap, ◌∙◌, subst}
 use Rattle.std.proofs.Common.{arith}
-use Rattle.std.specs.Int.{bit_at}
-use Rattle.std.specs.List.{range_with_len}
-use Rattle.std.proofs.lemmas.Bool.{false≢true, and_parts, cases_eq, eq-eqb, ne_eqb, ltb-true}
-use Rattle.std.proofs.lemmas.List.Sums.{length-filter, count_by-le-length}
-use Rattle.std.proofs.lemmas.List.FromFn.{length-range_with_len}
+use Rattle.std.proofs.lemmas.Bool.{false≢true, and_parts, cases_eq, eq-eqb, ne_eqb}
 use Rattle.league_core.specs.declared.club_set.ClubSet.{ClubSet}
 use Rattle.league_core.specs.Sums.{has_club}
-use Rattle.league_core.specs.ClubSets.{clubs_in, clubs_below}
-use Rattle.league_core.proofs.ClubSetLemmas.{has_club-clubs_below, length-fewer}
-
--- a club of a set is below its width
-pub member_low : (set : ClubSet) (club : ℕ) → has_club (clubs_in set) club ≡ true → club < 32
-member_low set club has =
-    ltb-true club 32
-    (and_parts (ltb club 32) (eqb (bit_at set.bits club) 1)
-    (sym (has_club-clubs_below 32 set.bits club) ∙ has)).0
-
--- a set has no more clubs than its width
-few_members : (set : ClubSet) → length (clubs_in set) ≤ 32
-unfolding clubs_below
-few_members set =
-    let test : ℕ → Bool = λ club. eqb (bit_at set.bits club) 1 in
-    let same = length-filter test (range_with_len 0 32) in
-    let fewer = count_by-le-length test (range_with_len 0 32) in
-    let long = length-range_with_len 0 32 in
-    omega arith
+use Rattle.league_core.specs.ClubSets.{clubs_in}
+use Rattle.league_core.proofs.ClubSetLemmas.{length-fewer}
+use Rattle.league_core.proofs.ClubCountLemmas.{few_members}
 
 -- what is left of a set after so many of its clubs were taken off
 pub record IsLeftOf (set left : ClubSet) (steps : ℕ) : Type 0 where

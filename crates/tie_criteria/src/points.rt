@@ -19,7 +19,7 @@ pub fn points_of(sheet: &Sheet, season: &Season, club: u8) -> i32
     less(sums.points, season.deducted(club))
 }
 
-/// So many points less those taken off.
+// So many points less those taken off.
 fn less(points: i32, deducted: u8) -> i32
     requires { IsNear 1000000 points }
     ensures { result ≡ (points -ℤ pos deducted) }

@@ -32,7 +32,7 @@ impl Sums {
         away_wins: 0,
     };
 
-    /// The sums with a match more.
+    // The sums with a match more.
     fn plus(&self, matches: Matches, club: u8, fixture: Fixture, score: Option<Score>) -> Sums
         requires { (measure : Measure) → IsNear 1000000 (sum_by self.now measure) }
         ensures sums { (measure : Measure) → sum_by result measure ≡ (sum_by self.now measure
@@ -75,7 +75,7 @@ impl Sums {
     }
 }
 
-/// The sum with what a match is worth by the measure.
+// The sum with what a match is worth by the measure.
 fn grown(
     sum: i32,
     measure: Measure,

@@ -23,11 +23,12 @@ use Rattle.league_core.specs.Trees.{Tree, open_leaf, lent_leaf, refuted_leaf, br
 use Rattle.league_core.specs.Trees.{preorder, node_count, new_count, has_open}
 use Rattle.league_core.specs.Lending.{lent_count, times_lent}
 use Rattle.league_core.specs.Splits.{IsProperNode, is_proper, have_both_finish}
-use Rattle.league_core.proofs.HalfLemmas.{half_has_finish, root_has_finish}
+use Rattle.league_core.proofs.HalfLemmas.{half_has_finish, root_has_finish, no_rival, after_in_half}
 use Rattle.league_core.specs.TreeLists.{tree_of, tree_of-preorder}
 use Rattle.league_core.proofs.TreeLemmas.{length-preorder}
 use Rattle.league_core.proofs.TreeListLemmas.{preorder_injective}
 use Rattle.league_core.proofs.LendingLemmas.{times_lent-le}
+use Rattle.league_core.proofs.HalfLemmas.{before_in_half}
 use Rattle.tree_reuse.specs.declared.halves.Halves.{Halves}
 use Rattle.tree_reuse.specs.declared.halves.Halves.TheVariants.{Both, YesAlone, NoAlone}
 use Rattle.tree_reuse.specs.declared.halves.TheConstants.{MOST_KEPT}
@@ -136,51 +137,28 @@ record SameMarks (was zone : List Literal) : Type 0 where
   front : (club : ℕ) → marked_before was club ≡ marked_before zone club
   back : (club : ℕ) → marked_after was club ≡ marked_after zone club
 
--- what a test adds to the marks
-marked_before-with : (zone : List Literal) (test : Test) (holds : Bool) (club : ℕ)
-    → marked_before (with_test zone test holds) club
-    ≡ (marked_before zone club || ((is_of_rival club test && holds) || false))
-marked_before-with zone test holds club =
-    list_any-append (λ (literal : Literal). is_of_rival club literal.test && literal.yes) zone
-    (record { test = test; yes = holds } ∷ [])
-
-marked_after-with : (zone : List Literal) (test : Test) (holds : Bool) (club : ℕ)
-    → marked_after (with_test zone test holds) club
-    ≡ (marked_after zone club || ((is_of_rival club test && not holds) || false))
-marked_after-with zone test holds club =
-    list_any-append (λ (literal : Literal). is_of_rival club literal.test && not literal.yes) zone
-    (record { test = test; yes = holds } ∷ [])
-
 -- with one literal more on both they still do
 marks-with : (was zone : List Literal) (test : Test) (holds : Bool) → SameMarks was zone
     → SameMarks (with_test was test holds) (with_test zone test holds)
 marks-with was zone test holds same = record {
-  front = λ club. marked_before-with was test holds club
-      ∙ ap (λ b. b || ((is_of_rival club test && holds) || false)) (same.front club)
-      ∙ sym (marked_before-with zone test holds club);
-  back = λ club. marked_after-with was test holds club
-      ∙ ap (λ b. b || ((is_of_rival club test && not holds) || false)) (same.back club)
-      ∙ sym (marked_after-with zone test holds club);
+  front = λ club. before_in_half was test holds club
+      ∙ ap (λ b. b || (is_of_rival club test && holds)) (same.front club)
+      ∙ sym (before_in_half zone test holds club);
+  back = λ club. after_in_half was test holds club
+      ∙ ap (λ b. b || (is_of_rival club test && not holds)) (same.back club)
+      ∙ sym (after_in_half zone test holds club);
 }
-
--- a test of a score is of no rival
-no_rival : (test : Test) (club : ℕ) → is_of_score test ≡ true → is_of_rival club test ≡ false
-no_rival (Home fixture) club of_score = refl
-no_rival (Draw fixture) club of_score = refl
-no_rival (HomeMost fixture most) club of_score = refl
-no_rival (AwayMost fixture most) club of_score = refl
-no_rival (Rival rival) club of_score = absurd (false≢true of_score)
 
 -- without a test of a score on one side they still do
 marks-score : (was zone : List Literal) (test : Test) (holds : Bool) → is_of_score test ≡ true
     → SameMarks was zone → SameMarks (with_test was test holds) zone
 marks-score was zone test holds of_score same = record {
-  front = λ club. marked_before-with was test holds club
-      ∙ ap (λ b. marked_before was club || ((b && holds) || false)) (no_rival test club of_score)
+  front = λ club. before_in_half was test holds club
+      ∙ ap (λ b. marked_before was club || (b && holds)) (no_rival test club of_score)
       ∙ or_nothing (marked_before was club)
       ∙ same.front club;
-  back = λ club. marked_after-with was test holds club
-      ∙ ap (λ b. marked_after was club || ((b && not holds) || false))
+  back = λ club. after_in_half was test holds club
+      ∙ ap (λ b. marked_after was club || (b && not holds))
       (no_rival test club of_score)
       ∙ or_nothing (marked_after was club)
       ∙ same.back club;

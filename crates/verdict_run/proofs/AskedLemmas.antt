@@ -15,14 +15,8 @@ use Rattle.league_core.specs.declared.question.Claim.TheVariants.{Inside, Outsid
 use Rattle.league_core.specs.declared.question.Question.{Question}
 use Rattle.league_core.specs.Sheets.{IsWithinLimits, is_line}
 use Rattle.league_core.specs.Questions.{IsQuestionOf, full_question}
+use Rattle.league_core.proofs.ClubCountLemmas.{range_with_len-suc}
 use Rattle.verdict_run.specs.AskedQuestions.{both_questions, questions_of_line, questions_of}
-
--- one number more
-range-push : (count : ℕ) → range_with_len 0 (count + 1) ≡ range_with_len 0 count ++ count ∷ []
-range-push count =
-    sym (map-id (range_with_len 0 (count + 1)))
-    ∙ map-range_with_len_more (λ n. n) 0 count count (omega arith)
-    ∙ ap (λ ns. ns ++ count ∷ []) (map-id (range_with_len 0 count))
 
 -- two questions about the next club stand behind those so far
 pub line-push : (before : List Question) (line club : ℕ)
@@ -31,7 +25,7 @@ pub line-push : (before : List Question) (line club : ℕ)
 unfolding questions_of_line
 line-push before line club =
     flat_map_more (both_questions line) before (range_with_len 0 club) club
-    ∙ ap (λ clubs. before ++ flat_map (both_questions line) clubs) (sym (range-push club))
+    ∙ ap (λ clubs. before ++ flat_map (both_questions line) clubs) (sym (range_with_len-suc club))
 
 -- so it is after two pushes
 pub pair-push : (start before after last : List Question) (line club : ℕ)

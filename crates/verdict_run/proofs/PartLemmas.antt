@@ -61,16 +61,6 @@ is_all_new-list (branch test fresh yes_half no_half) =
 
 -- ---- parts
 
--- a finish has a score for each fixture of the season
-pub length-ended : (limit : ℕ) (season finish : List (Option Score))
-    → may_all_end limit season finish ≡ true → length finish ≡ length season
-length-ended limit [] [] may = refl
-length-ended limit [] (ended ∷ finish) may = absurd (false≢true may)
-length-ended limit (played ∷ season) [] may = absurd (false≢true may)
-length-ended limit (played ∷ season) (ended ∷ finish) may =
-    let parts = and_parts (may_end limit played ended) (may_all_end limit season finish) may in
-    omega (arith, length-ended limit season finish parts.1)
-
 -- an example as a part
 pub won_part : (sheet : Sheet) (season : Results) (question : Question) (finish : Results)
     (lots : List ℕ) (lines : Vec ProofLine Global) → IsLeague sheet season

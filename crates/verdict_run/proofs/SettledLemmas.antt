@@ -31,20 +31,9 @@ use Rattle.branch_pool.specs.Calls.{answer_without, answer_of}
 use Rattle.branch_pool.specs.States.{PoolState, loan_at, out_count}
 use Rattle.branch_pool.specs.States.{present_epoch}
 use Rattle.branch_pool.specs.Goodness.{IsSoundPool, IsGoodSeat, zones_due}
+use Rattle.branch_pool.proofs.RunLemmas.{nothing_out}
 use Rattle.verdict_run.specs.NewTrees.{is_all_new}
 use Rattle.verdict_run.specs.Working.{is_settled, AreSettled, is_known, AreAllNew}
-
--- where no number is out, none is under any number
-none_out : (loans : List (Option Loan)) (number : ℕ) → out_count loans ≡ 0
-    → loan_at loans number ≡ None
-none_out [] number none = refl
-none_out (None ∷ loans) zero none = refl
-none_out (None ∷ loans) (suc number) none =
-    let first = sum_by-cons (λ x. cond (is_some {T = Loan} x) 1 0) None loans in
-    none_out loans number (omega (arith, first, none))
-none_out (Some loan ∷ loans) number none =
-    let first = sum_by-cons (λ x. cond (is_some {T = Loan} x) 1 0) (Some loan) loans in
-    absurd (omega (arith, first, none))
 
 -- where no number is out, no leaf is lent
 pub none_lent : (pool : PoolState) (place : ℕ) (seat : Seat) → IsSoundPool pool
@@ -53,7 +42,7 @@ none_lent pool place seat sound home found =
     lent_count-none seat.tree (λ number.
     sym (length-lent_zones number seat.tree [])
     ∙ ap length (sound.due number place seat found
-    ∙ ap (zones_due (present_epoch pool) place) (none_out pool.loans number home)))
+    ∙ ap (zones_due (present_epoch pool) place) (nothing_out pool.loans number home)))
 
 -- by what is not settled
 not_yet_by : (won refuted used : Bool) → (won || refuted || used) ≡ false
@@ -105,19 +94,6 @@ seat_spent sheet season seat good unknown settled =
     some_open false not_shut = absurd (not_shut refl)
 
 -- ---- facts of nodes
-
--- a fact of each node is any fact that follows from it
-pub facts_map : (P Q : List Literal → TreeNode → Type 0) (tree : Tree) (zone : List Literal)
-    → ((z : List Literal) (node : TreeNode) → P z node → Q z node)
-    → NodesMeet P zone tree → NodesMeet Q zone tree
-facts_map P Q open_leaf zone gives facts = gives zone _ facts
-facts_map P Q (lent_leaf number) zone gives facts = gives zone _ facts
-facts_map P Q (refuted_leaf reason fresh) zone gives facts = gives zone _ facts
-facts_map P Q (branch test fresh yes_half no_half) zone gives facts = (
-  gives zone _ facts.0,
-  facts_map P Q yes_half (with_test zone test true) gives facts.1,
-  facts_map P Q no_half (with_test zone test false) gives facts.2,
-)
 
 -- ---- the one question of a pool
 

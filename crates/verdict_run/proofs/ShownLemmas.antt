@@ -20,6 +20,7 @@ use Rattle.league_core.specs.Verdicts.{HasNoExample}
 use Rattle.league_core.specs.Trees.{Tree, NodesMeet, is_refuted}
 use Rattle.league_core.specs.Splits.{IsProperNode, IsReasonTrue, IsUnitIfNew, AreReasonsTrue}
 use Rattle.league_core.proofs.LogLemmas.{season_after_of, season_after_results}
+use Rattle.league_core.proofs.TreeLemmas.{NodesMeet-weaker}
 use Rattle.reason_laws.proofs.RefutationLemmas.{refutation_shows, refuted_from}
 use Rattle.reason_laws.proofs.WeightLemmas.{spent_below_finishes}
 use Rattle.cert_text.specs.TreeLines.{IsRefutationTree, IsFairSpentTree, are_tests_for}
@@ -31,11 +32,12 @@ use Rattle.branch_pool.specs.Goodness.{IsSoundPool, IsGoodSeat, IsGoodNode, IsEx
 use Rattle.branch_pool.specs.Steps.{seat_lent, seat_given, leaf_given}
 use Rattle.branch_pool.proofs.RunLemmas.{no_work_answers}
 use Rattle.branch_pool.specs.Runs.{WorksNext}
+use Rattle.branch_pool.proofs.GoodLemmas.{seat_proper}
 use Rattle.verdict_run.specs.Working.{WorksTo, no_turn, one_turn_more, is_settled, is_known}
 use Rattle.verdict_run.specs.Working.{AreSettled, AreAllNew, AreDecided, IsEnough}
 use Rattle.verdict_run.specs.NewTrees.{is_all_new}
 use Rattle.verdict_run.proofs.NewTreeLemmas.{is_all_new-put, is_all_new-lend, given_new}
-use Rattle.verdict_run.proofs.SettledLemmas.{facts_map, seat_spent, settled_at, IsOnlySeat}
+use Rattle.verdict_run.proofs.SettledLemmas.{seat_spent, settled_at, IsOnlySeat}
 use Rattle.verdict_run.proofs.WorkLemmas.{works_home}
 
 -- ---- trees
@@ -44,15 +46,9 @@ use Rattle.verdict_run.proofs.WorkLemmas.{works_home}
 reasons_hold : (sheet : Sheet) (season : Results) (seat : Seat) → IsGoodSeat sheet season seat
     → AreReasonsTrue sheet season seat.question [] seat.tree
 reasons_hold sheet season seat good =
-    facts_map (IsGoodNode sheet season seat.question) (IsReasonTrue sheet season seat.question)
-    seat.tree [] (λ zone node fact. fact.refuted) good.nodes
-
--- its splits are proper
-splits_proper : (sheet : Sheet) (season : Results) (seat : Seat) → IsGoodSeat sheet season seat
-    → NodesMeet (IsProperNode sheet season seat.question) [] seat.tree
-splits_proper sheet season seat good =
-    facts_map (IsGoodNode sheet season seat.question) (IsProperNode sheet season seat.question)
-    seat.tree [] (λ zone node fact. fact.proper) good.nodes
+    NodesMeet-weaker (IsGoodNode sheet season seat.question)
+    (IsReasonTrue sheet season seat.question) (λ zone node fact. fact.refuted) seat.tree []
+    good.nodes
 
 -- its tests are such as lines have
 tests_good : (sheet : Sheet) (season : Results) (seat : Seat) → IsLeague sheet season
@@ -60,7 +56,7 @@ tests_good : (sheet : Sheet) (season : Results) (seat : Seat) → IsLeague sheet
     → are_tests_for sheet seat.question seat.tree ≡ true
 tests_good sheet season seat league results good =
     proper_tests sheet season seat.question seat.tree [] league results
-    (splits_proper sheet season seat good)
+    (seat_proper sheet season seat good)
 
 -- a tree that is refuted is a refutation
 pub refutes_seat : (sheet : Sheet) (season : Results) (seat : Seat) → IsLeague sheet season
@@ -92,8 +88,9 @@ spends_seat sheet season seat league results good unknown settled = record {
     reasons = reasons_hold sheet season seat good;
   };
   units =
-      facts_map (IsGoodNode sheet season seat.question) (IsUnitIfNew sheet season seat.question)
-      seat.tree [] (λ zone node fact. fact.unit) good.nodes;
+      NodesMeet-weaker (IsGoodNode sheet season seat.question)
+      (IsUnitIfNew sheet season seat.question) (λ zone node fact. fact.unit) seat.tree []
+      good.nodes;
 }
 
 -- ---- a great enough budget
@@ -108,7 +105,7 @@ seat_decided sheet season seat is_season club_in enough good settled =
       | inr unknown ↦
           let spent = seat_spent sheet season seat good unknown settled in
           let small = spent_below_finishes sheet season seat.question sheet.budget seat.tree
-          is_season club_in (splits_proper sheet season seat good) spent in
+          is_season club_in (seat_proper sheet season seat good) spent in
           let great : 2 ^ length sheet.clubs * ways_to_finish sheet.goal_limit season.scores
           ≤ sheet.budget = enough in
           absurd (omega (arith, small, great))

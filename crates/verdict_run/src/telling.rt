@@ -6,7 +6,7 @@ ghost use Rattle.league_core.specs.Seasons.{IsLeague, IsEventOf};
 ghost use Rattle.branch_pool.specs.Steps.{Changes};
 ghost use Rattle.verdict_run.specs.Telling.{HasBeenTold, AsksTheSame};
 
-use branch_pool::{ChangeStop, Pool};
+use branch_pool::Pool;
 use league_core::{Event, OutOfMemory, Season};
 
 /// Tells the season's deductions and then its scores. The pool has been told nothing yet.
@@ -44,7 +44,7 @@ fn tell_deduction(pool: &mut Pool, season: &Season, club: u8) -> Result<(), OutO
     if points == 0 {
         return Ok(());
     }
-    tell(pool, Event::Deduct { club, points })
+    pool.tell(Event::Deduct { club, points })
 }
 
 fn tell_scores(pool: &mut Pool, season: &Season) -> Result<(), OutOfMemory>
@@ -71,19 +71,6 @@ fn tell_score(pool: &mut Pool, season: &Season, fixture: u16) -> Result<(), OutO
 {
     match season.score(fixture) {
         None => Ok(()),
-        Some(score) => tell(pool, Event::Set { fixture, score }),
-    }
-}
-
-// Tells an event. There is room in the log.
-fn tell(pool: &mut Pool, event: Event) -> Result<(), OutOfMemory>
-    requires may_be { IsEventOf pool.old.season event }
-    requires room { length pool.old.log < most_events }
-    ensures { OnOk result (Changes pool.old event pool.new) }
-{
-    match pool.change(event) {
-        Ok(_) => Ok(()),
-        Err(ChangeStop::OutOfMemory) => Err(OutOfMemory),
-        Err(ChangeStop::LogFull) => unreachable!(),
+        Some(score) => pool.tell(Event::Set { fixture, score }),
     }
 }

@@ -179,8 +179,3 @@ told-of-sheet own sheet log season events same told =
     let P : Sheet → Type 0 = λ s. IsSeasonOf s season in
     let Q : Results → Type 0 = λ r. IsSeasonOf sheet r in
     subst P (sym same) (subst Q (sym told.0) (season_after_of sheet log))
-
--- what holds anyhow holds of a call that failed
-pub err-holds : {A E : Type 0} (result : Result A E) (P : Type 0) → P → OnErr result P
-err-holds (Ok done) P holds = tt
-err-holds (Err stop) P holds = holds

@@ -119,7 +119,7 @@ fn feed_pool<S: Source>(
     'entries: loop {
         match next_of(alloc, pool, reader, source) {
             Ok(Entry::Change(event)) => {
-                if tell(pool, event).is_err() {
+                if pool.tell(event).is_err() {
                     return Err(OutOfMemory);
                 }
             }
@@ -158,18 +158,4 @@ fn next_of<S: Source>(
 {
     let events = pool.log().len() as u64;
     next_told(alloc, pool.sheet(), pool.season(), events, reader, source)
-}
-
-fn tell(pool: &mut Pool, event: Event) -> Result<(), OutOfMemory>
-    requires may_be { IsEventOf pool.old.season event }
-    requires room { length pool.old.log < most_events }
-    ensures log { OnOk result (pool.new.log ≡ pool.old.log ++ event ∷ []) }
-    ensures sheet { pool.new.sheet ≡ pool.old.sheet }
-    ensures questions { pool.new.questions ≡ pool.old.questions }
-    ensures home { pool.new.loans ≡ pool.old.loans }
-{
-    match pool.change(event) {
-        Ok(_) => Ok(()),
-        Err(_) => Err(OutOfMemory),
-    }
 }

@@ -6,11 +6,11 @@ use super::leagues::{Game, are_fixtures, fixtures_of, four_clubs};
 use super::zones::{is_of_sheet, zone_of};
 use league_core::Order::{HeadFirst, OverallFirst};
 use league_core::{Claim, ClubSet, Order, Question, Reason, Season};
-use score_box::ZoneBox;
+use score_box::{ZoneBox, own_least, own_most};
 use std::alloc::Global;
 use std::process::Abort;
 use std::test::Fail;
-use tie_bound::{holds, own_least, own_most, tie_reason};
+use tie_bound::{holds, tie_reason};
 
 /// The order of the criteria, the outcome of B and C and the goals of each, the marks of rivals,
 /// the

@@ -161,7 +161,7 @@ impl Cell {
     }
 }
 
-/// The goals of an outcome, if it has any, are those of the score alone.
+// The goals of an outcome, if it has any, are those of the score alone.
 fn are_at(goals: Option<Goals>, score: &Score) -> bool
     ensures { IsTrue result ↔ IfSome goals (IsAt score.now) }
 {

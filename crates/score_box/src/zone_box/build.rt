@@ -32,7 +32,7 @@ pub fn season_cells(
     Ok(cells)
 }
 
-/// A played fixture has its score, another all scores up to the limit.
+// A played fixture has its score, another all scores up to the limit.
 fn first_cell(played: Option<Score>, goal_limit: u8) -> Cell
     ensures scores { (score : Score)
         → allows result score ≡ may_end goal_limit played (Some score) }

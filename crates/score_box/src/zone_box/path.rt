@@ -70,7 +70,7 @@ impl<'a> ZoneBox<'a> {
     }
 }
 
-/// Cuts the cell of the fixture that a literal is of, if it is of one, and moves the ends.
+// Cuts the cell of the fixture that a literal is of, if it is of one, and moves the ends.
 fn take_one(cells: &mut [Cell], ends: &mut Ends, fixtures: &[Fixture], literal: &Literal)
     requires in_range { IsTestBelow (length cells.old) set_width literal.now.test }
     requires many { length fixtures.now ≡ length cells.old }
@@ -90,7 +90,7 @@ fn take_one(cells: &mut [Cell], ends: &mut Ends, fixtures: &[Fixture], literal: 
     }
 }
 
-/// Gives the fixture that the last literal is on, if it is on one, the cell from before it.
+// Gives the fixture that the last literal is on, if it is on one, the cell from before it.
 fn give_back(cells: &mut [Cell], ends: &mut Ends, fixtures: &[Fixture], last: &Literal, cell: Cell)
     requires in_range { IsTestBelow (length cells.old) set_width last.now.test }
     requires many { length fixtures.now ≡ length cells.old }

@@ -2,10 +2,10 @@ use Rattle.std.proofs.Common.{◌<◌, IsTrue, List, ℕ, length, get_or, [], su
 use Rattle.std.proofs.Common.{arith}
 use Rattle.league_core.specs.Options.{has_one_outcome, has_one_score, is_single, options_in}
 use Rattle.score_box.specs.Unplayed.{unplayed_in}
+use Rattle.score_box.proofs.SplitLemmas.{unplayed_in_range}
 use Rattle.league_core.proofs.PlainLemmas.{list_all-at}
 use Rattle.league_core.proofs.OptionLemmas.{length-options_from}
 use Rattle.branch_rules.specs.Choices.{options_at_fixture}
-use Rattle.example_finish.proofs.UnplayedLemmas.{unplayed_in_range}
 use Rattle.branch_rules.proofs.RatedLemmas.{test_of_none}
 use Rattle.branch_rules.proofs.GoalTestLemmas.{scores_fixed}
 use Rattle.branch_rules.proofs.goals.goal_test.Goals as goal
@@ -15,7 +15,7 @@ rated_goals-requires-clause-in_range c =
     let scores = c.args.zone_box.now.season.scores in
     let i = c.loop-i.i in
     subst (λ (xs : List ℕ). get_or xs i 0 < length scores) (sym c.unplayed-unplayed.ensures)
-    (unplayed_in_range scores i
+    (unplayed_in_range scores i 0
     (subst (λ (xs : List ℕ). i < length xs) c.unplayed-unplayed.ensures c.loop-i-test.true))
 
 pub returns-clause-none : goal.returns-clause-none
@@ -28,7 +28,7 @@ returns-clause-none c =
     let long = ap (λ (xs : List ℕ). length xs) c.unplayed-unplayed.ensures in
     let there = length-options_from b.sheet.goal_limit b.zone 0 scores in
     let fixture = get_or (unplayed_in scores) j 0 in
-    let in_range = unplayed_in_range scores j within in
+    let in_range = unplayed_in_range scores j 0 within in
     subst (λ (xs : List ℕ). IsTrue (has_one_outcome (options_at_fixture b (get_or xs j 0)))
     → IsTrue (has_one_score (options_at_fixture b (get_or xs j 0))))
     c.unplayed-unplayed.ensures

@@ -2,17 +2,17 @@ use Rattle.std.proofs.Common.{◌<◌, IsTrue, List, ℕ, length, get_or, subst,
 use Rattle.league_core.specs.Options.{has_one_outcome}
 use Rattle.league_core.specs.Splits.{are_outcomes_fixed}
 use Rattle.branch_rules.specs.Choices.{options_at_fixture}
-use Rattle.example_finish.proofs.UnplayedLemmas.{unplayed_in_range}
 use Rattle.branch_rules.proofs.RatedLemmas.{test_of_none, none_with_this}
 use Rattle.branch_rules.proofs.OutcomeTestLemmas.{outcomes_fixed}
 use Rattle.branch_rules.proofs.outcomes.outcome_test.Goals as goal
+use Rattle.score_box.proofs.SplitLemmas.{unplayed_in_range}
 
 pub better_of-best-requires-clause-in_range : goal.better_of-best-requires-clause-in_range
 better_of-best-requires-clause-in_range c =
     let scores = c.args.zone_box.now.season.scores in
     let i = c.loop-i.i in
     subst (λ (xs : List ℕ). get_or xs i 0 < length scores) (sym c.unplayed-unplayed.ensures)
-    (unplayed_in_range scores i
+    (unplayed_in_range scores i 0
     (subst (λ (xs : List ℕ). i < length xs) c.unplayed-unplayed.ensures c.loop-i-test.true))
 
 pub loop-i-preserved : goal.loop-i-preserved

@@ -2,7 +2,8 @@ use Rattle.std.proofs.Common.{not, ◌&&◌, ap, sym, ◌∙◌}
 use Rattle.std.specs.List.{list_all}
 use Rattle.league_core.specs.Sums.{has_club}
 use Rattle.league_core.specs.ClubSets.{clubs_in}
-use Rattle.check_bounds.proofs.RivalLemmas.{has_member-not_empty, all_within}
+use Rattle.league_core.proofs.ClubLemmas.{has_member-not_empty}
+use Rattle.check_bounds.proofs.RivalLemmas.{all_within}
 use Rattle.check_bounds.proofs.rivals.has_members_in.Goals as goal
 
 pub returns-then-not-is_empty : goal.returns-then-not-is_empty

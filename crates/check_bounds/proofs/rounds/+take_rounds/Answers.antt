@@ -2,8 +2,9 @@ use Rattle.std.proofs.Common.{◌-◌, ap, sym, ◌∙◌, arith}
 use Rattle.league_core.specs.ClubSets.{clubs_in}
 use Rattle.league_core.specs.declared.sure.Sure.TheVariants.{Unknown}
 use Rattle.league_core.specs.SureOrder.{sure_then, sure_within}
+use Rattle.league_core.proofs.SureLemmas.{sure_then-assoc}
 use Rattle.check_bounds.specs.Steps.{sure_at, sure_by_tables}
-use Rattle.check_bounds.proofs.StepLemmas.{sure_then-assoc, stays, still_level}
+use Rattle.check_bounds.proofs.StepLemmas.{stays, still_level}
 use Rattle.check_bounds.proofs.RivalLemmas.{alone_is}
 use Rattle.check_bounds.proofs.RoundLemmas.{unsure_round, last_round, next_round}
 use Rattle.check_bounds.proofs.rounds.+take_rounds.Goals as goal

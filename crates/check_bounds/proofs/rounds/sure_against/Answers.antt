@@ -14,10 +14,11 @@ use Rattle.league_core.specs.PointRanges.{points_range}
 use Rattle.league_core.specs.SureOrder.{sure_then, sure_by_range, sure_by_points, sure_by, is_level}
 use Rattle.league_core.specs.SureOrder.{level_on_points}
 use Rattle.league_core.proofs.ClubSetLemmas.{filter_agree_in, has_club-range, has_club-filter}
+use Rattle.league_core.proofs.SureLemmas.{sure_then-level}
 use Rattle.check_bounds.specs.declared.span.Span.{Span}
 use Rattle.check_bounds.specs.Spans.{range_of_span, span_at}
 use Rattle.check_bounds.specs.Steps.{sure_at, sure_by_tables, is_level_by_tables}
-use Rattle.check_bounds.proofs.StepLemmas.{sure_then-level, stays}
+use Rattle.check_bounds.proofs.StepLemmas.{stays}
 use Rattle.check_bounds.proofs.RivalLemmas.{rival_below, rival_parts, alone_is}
 use Rattle.check_bounds.proofs.rounds.sure_against.Goals as goal
 

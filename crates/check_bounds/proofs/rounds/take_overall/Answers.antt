@@ -2,8 +2,9 @@ use Rattle.std.proofs.Common.{ap, sym, ◌∙◌}
 use Rattle.league_core.specs.ClubSets.{clubs_in}
 use Rattle.league_core.specs.declared.sure.Sure.TheVariants.{Unknown}
 use Rattle.league_core.specs.SureOrder.{sure_then, sure_within, sure_in}
+use Rattle.league_core.proofs.SureLemmas.{sure_then-assoc}
 use Rattle.check_bounds.specs.Steps.{sure_at, sure_by_tables}
-use Rattle.check_bounds.proofs.StepLemmas.{sure_then-assoc, still_level}
+use Rattle.check_bounds.proofs.StepLemmas.{still_level}
 use Rattle.check_bounds.proofs.RoundLemmas.{unsure_sums, sure_sums}
 use Rattle.check_bounds.proofs.rounds.take_overall.Goals as goal
 

@@ -4,8 +4,9 @@ use Rattle.league_core.specs.ClubSets.{clubs_in}
 use Rattle.league_core.specs.Sheets.{is_fixture}
 use Rattle.league_core.specs.PointRanges.{points_together, points_of_sides, range_of}
 use Rattle.league_core.proofs.PlainLemmas.{list_all-at}
+use Rattle.league_core.proofs.FixtureLemmas.{clubs_apart}
 use Rattle.check_bounds.proofs.SpanLemmas.{near_plus, near_wider}
-use Rattle.check_bounds.proofs.TableLemmas.{sum_more, together_by_ends, teams_apart}
+use Rattle.check_bounds.proofs.TableLemmas.{sum_more, together_by_ends}
 use Rattle.check_bounds.proofs.total.won_by.Goals as goal
 
 pub plus-won-requires-clause-near : goal.plus-won-requires-clause-near
@@ -22,7 +23,7 @@ loop-i-preserved c =
     c.index-corners-i.is ∙ get_or_default corners i _ []
     (omega (arith, c.requires.many)) in
     let match = get_or fixtures i (record { home = 0; away = 0 }) in
-    let apart = teams_apart 24 match
+    let apart = clubs_apart 24 match
     (list_all-at (is_fixture 24) fixtures i (record { home = 0; away = 0 }) (omega arith)
     c.requires.teams) in
     let here = together_by_ends c.args.set.bits match (get_or corners i []) c.has-home.result

@@ -6,10 +6,10 @@ use Rattle.league_core.specs.Results.{Results, are_results}
 use Rattle.league_core.specs.Seasons.{IsSeasonOf}
 use Rattle.league_core.specs.Sheets.{IsWithinLimits}
 use Rattle.score_box.specs.Unplayed.{unplayed_in}
+use Rattle.score_box.proofs.SplitLemmas.{unplayed_in_range}
 use Rattle.example_finish.proofs.ProposedLemmas.{option_is_score, all_have_taken, HaveTaken}
 use Rattle.example_finish.proofs.ProposedLemmas.{have_taken-next, played_is_taken, no_sides}
 use Rattle.example_finish.proofs.ProposedLemmas.{option_at}
-use Rattle.example_finish.proofs.UnplayedLemmas.{unplayed_in_range}
 use Rattle.example_finish.proofs.proposal.take_options.Goals as goal
 
 pub loop-i-init : goal.loop-i-init
@@ -32,7 +32,7 @@ option_of-score-requires-clause-in_range c =
     let scores = c.args.zone_box.now.season.scores in
     let all : c.unplayed-unplayed.result.now ≡ unplayed_in scores = c.unplayed-unplayed.ensures in
     subst (λ (ks : List ℕ). get_or ks c.loop-i.i 0 < length scores) (sym all)
-    (unplayed_in_range scores c.loop-i.i
+    (unplayed_in_range scores c.loop-i.i 0
     (omega (arith, ap (λ (ks : List ℕ). length ks) all, c.loop-i-test.true)))
 
 pub bounds-fixtures-fixture : goal.bounds-fixtures-fixture
@@ -42,7 +42,7 @@ bounds-fixtures-fixture c =
     let scores = season.scores in
     let all : c.unplayed-unplayed.result.now ≡ unplayed_in scores = c.unplayed-unplayed.ensures in
     let within = subst (λ (ks : List ℕ). get_or ks c.loop-i.i 0 < length scores) (sym all)
-    (unplayed_in_range scores c.loop-i.i
+    (unplayed_in_range scores c.loop-i.i 0
     (omega (arith, ap (λ (ks : List ℕ). length ks) all, c.loop-i-test.true))) in
     let long : length c.as_slice-fixtures.result.now ≡ length sheet.fixtures =
     ap (λ (matches : List Fixture). length matches) c.as_slice-fixtures.ensures
@@ -60,7 +60,7 @@ apply-requires c =
     let all : c.unplayed-unplayed.result.now ≡ unplayed_in scores = c.unplayed-unplayed.ensures in
     let within : fixture < length scores =
     subst (λ (ks : List ℕ). get_or ks c.loop-i.i 0 < length scores) (sym all)
-    (unplayed_in_range scores c.loop-i.i
+    (unplayed_in_range scores c.loop-i.i 0
     (omega (arith, ap (λ (ks : List ℕ). length ks) all, c.loop-i-test.true))) in (
       omega (arith, within, c.loop-i.invariant.long),
       option_is_score sheet season c.args.zone_box.now.zone fixture _ _ c.option_of-score.result
@@ -80,7 +80,7 @@ loop-i-preserved c =
     let all : c.unplayed-unplayed.result.now ≡ unplayed_in scores = c.unplayed-unplayed.ensures in
     let within : fixture < length scores =
     subst (λ (ks : List ℕ). get_or ks c.loop-i.i 0 < length scores) (sym all)
-    (unplayed_in_range scores c.loop-i.i
+    (unplayed_in_range scores c.loop-i.i 0
     (omega (arith, ap (λ (ks : List ℕ). length ks) all, c.loop-i-test.true))) in
     let matches : c.as_slice-fixtures.result.now ≡ sheet.fixtures =
     c.as_slice-fixtures.ensures

@@ -4,8 +4,9 @@ use Rattle.std.proofs.lemmas.List.{length-set}
 use Rattle.league_core.specs.declared.sheet.Sheet.{Sheet}
 use Rattle.league_core.specs.Sums.{sum_among}
 use Rattle.league_core.specs.ClubSets.{clubs_in}
+use Rattle.league_core.proofs.ClubCountLemmas.{member_below}
 use Rattle.score_box.specs.Totals.{AreTotals, totals_at}
-use Rattle.tie_criteria.proofs.MemberLemmas.{all_left, left_next, each_next, member_low, taken_off}
+use Rattle.tie_criteria.proofs.MemberLemmas.{all_left, left_next, each_next, taken_off}
 use Rattle.tie_criteria.proofs.MemberLemmas.{none_left, empty_left}
 use Rattle.example_finish.proofs.ProposedTotalLemmas.{all_near_set, row_set, row_kept, none_near}
 use Rattle.example_finish.proofs.totals.played_among.Goals as goal
@@ -24,7 +25,7 @@ first_club-club-requires c = λ none.
     false≢true (sym c.if-is_empty.false ∙ c.is_empty.ensures.1 none)
 
 pub single-requires : goal.single-requires
-single-requires c = member_low c.loop-step.left c.first_club-club.result
+single-requires c = member_below c.loop-step.left c.first_club-club.result
     c.first_club-club.ensures.member
 
 pub totals_among-requires-clause-club : goal.totals_among-requires-clause-club

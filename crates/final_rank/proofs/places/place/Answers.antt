@@ -2,7 +2,9 @@ use Rattle.std.proofs.Common.{◌≡◌, ◌+◌, ◌≤◌, ◌&&◌, ◌||◌,
 use Rattle.league_core.specs.Sums.{has_club}
 use Rattle.league_core.specs.ClubSets.{clubs_in}
 use Rattle.league_core.specs.Ranking.{ranks_before, lot_of}
-use Rattle.final_rank.proofs.TableLemmas.{count_by-range_suc, one_at_most, bool_byte-is}
+use Rattle.league_core.proofs.PlainLemmas.{one_if-most}
+use Rattle.league_core.proofs.ClubCountLemmas.{count_by-range_suc}
+use Rattle.final_rank.proofs.TableLemmas.{bool_byte-is}
 use Rattle.final_rank.proofs.TierLemmas.{ranks_before-around}
 use Rattle.final_rank.proofs.places.place.Goals as goal
 
@@ -24,5 +26,5 @@ loop-other-preserved c =
     let counted : c.from-before.result ≡ cond (before other) 1 0 =
     c.from-before.ensures ∙ bool_byte-is c.is_before.result
     ∙ ap (λ (b : Bool). cond {A = ℕ} b 1 0) test in
-    let one : cond (before other) 1 0 ≤ 1 = one_at_most (before other) in
+    let one : cond (before other) 1 0 ≤ 1 = one_if-most (before other) in
     ((λ i. c.loop-other.invariant.0 i + counted i) ∙ sym more, omega arith)

@@ -5,10 +5,11 @@ use Rattle.std.specs.Prelude.{MatchOption}
 use Rattle.flow_bound.specs.declared.tally.Pair.{Pair}
 use Rattle.flow_bound.specs.Fixtures.{pairs_in}
 use Rattle.flow_bound.specs.Parts.{HasNoExcess, IsLeastBest, IsLeftOpenIn, side_of}
-use Rattle.flow_bound.proofs.ChoiceLemmas.{answer_of_rest, left_open, on_error, rest_of_pairs}
+use Rattle.flow_bound.proofs.ChoiceLemmas.{answer_of_rest, left_open, rest_of_pairs}
 use Rattle.flow_bound.proofs.PeelLemmas.{none_left}
 use Rattle.flow_bound.proofs.SetLemmas.{no_club_left}
 use Rattle.flow_bound.proofs.choice.choose.Goals as goal
+use Rattle.league_core.proofs.PlainLemmas.{err-holds}
 
 pub returns-in-Some-clause-answer : goal.returns-in-Some-clause-answer
 returns-in-Some-clause-answer c = inl (c.in-Some.club, c.in-Some.ensures, c.single.ensures)
@@ -33,7 +34,7 @@ returns-clause-answer c =
 
 pub returns-in_err-pairs-clause-spared : goal.returns-in_err-pairs-clause-spared
 returns-in_err-pairs-clause-spared c =
-    on_error c.from_residual.result
+    err-holds c.from_residual.result
     (IsLeftOpenIn c.args.alone.now (pairs_in c.args.cut c.args.zone_box.now)
     (side_of c.args.marked))
     (left_open c.args.alone.now (pairs_in c.args.cut c.args.zone_box.now) (side_of c.args.marked)
@@ -43,7 +44,7 @@ returns-in_err-pairs-clause-spared c =
 
 pub returns-in_err-found-clause-spared : goal.returns-in_err-found-clause-spared
 returns-in_err-found-clause-spared c =
-    on_error c.from_residual-in_err-found.result
+    err-holds c.from_residual-in_err-found.result
     (IsLeftOpenIn c.args.alone.now (pairs_in c.args.cut c.args.zone_box.now)
     (side_of c.args.marked))
     (left_open c.args.alone.now (pairs_in c.args.cut c.args.zone_box.now) (side_of c.args.marked)

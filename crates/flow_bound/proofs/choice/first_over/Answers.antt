@@ -6,8 +6,8 @@ use Rattle.std.proofs.lemmas.Int.{ints}
 use Rattle.std.proofs.lemmas.Bool.{false≢true}
 use Rattle.league_core.specs.Sums.{has_club}
 use Rattle.league_core.specs.ClubSets.{clubs_in}
+use Rattle.league_core.proofs.ClubCountLemmas.{few_below}
 use Rattle.flow_bound.specs.Parts.{entry, side_of}
-use Rattle.flow_bound.proofs.PlaceLemmas.{clubs_few}
 use Rattle.flow_bound.proofs.SetLemmas.{no_club_left, no_club_of_none, not_left, rest_is_less}
 use Rattle.flow_bound.proofs.SetLemmas.{rest_is_part, side_of-lt}
 use Rattle.flow_bound.proofs.choice.first_over.Goals as goal
@@ -22,7 +22,7 @@ pub loop-step-init : goal.loop-step-init
 loop-step-init c = record {
   part = λ club among. among;
   low = λ club among out. absurd (false≢true (sym out ∙ among));
-  few = omega (arith, clubs_few 32 c.args.marked.bits (omega arith));
+  few = omega (arith, few_below 32 c.args.marked.bits (omega arith));
 }
 
 pub first_club-club-requires : goal.first_club-club-requires

@@ -6,13 +6,13 @@ use Rattle.std.proofs.lemmas.Int.{ints}
 use Rattle.league_core.specs.ClubSets.{clubs_in}
 use Rattle.league_core.specs.PointRanges.{own_least}
 use Rattle.league_core.specs.Zones.{marked_before}
+use Rattle.league_core.proofs.PlainLemmas.{err-holds}
 use Rattle.flow_bound.specs.declared.cut.Cut.TheVariants.{Ceiling}
 use Rattle.flow_bound.specs.Excess.{ceiling_excess}
 use Rattle.flow_bound.specs.Fixtures.{pairs_in}
 use Rattle.flow_bound.proofs.ChosenLemmas.{GivesExcess}
 use Rattle.flow_bound.proofs.CutLemmas.{chosen_found, ceiling_excess-is, ceiling_fails}
 use Rattle.flow_bound.proofs.CutLemmas.{ceiling_found, nothing_exceeds, ceiling_unmarked}
-use Rattle.flow_bound.proofs.ChoiceLemmas.{on_error}
 use Rattle.flow_bound.proofs.NeededLemmas.{left_open_is}
 use Rattle.flow_bound.proofs.SetLemmas.{no_club_left}
 use Rattle.flow_bound.proofs.cut.high_cut.Goals as goal
@@ -112,7 +112,7 @@ returns-in_err-chosen-clause-spared c =
           ∙ ceiling_excess-is box.sheet box.season c.args.question.now box.zone _ (clubs_in set)
           level;
     } in
-    on_error _ _ (left_open_is c.own_entries-alone.result (pairs_in Ceiling c.args.zone_box.now)
+    err-holds _ _ (left_open_is c.own_entries-alone.result (pairs_in Ceiling c.args.zone_box.now)
     c.before-rivals.result (marked_before box.zone)
     (ceiling_excess box.sheet box.season c.args.question.now box.zone)
     gives c.in_err-chosen.ensures.spared)

@@ -6,13 +6,13 @@ use Rattle.std.proofs.lemmas.Int.{ints}
 use Rattle.league_core.specs.ClubSets.{clubs_in}
 use Rattle.league_core.specs.PointRanges.{own_most}
 use Rattle.league_core.specs.Zones.{marked_after}
+use Rattle.league_core.proofs.PlainLemmas.{err-holds}
 use Rattle.flow_bound.specs.declared.cut.Cut.TheVariants.{Floor}
 use Rattle.flow_bound.specs.Excess.{floor_excess}
 use Rattle.flow_bound.specs.Fixtures.{pairs_in}
 use Rattle.flow_bound.proofs.ChosenLemmas.{GivesExcess}
 use Rattle.flow_bound.proofs.CutLemmas.{chosen_found, floor_excess-is, floor_fails, floor_found}
 use Rattle.flow_bound.proofs.CutLemmas.{nothing_exceeds, floor_unmarked}
-use Rattle.flow_bound.proofs.ChoiceLemmas.{on_error}
 use Rattle.flow_bound.proofs.NeededLemmas.{left_open_is}
 use Rattle.flow_bound.proofs.SetLemmas.{no_club_left}
 use Rattle.flow_bound.proofs.cut.low_cut.Goals as goal
@@ -96,7 +96,7 @@ returns-in_err-chosen-clause-spared c =
           ∙ floor_excess-is box.sheet box.season c.args.question.now box.zone _ (clubs_in set)
           level;
     } in
-    on_error _ _ (left_open_is c.own_entries-alone.result (pairs_in Floor c.args.zone_box.now)
+    err-holds _ _ (left_open_is c.own_entries-alone.result (pairs_in Floor c.args.zone_box.now)
     c.after-rivals.result (marked_after box.zone)
     (floor_excess box.sheet box.season c.args.question.now box.zone)
     gives c.in_err-chosen.ensures.spared)

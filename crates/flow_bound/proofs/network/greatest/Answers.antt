@@ -1,11 +1,11 @@
 -- What a cut takes is the excess of its source side.
 use Rattle.std.proofs.Common.{◌≡◌, ℕ, ◌+◌, pos, ◌+ℤ◌, Bool, List, length, subst, ◌∙◌, arith}
 use Rattle.league_core.specs.ClubSets.{clubs_in}
+use Rattle.league_core.proofs.ClubCountLemmas.{few_below}
 use Rattle.flow_net.specs.Cut.{IsCut, IsLeastCut, capacity_of, marked}
 use Rattle.flow_bound.specs.Parts.{in_both, side_of, sum_of_side}
 use Rattle.flow_bound.specs.Network.{through}
 use Rattle.flow_bound.proofs.NetworkLemmas.{best_at_cut, network_is, no_excess_at_cut}
-use Rattle.flow_bound.proofs.PlaceLemmas.{clubs_few}
 use Rattle.flow_bound.proofs.network.greatest.Goals as goal
 
 pub returns-then-flow-goal : goal.returns-then-flow-goal
@@ -60,7 +60,7 @@ returns c =
 
 pub add_clubs-goal-requires-clause-few : goal.add_clubs-goal-requires-clause-few
 add_clubs-goal-requires-clause-few c =
-    omega (arith, c.from-source.ensures, c.len.ensures, clubs_few 32 c.args.rest.bits (omega arith))
+    omega (arith, c.from-source.ensures, c.len.ensures, few_below 32 c.args.rest.bits (omega arith))
 
 pub add_clubs-goal-requires-clause-clubs : goal.add_clubs-goal-requires-clause-clubs
 add_clubs-goal-requires-clause-clubs c = c.from-source.ensures ∙ c.len.ensures

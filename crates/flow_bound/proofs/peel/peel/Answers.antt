@@ -3,11 +3,11 @@ use Rattle.std.proofs.Common.{◌≢◌, length, sym, ◌∙◌, arith}
 use Rattle.std.specs.Prelude.{int_lt, pos}
 use Rattle.std.proofs.lemmas.Bool.{and_parts, false≢true}
 use Rattle.league_core.specs.ClubSets.{clubs_in}
+use Rattle.league_core.proofs.ClubCountLemmas.{few_below}
 use Rattle.flow_bound.specs.Fixtures.{pairs_in}
 use Rattle.flow_bound.specs.Parts.{IsPartOf, entry, side_of}
 use Rattle.flow_bound.proofs.PeelLemmas.{EachAdds-empty, EachAdds-kept, KeepsExcess-all}
 use Rattle.flow_bound.proofs.PeelLemmas.{KeepsExcess-next}
-use Rattle.flow_bound.proofs.PlaceLemmas.{clubs_few}
 use Rattle.flow_bound.proofs.SetLemmas.{length-part, no_club_left, no_club_of_none, side_of-lt}
 use Rattle.flow_bound.proofs.SetLemmas.{whole_is_part}
 use Rattle.flow_bound.proofs.peel.peel.Goals as goal
@@ -16,7 +16,7 @@ pub loop-round-init : goal.loop-round-init
 loop-round-init c = record {
   keeps = KeepsExcess-all c.args.alone.now (pairs_in c.args.cut c.args.zone_box.now)
       (side_of c.args.marked);
-  few = omega (arith, clubs_few 32 c.args.marked.bits (omega arith));
+  few = omega (arith, few_below 32 c.args.marked.bits (omega arith));
 }
 
 pub loop-round-preserved : goal.loop-round-preserved

@@ -5,8 +5,8 @@ use Rattle.std.specs.Prelude.{int_lt}
 use Rattle.std.proofs.lemmas.Bool.{false≢true}
 use Rattle.league_core.specs.Sums.{has_club}
 use Rattle.league_core.specs.ClubSets.{clubs_in}
+use Rattle.league_core.proofs.ClubCountLemmas.{few_below}
 use Rattle.flow_bound.specs.Parts.{entry, side_of}
-use Rattle.flow_bound.proofs.PlaceLemmas.{clubs_few}
 use Rattle.flow_bound.proofs.SetLemmas.{found_next, no_club_left, no_club_of_none, rest_is_less}
 use Rattle.flow_bound.proofs.SetLemmas.{rest_is_part, side_of-lt}
 use Rattle.flow_bound.proofs.peel.positive.Goals as goal
@@ -20,7 +20,7 @@ loop-step-init c = record {
   part = λ club among. among;
   seen = λ club. ap (λ (cs : List ℕ). has_club cs club) c.empty-found.ensures
       ∙ none_yet (side_of c.args.set club) (int_lt (pos 0) (entry c.args.table.now club));
-  few = omega (arith, clubs_few 32 c.args.set.bits (omega arith));
+  few = omega (arith, few_below 32 c.args.set.bits (omega arith));
 }
 
 pub first_club-club-requires : goal.first_club-club-requires

@@ -7,12 +7,11 @@ use Rattle.std.proofs.lemmas.List.{take_all}
 use Rattle.std.proofs.lemmas.List.Sums.{sum_by_more}
 use Rattle.league_core.specs.Results.{Results}
 use Rattle.league_core.specs.declared.sheet.Sheet.{Sheet}
-use Rattle.score_box.proofs.SplitLemmas.{unplayed_few}
+use Rattle.score_box.proofs.SplitLemmas.{unplayed_few, open_fixture}
 use Rattle.flow_bound.specs.declared.tally.Pair.{Pair}
 use Rattle.flow_bound.specs.Fixtures.{pair_at, pairs_in}
 use Rattle.flow_bound.specs.Parts.{IsClubTable, side_of, sum_of_pairs, sum_of_side}
 use Rattle.flow_bound.specs.Network.{has_away_in, has_home_in}
-use Rattle.flow_bound.proofs.FixtureLemmas.{open_fixture}
 use Rattle.flow_bound.proofs.PairsLemmas.{length-pairs_in, pairs_in-at}
 use Rattle.flow_bound.proofs.peel.reach.Goals as goal
 

@@ -6,15 +6,17 @@ use Rattle.league_core.specs.declared.sheet.Fixture.{Fixture}
 use Rattle.league_core.specs.Results.{Results}
 use Rattle.league_core.specs.Options.{options_in}
 use Rattle.league_core.proofs.OptionLemmas.{length-options_from}
+use Rattle.league_core.proofs.LiteralLemmas.{option_at}
+use Rattle.league_core.proofs.FixtureLemmas.{fixture_of_sheet}
 use Rattle.score_box.specs.declared.cell.Cell.{Cell}
 use Rattle.score_box.specs.declared.points.left.OutcomesLeft.{OutcomesLeft}
 use Rattle.score_box.specs.Cells.{IsCellOf}
 use Rattle.score_box.specs.Points.{AreOutcomesLeft}
 use Rattle.score_box.specs.Settings.{HasFinish, Setting}
 use Rattle.score_box.proofs.SplitLemmas.{no_match}
+use Rattle.score_box.proofs.BoxLemmas.{cell_of_option}
 use Rattle.flow_bound.specs.declared.cut.Cut.{Cut}
 use Rattle.flow_bound.specs.Fixtures.{pair_at, surplus_left}
-use Rattle.flow_bound.proofs.FixtureLemmas.{cell_of_option, fixture_of_sheet, option_at}
 use Rattle.flow_bound.proofs.PairsLemmas.{pair_is}
 use Rattle.flow_bound.proofs.SurplusLemmas.{left_surplus}
 use Rattle.flow_bound.proofs.tally.pair_within.Goals as goal

@@ -3,13 +3,10 @@ use Rattle.std.proofs.Common.{◌≡◌, ◌<◌, ◌≤◌, Bool, true, false, 
 use Rattle.std.proofs.Common.{sym, ◌∙◌, arith}
 use Rattle.league_core.specs.declared.season.Score.{Score}
 use Rattle.league_core.specs.Options.{has_option}
+use Rattle.league_core.proofs.PlainLemmas.{one_if-most}
 use Rattle.score_box.proofs.EndLemmas.{count_more, empty_is}
 use Rattle.score_box.proofs.LeftLemmas.{none_left, left_none}
 use Rattle.score_box.proofs.ends.empty_cells.Goals as goal
-
-one_at_most : (b : Bool) → cond b 1 0 ≤ 1
-one_at_most true = omega arith
-one_at_most false = omega arith
 
 pub left-requires : goal.left-requires
 left-requires c = c.requires.1.exact c.loop-cell.cell-index _ c.loop-cell-test.true
@@ -17,7 +14,7 @@ left-requires c = c.requires.1.exact c.loop-cell.cell-index _ c.loop-cell-test.t
 pub loop-cell-preserved : goal.loop-cell-preserved
 loop-cell-preserved c =
     let k = c.loop-cell.cell-index in
-    let small = one_at_most c.are_none.result in
+    let small = one_if-most c.are_none.result in
     let counted : c.one_if-count.result ≡ cond c.are_none.result 1 0 = c.one_if-count.ensures in (
       omega (arith, c.loop-cell.invariant.0),
       λ options are.

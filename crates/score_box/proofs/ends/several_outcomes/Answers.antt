@@ -3,13 +3,10 @@ use Rattle.std.proofs.Common.{◌≡◌, ◌<◌, ◌≤◌, Bool, true, false, 
 use Rattle.std.proofs.Common.{sym, ap, ◌∙◌, arith}
 use Rattle.league_core.specs.declared.season.Score.{Score}
 use Rattle.league_core.specs.Options.{has_one_outcome}
+use Rattle.league_core.proofs.PlainLemmas.{one_if-most}
 use Rattle.score_box.proofs.EndLemmas.{count_more, outcome_is}
 use Rattle.score_box.proofs.LeftLemmas.{one_left, left_one}
 use Rattle.score_box.proofs.ends.several_outcomes.Goals as goal
-
-one_at_most : (b : Bool) → cond b 1 0 ≤ 1
-one_at_most true = omega arith
-one_at_most false = omega arith
 
 pub left-requires : goal.left-requires
 left-requires c = c.requires.1.exact c.loop-cell.cell-index _ c.loop-cell-test.true
@@ -18,7 +15,7 @@ pub loop-cell-preserved : goal.loop-cell-preserved
 loop-cell-preserved c =
     let k = c.loop-cell.cell-index in
     let one = c.are_one.result in
-    let small = one_at_most (not one) in
+    let small = one_if-most (not one) in
     let counted : c.one_if-count.result ≡ cond (not one) 1 0 = c.one_if-count.ensures in (
       omega (arith, c.loop-cell.invariant.0),
       λ options are.

@@ -2,10 +2,11 @@ use Rattle.std.proofs.Common.{◌<◌, length, refl, sym, ◌∙◌, arith}
 use Rattle.std.proofs.lemmas.Bool.{false≢true}
 use Rattle.std.proofs.lemmas.List.{get_or_default}
 use Rattle.league_core.specs.declared.sure.Sure.TheVariants.{Unknown}
-use Rattle.tie_criteria.proofs.MemberLemmas.{member_low, taken_off, none_left, empty_left}
+use Rattle.tie_criteria.proofs.MemberLemmas.{taken_off, none_left, empty_left}
 use Rattle.tie_bound.proofs.AnswerLemmas.{step_begins, step_goes_on, step_ends}
 use Rattle.tie_bound.proofs.AnswerLemmas.{left_has_answer}
 use Rattle.league_core.specs.SureOrder.{sure_by_ranges}
+use Rattle.league_core.proofs.ClubCountLemmas.{member_below}
 use Rattle.tie_bound.specs.Sums.{sums_at}
 use Rattle.tie_bound.specs.Answers.{ranges_of, by_table, answer_at}
 use Rattle.tie_bound.proofs.AnswerLemmas.{by_table-read, next_is}
@@ -20,7 +21,7 @@ first_club-rival-requires c = λ none.
     false≢true (sym c.if-is_empty.false ∙ c.is_empty.ensures.1 none)
 
 pub single-requires : goal.single-requires
-single-requires c = member_low c.loop-step.left c.first_club-rival.result
+single-requires c = member_below c.loop-step.left c.first_club-rival.result
     c.first_club-rival.ensures.member
 
 pub returns-then-is_empty : goal.returns-then-is_empty

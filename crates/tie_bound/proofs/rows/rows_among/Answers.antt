@@ -8,7 +8,8 @@ use Rattle.league_core.specs.declared.sheet.Sheet.{Sheet}
 use Rattle.league_core.specs.Sheets.{is_fixture}
 use Rattle.league_core.specs.ClubSets.{clubs_in}
 use Rattle.league_core.specs.Sums.{has_club, worth_among}
-use Rattle.tie_criteria.proofs.MemberLemmas.{all_left, left_next, each_next, member_low, taken_off}
+use Rattle.league_core.proofs.ClubCountLemmas.{member_below}
+use Rattle.tie_criteria.proofs.MemberLemmas.{all_left, left_next, each_next, taken_off}
 use Rattle.tie_criteria.proofs.MemberLemmas.{none_left, empty_left}
 use Rattle.tie_bound.specs.declared.sums.Sums.{Sums}
 use Rattle.tie_bound.specs.Sums.{no_sums, sums_at}
@@ -29,7 +30,7 @@ first_club-club-requires c = λ none.
     false≢true (sym c.if-is_empty.false ∙ c.is_empty.ensures.1 none)
 
 pub single-requires : goal.single-requires
-single-requires c = member_low c.loop-step.left c.first_club-club.result
+single-requires c = member_below c.loop-step.left c.first_club-club.result
     c.first_club-club.ensures.member
 
 pub row_among-requires-clause-club : goal.row_among-requires-clause-club

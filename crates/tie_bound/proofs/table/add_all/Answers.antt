@@ -3,11 +3,12 @@ use Rattle.league_core.specs.Sums.{worth_among}
 use Rattle.league_core.specs.ClubSets.{clubs_in}
 use Rattle.league_core.specs.Options.{has_one_outcome}
 use Rattle.league_core.specs.PointRanges.{range_from}
+use Rattle.league_core.proofs.PlainLemmas.{list_all-at}
 use Rattle.tie_criteria.specs.Measures.{worth_of}
 use Rattle.tie_bound.specs.declared.sums.Sums.{Sums}
 use Rattle.tie_bound.specs.Sums.{sums_at}
 use Rattle.tie_bound.specs.Boxes.{options_in_box}
-use Rattle.tie_bound.proofs.BoxLemmas.{each_below, length-options}
+use Rattle.tie_bound.proofs.BoxLemmas.{length-options}
 use Rattle.score_box.proofs.OutcomeLemmas.{one_outcome_of}
 use Rattle.tie_bound.proofs.TableLemmas.{wider}
 use Rattle.tie_bound.proofs.SoFarLemmas.{IsSoFar, so_far_none, so_far_more, so_far_all}
@@ -31,7 +32,7 @@ add_if_counted-requires-clause-one c =
     let within : i < length options = omega
     (arith, c.fixtures_of-fixtures.ensures.many, length-options c.args.zone_box.now) in
     one_outcome_of c.cell.result.now (get_or options i []) c.cell.ensures
-    (each_below has_one_outcome options i [] within c.requires.outcomes)
+    (list_all-at has_one_outcome options i [] within c.requires.outcomes)
 
 pub add_if_counted-requires-clause-room : goal.add_if_counted-requires-clause-room
 add_if_counted-requires-clause-room c = λ club.

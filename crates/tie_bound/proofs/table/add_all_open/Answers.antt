@@ -4,10 +4,10 @@ use Rattle.std.specs.List.{list_all}
 use Rattle.league_core.specs.declared.sheet.Sheet.{Sheet}
 use Rattle.league_core.specs.Sheets.{is_fixture}
 use Rattle.league_core.specs.ClubSets.{clubs_in}
+use Rattle.league_core.proofs.RangeLemmas.{range_from-among_all}
 use Rattle.tie_criteria.specs.Measures.{worth_of}
 use Rattle.tie_bound.specs.Boxes.{options_in_box}
 use Rattle.tie_bound.proofs.RowLemmas.{rows_of_all}
-use Rattle.tie_bound.proofs.SoFarLemmas.{among_all}
 use Rattle.tie_bound.proofs.table.add_all_open.Goals as goal
 
 pub add_open-requires-clause-rows : goal.add_open-requires-clause-rows
@@ -28,7 +28,7 @@ returns c =
     record {
       each = λ club measure.
           c.add_open.ensures.each club measure
-          ∙ among_all (clubs_in c.args.all) (length box.sheet.clubs) (worth_of measure) club
+          ∙ range_from-among_all (clubs_in c.args.all) (length box.sheet.clubs) (worth_of measure) club
           box.sheet.fixtures (options_in_box box) c.requires.all fixtures;
       near = c.add_open.ensures.near;
     }

@@ -6,16 +6,17 @@ use Rattle.league_core.specs.Sums.{worth_among}
 use Rattle.league_core.specs.ClubSets.{clubs_in}
 use Rattle.league_core.specs.Options.{has_one_outcome}
 use Rattle.league_core.specs.PointRanges.{range_from}
+use Rattle.league_core.proofs.PlainLemmas.{list_all-at}
+use Rattle.league_core.proofs.FixtureLemmas.{fixture_of_sheet}
 use Rattle.tie_criteria.specs.Measures.{worth_of}
 use Rattle.score_box.proofs.OutcomeLemmas.{one_outcome_of}
-use Rattle.score_box.proofs.SplitLemmas.{keeps_played, no_match}
+use Rattle.score_box.proofs.SplitLemmas.{keeps_played, no_match, open_fixture}
 use Rattle.tie_bound.specs.Sums.{sums_at}
 use Rattle.tie_bound.specs.Rows.{AreRows}
 use Rattle.tie_bound.specs.Boxes.{options_in_box}
-use Rattle.tie_bound.proofs.BoxLemmas.{each_below, length-options}
+use Rattle.tie_bound.proofs.BoxLemmas.{length-options}
 use Rattle.tie_bound.proofs.TableLemmas.{wider}
-use Rattle.tie_bound.proofs.RowLemmas.{open_none, open_more, open_all, open_fixture, open_few}
-use Rattle.tie_bound.proofs.RowLemmas.{fixture_of_sheet}
+use Rattle.tie_bound.proofs.RowLemmas.{open_none, open_more, open_all, open_few}
 use Rattle.tie_bound.proofs.table.add_open.Goals as goal
 
 pub loop-i-init : goal.loop-i-init
@@ -46,7 +47,7 @@ add_if_counted-requires-clause-one c =
     let low = open_fixture box.season.scores c.unplayed-unplayed.result.now c.loop-i.i 0
     c.unplayed-unplayed.ensures c.loop-i-test.true in
     one_outcome_of c.cell.result.now (get_or options number []) c.cell.ensures
-    (each_below has_one_outcome options number [] (omega (arith, low, length-options box))
+    (list_all-at has_one_outcome options number [] (omega (arith, low, length-options box))
     c.requires.outcomes)
 
 pub add_if_counted-requires-clause-different : goal.add_if_counted-requires-clause-different

@@ -6,9 +6,9 @@ use Rattle.league_core.specs.Sheets.{is_fixture}
 use Rattle.league_core.specs.Sums.{has_club}
 use Rattle.league_core.specs.ClubSets.{clubs_in}
 use Rattle.league_core.proofs.ClubSetLemmas.{has_club-range}
+use Rattle.league_core.proofs.RangeLemmas.{range_from-among_all}
 use Rattle.tie_criteria.specs.Measures.{worth_of}
 use Rattle.tie_bound.specs.Boxes.{options_in_box}
-use Rattle.tie_bound.proofs.SoFarLemmas.{among_all}
 use Rattle.tie_bound.proofs.table.sums_over.Goals as goal
 
 pub returns-else-has_finish : goal.returns-else-has_finish
@@ -29,7 +29,7 @@ returns-else-has_finish c =
     record {
       each = λ club measure.
           c.sums_by_all.ensures.each club measure
-          ∙ among_all (clubs_in c.first-all.result) clubs (worth_of measure) club box.sheet.fixtures
+          ∙ range_from-among_all (clubs_in c.first-all.result) clubs (worth_of measure) club box.sheet.fixtures
           (options_in_box box) all fixtures;
       near = c.sums_by_all.ensures.near;
     }

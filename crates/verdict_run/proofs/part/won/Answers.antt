@@ -1,10 +1,12 @@
-use Rattle.verdict_run.proofs.PartLemmas.{won_part, length-ended}
+use Rattle.std.proofs.Common.{sym}
+use Rattle.league_core.proofs.FinishLemmas.{may_all_end-length}
+use Rattle.verdict_run.proofs.PartLemmas.{won_part}
 use Rattle.verdict_run.proofs.part.won.Goals as goal
 
 pub example_lines-requires-clause-same : goal.example_lines-requires-clause-same
 example_lines-requires-clause-same c =
-    length-ended c.args.sheet.now.goal_limit c.args.season.now.scores c.args.finish.now.scores
-    c.requires.example.is_finish.scores
+    sym (may_all_end-length c.args.sheet.now.goal_limit c.args.season.now.scores
+    c.args.finish.now.scores c.requires.example.is_finish.scores)
 
 pub returns-clause-part : goal.returns-clause-part
 returns-clause-part c =

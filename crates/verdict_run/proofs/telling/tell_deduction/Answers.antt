@@ -27,4 +27,4 @@ returns-clause-told c =
     on_ok_weaker c.tell.result
     (deduction_told c.args.season.now c.args.club _ c.args.pool.now _ c.requires.in_range
     (ap (λ points. get_or points c.args.club 0) c.deductions.ensures.deductions) c.requires.told)
-    c.tell.ensures
+    c.tell.ensures.ok

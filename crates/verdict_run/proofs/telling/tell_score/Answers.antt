@@ -29,4 +29,4 @@ returns-in-Some-clause-told c =
     let whole = c.args.season.now in
     on_ok_weaker c.tell.result
     (score_told whole (length whole.deductions) c.args.fixture c.in-Some.score c.args.pool.now _
-    c.requires.in_range (sym c.in-Some.ensures.score) c.requires.told) c.tell.ensures
+    c.requires.in_range (sym c.in-Some.ensures.score) c.requires.told) c.tell.ensures.ok

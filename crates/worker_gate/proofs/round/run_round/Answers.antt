@@ -1,7 +1,8 @@
 -- Where there is no memory for the word, nothing was passed and nothing was read.
 use Rattle.std.proofs.Common.{inl, refl}
-use Rattle.worker_gate.proofs.RoundLemmas.{err-holds, goes-nowhere}
+use Rattle.worker_gate.proofs.RoundLemmas.{goes-nowhere}
 use Rattle.worker_gate.proofs.round.run_round.Goals as goal
+use Rattle.league_core.proofs.PlainLemmas.{err-holds}
 
 pub returns-in_err-word-clause-err : goal.returns-in_err-word-clause-err
 returns-in_err-word-clause-err g c =

@@ -1,7 +1,8 @@
 -- Where the round does not begin, nothing was passed and nothing was read.
 use Rattle.std.proofs.Common.{inl, refl}
-use Rattle.worker_gate.proofs.RoundLemmas.{err-holds, goes-nowhere}
+use Rattle.worker_gate.proofs.RoundLemmas.{goes-nowhere}
 use Rattle.worker_gate.proofs.together.round_as.Goals as goal
+use Rattle.league_core.proofs.PlainLemmas.{err-holds}
 
 pub returns-in_err-season-clause-err : goal.returns-in_err-season-clause-err
 returns-in_err-season-clause-err g c =

@@ -4,10 +4,10 @@ use Rattle.league_core.specs.Seasons.{IsSeasonOf}
 use Rattle.league_core.specs.Sheets.{IsWithinLimits}
 use Rattle.score_box.specs.Settings.{HasFinish}
 use Rattle.score_box.specs.Unplayed.{unplayed_in}
+use Rattle.score_box.proofs.SplitLemmas.{unplayed_few, unplayed_in_range}
 use Rattle.example_finish.specs.ProposalViews.{Asked, sheet_asked, season_asked}
 use Rattle.example_finish.proofs.ProposedPointLemmas.{with_one_match, with_all_matches}
 use Rattle.example_finish.proofs.ProposedPointLemmas.{points_wider}
-use Rattle.example_finish.proofs.UnplayedLemmas.{unplayed_in_range, unplayed_few}
 use Rattle.example_finish.proofs.proposed.Proposed.add_points.Goals as goal
 
 pub add_points_of-requires-clause-in_range : goal.add_points_of-requires-clause-in_range
@@ -22,7 +22,7 @@ add_points_of-requires-clause-in_range c =
           length ks) all,
     ) in
     subst (λ (ks : List ℕ). get_or ks c.loop-i.i 0 < length scores) (sym all)
-    (unplayed_in_range scores c.loop-i.i within)
+    (unplayed_in_range scores c.loop-i.i 0 within)
 
 pub add_points_of-requires-clause-near : goal.add_points_of-requires-clause-near
 add_points_of-requires-clause-near c =

@@ -5,9 +5,9 @@ use Rattle.league_core.specs.Sheets.{IsWithinLimits}
 use Rattle.league_core.specs.ClubSets.{clubs_in}
 use Rattle.score_box.specs.Settings.{HasFinish}
 use Rattle.score_box.specs.Unplayed.{unplayed_in}
+use Rattle.score_box.proofs.SplitLemmas.{unplayed_few, unplayed_in_range}
 use Rattle.example_finish.specs.ProposalViews.{Asked, sheet_asked, season_asked}
 use Rattle.example_finish.proofs.ProposedTotalLemmas.{with_one_more, with_all, all_wider}
-use Rattle.example_finish.proofs.UnplayedLemmas.{unplayed_in_range, unplayed_few}
 use Rattle.example_finish.proofs.proposed.Proposed.add_proposed.Goals as goal
 
 pub add_if_counted-requires-clause-in_range : goal.add_if_counted-requires-clause-in_range
@@ -22,7 +22,7 @@ add_if_counted-requires-clause-in_range c =
           length ks) all,
     ) in
     subst (λ (ks : List ℕ). get_or ks c.loop-i.i 0 < length scores) (sym all)
-    (unplayed_in_range scores c.loop-i.i within)
+    (unplayed_in_range scores c.loop-i.i 0 within)
 
 pub add_if_counted-requires-clause-near : goal.add_if_counted-requires-clause-near
 add_if_counted-requires-clause-near c =

@@ -2,10 +2,11 @@ use Rattle.std.proofs.Common.{ℕ, Ordering, sym, ◌∙◌, arith}
 use Rattle.std.specs.Ordering.{is_eq, is_lt}
 use Rattle.std.proofs.lemmas.Bool.{false≢true}
 use Rattle.example_finish.specs.ProposedTotals.{by_criterion}
-use Rattle.tie_criteria.proofs.MemberLemmas.{all_left, left_next, member_low, taken_off}
+use Rattle.tie_criteria.proofs.MemberLemmas.{all_left, left_next, taken_off}
 use Rattle.tie_criteria.proofs.MemberLemmas.{none_left, empty_left}
 use Rattle.example_finish.proofs.GroupStandingLemmas.{found_none, found_next, found_all}
 use Rattle.example_finish.proofs.standing.Standing.by.Goals as goal
+use Rattle.league_core.proofs.ClubCountLemmas.{member_below}
 
 pub loop-step-init : goal.loop-step-init
 loop-step-init c = record {
@@ -19,11 +20,11 @@ first_club-other-requires c = λ none.
     false≢true (sym c.if-is_empty.false ∙ c.is_empty.ensures.1 none)
 
 pub with-standing-requires : goal.with-standing-requires
-with-standing-requires c = member_low c.loop-step.left c.first_club-other.result
+with-standing-requires c = member_below c.loop-step.left c.first_club-other.result
     c.first_club-other.ensures.member
 
 pub single-requires : goal.single-requires
-single-requires c = member_low c.loop-step.left c.first_club-other.result
+single-requires c = member_below c.loop-step.left c.first_club-other.result
     c.first_club-other.ensures.member
 
 pub loop-step-preserved : goal.loop-step-preserved

@@ -2,12 +2,12 @@ use Rattle.std.proofs.Common.{◌+◌, ℕ, length, sym, ap, ◌∙◌, arith}
 use Rattle.league_core.specs.declared.question.Claim.{Claim}
 use Rattle.league_core.specs.Ranking.{place_of}
 use Rattle.league_core.specs.LotsFor.{lots_for_claim}
-use Rattle.final_rank.proofs.SpanLemmas.{few_clubs}
+use Rattle.league_core.proofs.ClubCountLemmas.{few_members}
 use Rattle.example_finish.proofs.PlaceLemmas.{place_inside, place_outside}
 use Rattle.example_finish.proofs.standing.Standing.place.Goals as goal
 
 pub overflow_add-result : goal.overflow_add-result
-overflow_add-result c = omega (arith, c.len.ensures, few_clubs c.args.self.ahead)
+overflow_add-result c = omega (arith, c.len.ensures, few_members c.args.self.ahead)
 
 pub returns-in-Inside : goal.returns-in-Inside
 returns-in-Inside c = λ sheet season club limits below is.

@@ -1,10 +1,11 @@
 use Rattle.std.proofs.Common.{◌≡◌, ◌+◌, ap, ◌∙◌, arith}
 use Rattle.league_core.specs.LotsFor.{best_place_of, worst_place_of}
-use Rattle.final_rank.proofs.SpanLemmas.{few_clubs, best_place_of-around, worst_place_of-around}
+use Rattle.league_core.proofs.ClubCountLemmas.{few_members}
+use Rattle.final_rank.proofs.SpanLemmas.{best_place_of-around, worst_place_of-around}
 use Rattle.final_rank.proofs.around.Around.span.Goals as goal
 
 pub overflow_add-result : goal.overflow_add-result
-overflow_add-result c = omega (arith, c.len.ensures, few_clubs c.args.self.ahead)
+overflow_add-result c = omega (arith, c.len.ensures, few_members c.args.self.ahead)
 
 pub returns : goal.returns
 returns c = λ sheet season club limits below around.

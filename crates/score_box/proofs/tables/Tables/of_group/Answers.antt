@@ -3,9 +3,10 @@ use Rattle.std.proofs.Common.{◌≡◌, ℕ, ◌+◌, ◌*◌, ◌≤◌, not, 
 use Rattle.std.proofs.lemmas.Int.{ints}
 use Rattle.league_core.specs.Sums.{has_club}
 use Rattle.league_core.specs.ClubSets.{clubs_in}
+use Rattle.league_core.proofs.ClubCountLemmas.{few_below}
 use Rattle.score_box.specs.declared.totals.Totals.{Totals}
 use Rattle.score_box.specs.Totals.{AreTotalsNear, total_in, totals_at, pair_place}
-use Rattle.score_box.proofs.GroupLemmas.{is_rest, rest_apart, rest_less, rest_part, few_below}
+use Rattle.score_box.proofs.GroupLemmas.{is_rest, rest_apart, rest_less, rest_part}
 use Rattle.score_box.proofs.TotalLemmas.{near_together}
 use Rattle.score_box.proofs.tables.Tables.of_group.Goals as goal
 

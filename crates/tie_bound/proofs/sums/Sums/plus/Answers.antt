@@ -3,6 +3,7 @@ use Rattle.std.proofs.Common.{◌≡◌}
 use Rattle.tie_criteria.specs.declared.measure.Measure.{Measure}
 use Rattle.tie_criteria.specs.declared.measure.Measure.TheVariants.{Points, Difference, Goals}
 use Rattle.tie_criteria.specs.declared.measure.Measure.TheVariants.{AwayGoals, Wins, AwayWins}
+use Rattle.tie_criteria.proofs.SumLemmas.{each_measure}
 use Rattle.league_core.specs.PointRanges.{added}
 use Rattle.tie_bound.specs.declared.sums.Sums.{Sums}
 use Rattle.tie_bound.specs.Sums.{range_by}
@@ -43,20 +44,6 @@ plus-requires-6-clause-near c = c.requires.near AwayWins
 
 pub plus-requires-6-clause-other_near : goal.plus-requires-6-clause-other_near
 plus-requires-6-clause-other_near c = c.requires.other_near AwayWins
-
--- a fact of each of the six measures is one of every measure
-each_measure : (P : Measure → Type 0) → P Points → P Difference → P Goals → P AwayGoals → P Wins
-    → P AwayWins → (measure : Measure) → P measure
-each_measure P points difference goals_range away_range wins_range away_wins_range Points = points
-each_measure P points difference goals_range away_range wins_range away_wins_range Difference =
-    difference
-each_measure P points difference goals_range away_range wins_range away_wins_range Goals =
-    goals_range
-each_measure P points difference goals_range away_range wins_range away_wins_range AwayGoals =
-    away_range
-each_measure P points difference goals_range away_range wins_range away_wins_range Wins = wins_range
-each_measure P points difference goals_range away_range wins_range away_wins_range AwayWins =
-    away_wins_range
 
 pub returns : goal.returns
 returns c =

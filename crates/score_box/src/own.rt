@@ -6,8 +6,8 @@ ghost use Rattle.league_core.specs.PointRanges.{own_least, own_most};
 ghost use Rattle.score_box.specs.Points.{most_taken_off};
 ghost use Rattle.score_box.specs.Settings.{HasFinish};
 
+use crate::zone_box::ZoneBox;
 use league_core::Question;
-use score_box::ZoneBox;
 
 /// The most points of the question's club, and no more than the window's.
 pub fn own_most(zone_box: &ZoneBox, question: &Question) -> i32
