@@ -3,6 +3,7 @@
 pub mod PartLemmas
 pub mod OneMoreLemmas
 pub mod PeelLemmas
+pub mod SpareLemmas
 pub mod PlaceLemmas
 pub mod NetworkLemmas
 pub mod SetLemmas
@@ -10,6 +11,7 @@ pub mod ChoiceLemmas
 pub mod WorthLemmas
 pub mod FixtureLemmas
 pub mod PairsLemmas
+pub mod OpenLemmas
 pub mod SurplusLemmas
 pub mod ChosenLemmas
 pub mod NeededLemmas

@@ -36,11 +36,11 @@ use Rattle.flow_bound.proofs.FixtureLemmas.{beyond_over-is, is_end}
 use Rattle.flow_bound.proofs.PartLemmas.{cond_pos, sum_of_pairs-cons}
 
 -- what options come to for the sides that count
-abbrev at_sides : Cut → List Score → Bool → Bool → ℤ
+abbrev pub at_sides : Cut → List Score → Bool → Bool → ℤ
 at_sides cut options home away = end_of cut (range_of (points_of_sides home away) options)
 
 -- beyond what each side comes to alone
-abbrev beyond_sides : Cut → List Score → ℤ
+abbrev pub beyond_sides : Cut → List Score → ℤ
 beyond_sides cut options =
     at_sides cut options true true -ℤ at_sides cut options true false
     -ℤ at_sides cut options false true
@@ -64,7 +64,7 @@ beyond_above Ceiling options some =
     omega (arith, ints, high.2, home.1, away.1)
 
 -- the surplus is what the sides come to beyond
-surplus_in-is : (cut : Cut) (options : List Score) → has_option options ≡ true
+pub surplus_in-is : (cut : Cut) (options : List Score) → has_option options ≡ true
     → pos (surplus_in cut options) ≡ beyond_sides cut options
 unfolding surplus_in
 surplus_in-is cut options some = natural (beyond_sides cut options) (beyond_above cut options some)
@@ -100,7 +100,7 @@ beyond_is cut options set match apart =
     come false false = ap (end_of cut) (range_of-none options) ∙ (is_end cut).none
 
 -- the match of a number has two clubs, and an option
-abbrev IsOpenAt : Setting → ℕ → Type 0
+abbrev pub IsOpenAt : Setting → ℕ → Type 0
 IsOpenAt box number =
     ((get_or box.sheet.fixtures number no_match).home
     ≢ (get_or box.sheet.fixtures number no_match).away)
@@ -127,7 +127,7 @@ pairs_at_sum cut box set (number ∷ numbers) each =
     omega (arith, ints, rest, here, surplus, counted, sum)
 
 -- each match that is not played is one of the sheet, and has an option
-open_at_each : (box : Setting) → IsWithinLimits box.sheet → HasFinish box
+pub open_at_each : (box : Setting) → IsWithinLimits box.sheet → HasFinish box
     → length box.season.scores ≡ length box.sheet.fixtures → (k d : ℕ)
     → k < length (unplayed_in box.season.scores)
     → IsOpenAt box (get_or (unplayed_in box.season.scores) k d)

@@ -14,7 +14,7 @@ use Rattle.flow_bound.proofs.PartLemmas.{sum_below-one}
 use Rattle.flow_bound.proofs.PartLemmas.{sum_of_pairs-cons, excess_in-same, excess_in-empty}
 
 -- the clubs of a side that are in the part and not kept
-abbrev dropped : (ℕ → Bool) → (ℕ → Bool) → (ℕ → Bool) → ℕ → Bool
+abbrev pub dropped : (ℕ → Bool) → (ℕ → Bool) → (ℕ → Bool) → ℕ → Bool
 dropped side rest next club = in_both side rest club && not (next club)
 
 -- a pair of a side is one of what is kept, or one of its clubs is dropped
@@ -31,7 +31,7 @@ pair_kept surplus true true true true true true = omega arith
 pair_kept surplus true true false true true away_next = omega arith
 pair_kept surplus true true true true true false = omega arith
 
-pairs_kept : (pairs : List Pair) (side rest next : ℕ → Bool)
+pub pairs_kept : (pairs : List Pair) (side rest next : ℕ → Bool)
     → sum_of_pairs (has_both (in_both side rest)) pairs
     ≤ sum_of_pairs (has_both (in_both side next)) pairs
     + sum_of_pairs (has_home_in rest (dropped side rest next)) pairs
@@ -48,7 +48,7 @@ pairs_kept (pair ∷ pairs) side rest next =
     omega arith
 
 -- a side's clubs in the part are those that are kept and those that are dropped
-clubs_kept : (table : List ℤ) (side rest next : ℕ → Bool) → IsPartOf next rest
+pub clubs_kept : (table : List ℤ) (side rest next : ℕ → Bool) → IsPartOf next rest
     → sum_of_side table (in_both side rest)
     ≡ sum_of_side table (in_both side next) +ℤ sum_of_side table (dropped side rest next)
 clubs_kept table side rest next part =
@@ -182,7 +182,7 @@ pub EachAdds-empty : (table : List ℤ) (pairs : List Pair) (side : ℕ → Bool
 EachAdds-empty table pairs side none club among = absurd (false≢true (sym (none club) ∙ among))
 
 -- the sum of a side of one club
-sum_of_side-one : (table : List ℤ) (club : ℕ) → club < 32
+pub sum_of_side-one : (table : List ℤ) (club : ℕ) → club < 32
     → sum_of_side table (eqb club) ≡ entry table club
 sum_of_side-one table club within =
     sum_below-same 32 (λ x. cond (eqb club x) (entry table x) (pos 0))

@@ -1,6 +1,7 @@
 -- What a fixture adds to the excess of a set, by the sides that are in the set.
 use Rattle.std.specs.Prelude.{◌≡◌, ℕ, ℤ, pos, negsuc, ◌+ℤ◌, ◌-ℤ◌, ◌≤ℤ◌, neg_ℤ, ◌≤◌, Bool, true}
 use Rattle.std.specs.Prelude.{false, ◌&&◌, ◌||◌, if◌then◌else◌, List, [], ◌∷◌, map, slice_index_or}
+use Rattle.std.specs.Prelude.{length, nat_le, int_lt}
 use Rattle.league_core.specs.declared.sheet.Fixture.{Fixture}
 use Rattle.league_core.specs.declared.sheet.Sheet.{Sheet}
 use Rattle.league_core.specs.declared.season.Score.{Score}
@@ -8,6 +9,7 @@ use Rattle.league_core.specs.declared.zone.Literal.{Literal}
 use Rattle.league_core.specs.Results.{Results}
 use Rattle.league_core.specs.PointRanges.{Range, range_of, range_from, total_of}
 use Rattle.league_core.specs.PointRanges.{points_of_sides, points_together, points_range}
+use Rattle.league_core.specs.PointRanges.{least_points_of, most_points_of}
 use Rattle.league_core.specs.Options.{options_in}
 use Rattle.league_core.specs.Reasons.{times}
 use Rattle.score_box.specs.declared.cell.Cell.{Cell}
@@ -17,6 +19,7 @@ use Rattle.flow_bound.specs.declared.cut.Cut.TheVariants.{Floor, Ceiling}
 use Rattle.score_box.specs.Settings.{Setting}
 use Rattle.score_box.specs.Unplayed.{unplayed_in}
 use Rattle.flow_bound.specs.declared.tally.Pair.{Pair}
+use Rattle.flow_bound.specs.Parts.{entry}
 
 -- the end of a range that a cut looks at, counted
 abbrev pub end_of : Cut → Range → ℤ
@@ -109,3 +112,12 @@ pair_at cut box number =
 -- the pairs of a box: one for each match that is not played
 unfoldable pub pairs_in : Cut → Setting → List Pair
 pairs_in cut box = map (pair_at cut box) (unplayed_in box.season.scores)
+
+-- the club's entry is above 0 together with all that its matches leave open: what its most points
+-- are beyond its least; a number past the clubs counts as one that may add something
+abbrev pub may_add : Setting → List ℤ → ℕ → Bool
+may_add box table club =
+    nat_le (length box.sheet.clubs) club
+    || int_lt (pos 0) (entry table club
+    +ℤ (most_points_of box.sheet box.season box.zone (club ∷ [])
+    -ℤ least_points_of box.sheet box.season box.zone (club ∷ [])))

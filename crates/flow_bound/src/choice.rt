@@ -8,6 +8,7 @@ ghost use Rattle.flow_bound.specs.Parts.{most_credits, side_of};
 ghost use Rattle.flow_bound.specs.Fixtures.{pairs_in};
 
 use crate::cut::Cut;
+use crate::hopeful::hopeful;
 use crate::network::greatest;
 use crate::peel::peel;
 use crate::table::{Table, is_over};
@@ -34,10 +35,14 @@ pub fn choose(
     ensures spared { OnErr result
         (IsLeftOpenIn alone.now (pairs_in cut zone_box.now) (side_of marked)) }
 {
-    if let Some(club) = first_over(alone, marked) {
+    let hopeful = hopeful(zone_box, alone, marked);
+    if hopeful.is_empty() {
+        return Ok(None);
+    }
+    if let Some(club) = first_over(alone, hopeful) {
         return Ok(Some(ClubSet::single(club)));
     }
-    let rest = peel(zone_box, cut, alone, marked);
+    let rest = peel(zone_box, cut, alone, hopeful);
     if rest.is_empty() {
         return Ok(None);
     }

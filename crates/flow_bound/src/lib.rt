@@ -4,13 +4,14 @@
 //! exceed what they have if each stays within the most of that club. A ceiling cut is a set of
 //! rivals, all marked before the club, that cannot all come up to its least. Both are sought in the
 //! same way: the excess of a set is what its clubs add alone, and what each two of them that still
-//! meet add beyond that (`tally`). Clubs that no set needs are dropped (`peel`), and the rest is
-//! one
-//! minimum cut (`network`). Read `specs/Excess.antt` first.
+//! meet add beyond that (`tally`). Clubs that no set needs are dropped, first by their own points
+//! (`hopeful`), then by their matches (`peel`), and the rest is one minimum cut (`network`). Read
+//! `specs/Excess.antt` first.
 #![tactic(auto)]
 
 mod choice;
 mod cut;
+mod hopeful;
 mod network;
 mod peel;
 mod places;

@@ -62,12 +62,12 @@ pub fn pair_within(zone_box: &ZoneBox, cut: Cut, number: u16, set: ClubSet) -> O
 {
     let _season = zone_box.season();
     let _cell = zone_box.cell(number);
-    let surplus = surplus_of(zone_box.outcomes_left(number), cut);
-    if surplus == 0 {
-        return None;
-    }
     let fixture = zone_box.sheet().fixtures.as_slice()[number as usize];
     if !are_both(set, fixture) {
+        return None;
+    }
+    let surplus = surplus_of(zone_box.outcomes_left(number), cut);
+    if surplus == 0 {
         return None;
     }
     Some(Pair {
