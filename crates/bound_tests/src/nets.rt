@@ -128,7 +128,7 @@ fn a_flow_to_the_source_is_taken_back(rt: HostRuntime) -> Result<(), Fail> {
     Ok(())
 }
 
-/// The next of the numbers of a linear congruential generator (Knuth's MMIX), below a bound.
+// The next of the numbers of a linear congruential generator (Knuth's MMIX), below a bound.
 fn next(state: &mut u64, bound: u32) -> u32
     requires { 0 < bound }
     ensures { result < bound }
@@ -143,7 +143,7 @@ fn has(mask: u32, node: u16) -> bool {
     node < 32 && mask >> node & 1 == 1
 }
 
-/// What the arcs out of the side can carry.
+// What the arcs out of the side can carry.
 fn crossing(rows: &[Row], side: u32) -> u64 {
     let mut total = 0u64;
     for row in rows {
@@ -154,8 +154,8 @@ fn crossing(rows: &[Row], side: u32) -> u64 {
     total
 }
 
-/// The least capacity of a cut between nodes 0 and 1, and the nodes that all such cuts share,
-/// by trying every side among six nodes.
+// The least capacity of a cut between nodes 0 and 1, and the nodes that all such cuts share,
+// by trying every side among six nodes.
 fn least_by_trying(rows: &[Row]) -> (u64, u32) {
     let mut least = u64::MAX;
     let mut shared = 0;
@@ -184,7 +184,7 @@ fn compare(rt: &impl Abort, alloc: Global, net: &mut Net, rows: &[Row]) -> Resul
     Ok(())
 }
 
-/// The flow found so far is gone on from as arcs are added.
+// The flow found so far is gone on from as arcs are added.
 fn check_drawn(rt: &impl Abort, alloc: Global, state: &mut u64) -> Result<(), Fail> {
     let mut net = Net::new(alloc, 6, 12)?;
     let mut rows = Vec::new(alloc);

@@ -5,7 +5,7 @@ use league_core::{ClubSet, Fixture, Literal, Score, Season, Sheet, Test};
 /// No score of a drawn league has more goals on a side.
 const MOST: u8 = 3;
 
-/// The goals of a score are as the literal says, where it is of this fixture.
+// The goals of a score are as the literal says, where it is of this fixture.
 fn agrees(literal: &Literal, number: u16, score: Score) -> bool {
     match literal.test {
         Test::Home { fixture } => fixture != number || (score.home > score.away) == literal.yes,
@@ -38,7 +38,7 @@ pub fn is_option(
     may_end(sheet, played, score) && zone.iter().all(|literal| agrees(literal, number, score))
 }
 
-/// Three points for a win, one for a draw, to the clubs of the set.
+// Three points for a win, one for a draw, to the clubs of the set.
 fn points(fixture: Fixture, score: Score, set: ClubSet) -> i32 {
     let (home, away) = if score.home > score.away {
         (3, 0)

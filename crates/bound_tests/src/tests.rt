@@ -96,7 +96,7 @@ fn check_clubs(rt: &impl Abort, zone_box: &ZoneBox, zone: &[Literal]) {
     }
 }
 
-/// Whether a floor cut, and whether a ceiling cut holds for some set of clubs.
+// Whether a floor cut, and whether a ceiling cut holds for some set of clubs.
 fn some_cuts(fresh: &ZoneBox, question: &Question) -> (bool, bool)
     requires { question.now.club < length fresh.now.sheet.clubs }
 {
@@ -110,7 +110,7 @@ fn some_cuts(fresh: &ZoneBox, question: &Question) -> (bool, bool)
     (low, high)
 }
 
-/// A cut is found exactly where a set makes one, and over both boxes it is the same.
+// A cut is found exactly where a set makes one, and over both boxes it is the same.
 fn check_cuts(
     rt: &impl Abort,
     alloc: Global,
@@ -128,7 +128,7 @@ fn check_cuts(
     Ok(())
 }
 
-/// The reasons that are given hold alike over both boxes.
+// The reasons that are given hold alike over both boxes.
 fn check_reasons(rt: &impl Abort, kept: &ZoneBox, fresh: &ZoneBox, question: &Question) {
     assert!(rt; (question.club as usize) < kept.sheet().clubs.len() && kept.has_finish());
     assert!(rt; (question.club as usize) < fresh.sheet().clubs.len() && fresh.has_finish());
@@ -182,7 +182,7 @@ fn check(
     Ok(())
 }
 
-/// Goes on or back by one literal, beside the path as a list.
+// Goes on or back by one literal, beside the path as a list.
 fn step(
     rt: &impl Abort,
     draws: &mut Draws,

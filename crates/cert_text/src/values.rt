@@ -97,7 +97,7 @@ fn lots_value(alloc: Global, lots: &[u8]) -> Result<Value, AllocError>
     json!(in alloc; ["lots", clubs])
 }
 
-/// The clubs of a set in the order of their numbers.
+// The clubs of a set in the order of their numbers.
 fn listed(alloc: Global, set: ClubSet) -> Result<Vec<u8>, AllocError>
     ensures { IfOk result (λ clubs. clubs.items ≡ clubs_in set) }
 {
@@ -110,7 +110,7 @@ fn listed(alloc: Global, set: ClubSet) -> Result<Vec<u8>, AllocError>
     Ok(clubs)
 }
 
-/// The clubs as a list of numbers from 1.
+// The clubs as a list of numbers from 1.
 fn clubs_value(alloc: Global, clubs: &[u8]) -> Result<Value, AllocError>
     ensures { IfOk result (λ value. view value ≡ values.clubs_value clubs.now) }
 {

@@ -22,7 +22,7 @@ fn drawn_sample(alloc: Global, draws: &mut Draws) -> Result<Sample, Fail>
     Ok(sample_of(alloc, &text).ok_or("no league")?)
 }
 
-/// A question with the full window, or with one of few points.
+// A question with the full window, or with one of few points.
 fn drawn_question(draws: &mut Draws) -> Question {
     let claim = if draws.flip() {
         Claim::Inside
@@ -44,7 +44,7 @@ fn drawn_question(draws: &mut Draws) -> Question {
     }
 }
 
-/// The split that is proposed for a zone; none where it is refuted or has an example.
+// The split that is proposed for a zone; none where it is refuted or has an example.
 fn split_of(
     rt: &impl Abort,
     alloc: Global,
@@ -73,7 +73,7 @@ fn split_of(
     }
 }
 
-/// Whether the zone has a finish where the literal is put at its end.
+// Whether the zone has a finish where the literal is put at its end.
 fn has_finish_with(
     rt: &impl Abort,
     alloc: Global,
@@ -92,7 +92,7 @@ fn has_finish_with(
     Ok(zone_box.has_finish())
 }
 
-/// Goes down to a leaf, to either half as drawn, and says how many splits it met.
+// Goes down to a leaf, to either half as drawn, and says how many splits it met.
 fn go_down(rt: &impl Abort, alloc: Global, draws: &mut Draws) -> Result<u32, Fail> {
     let sample = drawn_sample(alloc, draws)?;
     let question = drawn_question(draws);

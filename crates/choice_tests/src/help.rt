@@ -81,7 +81,7 @@ pub fn go_on(rt: &impl Abort, zone_box: &mut ZoneBox, literal: Literal) -> Resul
     zone_box.cut(literal)
 }
 
-/// Whether a test is of one of so many fixtures or clubs.
+// Whether a test is of one of so many fixtures or clubs.
 fn is_below(test: &Test, fixtures: usize, clubs: usize) -> bool
     ensures { (sheet : Sheet) → length sheet.fixtures ≡ fixtures → length sheet.clubs ≡ clubs
         → result ≡ is_test_of sheet test.now }

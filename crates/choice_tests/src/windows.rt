@@ -15,7 +15,7 @@ use std::test::Fail;
 const OPEN: &[u8] = b"league,Open,2\nclub,C,1\nclub,X,2\nclub,Y,3\nmatch,X,Y\nmatch,C,X\nmatch,Y,C
 season\n";
 
-/// Asserts what is chosen where the club is to be inside with at most so many points.
+// Asserts what is chosen where the club is to be inside with at most so many points.
 fn inside(
     rt: &impl Abort,
     alloc: Global,
@@ -33,7 +33,7 @@ fn inside(
     )
 }
 
-/// The same where it is to be outside with so many at the least.
+// The same where it is to be outside with so many at the least.
 fn outside(
     rt: &impl Abort,
     alloc: Global,
@@ -69,7 +69,7 @@ fn a_club_with_too_few_points_takes_some(rt: HostRuntime) -> Result<(), Fail> {
     outside(&rt, rt.alloc(), 6, &zone, Test::Home { fixture: 1 })
 }
 
-/// Points are best given to a rival that is to end before, and best taken from one behind.
+// Points are best given to a rival that is to end before, and best taken from one behind.
 #[test]
 fn a_mark_of_the_opponent_decides_between_equal_steps(rt: HostRuntime) -> Result<(), Fail> {
     let alloc = rt.alloc();

@@ -23,7 +23,7 @@ pub fn finish_count(sheet: &Sheet, season: &Season) -> Option<u32>
     Some(count)
 }
 
-/// In how many ways a fixture may end that has this score, or none.
+// In how many ways a fixture may end that has this score, or none.
 fn ways_to_end(limit: u8, played: Option<Score>) -> u32
     ensures value { result ≡ ways_to_end limit played }
     ensures within { result ≤ 65536 }

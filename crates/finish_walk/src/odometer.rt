@@ -32,7 +32,7 @@ pub fn first_finish(alloc: Global, sheet: &Sheet, season: &Season) -> Result<Sea
     Ok(finish)
 }
 
-/// Ends the fixture 0:0 if the season has no score for it.
+// Ends the fixture 0:0 if the season has no score for it.
 fn start(season: &Season, finish: &mut Season, fixture: u16)
     requires in_range { fixture < length season.now.scores }
     requires in_finish { fixture < length finish.old.scores }
@@ -60,8 +60,8 @@ pub fn next_finish(sheet: &Sheet, season: &Season, finish: &mut Season) -> bool
     false
 }
 
-/// Turns the wheel of a fixture by one mark. The answer is true where it has come round, as that of
-/// a played fixture does, which has one mark.
+// Turns the wheel of a fixture by one mark. The answer is true where it has come round, as that of
+// a played fixture does, which has one mark.
 fn turn(sheet: &Sheet, season: &Season, finish: &mut Season, fixture: u16) -> bool
     requires limits { IsWithinLimits sheet.now }
     requires is_finish { IsFinishOf sheet.now season.now finish.old }
@@ -97,7 +97,7 @@ impl Mark {
     }
 }
 
-/// The score that comes after this one.
+// The score that comes after this one.
 fn next_mark(limit: u8, ended: Option<Score>) -> Mark
     requires limit { limit ≤ 20 }
     requires may { IsTrue (may_end limit None ended) }

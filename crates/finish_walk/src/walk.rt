@@ -27,7 +27,7 @@ pub fn reaches(alloc: Global, sheet: &Sheet, season: &Season) -> Result<Vec<Reac
     Ok(found)
 }
 
-/// The reaches of all clubs over one finish.
+// The reaches of all clubs over one finish.
 fn first_reaches(alloc: Global, sheet: &Sheet, finish: &Season) -> Result<Vec<Reach>, OutOfMemory>
     requires league { IsLeague sheet.now finish.now }
     requires played { IsTrue (is_played finish.now) }
@@ -41,7 +41,7 @@ fn first_reaches(alloc: Global, sheet: &Sheet, finish: &Season) -> Result<Vec<Re
     Ok(found)
 }
 
-/// One finish more for each club.
+// One finish more for each club.
 fn take_finish(
     alloc: Global,
     reaches: &mut [Reach],

@@ -8,6 +8,4 @@ mod limits;
 #[cfg(test)]
 mod order;
 #[cfg(test)]
-mod refuted;
-#[cfg(test)]
 mod words;

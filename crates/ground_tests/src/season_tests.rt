@@ -47,7 +47,7 @@ fn a_sheet_is_copied_with_its_names(rt: HostRuntime) -> Result<(), Fail> {
     Ok(())
 }
 
-/// Two matches, both won 2:0 at home.
+// Two matches, both won 2:0 at home.
 fn both_won(alloc: Global) -> Result<Season, Fail> {
     let mut season = Season::unplayed(alloc, 2, 2).ok().ok_or("room")?;
     let score = Score { home: 2, away: 0 };
@@ -56,7 +56,7 @@ fn both_won(alloc: Global) -> Result<Season, Fail> {
     Ok(season)
 }
 
-/// The second one alone is played.
+// The second one alone is played.
 fn second_won(alloc: Global) -> Result<Season, Fail> {
     let mut season = Season::unplayed(alloc, 2, 2).ok().ok_or("room")?;
     let score = Score { home: 2, away: 0 };
@@ -64,7 +64,7 @@ fn second_won(alloc: Global) -> Result<Season, Fail> {
     Ok(season)
 }
 
-/// The first one is drawn.
+// The first one is drawn.
 fn first_drawn(alloc: Global) -> Result<Season, Fail> {
     let mut season = Season::unplayed(alloc, 2, 2).ok().ok_or("room")?;
     let score = Score { home: 0, away: 0 };

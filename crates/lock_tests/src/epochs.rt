@@ -17,7 +17,7 @@ const ANNULLED: Event = Event::Clear { fixture: 0 };
 
 const FINED: Event = Event::Deduct { club: 0, points: 2 };
 
-/// The epoch and the code of a word.
+// The epoch and the code of a word.
 fn halves(word: u64) -> (u64, u64) {
     (word >> 32, word & 0xffff_ffff)
 }
@@ -49,7 +49,7 @@ fn a_worker_finds_each_epoch(rt: HostRuntime) -> Result<(), Fail> {
     Ok(())
 }
 
-/// Tells 500 times of a result.
+// Tells 500 times of a result.
 fn tell_all(word: &EpochWord, mut owner: Owner, mut front: Front) -> (Owner, Front)
     requires seats { (owner.table ≡ word.now) × (front.table ≡ word.now) }
     requires empty { (owner.list ≡ []) × (front.list ≡ []) }
@@ -61,7 +61,7 @@ fn tell_all(word: &EpochWord, mut owner: Owner, mut front: Front) -> (Owner, Fro
     (owner, front)
 }
 
-/// Looks 1,000 times.
+// Looks 1,000 times.
 fn look_often(word: &EpochWord, mut eye: Eye) -> (u64, Eye)
     requires seat { eye.table ≡ word.now }
     ensures seat { result.1.table ≡ word.now }

@@ -33,7 +33,7 @@ struct Seated {
     eyes: Vec<Eye>,
 }
 
-/// A round in which the workers play a case: what became of their tickets, and the pool afterwards.
+// A round in which the workers play a case: what became of their tickets, and the pool afterwards.
 fn round_of<R: Wait>(
     rt: &R,
     alloc: Global,
@@ -53,7 +53,7 @@ fn round_of<R: Wait>(
     round_as::<Brand, R>(rt, alloc, &sheet, Blank::new(1), seated, pool, case)
 }
 
-/// The two workers and the one who reports meet at the lock, and then the feed is shut.
+// The two workers and the one who reports meet at the lock, and then the feed is shut.
 fn round_as<J: Job, R: Wait>(
     rt: &R,
     alloc: Global,
@@ -95,7 +95,7 @@ fn round_as<J: Job, R: Wait>(
     Ok((gave?, pool))
 }
 
-/// Whether the pool may be told the event.
+// Whether the pool may be told the event.
 fn may_be_told(pool: &Pool, event: &Event) -> bool
     ensures { IsTrue result → IsEventOf (season_after pool.now.sheet pool.now.log) event.now }
 {
@@ -103,7 +103,7 @@ fn may_be_told(pool: &Pool, event: &Event) -> bool
     may_be(pool.season(), event)
 }
 
-/// Whether the season may be told the event.
+// Whether the season may be told the event.
 fn may_be(season: &Season, event: &Event) -> bool
     ensures { IsTrue result → IsEventOf season.now event.now }
 {
@@ -122,7 +122,7 @@ fn first_two(pool: &Pool) -> Result<(Answer, Answer), Fail> {
     Ok((pool.answer(0), pool.answer(1)))
 }
 
-/// Whether each tree is one leaf that is open.
+// Whether each tree is one leaf that is open.
 fn are_all_open(pool: &Pool) -> Result<bool, Fail> {
     if pool.questions().len() != 4 {
         return Err("other questions".into());

@@ -28,7 +28,7 @@ fn pool(alloc: Global) -> Result<Pool, Fail> {
     Ok(begun(alloc, sample)??)
 }
 
-/// So many events, so many numbers out, and a score known or not.
+// So many events, so many numbers out, and a score known or not.
 fn is_at(pool: &Pool, epoch: u64, out: u64, is_played: bool) -> bool {
     pool.epoch() == epoch && pool.out() == out && has_score(pool) == is_played
 }
@@ -37,7 +37,7 @@ fn has_score(pool: &Pool) -> bool {
     pool.season().scores().iter().any(|score| score.is_some())
 }
 
-/// Whether the tree at a place is one open leaf.
+// Whether the tree at a place is one open leaf.
 fn is_open(pool: &Pool, place: u16) -> Result<bool, Fail> {
     if pool.questions().len() <= place as usize {
         return Err("no question".into());
@@ -46,7 +46,7 @@ fn is_open(pool: &Pool, place: u16) -> Result<bool, Fail> {
     Ok(nodes.as_slice() == [TreeNode::Open].as_slice())
 }
 
-/// Whether the pool is as at its beginning.
+// Whether the pool is as at its beginning.
 fn is_begun(pool: &Pool) -> Result<bool, Fail> {
     for place in 0..4u16 {
         if !is_open(pool, place)? {
@@ -70,7 +70,7 @@ fn a_pool_begins_or_not(rt: HostRuntime) -> Result<(), Fail> {
     Ok(())
 }
 
-/// Takes and gives back; false where memory is wanting.
+// Takes and gives back; false where memory is wanting.
 fn is_taken(pool: &mut Pool) -> bool {
     match pool.take() {
         Took::Lent(ticket) => pool.give(ticket, Done::Undone) == Gave::Kept,
@@ -78,7 +78,7 @@ fn is_taken(pool: &mut Pool) -> bool {
     }
 }
 
-/// Whether the pool is as before, once a ticket was taken and given back.
+// Whether the pool is as before, once a ticket was taken and given back.
 fn takes_or_stays(pool: &mut Pool) -> Result<bool, Fail> {
     if is_taken(pool) {
         return is_begun(pool);
@@ -93,7 +93,7 @@ fn take_leaves_the_pool(rt: HostRuntime) -> Result<(), Fail> {
     Ok(())
 }
 
-/// Reports a result; false where memory is wanting.
+// Reports a result; false where memory is wanting.
 fn is_told(pool: &mut Pool) -> Result<bool, Fail> {
     if pool.season().scores().is_empty() {
         return Err("no match".into());
@@ -102,7 +102,7 @@ fn is_told(pool: &mut Pool) -> Result<bool, Fail> {
     Ok(pool.change(Event::Set { fixture: 0, score }).is_ok())
 }
 
-/// Whether the pool has been told the result, at once or after it had stayed as it was.
+// Whether the pool has been told the result, at once or after it had stayed as it was.
 fn changes_or_stays(pool: &mut Pool) -> Result<bool, Fail> {
     if !is_told(pool)? {
         if !is_begun(pool)? {
@@ -120,7 +120,7 @@ fn change_leaves_the_pool(rt: HostRuntime) -> Result<(), Fail> {
     Ok(())
 }
 
-/// The pool of C with all work done.
+// The pool of C with all work done.
 fn worked(alloc: Global) -> Result<Pool, Fail> {
     let sample = sample_of(alloc, IDLE).ok_or("no league")?;
     let pool = begun(alloc, sample)??;
@@ -130,7 +130,7 @@ fn worked(alloc: Global) -> Result<Pool, Fail> {
     Ok(finish(alloc, pool)?)
 }
 
-/// The nodes of the tree of whether C can be first.
+// The nodes of the tree of whether C can be first.
 fn nodes_of_first(pool: &Pool) -> Result<Vec<TreeNode>, Fail> {
     if pool.questions().is_empty() {
         return Err("no question".into());
@@ -138,13 +138,13 @@ fn nodes_of_first(pool: &Pool) -> Result<Vec<TreeNode>, Fail> {
     Ok(pool.tree(0).nodes()?)
 }
 
-/// Whether the first tree has these nodes, and nothing is told.
+// Whether the first tree has these nodes, and nothing is told.
 fn is_as_worked(pool: &Pool, nodes: &[TreeNode]) -> Result<bool, Fail> {
     let own = nodes_of_first(pool)?;
     Ok(is_at(pool, 0, 0, false) && own.as_slice() == nodes)
 }
 
-/// The same of a pool with a tree of many nodes.
+// The same of a pool with a tree of many nodes.
 fn changes_worked_or_stays(pool: &mut Pool) -> Result<bool, Fail> {
     let nodes = nodes_of_first(pool)?;
     if nodes.len() < 3 {

@@ -16,7 +16,7 @@ use tree_reuse::{Tree, TreeStop, retarget};
 const TWO_CLUBS: &[u8] = b"league,Tiny,1\nclub,A,1\nclub,B,2\nmatch,A,B\nmatch,B,A\nline,1\nseason
 result,1,1,0\n";
 
-/// A leaf that counts B before A, and two leaves of the first match.
+// A leaf that counts B before A, and two leaves of the first match.
 fn three_leaves(alloc: Global) -> Result<Vec<TreeNode>, OutOfMemory> {
     let reason = Reason::Count;
     let fresh = true;
@@ -34,7 +34,7 @@ fn three_leaves(alloc: Global) -> Result<Vec<TreeNode>, OutOfMemory> {
     ]?)
 }
 
-/// What the match that A won leaves of it.
+// What the match that A won leaves of it.
 fn leaves_left() -> [TreeNode; 3] {
     let reason = Reason::Count;
     let fresh = false;
@@ -48,7 +48,7 @@ fn leaves_left() -> [TreeNode; 3] {
 
 const MATCH_WON: Test = Test::Home { fixture: 0 };
 
-/// A new split of which both halves are open.
+// A new split of which both halves are open.
 #[tactic(auto, using(crate::proofs::HalfLemmas::one_lent))]
 fn two_halves(alloc: Global) -> Result<Tree, OutOfMemory>
     ensures { IfOk result (λ tree. tree ≡ branch MATCH_WON true open_leaf open_leaf) }
@@ -78,7 +78,7 @@ fn lend_leaves_an_open_leaf(rt: HostRuntime) -> Result<(), Fail> {
     Ok(())
 }
 
-/// The way to the leaf wants memory after the leaf was marked.
+// The way to the leaf wants memory after the leaf was marked.
 #[test]
 fn lend_leaves_open_halves(rt: HostRuntime) -> Result<(), Fail> {
     let mut tree = two_halves(rt.alloc())?;
@@ -103,7 +103,7 @@ fn tree_of(nodes: Vec<TreeNode>) -> Result<Tree, TreeStop> {
     Tree::of_nodes(*nodes.allocator(), nodes)
 }
 
-/// Whether the list gives its tree; none where memory is wanting.
+// Whether the list gives its tree; none where memory is wanting.
 fn gives_tree(list: &[TreeNode], nodes: Vec<TreeNode>) -> Result<Option<bool>, Fail> {
     match tree_of(nodes) {
         Ok(tree) => {
@@ -162,7 +162,7 @@ const A_FIRST: Question = Question {
     high: 1800,
 };
 
-/// What the season leaves of a tree; none where memory is wanting.
+// What the season leaves of a tree; none where memory is wanting.
 fn carried(alloc: Global, tree: &Tree) -> Result<Option<Tree>, Fail> {
     let sample = sample_of(alloc, TWO_CLUBS).ok_or("no league")?;
     if !are_tests_of(&sample.sheet, tree)? || sample.sheet.clubs.is_empty() {
@@ -171,7 +171,7 @@ fn carried(alloc: Global, tree: &Tree) -> Result<Option<Tree>, Fail> {
     Ok(retarget(alloc, &sample.sheet, &A_FIRST, tree, &sample.season).ok())
 }
 
-/// Whether a tree has these nodes.
+// Whether a tree has these nodes.
 fn has_nodes(tree: &Tree, nodes: &[TreeNode]) -> Result<bool, Fail> {
     let own = tree.nodes()?;
     Ok(own.as_slice() == nodes)

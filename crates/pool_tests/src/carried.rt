@@ -99,7 +99,7 @@ fn split(
     Ok(BoxedTree::Split(test, false, first, second))
 }
 
-/// Which halves stay: of a score's test those that have a finish, of a rival's both.
+// Which halves stay: of a score's test those that have a finish, of a rival's both.
 fn halves(alloc: Global, played: &Played, way: &mut Way, test: Test) -> Result<(bool, bool), Fail> {
     if let Test::Rival { .. } = test {
         return Ok((true, true));

@@ -26,7 +26,7 @@ fn below(draws: &mut Draws, count: usize) -> u8 {
     draws.below(count.min(255) as u8)
 }
 
-/// A result or a correction, which may pass the goal limit; a score taken away; a deduction.
+// A result or a correction, which may pass the goal limit; a score taken away; a deduction.
 fn drawn_event(draws: &mut Draws, season: &Season) -> Event {
     let fixture = u16::from(below(draws, season.scores().len()));
     match draws.below(8) {
@@ -45,7 +45,7 @@ fn drawn_event(draws: &mut Draws, season: &Season) -> Event {
     }
 }
 
-/// One of the tickets; it stays to be given back once more where that is drawn.
+// One of the tickets; it stays to be given back once more where that is drawn.
 fn give_one(
     alloc: Global,
     draws: &mut Draws,
@@ -71,8 +71,8 @@ fn take_one(alloc: Global, pair: &mut Pair, held: &mut Vec<Held>) -> Result<(), 
     Ok(())
 }
 
-/// One step of one of the pools. Tickets of both lie in one list, so that some are given to a pool
-/// that is not theirs.
+// One step of one of the pools. Tickets of both lie in one list, so that some are given to a pool
+// that is not theirs.
 fn step(
     alloc: Global,
     draws: &mut Draws,
@@ -87,7 +87,7 @@ fn step(
     compare(alloc, pair)
 }
 
-/// A step that neither takes nor gives.
+// A step that neither takes nor gives.
 fn turn(alloc: Global, draws: &mut Draws, pair: &mut Pair) -> Result<(), Fail> {
     match draws.below(7) {
         0 => {
@@ -111,7 +111,7 @@ fn change_drawn(alloc: Global, draws: &mut Draws, pair: &mut Pair) -> Result<(),
     change(alloc, pair, event)
 }
 
-/// A pool that has been told up to six events.
+// A pool that has been told up to six events.
 fn begun(alloc: Global, draws: &mut Draws, sheet: &Sheet) -> Result<Pair, Fail>
     requires { IsWithinLimits sheet.now }
 {
@@ -122,7 +122,7 @@ fn begun(alloc: Global, draws: &mut Draws, sheet: &Sheet) -> Result<Pair, Fail>
     Ok(pair)
 }
 
-/// No event will come: what is taken is worked on and given back.
+// No event will come: what is taken is worked on and given back.
 fn finish(alloc: Global, pair: &mut Pair) -> Result<(), Fail> {
     open(pair, false);
     for _ in 0..60 {
@@ -133,7 +133,7 @@ fn finish(alloc: Global, pair: &mut Pair) -> Result<(), Fail> {
     compare(alloc, pair)
 }
 
-/// A hundred steps of two pools of a league from their beginning, and the end of one of them.
+// A hundred steps of two pools of a league from their beginning, and the end of one of them.
 fn run(alloc: Global, draws: &mut Draws, sheet: &Sheet) -> Result<Seen, Fail>
     requires { IsWithinLimits sheet.now }
 {
@@ -154,7 +154,7 @@ fn run(alloc: Global, draws: &mut Draws, sheet: &Sheet) -> Result<Seen, Fail>
     Ok(seen)
 }
 
-/// Five hundred lists.
+// Five hundred lists.
 fn run_lists(alloc: Global, seed: u32, text: &[u8]) -> Result<Seen, Fail> {
     let sample = sample_of(alloc, text).ok_or("no league")?;
     let mut draws = Draws::new(seed);

@@ -96,7 +96,7 @@ pub fn is_zone_of(sheet: &Sheet, literals: &[Literal]) -> bool
         .all(|literal| is_below(&literal.test, fixtures, clubs))
 }
 
-/// Whether a test is of one of so many fixtures or clubs.
+// Whether a test is of one of so many fixtures or clubs.
 fn is_below(test: &Test, fixtures: usize, clubs: usize) -> bool
     ensures { (sheet : Sheet) → length sheet.fixtures ≡ fixtures → length sheet.clubs ≡ clubs
         → result ≡ is_test_of sheet test.now }

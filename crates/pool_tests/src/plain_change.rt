@@ -61,8 +61,8 @@ fn carry_at(
     Ok(())
 }
 
-/// Whether the season may end like this: what it has played stays, and what is open keeps to the
-/// goal limit.
+// Whether the season may end like this: what it has played stays, and what is open keeps to the
+// goal limit.
 fn is_finish_of(sheet: &Sheet, season: &Season, finish: &Option<Season>) -> bool {
     let Some(finish) = finish else {
         return true;

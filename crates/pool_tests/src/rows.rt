@@ -70,8 +70,8 @@ fn one_unit_is_the_whole_budget(rt: HostRuntime) -> Result<(), Fail> {
     Ok(())
 }
 
-/// Takes two tickets, and gives them back after a recall: what became of them, and how many numbers
-/// were out before it, after it and at the end.
+// Takes two tickets, and gives them back after a recall: what became of them, and how many numbers
+// were out before it, after it and at the end.
 fn recalled(pool: &mut Pool) -> Result<([Gave; 2], [u64; 3]), Fail> {
     let (one, two) = two_taken(pool)?;
     let out = pool.out();
@@ -91,8 +91,8 @@ fn what_is_recalled_comes_back_stale(rt: HostRuntime) -> Result<(), Fail> {
     Ok(())
 }
 
-/// Takes two tickets, and gives them back after a result: what became of them, and the epoch and
-/// how many numbers are out at the end.
+// Takes two tickets, and gives them back after a result: what became of them, and the epoch and
+// how many numbers are out at the end.
 fn overtaken(pool: &mut Pool) -> Result<([Gave; 2], [u64; 2]), Fail> {
     let (one, two) = two_taken(pool)?;
     let told = tell(pool, result(0, 0, 0));
@@ -110,7 +110,7 @@ fn what_is_out_when_a_result_comes_is_stale(rt: HostRuntime) -> Result<(), Fail>
     Ok(())
 }
 
-/// The pool of the sixteen after two results of 1:0, with all work done.
+// The pool of the sixteen after two results of 1:0, with all work done.
 fn sixteen(alloc: Global) -> Result<Pool, Fail> {
     let mut pool = pool_of(alloc, SIXTEEN)?;
     tell(&mut pool, result(0, 1, 0))?;
@@ -120,8 +120,8 @@ fn sixteen(alloc: Global) -> Result<Pool, Fail> {
 
 type Kinds = (u32, u32, u32, u32);
 
-/// How many nodes of a tree are splits, leaves refuted by a set that ends below, leaves refuted by
-/// count, and open leaves.
+// How many nodes of a tree are splits, leaves refuted by a set that ends below, leaves refuted by
+// count, and open leaves.
 fn kinds(nodes: &[TreeNode]) -> Kinds {
     let mut kinds = (0u32, 0u32, 0u32, 0u32);
     for node in nodes {
@@ -142,7 +142,7 @@ fn kinds(nodes: &[TreeNode]) -> Kinds {
     kinds
 }
 
-/// The kinds of the nodes of the second tree, how far its question is, and its units.
+// The kinds of the nodes of the second tree, how far its question is, and its units.
 fn second(pool: &Pool) -> Result<(Kinds, Option<Answer>, Option<u32>), Fail> {
     let nodes = nodes_at(pool, OUTSIDE_OF_THE_FIRST)?;
     let answer = answer_at(pool, OUTSIDE_OF_THE_FIRST);

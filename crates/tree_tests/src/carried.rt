@@ -56,7 +56,7 @@ fn are_tests_of(sheet: &Sheet, tree: &Tree) -> Result<bool, OutOfMemory>
     Ok(are_nodes_of(sheet, nodes.as_slice()))
 }
 
-/// What the season of a text leaves of a tree that is split by the goals of its matches alone.
+// What the season of a text leaves of a tree that is split by the goals of its matches alone.
 fn carried(alloc: Global, text: &[u8], tree: &Tree) -> Result<Tree, Fail> {
     let sample = sample_of(alloc, text).ok_or("no league")?;
     if !are_tests_of(&sample.sheet, tree)? || sample.sheet.clubs.is_empty() {
@@ -70,7 +70,7 @@ pub fn carried_over_12_0(alloc: Global, nodes: Vec<TreeNode>) -> Result<Tree, Fa
     carried(alloc, WON_12_0, &tree_or_fail(nodes)?)
 }
 
-/// At most so many goals of B in the second match, both halves open.
+// At most so many goals of B in the second match, both halves open.
 fn goals_of_b(alloc: Global, most: u8, fresh: bool) -> Result<Vec<TreeNode>, OutOfMemory> {
     let test = Test::HomeMost { fixture: 1, most };
     Ok(vec![in alloc;
@@ -80,8 +80,8 @@ fn goals_of_b(alloc: Global, most: u8, fresh: bool) -> Result<Vec<TreeNode>, Out
     ]?)
 }
 
-/// At most two goals of A in the first match; below them at most 3 and at most 4 of B in the
-/// second.
+// At most two goals of A in the first match; below them at most 3 and at most 4 of B in the
+// second.
 fn goals_of_both(alloc: Global) -> Result<Tree, Fail> {
     let fresh = true;
     let test = Test::HomeMost {

@@ -31,7 +31,7 @@ fn same(is_same: bool, what: &'static str) -> Result<(), Fail> {
     if is_same { Ok(()) } else { Err(what.into()) }
 }
 
-/// The arena lends a leaf of its choice, and the boxes lend the same one.
+// The arena lends a leaf of its choice, and the boxes lend the same one.
 fn lend(pair: &mut Pair, number: u64) -> Result<(), Fail> {
     match lend_next(&mut pair.arena, number)? {
         Some(zone) => {
@@ -43,7 +43,7 @@ fn lend(pair: &mut Pair, number: u64) -> Result<(), Fail> {
     }
 }
 
-/// The leaf of a number comes back to both.
+// The leaf of a number comes back to both.
 fn put(alloc: Global, pair: &mut Pair, number: u64, given: Given) -> Result<(), Fail> {
     arena_takes(&mut pair.arena, number, given)?;
     pair.boxed.put(alloc, number, given)?;
@@ -85,7 +85,7 @@ fn drawn_reason(draws: &mut Draws) -> Reason {
     }
 }
 
-/// More often a split than a reason, so that trees grow.
+// More often a split than a reason, so that trees grow.
 fn drawn_given(draws: &mut Draws) -> Given {
     match draws.below(9) {
         0 | 1 => Given::Opened,
@@ -94,7 +94,7 @@ fn drawn_given(draws: &mut Draws) -> Given {
     }
 }
 
-/// One of the numbers that are lent, which is lent no more.
+// One of the numbers that are lent, which is lent no more.
 fn drawn_number(draws: &mut Draws, lent: &mut Vec<u64>) -> Option<u64> {
     let count = lent.len();
     if count == 0 || 255 < count {
@@ -110,7 +110,7 @@ fn open_all(pair: &mut Pair) {
     pair.lent.clear();
 }
 
-/// One call on both.
+// One call on both.
 fn call(alloc: Global, draws: &mut Draws, pair: &mut Pair, number: u64) -> Result<(), Fail> {
     match draws.below(40) {
         0 => {
@@ -164,7 +164,7 @@ fn have_same_leaves(alloc: Global, pair: &Pair) -> Result<(), Fail> {
     )
 }
 
-/// A hundred calls, and a look at all nodes and leaves.
+// A hundred calls, and a look at all nodes and leaves.
 fn call_hundred(alloc: Global, draws: &mut Draws, pair: &mut Pair, from: u64) -> Result<(), Fail> {
     for place in 0..100u64 {
         call(

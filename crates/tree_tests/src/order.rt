@@ -8,7 +8,7 @@ use std::alloc::Global;
 use std::test::Fail;
 use tree_reuse::Tree;
 
-/// At most so many goals of the home club in the second match.
+// At most so many goals of the home club in the second match.
 fn at_most(most: u8) -> Test {
     Test::HomeMost { fixture: 1, most }
 }
@@ -20,7 +20,7 @@ fn split(most: u8) -> TreeNode {
     }
 }
 
-/// At most three goals or more, and both halves split once more; the first leaf is lent.
+// At most three goals or more, and both halves split once more; the first leaf is lent.
 fn four_leaves(alloc: Global) -> Result<Vec<TreeNode>, OutOfMemory> {
     Ok(vec![in alloc;
         split(3),
@@ -33,7 +33,7 @@ fn four_leaves(alloc: Global) -> Result<Vec<TreeNode>, OutOfMemory> {
     ]?)
 }
 
-/// At most three goals or not, and then at most so many or not.
+// At most three goals or not, and then at most so many or not.
 fn zone(yes: bool, most: u8, yes_then: bool) -> [Literal; 2] {
     let test = at_most(most);
     [
@@ -48,7 +48,7 @@ fn zone(yes: bool, most: u8, yes_then: bool) -> [Literal; 2] {
     ]
 }
 
-/// The zones of the leaves but the first, as the list has them.
+// The zones of the leaves but the first, as the list has them.
 fn zones_behind() -> [[Literal; 2]; 3] {
     [
         zone(true, 1, false),
@@ -57,7 +57,7 @@ fn zones_behind() -> [[Literal; 2]; 3] {
     ]
 }
 
-/// Whether the next leaf that the tree lends has this zone.
+// Whether the next leaf that the tree lends has this zone.
 fn lends(tree: &mut Tree, number: u64, wanted: &[Literal]) -> Result<bool, Fail> {
     match lend_next(tree, number)? {
         Some(zone) => Ok(zone.literals.as_slice() == wanted),
@@ -65,7 +65,7 @@ fn lends(tree: &mut Tree, number: u64, wanted: &[Literal]) -> Result<bool, Fail>
     }
 }
 
-/// Whether the tree lends leaves of these zones one after the other, and no more.
+// Whether the tree lends leaves of these zones one after the other, and no more.
 fn lends_in_turn(tree: &mut Tree, zones: &[[Literal; 2]]) -> Result<bool, Fail> {
     let mut number = 20u64;
     for zone in zones {

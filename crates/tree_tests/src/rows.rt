@@ -8,7 +8,7 @@ use std::alloc::Global;
 use std::test::Fail;
 use tree_reuse::{MOST_NODES, Tree, TreeStop};
 
-/// A test of a match of its own.
+// A test of a match of its own.
 fn test_at(fixture: u16) -> Test {
     Test::HomeMost { fixture, most: 0 }
 }
@@ -20,7 +20,7 @@ fn split(fixture: u16) -> TreeNode {
     }
 }
 
-/// So many splits, each in the no half of the one before.
+// So many splits, each in the no half of the one before.
 fn chain_of_no(alloc: Global, splits: u16) -> Result<Vec<TreeNode>, OutOfMemory> {
     let mut nodes = Vec::new(alloc);
     for fixture in 0..splits {
@@ -31,7 +31,7 @@ fn chain_of_no(alloc: Global, splits: u16) -> Result<Vec<TreeNode>, OutOfMemory>
     Ok(nodes)
 }
 
-/// So many splits, each in the yes half of the one before.
+// So many splits, each in the yes half of the one before.
 fn chain_of_yes(alloc: Global, splits: u16) -> Result<Vec<TreeNode>, OutOfMemory> {
     let mut nodes = Vec::new(alloc);
     for fixture in 0..splits {
@@ -51,7 +51,7 @@ fn tree_of(nodes: Vec<TreeNode>) -> Result<Tree, TreeStop> {
     Tree::of_nodes(*nodes.allocator(), nodes)
 }
 
-/// Whether the list is that of a tree, which gives the same list back.
+// Whether the list is that of a tree, which gives the same list back.
 fn goes_through(alloc: Global, nodes: Vec<TreeNode>) -> Result<bool, Fail> {
     let copy = Vec::from_slice(alloc, nodes.as_slice())?;
     match tree_of(nodes) {
@@ -60,7 +60,7 @@ fn goes_through(alloc: Global, nodes: Vec<TreeNode>) -> Result<bool, Fail> {
     }
 }
 
-/// Whether the list is refused, and comes back.
+// Whether the list is refused, and comes back.
 fn comes_back(alloc: Global, nodes: Vec<TreeNode>) -> Result<bool, Fail> {
     let copy = Vec::from_slice(alloc, nodes.as_slice())?;
     match tree_of(nodes) {
@@ -81,7 +81,7 @@ fn chains_of_100_001_nodes_go_through(rt: HostRuntime) -> Result<(), Fail> {
     Ok(())
 }
 
-/// One leaf more than its splits have room for.
+// One leaf more than its splits have room for.
 #[test]
 fn a_list_of_100_002_nodes_is_refused(rt: HostRuntime) -> Result<(), Fail> {
     let mut nodes = chain_of_no(rt.alloc(), 50_000)?;
@@ -99,7 +99,7 @@ fn a_split_with_one_half_is_no_tree(rt: HostRuntime) -> Result<(), Fail> {
     Ok(())
 }
 
-/// Whether the zone goes to the no half of each split before the last, and there as told.
+// Whether the zone goes to the no half of each split before the last, and there as told.
 fn is_way_down(zone: &Zone, splits: usize, yes_at_last: bool) -> bool {
     let way = zone.literals.as_slice();
     if way.len() != splits {
@@ -145,7 +145,7 @@ fn a_chain_of_2_001_nodes_has_its_leaves(rt: HostRuntime) -> Result<(), Fail> {
     Ok(())
 }
 
-/// How many literals the zone has that is lent under the number; none where nothing is open.
+// How many literals the zone has that is lent under the number; none where nothing is open.
 fn lent_depth(tree: &mut Tree, number: u64) -> Result<Option<usize>, Fail> {
     Ok(lend_next(tree, number)?.map(|zone| zone.literals.len()))
 }

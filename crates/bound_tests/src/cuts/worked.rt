@@ -30,8 +30,8 @@ fn after(club: u8) -> Literal {
 const ALREADY_LEVEL: &[u8] = b"match,B,D\nmatch,C,D\nmatch,A,D\nmatch,B,C\nline,1\nseason\n\
     result,1,1,0\nresult,2,1,0\n";
 
-/// B and C have 3 points each and still play each other, A can have 3. Either of B and C may stay
-/// at 3; together they have at least 8, and twice 3 is 6.
+// B and C have 3 points each and still play each other, A can have 3. Either of B and C may stay
+// at 3; together they have at least 8, and twice 3 is 6.
 #[test]
 fn two_rivals_that_play_each_other_have_too_many(rt: HostRuntime) -> Result<(), Fail> {
     let ask = first_place(Claim::Inside);
@@ -47,8 +47,8 @@ fn two_rivals_that_play_each_other_have_too_many(rt: HostRuntime) -> Result<(), 
 const DRAWN_WITH_A: &[u8] = b"match,A,B\nmatch,A,C\nmatch,B,D\nmatch,C,D\nmatch,A,D\nmatch,B,C\n\
     line,1\nseason\nresult,1,0,0\nresult,2,0,0\nresult,3,3,0\nresult,4,3,0\n";
 
-/// A has 2 points and can have 5, B and C have 4 each and still play each other: at least 10
-/// together, which is just twice 5.
+// A has 2 points and can have 5, B and C have 4 each and still play each other: at least 10
+// together, which is just twice 5.
 #[test]
 fn as_many_as_allowed_is_no_cut(rt: HostRuntime) -> Result<(), Fail> {
     let ask = first_place(Claim::Inside);
@@ -69,7 +69,7 @@ fn as_many_as_allowed_is_no_cut(rt: HostRuntime) -> Result<(), Fail> {
 const WON_TWICE: &[u8] = b"match,A,B\nmatch,A,B\nmatch,A,B\nmatch,C,D\nmatch,E,F\nline,1\nseason\n\
     result,1,1,0\nresult,2,1,0\n";
 
-/// A beat B twice and has at least 6 points; B can have 3.
+// A beat B twice and has at least 6 points; B can have 3.
 #[test]
 fn a_rival_alone_that_cannot_come_up(rt: HostRuntime) -> Result<(), Fail> {
     let ask = first_place(Claim::Outside);

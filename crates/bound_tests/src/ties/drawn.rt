@@ -27,8 +27,8 @@ fn drawn_sample(alloc: Global, draws: &mut Draws) -> Result<Sample, Fail>
     Ok(sample_of(alloc, &text).ok_or("no league")?)
 }
 
-/// For each open match an outcome, or seldom none, and sometimes the most goals of a side; and
-/// where some rivals stand.
+// For each open match an outcome, or seldom none, and sometimes the most goals of a side; and
+// where some rivals stand.
 fn drawn_zone(alloc: Global, draws: &mut Draws, season: &Season) -> Result<Zone, OutOfMemory> {
     let mut literals = Listing::new(alloc);
     let mut fixture = 0u16;
@@ -103,7 +103,7 @@ fn drawn_question(draws: &mut Draws) -> Question {
     }
 }
 
-/// How many questions the criteria refute, of eight.
+// How many questions the criteria refute, of eight.
 fn check_reasons(rt: &impl Abort, zone_box: &ZoneBox, left: &Left, draws: &mut Draws) -> u32 {
     let mut refuted = 0u32;
     for _ in 0..8 {

@@ -87,7 +87,7 @@ fn added(one: Range, other: Range) -> Range {
     (one.0.wrapping_add(other.0), one.1.wrapping_add(other.1))
 }
 
-/// Sum after sum: the first that does not leave the two level decides, or says nothing.
+// Sum after sum: the first that does not leave the two level decides, or says nothing.
 fn compare(rival: &[Range], club: &[Range]) -> Sure {
     for (theirs, ours) in rival.iter().zip(club) {
         if theirs.0 > ours.1 {
