@@ -121,7 +121,8 @@ small_club club known =
     lt-ltb (number_in_text club) 10000 (omega arith)
 
 -- at most 99 goals
-pub small_goals : (goals most : ℕ) → most < 10000 → nat_le goals most ≡ true → nat_lt goals 10000 ≡ true
+pub small_goals : (goals most : ℕ) → most < 10000 → nat_le goals most ≡ true
+    → nat_lt goals 10000 ≡ true
 small_goals goals most small known =
     let within = leb-true goals most known in
     lt-ltb goals 10000 (omega arith)
@@ -162,7 +163,8 @@ small_reason (Low set) known = small_set set known
 small_reason (High set) known = small_set set known
 small_reason Tie known = refl
 
-pub small_score : (fixture : ℕ) (score : Score) → (is_fixture_number fixture && is_score score) ≡ true
+pub small_score : (fixture : ℕ) (score : Score)
+    → (is_fixture_number fixture && is_score score) ≡ true
     → (nat_lt (number_in_text fixture) 10000
     && (nat_lt score.home 10000 && (nat_lt score.away 10000 && true))) ≡ true
 small_score fixture score known =

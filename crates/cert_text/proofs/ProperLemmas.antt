@@ -45,8 +45,7 @@ missed_score limit zone test fixture played on few may_be some =
     let ends = (and_parts (meets zone fixture score) (may_end limit played (Some score))
     (sym (has_score-options_of limit zone fixture played score) ∙ both.0)).1 in
     let misses : not (passes test score) ≡ true =
-    ap (λ b. not b || not (passes test score)) (sym on) ∙ both.1 in
-    (
+    ap (λ b. not b || not (passes test score)) (sym on) ∙ both.1 in (
       score,
       may_end_is_score limit played score (omega (arith, few)) may_be ends,
       not-true (passes test score) misses,

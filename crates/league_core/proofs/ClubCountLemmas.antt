@@ -39,8 +39,8 @@ pub few_members : (set : ClubSet) → length (clubs_in set) ≤ 32
 few_members set = few_below 32 set.bits (omega arith)
 
 -- one number more is the last of a run
-pub range_with_len-suc : (clubs : ℕ) → range_with_len 0 (clubs + 1) ≡ range_with_len 0 clubs ++ clubs
-    ∷ []
+pub range_with_len-suc : (clubs : ℕ)
+    → range_with_len 0 (clubs + 1) ≡ range_with_len 0 clubs ++ clubs ∷ []
 range_with_len-suc clubs =
     let more = map-range_with_len_more (λ (x : ℕ). x) 0 clubs clubs (omega arith) in
     rw (map-id, map-id) at more

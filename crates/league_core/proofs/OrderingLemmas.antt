@@ -78,7 +78,8 @@ pub int_cmp-greater : (high low : ℤ) → low <ℤ high → int_cmp high low �
 int_cmp-greater high low h = grind (arith, ints)
 
 -- of two numbers the greater one comes first, and equal ones are level
-pub greater_first-greater : (number other : ℤ) → number <ℤ other → greater_first number other ≡ Greater
+pub greater_first-greater : (number other : ℤ) → number <ℤ other
+    → greater_first number other ≡ Greater
 greater_first-greater number other h = grind (arith, ints)
 
 pub greater_first-same : (number other : ℤ) → number ≡ other → greater_first number other ≡ Equal

@@ -28,14 +28,16 @@ pub lead_says : (x y : ℤ) (rest : Ordering) → is_lt (ordering_then (int_cmp 
     → y ≤ℤ x
 lead_says x y rest before =
     by_lt_z x y (λ below. absurd
-    (false≢true (sym (ap (λ o. is_lt (ordering_then o rest)) (int_cmp-greater y x below)) ∙ before)))
+    (false≢true
+    (sym (ap (λ o. is_lt (ordering_then o rest)) (int_cmp-greater y x below)) ∙ before)))
     (λ at_least. at_least)
 
 pub trail_says : (x y : ℤ) (rest : Ordering) → is_lt (ordering_then (int_cmp y x) rest) ≡ false
     → x ≤ℤ y
 trail_says x y rest not_before =
     by_lt_z y x (λ above. absurd
-    (true≢false (sym (ap (λ o. is_lt (ordering_then o rest)) (int_cmp-less y x above)) ∙ not_before)))
+    (true≢false
+    (sym (ap (λ o. is_lt (ordering_then o rest)) (int_cmp-less y x above)) ∙ not_before)))
     (λ at_most. at_most)
 
 pub points_not_before : (sheet : Sheet) (finish : Results) (lots : List ℕ) (club other : ℕ)

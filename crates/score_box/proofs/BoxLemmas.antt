@@ -161,7 +161,8 @@ first_options limit scores k cell within may score =
     ∙ ap (λ options. has_score options score) (sym (options_at limit [] scores k within))
 
 -- a cell is not empty exactly where its fixture has an option
-pub option_of_cell : (cell : Cell) (options : List Score) → IsCellOf cell options → ¬ IsEmptyCell cell
+pub option_of_cell : (cell : Cell) (options : List Score) → IsCellOf cell options
+    → ¬ IsEmptyCell cell
     → has_option options ≡ true
 option_of_cell cell [] is some = absurd (some is)
 option_of_cell cell (score ∷ options) is some = refl

@@ -28,7 +28,7 @@ returns c =
     record {
       each = λ club measure.
           c.add_open.ensures.each club measure
-          ∙ range_from-among_all (clubs_in c.args.all) (length box.sheet.clubs) (worth_of measure) club
-          box.sheet.fixtures (options_in_box box) c.requires.all fixtures;
+          ∙ range_from-among_all (clubs_in c.args.all) (length box.sheet.clubs)
+          (worth_of measure) club box.sheet.fixtures (options_in_box box) c.requires.all fixtures;
       near = c.add_open.ensures.near;
     }

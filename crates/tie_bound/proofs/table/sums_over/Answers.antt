@@ -29,8 +29,8 @@ returns-else-has_finish c =
     record {
       each = λ club measure.
           c.sums_by_all.ensures.each club measure
-          ∙ range_from-among_all (clubs_in c.first-all.result) clubs (worth_of measure) club box.sheet.fixtures
-          (options_in_box box) all fixtures;
+          ∙ range_from-among_all (clubs_in c.first-all.result) clubs (worth_of measure) club
+          box.sheet.fixtures (options_in_box box) all fixtures;
       near = c.sums_by_all.ensures.near;
     }
 
