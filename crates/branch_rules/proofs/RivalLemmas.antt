@@ -1,23 +1,18 @@
 -- Where no rival is left unmarked, all are marked.
-use Rattle.std.proofs.Common.{◌≡◌, ◌<◌, ℕ, Bool, true, false, not, ◌&&◌, ◌||◌, ◌==◌, nat_lt, eqb}
-use Rattle.std.proofs.Common.{ltb}
+use Rattle.std.proofs.Common.{◌≡◌, ℕ, Bool, true, false, not, ◌&&◌, ◌||◌, ◌==◌, nat_lt}
 use Rattle.std.proofs.Common.{inl, inr, List, [], ◌∷◌, length, filter, refl, sym, ap, ◌∙◌}
 use Rattle.std.proofs.Common.{arith}
 use Rattle.std.specs.List.{list_all, range_with_len}
 use Rattle.std.proofs.lemmas.Bool.{false≢true, true≢false, and_parts, and_from}
 use Rattle.std.proofs.lemmas.Bool.{cases_Bool}
-use Rattle.std.proofs.lemmas.Bool.{lt-ltb, ltb-true}
+use Rattle.std.proofs.lemmas.Bool.{lt-ltb}
 use Rattle.league_core.specs.declared.sheet.Sheet.{Sheet}
 use Rattle.league_core.specs.declared.question.Question.{Question}
 use Rattle.league_core.specs.declared.zone.Literal.{Literal}
 use Rattle.league_core.specs.Sums.{has_club}
 use Rattle.league_core.specs.Zones.{is_marked}
 use Rattle.league_core.specs.Splits.{are_all_marked}
-use Rattle.std.specs.Int.{bit_at}
-use Rattle.league_core.specs.declared.club_set.ClubSet.{ClubSet}
-use Rattle.league_core.specs.ClubSets.{clubs_in}
 use Rattle.league_core.proofs.ClubLemmas.{all_in_range}
-use Rattle.league_core.proofs.ClubSetLemmas.{has_club-clubs_below}
 
 -- what all that are kept pass
 all_kept : (test keep : ℕ → Bool) (xs : List ℕ)

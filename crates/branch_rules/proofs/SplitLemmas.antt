@@ -1,11 +1,10 @@
 -- When a test of a score splits a zone properly: where some options of its fixture pass it, and
 -- some
 -- do not.
-use Rattle.std.proofs.Common.{◌≡◌, ◌<◌, ℕ, suc, Bool, true, false, not, ◌==◌, List}
-use Rattle.std.proofs.Common.{[], ◌∷◌, inl, inr, length, get_or, refl, ap, subst, ◌∙◌}
+use Rattle.std.proofs.Common.{◌≡◌, ◌<◌, ℕ, Bool, true, false, not, ◌==◌, List}
+use Rattle.std.proofs.Common.{[], inl, inr, length, get_or, refl, ap, subst, ◌∙◌}
 use Rattle.std.proofs.Common.{arith}
-use Rattle.std.specs.List.{list_all}
-use Rattle.std.proofs.lemmas.Bool.{false≢true, and_from, or_left, or_right, lt-ltb}
+use Rattle.std.proofs.lemmas.Bool.{and_from, or_left, or_right, lt-ltb}
 use Rattle.std.proofs.lemmas.Bool.{ne_eqb, cases_eq}
 use Rattle.league_core.specs.declared.sheet.Sheet.{Sheet}
 use Rattle.league_core.specs.declared.season.Score.{Score}
@@ -21,7 +20,7 @@ use Rattle.league_core.specs.Options.{has_option}
 use Rattle.league_core.specs.Options.{has_finish}
 use Rattle.league_core.specs.Splits.{have_both_finish, is_proper}
 use Rattle.league_core.proofs.PlainLemmas.{list_all-at, all_from}
-use Rattle.league_core.proofs.OptionLemmas.{length-options_from, has_score-first}
+use Rattle.league_core.proofs.OptionLemmas.{length-options_from}
 use Rattle.league_core.proofs.OptionTestLemmas.{has_option-some, first_shown}
 use Rattle.league_core.proofs.LiteralLemmas.{options_at-with}
 use Rattle.branch_rules.specs.Choices.{IsDivided}

@@ -1,23 +1,21 @@
 -- Everything that is due can be met, as the grammar has it: a leaf for each zone, no goals for each
 -- match that is left, lots in the order of the sheet.
-use Rattle.std.proofs.Common.{◌≡◌, ℕ, zero, suc, true, false, ◌&&◌, List, [], ◌∷◌, ◌++◌}
-use Rattle.std.proofs.Common.{length, map, Option, Some, None, refl, inl, arith}
-use Rattle.std.specs.Prelude.{IsTrue, nat_le}
+use Rattle.std.proofs.Common.{◌≡◌, ℕ, zero, suc, true, false, List, [], ◌∷◌, ◌++◌}
+use Rattle.std.proofs.Common.{length, map, Option, None, refl, inl, arith}
+use Rattle.std.specs.Prelude.{IsTrue}
 use Rattle.std.specs.Bool.{OnTrue}
-use Rattle.std.proofs.lemmas.Bool.{OnTrue_from, false≢true, and_from, le-leb}
+use Rattle.std.proofs.lemmas.Bool.{OnTrue_from, false≢true}
 use Rattle.league_core.specs.declared.season.Score.{Score}
 use Rattle.league_core.specs.declared.question.Claim.TheVariants.{Inside, Outside}
 use Rattle.league_core.specs.declared.question.Question.{Question}
 use Rattle.league_core.specs.declared.zone.Literal.{Literal}
 use Rattle.league_core.specs.declared.zone.Reason.TheVariants.{Count}
-use Rattle.league_core.specs.Finishes.{may_all_end, same_score}
 use Rattle.league_core.specs.Ranking.{are_lots}
 use Rattle.league_core.specs.Questions.{holds_at, full_question}
 use Rattle.league_core.specs.Reasons.{has_reason}
 use Rattle.league_core.specs.Trees.{Tree, refuted_leaf}
 use Rattle.league_core.specs.LotsFor.{lots_for_claim}
 use Rattle.league_core.proofs.LotsLemmas.{lots_for_claim-are_lots}
-use Rattle.league_core.proofs.OptionLemmas.{same_score-itself}
 use Rattle.league_core.proofs.FinishLemmas.{may_all_end-ended, ended_of}
 use Rattle.cert_text.specs.declared.proof_line.ProofLine.TheVariants as line
 use Rattle.cert_text.specs.ExampleLines.{score_lines, lots_line}

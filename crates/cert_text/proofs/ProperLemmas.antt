@@ -1,12 +1,12 @@
 -- The tests of proper splits are such as lines have: a bound on goals that divides a zone is one
 -- that a score can miss.
 use Rattle.std.proofs.Common.{◌≡◌, ℕ, ◌<◌, ◌≤◌, true, false, not, ◌&&◌, ◌||◌, ◌==◌, nat_lt}
-use Rattle.std.proofs.Common.{nat_le, List, [], ◌∷◌, length, get_or, Option, Some, None, refl, sym}
+use Rattle.std.proofs.Common.{nat_le, List, [], length, get_or, Option, Some, None, refl, sym}
 use Rattle.std.proofs.Common.{ap}
-use Rattle.std.proofs.Common.{subst, ◌∙◌, zero-add, arith}
+use Rattle.std.proofs.Common.{◌∙◌, zero-add, arith}
 use Rattle.std.specs.List.{list_all}
 use Rattle.std.proofs.lemmas.Bool.{and_parts, and_from, ltb-true, lt-ltb, leb-true, leb-false}
-use Rattle.std.proofs.lemmas.Bool.{le-leb, eq-eqb, not-true, false≢true}
+use Rattle.std.proofs.lemmas.Bool.{le-leb, eq-eqb, not-true}
 use Rattle.league_core.specs.declared.sheet.Sheet.{Sheet}
 use Rattle.league_core.specs.declared.season.Score.{Score}
 use Rattle.league_core.specs.declared.question.Question.{Question}
@@ -21,8 +21,8 @@ use Rattle.league_core.specs.Options.{options_of, options_in, has_score, has_opt
 use Rattle.league_core.specs.Options.{has_finish, meets_literal, meets}
 use Rattle.league_core.specs.Splits.{have_both_finish, is_proper, IsProperNode}
 use Rattle.league_core.specs.Trees.{Tree, open_leaf, lent_leaf, refuted_leaf, branch, NodesMeet}
-use Rattle.league_core.proofs.OptionLemmas.{same_score-true, has_score-with, has_score-options_of}
-use Rattle.league_core.proofs.OptionLemmas.{has_score-first, get_or-options_from}
+use Rattle.league_core.proofs.OptionLemmas.{has_score-with, has_score-options_of}
+use Rattle.league_core.proofs.OptionLemmas.{get_or-options_from}
 use Rattle.league_core.proofs.OptionLemmas.{length-options_from}
 use Rattle.league_core.proofs.PlainLemmas.{list_all-at}
 use Rattle.league_core.proofs.OptionTestLemmas.{first_shown}

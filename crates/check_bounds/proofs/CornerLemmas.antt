@@ -14,7 +14,7 @@ use Rattle.league_core.specs.declared.season.Score.{Score}
 use Rattle.league_core.specs.Finishes.{same_score}
 use Rattle.league_core.specs.Options.{is_home_win, is_draw, is_away_win, has_score, same_outcome}
 use Rattle.league_core.specs.Options.{score_of}
-use Rattle.league_core.proofs.OptionLemmas.{each_option, same_score-itself, same_score-true}
+use Rattle.league_core.proofs.OptionLemmas.{each_option, same_score-true}
 use Rattle.league_core.proofs.OptionLemmas.{same_score-swap, has_score-first}
 use Rattle.league_core.proofs.OutcomeLemmas.{same_outcome-home, same_outcome-draw}
 use Rattle.league_core.proofs.OutcomeLemmas.{same_outcome-away, same_outcome-itself}

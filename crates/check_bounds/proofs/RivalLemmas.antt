@@ -1,12 +1,12 @@
 -- Rivals counted by sets of clubs.
 use Rattle.std.proofs.Common.{◌≡◌, ◌≢◌, ℕ, zero, suc, ◌+◌, ◌*◌, ◌-◌, ◌<◌, ◌≤◌, ℤ, pos, neg_ℤ, ◌*ℤ◌}
 use Rattle.std.proofs.Common.{◌≤ℤ◌, Bool, true, false, not, ◌&&◌, ◌||◌, ◌==◌, nat_lt, nat_le, ltb}
-use Rattle.std.proofs.Common.{cond, List, [], ◌∷◌, length, refl, sym, ap, subst, ◌∙◌, arith}
+use Rattle.std.proofs.Common.{cond, List, [], ◌∷◌, length, refl, sym, ap, ◌∙◌, arith}
 use Rattle.std.specs.Prelude.{IsTrue, ◌↔◌, count_by}
 use Rattle.std.specs.List.{list_all, list_any, range_with_len}
 use Rattle.std.proofs.Math.Bool.{or-false, not-not}
-use Rattle.std.proofs.lemmas.Bool.{false≢true, and_parts, and_from, ltb-true, lt-ltb}
-use Rattle.std.proofs.lemmas.Bool.{eqb-true, eqb-false, eq-eqb, not-true, or_right}
+use Rattle.std.proofs.lemmas.Bool.{and_parts, ltb-true, lt-ltb}
+use Rattle.std.proofs.lemmas.Bool.{eqb-true, eqb-false, not-true}
 use Rattle.std.proofs.lemmas.Bool.Decides.{same_from_decides}
 use Rattle.std.proofs.lemmas.Int.{ints}
 use Rattle.std.proofs.lemmas.List.Sums.{length-filter, sum_by-cons}
@@ -19,7 +19,7 @@ use Rattle.league_core.specs.SureOrder.{is_above, is_below}
 use Rattle.league_core.specs.Sums.{has_club}
 use Rattle.league_core.specs.ClubSets.{clubs_below}
 use Rattle.league_core.specs.LotsFor.{others_of}
-use Rattle.league_core.specs.Reasons.{has_member, too_many}
+use Rattle.league_core.specs.Reasons.{too_many}
 use Rattle.league_core.proofs.PlainLemmas.{eqb-swap, times-suc}
 use Rattle.league_core.proofs.ClubSetLemmas.{clubs_below-filter_range, has_club-range}
 use Rattle.league_core.proofs.ClubSetLemmas.{filter-filter, filter_agree_in, has_club-filter}

@@ -1,5 +1,5 @@
 -- Scopes that have the options of a zone, fixture by fixture, and what a literal leaves of them.
-use Rattle.std.proofs.Common.{◌≡◌, ℕ, ◌+◌, ◌<◌, ◌≤◌, ◌≢◌, ◌⊎◌, Bool, true, false, not, ◌&&◌, ◌||◌}
+use Rattle.std.proofs.Common.{◌≡◌, ℕ, ◌<◌, ◌≤◌, ◌≢◌, ◌⊎◌, Bool, true, false, not, ◌&&◌, ◌||◌}
 use Rattle.std.proofs.Common.{◌==◌, nat_lt, List, [], ◌∷◌, ◌++◌, length, get_or, set, Option, Some}
 use Rattle.std.proofs.Common.{None}
 use Rattle.std.proofs.Common.{refl, sym, ap, subst, ◌∙◌, inl, inr, arith}
@@ -22,10 +22,10 @@ use Rattle.league_core.specs.declared.zone.Test.TheVariants.{Home, Draw, HomeMos
 use Rattle.league_core.specs.declared.zone.Literal.{Literal}
 use Rattle.league_core.specs.Finishes.{may_end}
 use Rattle.league_core.specs.Zones.{is_on, passes, is_as_said, is_test_of, is_zone_of}
-use Rattle.league_core.specs.Options.{meets_literal, options_of, options_from, options_in}
+use Rattle.league_core.specs.Options.{meets_literal, options_from, options_in}
 use Rattle.league_core.specs.Options.{has_score}
-use Rattle.league_core.proofs.OptionLemmas.{has_score-options_of, has_score-with}
-use Rattle.league_core.proofs.OptionLemmas.{length-options_from, get_or-options_from}
+use Rattle.league_core.proofs.OptionLemmas.{has_score-options_of}
+use Rattle.league_core.proofs.OptionLemmas.{length-options_from}
 use Rattle.league_core.proofs.LiteralLemmas.{options_at, options_at-with, meets-other, meets-own}
 use Rattle.check_bounds.specs.declared.scope.Scope.{Scope}
 use Rattle.check_bounds.specs.Scopes.{is_left, IsScopeOf}

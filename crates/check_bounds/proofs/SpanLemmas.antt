@@ -1,11 +1,9 @@
 -- Ranges of sums: when two are one, how they are added, and how far from 0 they are.
-use Rattle.std.proofs.Common.{◌≡◌, ℕ, ◌+◌, ◌≤◌, ℤ, pos, ◌+ℤ◌, ◌-ℤ◌, ◌≤ℤ◌, neg_ℤ, List, [], ◌∷◌}
-use Rattle.std.proofs.Common.{Bool, true, false, cond, refl, ap, arith}
+use Rattle.std.proofs.Common.{◌≡◌, ℕ, ◌+◌, ◌≤◌, ℤ, pos, ◌+ℤ◌, ◌-ℤ◌, ◌≤ℤ◌, neg_ℤ}
+use Rattle.std.proofs.Common.{Bool, true, false, cond, ap, arith}
 use Rattle.std.specs.Int.{int_min, int_max}
 use Rattle.std.proofs.lemmas.Int.{ints, clamps}
-use Rattle.league_core.specs.declared.season.Score.{Score}
-use Rattle.league_core.specs.PointRanges.{Range, one_value, added, widened, range_of}
-use Rattle.league_core.proofs.RangeLemmas.{same_range}
+use Rattle.league_core.specs.PointRanges.{Range, one_value, added, widened}
 use Rattle.check_bounds.specs.declared.span.Span.{Span}
 use Rattle.check_bounds.specs.Spans.{range_of_span, IsSpanWithin}
 

@@ -5,7 +5,7 @@ use Rattle.std.proofs.Common.{List, [], ◌∷◌, ◌++◌, map, Some, option_m
 use Rattle.std.proofs.Common.{ap, ◌∙◌, arith, append-nil, ◌&&◌, nat_lt, nat_le}
 use Rattle.std.specs.Prelude.{option_and_then, int_le}
 use Rattle.std.specs.List.{list_all}
-use Rattle.std.proofs.lemmas.Bool.{and_parts, and_from, ltb-true, lt-ltb, leb-true}
+use Rattle.std.proofs.lemmas.Bool.{and_parts, and_from, ltb-true, lt-ltb}
 use Rattle.std.proofs.lemmas.Int.{ints}
 use Rattle.json.specs.Json as json
 use Rattle.json.specs.Lex.{tokens}
@@ -23,10 +23,6 @@ use Rattle.serde_json.specs.Find.{of_integer}
 use Rattle.serde_json.proofs.Texts.{print-outline}
 use Rattle.serde_json.proofs.Numbers.{number_of-decimal, number_of-negative}
 use Rattle.league_core.specs.declared.season.Score.{Score}
-use Rattle.league_core.specs.Results.{is_score}
-use Rattle.league_core.specs.declared.club_set.ClubSet.{ClubSet}
-use Rattle.league_core.specs.ClubSets.{clubs_in}
-use Rattle.league_core.specs.Reasons.{has_member}
 use Rattle.league_core.specs.declared.zone.Test.{Test}
 use Rattle.league_core.specs.declared.zone.Test.TheVariants.{Home, Draw, HomeMost, AwayMost, Rival}
 use Rattle.league_core.specs.declared.zone.Reason.{Reason}
@@ -37,7 +33,7 @@ use Rattle.cert_text.specs.Lines.{Part, word, whole, points, clubs, number_in_te
 use Rattle.cert_text.specs.Lines.{test_parts, reason_parts, text_of_proof_line, is_printed}
 use Rattle.cert_text.specs.Values.{part_value, parts_value}
 use Rattle.cert_text.specs.Ranges.{is_in_range, is_fixture_number, is_club_number, is_goal_bound}
-use Rattle.cert_text.specs.Ranges.{are_points, is_test_in_range, is_set_in_range}
+use Rattle.cert_text.specs.Ranges.{are_points, is_test_in_range}
 use Rattle.cert_text.specs.Ranges.{is_reason_in_range}
 use Rattle.cert_text.specs.Forms.{line_in, line_of_value}
 use Rattle.cert_text.proofs.LineLemmas.{line_text}

@@ -5,7 +5,7 @@ use Rattle.std.proofs.Common.{ap, ◌∙◌}
 use Rattle.std.proofs.Common.{arith}
 use Rattle.std.specs.List.{list_any}
 use Rattle.std.specs.Ordering.{ordering_then}
-use Rattle.std.proofs.lemmas.Bool.{false≢true, or_cases, or_left, or_right}
+use Rattle.std.proofs.lemmas.Bool.{false≢true, or_cases, or_left}
 use Rattle.std.proofs.lemmas.Int.{ints}
 use Rattle.league_core.specs.declared.season.Score.{Score}
 use Rattle.league_core.specs.Sums.{match_points, goal_difference}
@@ -14,7 +14,7 @@ use Rattle.league_core.specs.Finishes.{same_score}
 use Rattle.league_core.specs.Options.{has_score, is_home_win, is_draw, is_away_win}
 use Rattle.league_core.specs.Proposals.{weighed, weighed_together, first_option}
 use Rattle.league_core.proofs.OutcomeLemmas.{outcome_cases}
-use Rattle.league_core.proofs.OptionLemmas.{has_score-first, same_score-true}
+use Rattle.league_core.proofs.OptionLemmas.{same_score-true}
 use Rattle.league_core.proofs.ProposalLemmas.{first_option_is}
 use Rattle.league_core.proofs.OptionTestLemmas.{any_gives}
 use Rattle.example_finish.proofs.OrderLemmas.{home_win_points, draw_points, away_win_points}

@@ -9,7 +9,6 @@ use Rattle.std.specs.Ordering.{is_eq, is_lt, ordering_then}
 use Rattle.std.proofs.lemmas.Bool.{false≢true, cases_eq, or_right}
 use Rattle.std.proofs.lemmas.Bool.Decides.{nat_tests}
 use Rattle.std.proofs.lemmas.Cmp.{tied_itself}
-use Rattle.std.proofs.lemmas.List.Sums.{length-filter}
 use Rattle.league_core.specs.declared.sheet.Sheet.{Sheet}
 use Rattle.league_core.specs.declared.question.Claim.TheVariants.{Inside, Outside}
 use Rattle.league_core.specs.declared.club_set.ClubSet.{ClubSet}
@@ -20,9 +19,8 @@ use Rattle.league_core.specs.ClubSets.{clubs_in}
 use Rattle.league_core.specs.Ahead.{standing_in}
 use Rattle.league_core.specs.Ranking.{ranks_before, place_of, tied_group_of, lot_of}
 use Rattle.league_core.specs.LotsFor.{lots_for_claim, order_without_lots}
-use Rattle.league_core.proofs.ClubSetLemmas.{clubs_below-filter_range, has_club-range}
 use Rattle.league_core.proofs.RankingLemmas.{ranks_before-itself}
-use Rattle.league_core.proofs.ClubCountLemmas.{count_by-range_suc, count_suc, length-passing}
+use Rattle.league_core.proofs.ClubCountLemmas.{count_suc, length-passing}
 use Rattle.final_rank.proofs.TierLemmas.{by_points_total}
 use Rattle.final_rank.proofs.SpanLemmas.{best_place_of-around, worst_place_of-around}
 use Rattle.example_finish.specs.declared.standing.Standing.{Standing}

@@ -1,18 +1,17 @@
 -- The proposed finish, fixture by fixture.
 use Rattle.std.proofs.Math.Nat.{eq-or-lt_of_le}
-use Rattle.std.proofs.Common.{false, inl, inr, ◌≡◌, ◌<◌, ◌≤◌, ◌+◌, ℕ, zero, suc, Bool, true, List}
+use Rattle.std.proofs.Common.{false, inl, inr, ◌≡◌, ◌<◌, ◌+◌, ℕ, zero, suc, Bool, true, List}
 use Rattle.std.proofs.Common.{[], ◌∷◌}
 use Rattle.std.proofs.Common.{Option, Some, None, IsSome, is_some, length, get_or, set}
-use Rattle.std.proofs.Common.{nat_le, refl, sym, ap, ap₂, subst, ◌∙◌, arith}
+use Rattle.std.proofs.Common.{refl, sym, ap, ap₂, subst, ◌∙◌, arith}
 use Rattle.std.specs.List.{list_all}
-use Rattle.std.proofs.lemmas.Bool.{false≢true, and_parts, and_from, le-leb, leb-true, cases_eq}
+use Rattle.std.proofs.lemmas.Bool.{false≢true, and_parts, cases_eq}
 use Rattle.std.proofs.lemmas.List.{ext_get_or, get_or-set_same, get_or-set_other, length-set}
 use Rattle.league_core.specs.declared.sheet.Sheet.{Sheet}
 use Rattle.league_core.specs.declared.sheet.Fixture.{Fixture}
 use Rattle.league_core.specs.declared.season.Score.{Score}
 use Rattle.league_core.specs.declared.question.Question.{Question}
 use Rattle.league_core.specs.declared.zone.Literal.{Literal}
-use Rattle.league_core.specs.Limits.{most_goals}
 use Rattle.league_core.specs.Results.{Results, is_score, is_score_or_none, are_results}
 use Rattle.league_core.specs.Seasons.{IsSeasonOf}
 use Rattle.league_core.specs.Sheets.{IsWithinLimits}
@@ -22,7 +21,7 @@ use Rattle.league_core.specs.Options.{has_option, has_finish}
 use Rattle.league_core.specs.Proposals.{is_wished, first_option, first_options, proposed_finish}
 use Rattle.league_core.proofs.PlainLemmas.{list_all-at}
 use Rattle.league_core.proofs.OptionLemmas.{length-options_from, get_or-options_from}
-use Rattle.league_core.proofs.OptionLemmas.{has_score-options_of, same_score-true}
+use Rattle.league_core.proofs.OptionLemmas.{has_score-options_of}
 use Rattle.league_core.proofs.ProposalLemmas.{is_some-first_option, first_option_is}
 use Rattle.league_core.proofs.FinishLemmas.{may_end_is_score}
 use Rattle.league_core.proofs.LiteralLemmas as literals

@@ -3,16 +3,12 @@ use Rattle.std.proofs.Common.{◌≡◌, ◌+◌, ◌<◌, ℕ, zero, suc, Bool,
 use Rattle.std.proofs.Common.{◌++◌, inl, inr, Option, None, length, get_or, cond, refl, sym}
 use Rattle.std.proofs.Common.{ap}
 use Rattle.std.proofs.Common.{subst, arith}
-use Rattle.std.proofs.Common.{◌≤◌}
-use Rattle.std.specs.List.{range_with_len}
-use Rattle.std.proofs.lemmas.List.Sums.{length-filter, count_by-le-length}
-use Rattle.std.proofs.lemmas.List.FromFn.{length-range_with_len}
 use Rattle.std.proofs.Math.Nat.{eq-or-lt_of_le}
-use Rattle.std.proofs.lemmas.Bool.{cases_lt, cases_Bool}
+use Rattle.std.proofs.lemmas.Bool.{cases_Bool}
 use Rattle.std.proofs.lemmas.List.{get_or_append_left, get_or_push, length_push, append-nil}
 use Rattle.league_core.specs.declared.season.Score.{Score}
 use Rattle.score_box.specs.Unplayed.{is_unplayed, unplayed_below, unplayed_in}
-use Rattle.score_box.proofs.PathLemmas.{unplayed_below-zero, unplayed_below-suc}
+use Rattle.score_box.proofs.PathLemmas.{unplayed_below-suc}
 
 -- what holds of each number of a list
 abbrev HoldOf : (ℕ → Type 0) → List ℕ → Type 0

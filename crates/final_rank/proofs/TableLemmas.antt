@@ -1,16 +1,14 @@
 -- Counts over the clubs of a sheet, and places in the lots.
 use Rattle.std.proofs.Common.{◌≡◌, ℕ, ◌+◌, ◌<◌, ◌≤◌, Bool, true, false, not, eqb, cond, List, []}
-use Rattle.std.proofs.Common.{◌∷◌, ◌++◌, count_by, length, unwrap_or, Some, None, ap, refl, ◌∙◌}
-use Rattle.std.proofs.Common.{arith, zero-add, ◌⊎◌, inl, inr}
-use Rattle.std.specs.List.{range_with_len, position_or_len, position}
+use Rattle.std.proofs.Common.{◌∷◌, ◌++◌, length, unwrap_or, Some, None, ap, refl, ◌∙◌}
+use Rattle.std.proofs.Common.{arith, ◌⊎◌, inl, inr}
+use Rattle.std.specs.List.{position_or_len, position}
 use Rattle.std.proofs.lemmas.Bool.{cases_lt, lt-ltb, le-ltb}
 use Rattle.std.proofs.lemmas.List.{map-id}
 use Rattle.std.proofs.lemmas.List.FromFn.{filter_of_map_range_with_len_more}
-use Rattle.std.proofs.lemmas.List.FromFn.{map-range_with_len_more}
-use Rattle.std.proofs.lemmas.List.Sums.{sum_by-append, prefix_len-le-length}
+use Rattle.std.proofs.lemmas.List.Sums.{prefix_len-le-length}
 use mir.Val.{bool_byte}
 use Rattle.league_core.specs.LotsFor.{others_of}
-use Rattle.league_core.proofs.ClubCountLemmas.{range_with_len-suc}
 
 -- of one club more, all but the one are the others so far, and this club where it is another
 pub others_of-suc : (clubs club : ℕ)

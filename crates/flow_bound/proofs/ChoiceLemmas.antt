@@ -1,8 +1,8 @@
 -- What is answered for the rest is an answer for all the clubs.
-use Rattle.std.proofs.Common.{◌≡◌, ◌≢◌, ℕ, List, [], ℤ, Bool, Option, Some, None, Result, inr}
+use Rattle.std.proofs.Common.{◌≡◌, ◌≢◌, ℕ, List, [], ℤ, Bool, Option, Some, None, inr}
 use Rattle.std.proofs.Common.{arith}
 use Rattle.std.proofs.lemmas.Int.{ints}
-use Rattle.std.specs.Prelude.{Err, MatchOption, Ok, OnErr}
+use Rattle.std.specs.Prelude.{MatchOption}
 use Rattle.league_core.specs.declared.club_set.ClubSet.{ClubSet}
 use Rattle.league_core.specs.ClubSets.{clubs_in}
 use Rattle.flow_bound.specs.declared.tally.Pair.{Pair}

@@ -5,10 +5,9 @@ use Rattle.std.proofs.Common.{List, [], ◌∷◌, length, get_or, slice_index}
 use Rattle.std.proofs.Common.{refl, sym, ap, ◌∙◌, arith, add-one}
 use Rattle.std.proofs.lemmas.Int.{ints}
 use Rattle.std.specs.List.{list_all}
-use Rattle.std.proofs.lemmas.Bool.{false≢true, and_parts, and_from, ltb-true, eqb-false, ne_eqb}
+use Rattle.std.proofs.lemmas.Bool.{false≢true, and_parts, and_from, ltb-true, ne_eqb}
 use Rattle.std.proofs.lemmas.Bool.{false_from_ne_true}
 use Rattle.std.proofs.lemmas.List.{get_or_past}
-use Rattle.std.proofs.lemmas.List.Sums.{AllPass-from_list_all}
 use Rattle.std.proofs.Math.IntN.{suc_ℤ-*ℤ}
 use Rattle.league_core.specs.declared.sheet.Sheet.{Sheet}
 use Rattle.league_core.specs.declared.sheet.Fixture.{Fixture}
@@ -19,19 +18,18 @@ use Rattle.league_core.specs.Results.{Results}
 use Rattle.league_core.specs.Sheets.{IsWithinLimits, is_fixture}
 use Rattle.league_core.specs.Sums.{has_club}
 use Rattle.league_core.specs.ClubSets.{clubs_below, clubs_in}
-use Rattle.league_core.specs.Options.{options_in, has_finish, has_option}
-use Rattle.league_core.specs.PointRanges.{Range, one_value, added, widened, range_of, total_of}
+use Rattle.league_core.specs.Options.{options_in, has_finish}
+use Rattle.league_core.specs.PointRanges.{Range, one_value, added, range_of, total_of}
 use Rattle.league_core.specs.PointRanges.{range_from}
 use Rattle.league_core.specs.PointRanges.{points_of_sides, points_together, deducted_from}
 use Rattle.league_core.specs.Reasons.{times}
-use Rattle.league_core.proofs.OptionLemmas.{has_score-first}
 use Rattle.league_core.proofs.ClubSetLemmas.{clubs_below-none}
 use Rattle.league_core.proofs.OptionLemmas.{length-options_from}
 use Rattle.league_core.proofs.PointRangeLemmas.{range_of-same, total_of-next, total_of-same}
 use Rattle.league_core.proofs.PointRangeLemmas.{total_of-sum}
 use Rattle.league_core.proofs.RangeLemmas.{range_of-none}
 use Rattle.score_box.specs.declared.cell.Cell.{Cell}
-use Rattle.score_box.specs.Cells.{IsCellOf, IsEmptyCell}
+use Rattle.score_box.specs.Cells.{IsCellOf}
 use Rattle.flow_bound.specs.declared.cut.Cut.{Cut}
 use Rattle.flow_bound.specs.declared.cut.Cut.TheVariants.{Floor, Ceiling}
 use Rattle.flow_bound.specs.declared.tally.Pair.{Pair}
@@ -42,8 +40,8 @@ use Rattle.flow_bound.specs.Parts.{side_of}
 use Rattle.score_box.specs.Unplayed.{unplayed_in}
 use Rattle.score_box.specs.Ends.{alone_over}
 use Rattle.score_box.proofs.SplitLemmas.{IsEnd, set_split, keeps_played, beyond_at}
-use Rattle.score_box.proofs.SplitLemmas.{beyond_of_sides, no_match, unplayed_in_range, total_take}
-use Rattle.std.proofs.Common.{Option, take}
+use Rattle.score_box.proofs.SplitLemmas.{beyond_of_sides, no_match, total_take}
+use Rattle.std.proofs.Common.{take}
 use Rattle.flow_bound.specs.Fixtures.{end_of, own_end, beyond_in, beyond_over, excess_over}
 use Rattle.flow_bound.specs.Fixtures.{IsWorthOf}
 use Rattle.flow_bound.proofs.PartLemmas.{sum_below-same, cond_pos}

@@ -1,15 +1,14 @@
 -- The clubs of a set by their places in it: a club's place is how many clubs of the set come before
 -- it.
-use Rattle.std.proofs.Common.{◌≡◌, ℕ, zero, suc, ◌+◌, ◌-◌, ◌<◌, ◌≤◌, Bool, true, false, eqb, cond}
+use Rattle.std.proofs.Common.{◌≡◌, ℕ, zero, suc, ◌+◌, ◌-◌, ◌<◌, true, eqb, cond}
 use Rattle.std.proofs.Common.{List, [], ◌∷◌, ◌++◌, length, get_or, refl, sym, ap, ◌∙◌, arith}
-use Rattle.std.proofs.Common.{add-one, append_assoc}
+use Rattle.std.proofs.Common.{append_assoc}
 use Rattle.std.specs.Int.{bit_at}
 use Rattle.std.proofs.lemmas.List.{append-nil, get_or_append_left, get_or_push, length-append}
 use Rattle.std.proofs.lemmas.List.{length_push}
 use Rattle.league_core.specs.Sums.{has_club}
 use Rattle.league_core.specs.ClubSets.{clubs_below}
-use Rattle.league_core.proofs.ClubSetLemmas.{clubs_below-more, clubs_below-none, clubs_below-suc}
-use Rattle.league_core.proofs.ClubSetLemmas.{length-clubs_below-suc}
+use Rattle.league_core.proofs.ClubSetLemmas.{clubs_below-more, clubs_below-suc}
 
 -- the clubs below a number are the first of those below a greater one
 clubs_below-front : (count more bits : ℕ)

@@ -10,7 +10,7 @@ use Rattle.std.proofs.lemmas.Bool.{and_parts, and_from, leb-true, le-leb}
 use Rattle.std.proofs.lemmas.Map.Views.{any-filter_same}
 use Rattle.league_core.specs.declared.season.Score.{Score}
 use Rattle.league_core.specs.Finishes.{same_score}
-use Rattle.league_core.specs.Options.{scores_up_to, has_option}
+use Rattle.league_core.specs.Options.{scores_up_to}
 use Rattle.league_core.specs.PointRanges.{Range, one_value, range_of, points_of_sides}
 use Rattle.league_core.specs.Sums.{match_points}
 use Rattle.league_core.proofs.OptionLemmas.{has_score-scores_up_to, same_score-true}

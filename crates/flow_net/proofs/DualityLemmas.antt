@@ -4,7 +4,6 @@ use Rattle.std.proofs.Common.{◌≡◌, ◌≢◌, ◌==◌, ℕ, zero, suc, �
 use Rattle.std.proofs.Common.{◌&&◌, not, List, [], ◌∷◌, length, get_or, sym, ap, ◌∙◌, refl, arith}
 use Rattle.std.proofs.lemmas.Bool.{both_ways, eq-eqb, ne_eqb, and_from, and_parts, not-true}
 use Rattle.std.proofs.lemmas.Bool.{true_from_ne_false}
-use Rattle.std.proofs.lemmas.Bool.Decides.{nat_tests}
 use Rattle.flow_net.specs.declared.arcs.Arc.{Arc}
 use Rattle.flow_net.specs.declared.arcs.Way.{Way}
 use Rattle.flow_net.specs.declared.arcs.Way.TheVariants.{Along, Against}

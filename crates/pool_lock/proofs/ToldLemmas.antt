@@ -1,5 +1,5 @@
 -- Events that a pool may be told, by the sheet alone.
-use Rattle.std.proofs.Common.{◌≡◌, IsTrue, List, subst, sym}
+use Rattle.std.proofs.Common.{◌≡◌, IsTrue, List, subst}
 use Rattle.league_core.specs.declared.sheet.Sheet.{Sheet}
 use Rattle.league_core.specs.declared.season.Event.{Event}
 use Rattle.league_core.specs.Seasons.{IsEventOf, IsSeasonOf, season_after}

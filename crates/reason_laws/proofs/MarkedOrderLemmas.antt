@@ -1,13 +1,11 @@
 -- The order of the clubs at a member of a zone: who ranks before another has as many points or
 -- more, and the zone's marks are so.
-use Rattle.std.proofs.Common.{◌≡◌, ℕ, ℤ, ◌≤ℤ◌, ◌<ℤ◌, Bool, true}
-use Rattle.std.proofs.Common.{false, not, ◌&&◌, cond, List, [], ◌∷◌}
-use Rattle.std.proofs.Common.{refl, sym, ap, ◌∙◌, inl, inr, arith}
-use Rattle.std.specs.Prelude.{int_lt}
+use Rattle.std.proofs.Common.{◌≡◌, ℕ, ℤ, ◌≤ℤ◌, Bool, true}
+use Rattle.std.proofs.Common.{false, not, ◌&&◌, List, [], ◌∷◌}
+use Rattle.std.proofs.Common.{refl, sym, ap, ◌∙◌, inl, inr}
 use Rattle.std.specs.Ordering.{int_cmp, is_lt, ordering_then}
 use Rattle.std.specs.declared.cmp.Ordering.{Ordering}
-use Rattle.std.specs.declared.cmp.Ordering.TheVariants.{Less, Equal, Greater}
-use Rattle.std.proofs.lemmas.Int.{ints, by_lt_z}
+use Rattle.std.proofs.lemmas.Int.{by_lt_z}
 use Rattle.std.proofs.lemmas.Bool.{false≢true, true≢false, and_parts}
 use Rattle.std.proofs.lemmas.Bool.{or_cases, eqb-true}
 use Rattle.league_core.specs.declared.sheet.Sheet.{Sheet}
@@ -20,7 +18,6 @@ use Rattle.league_core.specs.Ranking.{ranks_before}
 use Rattle.league_core.specs.Zones.{is_of_rival, is_test_true}
 use Rattle.league_core.specs.Zones.{is_as_said, is_literal_true, are_literals_true}
 use Rattle.league_core.specs.Zones.{marked_before, marked_after}
-use Rattle.league_core.proofs.PlainLemmas.{lt-int_lt}
 use Rattle.league_core.proofs.OrderingLemmas.{int_cmp-less, int_cmp-greater}
 
 -- who ranks before another has as many points or more, and who does not has as many or fewer

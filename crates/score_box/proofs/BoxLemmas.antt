@@ -1,6 +1,6 @@
 -- Boxes: cells that have the options of a zone, fixture by fixture, and what a literal leaves of
 -- them.
-use Rattle.std.proofs.Common.{◌≡◌, ℕ, zero, suc, ◌+◌, ◌<◌, ◌≤◌, ◌≢◌, ◌⊎◌, Bool, true, false, not}
+use Rattle.std.proofs.Common.{◌≡◌, ℕ, zero, suc, ◌<◌, ◌≤◌, ◌≢◌, ◌⊎◌, Bool, true, false, not}
 use Rattle.std.proofs.Common.{◌&&◌, ◌||◌, ◌==◌, List, [], ◌∷◌, ◌++◌, length, get_or, set, Option}
 use Rattle.std.proofs.Common.{Some, None, refl, sym, ap, ◌∙◌, subst, inl, inr, arith}
 use Rattle.std.specs.Bool.{MatchBool}
@@ -22,11 +22,11 @@ use Rattle.league_core.specs.declared.zone.Test.{Test}
 use Rattle.league_core.specs.declared.zone.Test.TheVariants.{Home, Draw, HomeMost, AwayMost, Rival}
 use Rattle.league_core.specs.Zones.{is_on, is_of_rival, passes, is_as_said, marked_before}
 use Rattle.league_core.specs.Zones.{marked_after, is_test_of, is_zone_of}
-use Rattle.league_core.specs.Options.{meets_literal, options_of, options_from, options_in}
+use Rattle.league_core.specs.Options.{meets_literal, options_from, options_in}
 use Rattle.league_core.specs.Options.{has_score, has_option, has_one_score, has_finish, is_single}
 use Rattle.league_core.proofs.OptionLemmas.{same_score-true, same_score-itself, has_score-first}
-use Rattle.league_core.proofs.OptionLemmas.{has_score-options_of, has_score-with}
-use Rattle.league_core.proofs.OptionLemmas.{length-options_from, get_or-options_from, all_options}
+use Rattle.league_core.proofs.OptionLemmas.{has_score-options_of}
+use Rattle.league_core.proofs.OptionLemmas.{length-options_from, all_options}
 use Rattle.league_core.proofs.OptionLemmas.{each_option}
 use Rattle.league_core.proofs.LiteralLemmas.{options_at, options_at-with, meets-other, meets-own}
 use Rattle.score_box.specs.declared.cell.Cell.{Cell}

@@ -4,15 +4,14 @@ use Rattle.std.proofs.Common.{◌≡◌, ◌≢◌, ◌⊎◌, ℕ, zero, suc, �
 use Rattle.std.proofs.Common.{◌*◌, ◌<◌, ◌≤◌, ℤ, pos, ◌+ℤ◌, ◌-ℤ◌, ◌≤ℤ◌}
 use Rattle.std.proofs.Common.{Bool, true, false, not, eqb, cond, List}
 use Rattle.std.proofs.Common.{[], ◌∷◌, length, get_or, set, take, count_by}
-use Rattle.std.proofs.Common.{◌&&◌, ◌==◌, nat_lt, replicate, filter}
+use Rattle.std.proofs.Common.{◌&&◌, ◌==◌, replicate, filter}
 use Rattle.std.specs.List.{list_all}
 use Rattle.std.proofs.lemmas.List.Sums.{length-filter}
 use Rattle.std.specs.List.{All}
-use Rattle.std.proofs.lemmas.Bool.{eq-eqb, ne_eqb, eqb-false, ltb-true, and_parts}
+use Rattle.std.proofs.lemmas.Bool.{eq-eqb, ne_eqb}
 use Rattle.std.proofs.lemmas.List.{get_or-replicate, length-replicate}
-use Rattle.std.proofs.lemmas.List.Sums.{AllPass-from_list_all}
 use Rattle.league_core.specs.declared.sheet.Sheet.{Sheet}
-use Rattle.league_core.specs.Sheets.{IsWithinLimits, is_fixture}
+use Rattle.league_core.specs.Sheets.{IsWithinLimits}
 use Rattle.std.proofs.Common.{refl, sym, ap, ◌∙◌, subst, inl, inr, arith}
 use Rattle.std.proofs.lemmas.Int.{ints, clamps}
 use Rattle.std.proofs.lemmas.Bool.{false≢true, cases_lt, cases_eq, eqb-true, false_from_ne_true}
@@ -24,7 +23,7 @@ use Rattle.league_core.specs.declared.sheet.Fixture.{Fixture}
 use Rattle.league_core.specs.declared.season.Score.{Score}
 use Rattle.league_core.specs.Sums.{match_points, worth_to}
 use Rattle.league_core.specs.Options.{has_option, has_one_outcome}
-use Rattle.league_core.specs.PointRanges.{Range, one_value, added, widened, range_of, range_from}
+use Rattle.league_core.specs.PointRanges.{Range, one_value, added, range_of, range_from}
 use Rattle.league_core.specs.PointRanges.{points_together, points_of_sides}
 use Rattle.league_core.proofs.OptionLemmas.{has_score-first}
 use Rattle.league_core.proofs.PointRangeLemmas.{range_of-same}

@@ -1,20 +1,16 @@
 -- A set without one of its clubs: what its clubs come to, and how many are left.
 use Rattle.std.proofs.Common.{◌≡◌, ◌≢◌, ◌⊎◌, inl, inr, ℕ, zero, suc, ◌+◌, ◌<◌, ◌≤◌, ℤ, pos, ◌+ℤ◌}
-use Rattle.std.proofs.Common.{◌≤ℤ◌}
-use Rattle.std.proofs.Common.{Bool, true, false, not, ◌&&◌, ◌||◌, nat_lt, cond, List, [], ◌∷◌}
+use Rattle.std.proofs.Common.{true, false, not, ◌&&◌, ◌||◌, nat_lt, cond, List, [], ◌∷◌}
 use Rattle.std.proofs.Common.{length}
 use Rattle.std.proofs.Common.{refl, sym, ap, ◌∙◌, add-one, subst, arith}
 use Rattle.std.proofs.lemmas.Int.{ints}
-use Rattle.std.proofs.lemmas.Bool.{cases_eq, cases_lt, eq-eqb, ne_eqb, lt-ltb, le-ltb, ltb-true}
-use Rattle.std.proofs.lemmas.Bool.{and_parts}
+use Rattle.std.proofs.lemmas.Bool.{cases_eq, cases_lt, eq-eqb, ne_eqb, lt-ltb, le-ltb}
 use Rattle.std.proofs.Math.Bool.{and-true}
-use Rattle.std.specs.Int.{bit_at}
-use Rattle.std.proofs.Common.{eqb}
 use Rattle.league_core.specs.declared.club_set.ClubSet.{ClubSet}
 use Rattle.league_core.specs.Sums.{has_club}
 use Rattle.league_core.specs.ClubSets.{clubs_below, clubs_in}
 use Rattle.league_core.specs.PointRanges.{total_of}
-use Rattle.league_core.proofs.ClubSetLemmas.{has_club-clubs_below, clubs_below-none}
+use Rattle.league_core.proofs.ClubSetLemmas.{clubs_below-none}
 use Rattle.league_core.proofs.PointRangeLemmas.{total_of-next}
 use Rattle.league_core.proofs.ClubCountLemmas.{member_below}
 

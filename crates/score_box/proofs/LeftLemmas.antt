@@ -1,13 +1,11 @@
 -- What the outcomes that a cell has left say of it.
 use Rattle.std.proofs.Common.{◌≡◌, Bool, true, false, not, ◌||◌, is_some, refl, sym, ap, ◌∙◌}
-use Rattle.std.proofs.Common.{List, [], ◌∷◌, ◌&&◌, inl, inr, Option, Some, None, subst}
+use Rattle.std.proofs.Common.{List, ◌&&◌, Option, Some, None, subst}
 use Rattle.std.specs.List.{list_any}
-use Rattle.std.proofs.lemmas.Bool.{false≢true, false_from_ne_true, or_cases, or_left, or_right}
+use Rattle.std.proofs.lemmas.Bool.{false≢true, false_from_ne_true}
 use Rattle.std.proofs.lemmas.Bool.{ltb-true, eqb-true}
 use Rattle.league_core.specs.declared.season.Score.{Score}
-use Rattle.league_core.specs.Finishes.{same_score}
-use Rattle.league_core.specs.Options.{is_home_win, is_draw, is_away_win, has_score}
-use Rattle.league_core.proofs.OptionLemmas.{same_score-true, has_score-first}
+use Rattle.league_core.specs.Options.{is_home_win, is_draw, is_away_win}
 use Rattle.league_core.proofs.OutcomeLemmas.{outcome_cases}
 use Rattle.league_core.proofs.OptionTestLemmas.{any_shows, any_gives}
 use Rattle.score_box.specs.declared.cell.Cell.{Cell}

@@ -1,15 +1,13 @@
 -- Sums over all fixtures, split into those that are played and those that are not; and what a set
 -- of clubs comes to, from what each of its clubs comes to alone.
-use Rattle.std.proofs.Common.{◌≡◌, ◌≢◌, ◌⊎◌, ℕ, zero, suc, ◌+◌, ◌<◌, ℤ, pos, ◌+ℤ◌, ◌-ℤ◌, Bool}
-use Rattle.std.proofs.Common.{true, false, ◌&&◌, eqb, ltb, cond, List, [], ◌∷◌, filter, length}
+use Rattle.std.proofs.Common.{◌≡◌, ◌≢◌, ℕ, zero, suc, ◌+◌, ◌<◌, ℤ, pos, ◌+ℤ◌, ◌-ℤ◌, Bool}
+use Rattle.std.proofs.Common.{true, false, ◌&&◌, eqb, cond, List, [], ◌∷◌, filter, length}
 use Rattle.std.proofs.Common.{get_or, Option, None, Some, refl, sym, ap, ◌∙◌, subst, inl, inr}
 use Rattle.std.proofs.Common.{arith, add-one}
-use Rattle.std.specs.Int.{bit_at}
 use Rattle.std.specs.List.{range_with_len}
 use Rattle.std.proofs.lemmas.Int.{ints}
-use Rattle.std.proofs.lemmas.Bool.{false≢true, true≢false, cases_eq, cases_lt, eq-eqb, ne_eqb}
-use Rattle.std.proofs.lemmas.Bool.{eqb-true, lt-ltb, le-ltb, cases_Bool}
-use Rattle.std.proofs.lemmas.Bool.Decides.{nat_tests}
+use Rattle.std.proofs.lemmas.Bool.{false≢true, true≢false, cases_lt}
+use Rattle.std.proofs.lemmas.Bool.{eqb-true, cases_Bool}
 use Rattle.std.proofs.Common.{◌++◌, ◌≤◌, take}
 use Rattle.std.proofs.lemmas.List.{get_or_past, get_or_append_left, get_or_push, length_push}
 use Rattle.std.proofs.lemmas.List.{append-nil, take_more}
@@ -27,7 +25,7 @@ use Rattle.league_core.proofs.ClubSetLemmas.{has_club-clubs_below}
 use Rattle.league_core.proofs.OptionLemmas.{length-options_from}
 use Rattle.league_core.proofs.PlainLemmas.{list_all-at}
 use Rattle.league_core.proofs.PointRangeLemmas.{range_of-same, total_of-same, total_of-sum}
-use Rattle.league_core.proofs.PointRangeLemmas.{points_together-sides, total_of-suc, total_of-one}
+use Rattle.league_core.proofs.PointRangeLemmas.{points_together-sides, total_of-one}
 use Rattle.league_core.proofs.PointRangeLemmas.{total_of-append}
 use Rattle.score_box.proofs.PathLemmas.{unplayed_below-zero, unplayed_below-suc}
 use Rattle.league_core.proofs.SumLemmas.{total_of-zero}

@@ -1,19 +1,17 @@
 -- Tables that begin with what was played: rows of single values, and the matches that are not
 -- played, one after another.
 use Rattle.std.proofs.Common.{◌≡◌, ◌≢◌, ◌⊎◌, inl, inr, ℕ, ◌+◌, ◌*◌, ◌<◌, ◌≤◌, ℤ, pos, ◌+ℤ◌}
-use Rattle.std.proofs.Common.{◌-ℤ◌, ◌≤ℤ◌, Bool, true, false, not, ◌&&◌, ◌==◌, nat_lt, cond, List}
+use Rattle.std.proofs.Common.{◌-ℤ◌, ◌≤ℤ◌, Bool, true, false, ◌&&◌, cond, List}
 use Rattle.std.proofs.Common.{[], length, get_or, set, take, replicate, Option, sym, ap, refl, ◌∙◌}
 use Rattle.std.proofs.Common.{subst, arith}
 use Rattle.std.specs.List.{list_all}
-use Rattle.std.proofs.lemmas.Bool.{and_parts, and_from, cases_eq, cases_lt, eq-eqb, ne_eqb}
-use Rattle.std.proofs.lemmas.Bool.{ltb-true, true≢false}
+use Rattle.std.proofs.lemmas.Bool.{and_from, cases_eq, cases_lt, ne_eqb}
 use Rattle.std.proofs.lemmas.Int.{ints}
 use Rattle.std.proofs.lemmas.List.{get_or-set_same, get_or-set_other, take_all}
 use Rattle.std.proofs.lemmas.List.{get_or-replicate, get_or_past, length-replicate}
-use Rattle.league_core.specs.declared.sheet.Sheet.{Sheet}
 use Rattle.league_core.specs.declared.sheet.Fixture.{Fixture}
 use Rattle.league_core.specs.declared.season.Score.{Score}
-use Rattle.league_core.specs.Sheets.{IsWithinLimits, is_fixture}
+use Rattle.league_core.specs.Sheets.{is_fixture}
 use Rattle.league_core.specs.Sums.{Worth, has_club, worth_to, worth_among, sum_over}
 use Rattle.league_core.specs.PointRanges.{Range, one_value, range_of, range_from, total_of}
 use Rattle.league_core.proofs.SumLemmas.{sum_over-agree, sum_over-zero}
@@ -28,8 +26,7 @@ use Rattle.score_box.specs.Totals.{total_in, worth_in, AreTotals, AreTotalsNear}
 use Rattle.score_box.specs.Unplayed.{unplayed_in}
 use Rattle.score_box.proofs.SplitLemmas.{least_end, greatest_end, end_at_fixture, no_match}
 use Rattle.score_box.proofs.SplitLemmas.{range_split, KeepsPlayed, total_take}
-use Rattle.score_box.proofs.SplitLemmas.{unplayed_in_range, unplayed_few}
-use Rattle.std.proofs.lemmas.List.Sums.{AllPass-from_list_all}
+use Rattle.score_box.proofs.SplitLemmas.{unplayed_few}
 use Rattle.tie_bound.specs.declared.sums.Sums.{Sums}
 use Rattle.tie_bound.specs.Spans.{IsSpanNear}
 use Rattle.tie_bound.specs.Sums.{range_by, no_sums, sums_at, AreNear, SpansGrowBy}

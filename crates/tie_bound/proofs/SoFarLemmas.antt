@@ -1,16 +1,12 @@
 -- The clubs' sums over the matches passed so far, and over all.
-use Rattle.std.proofs.Common.{◌≡◌, ℕ, ◌+◌, ◌*◌, ◌<◌, ◌≤◌, pos, true}
-use Rattle.std.proofs.Common.{not, ◌&&◌, eqb, cond, nat_lt, List, [], ◌∷◌, length, get_or}
+use Rattle.std.proofs.Common.{◌≡◌, ℕ, ◌+◌, ◌*◌, ◌<◌, ◌≤◌, pos}
+use Rattle.std.proofs.Common.{List, [], length, get_or}
 use Rattle.std.proofs.Common.{drop, sym, ap, refl, ◌∙◌, subst, arith}
-use Rattle.std.specs.List.{list_all}
-use Rattle.std.proofs.lemmas.Bool.{and_parts, and_from, ltb-true}
 use Rattle.std.proofs.lemmas.Int.{ints}
 use Rattle.league_core.specs.declared.sheet.Fixture.{Fixture}
 use Rattle.league_core.specs.declared.season.Score.{Score}
-use Rattle.league_core.specs.Sheets.{is_fixture}
-use Rattle.league_core.specs.Sums.{has_club, Worth, worth_to, worth_among}
 use Rattle.league_core.specs.PointRanges.{Range, one_value, added, range_of, range_from}
-use Rattle.league_core.proofs.PointRangeLemmas.{range_of-same, range_from-more, range_from-all}
+use Rattle.league_core.proofs.PointRangeLemmas.{range_from-more, range_from-all}
 use Rattle.league_core.proofs.RangeLemmas.{added-none, none-added, added-assoc}
 use Rattle.tie_criteria.specs.declared.measure.Measure.{Measure}
 use Rattle.tie_criteria.specs.declared.measure.Measure.TheVariants.{Points, Difference, Goals}

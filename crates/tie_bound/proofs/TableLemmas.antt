@@ -1,16 +1,15 @@
 -- Tables of the clubs' sums: what a match adds to them, and what they are in the end.
 use Rattle.std.proofs.Common.{◌≡◌, ◌≢◌, ◌⊎◌, inl, inr, ℕ, ◌+◌, ◌<◌, ◌≤◌, pos, Bool, true}
-use Rattle.std.proofs.Common.{false, ◌&&◌, eqb, cond, List, [], ◌∷◌, length, get_or}
+use Rattle.std.proofs.Common.{false, ◌&&◌, eqb, cond, List, length, get_or}
 use Rattle.std.proofs.Common.{set, sym, ap, refl, ◌∙◌, subst, arith}
-use Rattle.std.specs.Int.{int_min, int_max}
 use Rattle.std.proofs.lemmas.Bool.{cases_eq, eq-eqb, ne_eqb}
 use Rattle.std.proofs.lemmas.Int.{ints}
 use Rattle.std.proofs.lemmas.List.{get_or-set_same, get_or-set_other, length-set}
 use Rattle.league_core.specs.declared.sheet.Fixture.{Fixture}
 use Rattle.league_core.specs.declared.season.Score.{Score}
 use Rattle.league_core.specs.Sums.{has_club, worth_to, worth_among}
-use Rattle.league_core.specs.PointRanges.{Range, one_value, added, range_of}
-use Rattle.league_core.proofs.RangeLemmas.{same_range, added-none, range_of-none}
+use Rattle.league_core.specs.PointRanges.{Range, added, range_of}
+use Rattle.league_core.proofs.RangeLemmas.{added-none, range_of-none}
 use Rattle.tie_criteria.specs.declared.measure.Measure.{Measure}
 use Rattle.tie_criteria.specs.Measures.{worth_of}
 use Rattle.score_box.specs.declared.cell.Cell.{Cell}

@@ -1,9 +1,9 @@
 -- Where no number is out and there is no work left, the work on each question is done: what that
 -- means for its tree and its units.
-use Rattle.std.proofs.Common.{◌≡◌, ◌≢◌, ℕ, zero, suc, Bool, true, false}
-use Rattle.std.proofs.Common.{◌||◌, ◌==◌, List, [], ◌∷◌, length, Option, Some, None, refl}
+use Rattle.std.proofs.Common.{◌≡◌, ◌≢◌, ℕ, Bool, true, false}
+use Rattle.std.proofs.Common.{◌||◌, ◌==◌, List, [], ◌∷◌, length, Option, Some, refl}
 use Rattle.std.proofs.Common.{sym}
-use Rattle.std.proofs.Common.{ap, ◌∙◌, subst, arith, cond, if◌then◌else◌, inl, inr, map}
+use Rattle.std.proofs.Common.{ap, ◌∙◌, subst, arith, if◌then◌else◌, inl, inr, map}
 use Rattle.std.proofs.Common.{◌++◌}
 use Rattle.std.specs.Option.{option_map}
 use Rattle.std.specs.Prelude.{is_some, All}
@@ -12,23 +12,17 @@ use Rattle.std.proofs.lemmas.Bool.{true≢false, false≢true, and_from, or_part
 use Rattle.std.proofs.lemmas.Bool.{cases_Bool}
 use Rattle.std.proofs.lemmas.Bool.{eq-eqb, eqb-true}
 use Rattle.std.proofs.lemmas.List.Elements.{All-head, All-tail}
-use Rattle.std.proofs.lemmas.List.Sums.{sum_by-cons}
 use Rattle.league_core.specs.declared.sheet.Sheet.{Sheet}
 use Rattle.league_core.specs.declared.question.Question.{Question}
-use Rattle.league_core.specs.declared.zone.Literal.{Literal}
-use Rattle.league_core.specs.declared.tree.TreeNode.{TreeNode}
 use Rattle.league_core.specs.Results.{Results}
-use Rattle.league_core.specs.Zones.{with_test}
-use Rattle.league_core.specs.Trees.{Tree, open_leaf, lent_leaf, refuted_leaf, branch, NodesMeet}
 use Rattle.league_core.specs.Trees.{has_open, is_refuted, is_spent, new_count}
 use Rattle.league_core.specs.Lending.{lent_count}
 use Rattle.league_core.proofs.LendingLemmas.{length-lent_zones, lent_count-none, settled_is_refuted}
 use Rattle.branch_pool.specs.declared.seat.Example.{Example}
 use Rattle.branch_pool.specs.declared.seat.Seat.{Seat}
-use Rattle.branch_pool.specs.declared.seat.Loan.{Loan}
 use Rattle.branch_pool.specs.declared.ticket.Answer.TheVariants.{Won, NotYet}
 use Rattle.branch_pool.specs.Calls.{answer_without, answer_of}
-use Rattle.branch_pool.specs.States.{PoolState, loan_at, out_count}
+use Rattle.branch_pool.specs.States.{PoolState, out_count}
 use Rattle.branch_pool.specs.States.{present_epoch}
 use Rattle.branch_pool.specs.Goodness.{IsSoundPool, IsGoodSeat, zones_due}
 use Rattle.branch_pool.proofs.RunLemmas.{nothing_out}

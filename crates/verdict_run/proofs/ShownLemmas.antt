@@ -17,8 +17,8 @@ use Rattle.league_core.specs.Seasons.{IsSeasonOf, IsLeague}
 use Rattle.league_core.specs.FinishList.{ways_to_finish}
 use Rattle.league_core.specs.Questions.{IsExample}
 use Rattle.league_core.specs.Verdicts.{HasNoExample}
-use Rattle.league_core.specs.Trees.{Tree, NodesMeet, is_refuted}
-use Rattle.league_core.specs.Splits.{IsProperNode, IsReasonTrue, IsUnitIfNew, AreReasonsTrue}
+use Rattle.league_core.specs.Trees.{Tree, is_refuted}
+use Rattle.league_core.specs.Splits.{IsReasonTrue, IsUnitIfNew, AreReasonsTrue}
 use Rattle.league_core.proofs.LogLemmas.{season_after_of, season_after_results}
 use Rattle.league_core.proofs.TreeLemmas.{NodesMeet-weaker}
 use Rattle.reason_laws.proofs.RefutationLemmas.{refutation_shows, refuted_from}

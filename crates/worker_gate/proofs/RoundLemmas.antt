@@ -2,7 +2,7 @@
 use Rattle.std.proofs.Common.{◌≡◌, ℕ, List, [], ◌∷◌, ◌++◌, Option, None, Some, Result, Ok}
 use Rattle.std.proofs.Common.{Err, refl, sym, ap, ◌∙◌, subst, append_assoc, arith}
 use Rattle.std.proofs.lemmas.List.Elements.{All-head, All-tail}
-use Rattle.std.specs.Prelude.{All, OnErr, OnOk, false}
+use Rattle.std.specs.Prelude.{All, OnOk, false}
 use Rattle.std.specs.Result.{is_err}
 use Rattle.league_core.specs.declared.sheet.Sheet.{Sheet}
 use Rattle.league_core.specs.declared.season.Event.{Event}

@@ -1,5 +1,5 @@
 -- The next cell counts where it has no score.
-use Rattle.std.proofs.Common.{◌≡◌, ◌<◌, ◌≤◌, Bool, true, false, not, cond, [], length, get_or, List}
+use Rattle.std.proofs.Common.{◌≡◌, ◌<◌, true, not, cond, [], length, get_or, List}
 use Rattle.std.proofs.Common.{sym, ◌∙◌, arith}
 use Rattle.league_core.specs.declared.season.Score.{Score}
 use Rattle.league_core.specs.Options.{has_option}

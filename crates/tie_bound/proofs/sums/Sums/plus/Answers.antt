@@ -1,6 +1,5 @@
 -- Each sum by itself.
 use Rattle.std.proofs.Common.{◌≡◌}
-use Rattle.tie_criteria.specs.declared.measure.Measure.{Measure}
 use Rattle.tie_criteria.specs.declared.measure.Measure.TheVariants.{Points, Difference, Goals}
 use Rattle.tie_criteria.specs.declared.measure.Measure.TheVariants.{AwayGoals, Wins, AwayWins}
 use Rattle.tie_criteria.proofs.SumLemmas.{each_measure}
