@@ -1,5 +1,5 @@
 -- Comparisons by tables of sums are the comparisons of the criteria.
-use Rattle.std.proofs.Common.{◌≡◌, ℕ, ◌<◌, pos, neg_ℤ, List, [], ◌∷◌, length}
+use Rattle.std.proofs.Common.{◌≡◌, ℕ, pos, neg_ℤ, List, [], ◌∷◌}
 use Rattle.std.proofs.Common.{refl, true}
 use Rattle.league_core.specs.declared.sheet.Sheet.{Sheet}
 use Rattle.league_core.specs.declared.question.Question.{Question}
@@ -24,24 +24,25 @@ unfolding proposed_finish
 deductions_stay sheet season question zone = refl
 
 -- difference and goals over all matches
-pub by_goals_is : (sheet other : Sheet) (season finish : Results) (table : List Totals)
-    (club rival : ℕ) → AreTotalsOver sheet finish table → club < length sheet.clubs
-    → rival < length sheet.clubs
+pub by_goals_is : (sheet other : Sheet) (season finish : Results) (group : List ℕ)
+    (table : List Totals) (club rival : ℕ) → AreTotalsOver sheet finish group table
+    → has_club group club ≡ true → has_club group rival ≡ true
     → by_criterion Goals other season table club rival ≡ by_first_sums sheet finish club rival
-by_goals_is sheet other season finish table club rival are below rival_below =
-    let mine = are club below in
-    let theirs = are rival rival_below in
+by_goals_is sheet other season finish group table club rival are has has_rival =
+    let mine = are club has in
+    let theirs = are rival has_rival in
     (λ i. by_first_difference (mine difference_column i ∷ mine goals_column i ∷ [])
     (theirs difference_column i ∷ theirs goals_column i ∷ []))
 
 -- all that decides after the records
-pub by_overall_is : (sheet other : Sheet) (season finish : Results) (table : List Totals)
-    (club rival : ℕ) → other ≡ sheet → AreTotalsOver sheet finish table
-    → club < length sheet.clubs → rival < length sheet.clubs
+pub by_overall_is : (sheet other : Sheet) (season finish : Results) (group : List ℕ)
+    (table : List Totals) (club rival : ℕ) → other ≡ sheet
+    → AreTotalsOver sheet finish group table
+    → has_club group club ≡ true → has_club group rival ≡ true
     → by_criterion Overall other season table club rival ≡ by_overall sheet finish club rival
-by_overall_is sheet other season finish table club rival same are below rival_below =
-    let mine = are club below in
-    let theirs = are rival rival_below in
+by_overall_is sheet other season finish group table club rival same are has has_rival =
+    let mine = are club has in
+    let theirs = are rival has_rival in
     (λ i. by_first_difference
     (mine difference_column i ∷ mine goals_column i ∷ mine away_goals_column i ∷ mine wins_column i
     ∷ mine away_wins_column i

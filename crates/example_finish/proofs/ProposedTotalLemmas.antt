@@ -1,9 +1,9 @@
 -- What the matches of the proposed finish add up to: what was played, and what is proposed for the
 -- matches that are not.
-use Rattle.std.proofs.Common.{◌≡◌, ℕ, zero, suc, ◌+◌, ◌*◌, ◌<◌, ◌≤◌, ℤ, pos, ◌+ℤ◌, ◌&&◌, Bool, true}
+use Rattle.std.proofs.Common.{◌≡◌, ℕ, zero, suc, ◌+◌, ◌*◌, ◌<◌, ◌≤◌, ℤ, pos, ◌+ℤ◌, ◌&&◌, ◌==◌, Bool, true}
 use Rattle.std.proofs.Common.{false, cond, List, [], ◌∷◌, length, get_or, take, Option, Some}
 use Rattle.std.proofs.Common.{None, ◌≢◌, inl, inr, set, refl, sym, ap, ◌∙◌, subst, arith}
-use Rattle.std.proofs.lemmas.Bool.{true≢false, cases_eq}
+use Rattle.std.proofs.lemmas.Bool.{true≢false, cases_eq, ne_eqb}
 use Rattle.std.specs.List.{range_with_len}
 use Rattle.tie_criteria.specs.Groups.{IsGroupOf}
 use Rattle.std.proofs.lemmas.Int.{ints}
@@ -31,7 +31,7 @@ use Rattle.score_box.proofs.SplitLemmas.{sum_split, keeps_played, worth_at_fixtu
 use Rattle.score_box.proofs.TotalLemmas.{same_totals, near_none, near_together, near_wider}
 use Rattle.score_box.proofs.TotalLemmas.{each_column}
 use Rattle.example_finish.specs.ProposalViews.{Asked, sheet_asked, season_asked, finish_asked}
-use Rattle.example_finish.specs.ProposedTotals.{AreTotalsAmong, AreTotalsOver, worth_proposed}
+use Rattle.example_finish.specs.ProposedTotals.{AreTotalsFor, AreTotalsOver, worth_proposed}
 use Rattle.example_finish.proofs.ProposedLemmas.{first_options-at, length-first_options}
 
 -- the proposed finish has a score for each match, and keeps those of the matches that are played
@@ -90,27 +90,29 @@ sum_proposed asked of_sheet some value =
     (finish_asked asked).scores of_sheet.scores (length-proposed asked of_sheet)
     (proposed_keeps asked of_sheet some)
 
--- the rows of a group's clubs with so many of the matches that are not played
-pub record AreTotalsWith (asked : Asked) (group : List ℕ) (matches : List ℕ) (i : ℕ)
+-- the rows of some clubs with so many of the group's matches that are not played
+pub record AreTotalsWith (asked : Asked) (group rows : List ℕ) (matches : List ℕ) (i : ℕ)
     (table : List Totals) : Type 0 where
-  pub sums : (club : ℕ) → has_club group club ≡ true → AreTotals (λ worth.
+  pub sums : (club : ℕ) → has_club rows club ≡ true → AreTotals (λ worth.
       sum_among group worth (sheet_asked asked) (season_asked asked) club
       +ℤ total_of (λ k. worth_proposed asked group club k worth) (take i matches))
       (totals_at table club)
   pub near : (club : ℕ) → AreTotalsNear (5000000 + 255 * i) (totals_at table club)
 
 -- with one match more
-pub with_one_more : (asked : Asked) (group : List ℕ) (matches : List ℕ) (i k : ℕ)
+pub with_one_more : (asked : Asked) (group rows : List ℕ) (matches : List ℕ) (i k : ℕ)
     (old new : List Totals) → i < length matches → k ≡ get_or matches i 0
-    → AreTotalsWith asked group matches i old
-    → ((club : ℕ) → TotalsGrowBy (worth_proposed asked group club k) (totals_at old club)
-    (totals_at new club))
-    → AreTotalsWith asked group matches (i + 1) new
-with_one_more asked group matches i k old new within is so_far grows = record {
+    → AreTotalsWith asked group rows matches i old
+    → ((club : ℕ) → has_club rows club ≡ true
+    → TotalsGrowBy (worth_proposed asked group club k) (totals_at old club) (totals_at new club))
+    → ((club bound : ℕ) → AreTotalsNear bound (totals_at old club)
+    → AreTotalsNear (bound + 255) (totals_at new club))
+    → AreTotalsWith asked group rows matches (i + 1) new
+with_one_more asked group rows matches i k old new within is so_far grows near = record {
   sums = λ club has column.
       let value : ℕ → ℤ = λ k. worth_proposed asked group club k (worth_in column) in
       let before = so_far.sums club has column in
-      let here = (grows club).sums column in
+      let here = (grows club has).sums column in
       let more : total_of value (take (i + 1) matches)
       ≡ total_of value (take i matches) +ℤ (value k +ℤ pos 0) =
       ap (total_of value) (take_more matches i 0 within)
@@ -119,17 +121,17 @@ with_one_more asked group matches i k old new within is so_far grows = record {
       omega (arith, ints, before, here, more);
   near = λ club. subst (λ (bound : ℕ). AreTotalsNear bound (totals_at new club))
       (let e : 5000000 + 255 * i + 255 ≡ 5000000 + 255 * (i + 1) = omega arith in e)
-      ((grows club).near (5000000 + 255 * i) (so_far.near club));
+      (near club (5000000 + 255 * i) (so_far.near club));
 }
 
 -- with all of them they are what the proposed finish adds up to
-pub with_all : (asked : Asked) (group : List ℕ) (i : ℕ) (table : List Totals)
+pub with_all : (asked : Asked) (group rows : List ℕ) (i : ℕ) (table : List Totals)
     → IsSeasonOf (sheet_asked asked) (season_asked asked)
     → has_finish asked.setting.sheet asked.setting.season asked.setting.zone ≡ true
     → length (unplayed_in (season_asked asked).scores) ≤ i
-    → AreTotalsWith asked group (unplayed_in (season_asked asked).scores) i table
-    → AreTotalsAmong (sheet_asked asked) (finish_asked asked) group table
-with_all asked group i table of_sheet some past all club has column =
+    → AreTotalsWith asked group rows (unplayed_in (season_asked asked).scores) i table
+    → AreTotalsFor (sheet_asked asked) (finish_asked asked) group rows table
+with_all asked group rows i table of_sheet some past all club has column =
     all.sums club has column
     ∙ ap (λ (ks : List ℕ). sum_among group (worth_in column) (sheet_asked asked)
     (season_asked asked) club +ℤ total_of (λ k. worth_proposed asked group club k (worth_in column))
@@ -154,6 +156,39 @@ none_added asked group club k sides totals is out =
     nothing worth None = refl
     nothing worth (Some score) = ap (λ b. cond b (worth_to worth club sides score) (pos 0)) out
 
+-- a match of which neither side is one of some clubs adds nothing to theirs
+pub none_passed : (asked : Asked) (group rows : List ℕ) (club k : ℕ) (sides : Fixture)
+    (totals : Totals)
+    → sides ≡ get_or (sheet_asked asked).fixtures k (record { home = 0; away = 0 })
+    → has_club rows club ≡ true → has_club rows sides.home ≡ false
+    → has_club rows sides.away ≡ false
+    → TotalsGrowBy (worth_proposed asked group club k) totals totals
+none_passed asked group rows club k sides totals is has home away =
+    subst (λ (value : Worth → ℤ). TotalsGrowBy value totals totals)
+    (λ i worth. (sym (nothing worth (get_or (finish_asked asked).scores k None))
+    ∙ ap (λ (match : Fixture). if_played (worth_among group worth club) match
+    (get_or (finish_asked asked).scores k None)) is) i)
+    (same_totals totals)
+  where
+    apart : (side : ℕ) → has_club rows side ≡ false → (side == club) ≡ false
+    apart side out = ne_eqb side club (λ same. true≢false (sym has ∙ ap (has_club rows) (sym same)
+        ∙ out))
+
+    none_either_way : (b : Bool) → cond b (pos 0) (pos 0) ≡ pos 0
+    none_either_way true = refl
+    none_either_way false = refl
+
+    nothing : (worth : Worth) (score : Option Score)
+        → if_played (worth_among group worth club) sides score ≡ pos 0
+    nothing worth None = refl
+    nothing worth (Some score) =
+        let both = has_club group sides.home && has_club group sides.away in
+        ap (λ b. cond both (cond b (worth score.home score.away false) (cond (sides.away == club)
+        (worth score.away score.home true) (pos 0))) (pos 0)) (apart sides.home home)
+        ∙ ap (λ b. cond both (cond b (worth score.away score.home true) (pos 0)) (pos 0))
+        (apart sides.away away)
+        ∙ none_either_way both
+
 -- another adds what it is worth
 pub one_added : (asked : Asked) (group : List ℕ) (club k : ℕ) (sides : Fixture) (score : Score)
     (old new : Totals)
@@ -176,19 +211,17 @@ among_all sheet season worth club limits =
     sum_over-among_all (clubs_of sheet) (length sheet.clubs) worth club sheet.fixtures season.scores
     (is_of_sheet sheet) limits.fixtures
 
-pub over_from_among : (sheet : Sheet) (season : Results) (table : List Totals)
-    → IsWithinLimits sheet → AreTotalsAmong sheet season (clubs_of sheet) table
-    → AreTotalsOver sheet season table
-over_from_among sheet season table limits are club below column =
-    are club (is_of_sheet sheet club below) column
-    ∙ among_all sheet season (worth_in column) club limits
+pub over_from_among : (sheet : Sheet) (season : Results) (rows : List ℕ) (table : List Totals)
+    → IsWithinLimits sheet → AreTotalsFor sheet season (clubs_of sheet) rows table
+    → AreTotalsOver sheet season rows table
+over_from_among sheet season rows table limits are club has column =
+    are club has column ∙ among_all sheet season (worth_in column) club limits
 
-pub among_from_over : (sheet : Sheet) (season : Results) (table : List Totals)
-    → IsWithinLimits sheet → AreTotalsOver sheet season table
-    → AreTotalsAmong sheet season (clubs_of sheet) table
-among_from_over sheet season table limits are club has column =
-    are club (below_clubs sheet club has) column
-    ∙ sym (among_all sheet season (worth_in column) club limits)
+pub among_from_over : (sheet : Sheet) (season : Results) (rows : List ℕ) (table : List Totals)
+    → IsWithinLimits sheet → AreTotalsOver sheet season rows table
+    → AreTotalsFor sheet season (clubs_of sheet) rows table
+among_from_over sheet season rows table limits are club has column =
+    are club has column ∙ sym (among_all sheet season (worth_in column) club limits)
 
 -- a row that is put together with that of a match grows by what the match is worth
 pub grown_by_match : (old row new : Totals) (scored conceded : ℕ) (away : Bool)

@@ -1,6 +1,6 @@
 -- What matches add up to for clubs, kept by the clubs' numbers, and the comparisons of clubs by
 -- these sums.
-use Rattle.std.specs.Prelude.{◌<◌, ℕ, ℤ, pos, neg_ℤ, IsTrue, List, [], ◌∷◌, length}
+use Rattle.std.specs.Prelude.{ℕ, ℤ, pos, neg_ℤ, IsTrue, List, [], ◌∷◌, length}
 use Rattle.std.specs.Prelude.{slice_index_or, None}
 use Rattle.std.specs.declared.cmp.Ordering.{Ordering}
 use Rattle.league_core.specs.declared.sheet.Sheet.{Sheet}
@@ -16,16 +16,20 @@ use Rattle.example_finish.specs.declared.criterion.Criterion.{Criterion}
 use Rattle.example_finish.specs.declared.criterion.Criterion.TheVariants.{Record}
 use Rattle.example_finish.specs.declared.criterion.Criterion.TheVariants.{Goals, Overall}
 
--- each club of the group has what the matches of the group add up to for it
-abbrev pub AreTotalsAmong : Sheet → Results → List ℕ → List Totals → Type 0
-AreTotalsAmong sheet season group table =
-    (club : ℕ) → IsTrue (has_club group club)
+-- each of these clubs has what the matches of the group add up to for it
+abbrev pub AreTotalsFor : Sheet → Results → List ℕ → List ℕ → List Totals → Type 0
+AreTotalsFor sheet season group rows table =
+    (club : ℕ) → IsTrue (has_club rows club)
     → AreTotals (λ worth. sum_among group worth sheet season club) (totals_at table club)
 
--- each club of the sheet has what all matches add up to for it
-abbrev pub AreTotalsOver : Sheet → Results → List Totals → Type 0
-AreTotalsOver sheet season table =
-    (club : ℕ) → club < length sheet.clubs
+-- each club of the group has what the matches of the group add up to for it
+abbrev pub AreTotalsAmong : Sheet → Results → List ℕ → List Totals → Type 0
+AreTotalsAmong sheet season group table = AreTotalsFor sheet season group group table
+
+-- each of these clubs has what all matches add up to for it
+abbrev pub AreTotalsOver : Sheet → Results → List ℕ → List Totals → Type 0
+AreTotalsOver sheet season rows table =
+    (club : ℕ) → IsTrue (has_club rows club)
     → AreTotals (λ worth. sum_of worth sheet season club) (totals_at table club)
 
 -- all rows of the table are at most this far from zero

@@ -112,7 +112,7 @@ fn by_goals(proposed: &Proposed, group: ClubSet, club: u8) -> Standing
     ensures { IsStandingOf (by_first_sums (sheet_asked proposed.now)
         (finish_asked proposed.now)) (clubs_in group) club result }
 {
-    let all = proposed.totals_over();
+    let all = proposed.totals_over(group);
     let comparison = Comparison {
         criterion: Criterion::Goals,
         sheet: proposed.sheet(),
@@ -128,7 +128,7 @@ fn by_overall(proposed: &Proposed, group: ClubSet, club: u8) -> Standing
     ensures { IsStandingOf (by_overall (sheet_asked proposed.now)
         (finish_asked proposed.now)) (clubs_in group) club result }
 {
-    let all = proposed.totals_over();
+    let all = proposed.totals_over(group);
     let comparison = Comparison {
         criterion: Criterion::Overall,
         sheet: proposed.sheet(),

@@ -1,13 +1,13 @@
 //! What the matches of the proposed finish add up to for clubs.
 
-ghost use Rattle.std.specs.Prelude.{◌≡◌, ◌≢◌, ℕ, ◌<◌, length};
-ghost use Rattle.league_core.specs.Sums.{worth_to};
+ghost use Rattle.std.specs.Prelude.{◌≡◌, ◌≢◌, ℕ, ◌<◌, ◌+◌, ◌&&◌, ◌||◌, IsTrue, length};
+ghost use Rattle.league_core.specs.Sums.{has_club, worth_to};
 ghost use Rattle.league_core.specs.ClubSets.{clubs_in};
 ghost use Rattle.tie_criteria.specs.Groups.{IsGroupOf};
 ghost use Rattle.score_box.specs.Totals.{totals_at, no_totals, AreTotalsNear};
 ghost use Rattle.score_box.specs.Totals.{TotalsGrowBy};
 ghost use Rattle.example_finish.specs.ProposalViews.{sheet_asked, season_asked, finish_asked};
-ghost use Rattle.example_finish.specs.ProposedTotals.{AreTotalsAmong, AreTotalsOver};
+ghost use Rattle.example_finish.specs.ProposedTotals.{AreTotalsAmong, AreTotalsFor, AreTotalsOver};
 ghost use Rattle.example_finish.specs.ProposedTotals.{AreTotalsAllNear, worth_proposed};
 
 use crate::proposed::Proposed;
@@ -24,51 +24,73 @@ impl<'a> Proposed<'a> {
             result }
     {
         let mut table = played_among(self.zone_box(), group);
-        self.add_proposed(&mut table, group);
+        self.add_proposed(&mut table, group, group);
         table
     }
 
-    /// What all matches add up to for each club, by the clubs' numbers.
-    pub fn totals_over(&self) -> [Totals; 24]
-        ensures { AreTotalsOver (sheet_asked self.now) (finish_asked self.now) result }
+    /// What all matches add up to for each club of a group, by the clubs' numbers.
+    pub fn totals_over(&self, group: ClubSet) -> [Totals; 24]
+        requires { IsGroupOf (sheet_asked self.now) (clubs_in group) }
+        ensures { AreTotalsOver (sheet_asked self.now) (finish_asked self.now) (clubs_in group)
+            result }
     {
-        let mut table = played_over(self.zone_box());
-        self.add_proposed(&mut table, ClubSet::first(self.sheet().clubs.len() as u8));
+        let all = ClubSet::first(self.sheet().clubs.len() as u8);
+        let mut table = played_over(self.zone_box(), group);
+        self.add_proposed(&mut table, all, group);
         table
     }
 
-    // Adds the matches among the group's clubs that are not played.
-    fn add_proposed(&self, table: &mut [Totals], group: ClubSet)
+    // Adds to the rows of some clubs of a group the matches among the group's clubs that are not
+    // played. Where neither side is one of those clubs, a match is passed over.
+    fn add_proposed(&self, table: &mut [Totals], group: ClubSet, rows: ClubSet)
         requires of_group { IsGroupOf (sheet_asked self.now) (clubs_in group) }
         requires long { length table.old ≡ 24 }
         requires near { AreTotalsAllNear 5000000 table.old }
-        requires played { AreTotalsAmong (sheet_asked self.now) (season_asked self.now)
-            (clubs_in group) table.old }
-        ensures { AreTotalsAmong (sheet_asked self.now) (finish_asked self.now)
-            (clubs_in group) table.new }
+        requires played { AreTotalsFor (sheet_asked self.now) (season_asked self.now)
+            (clubs_in group) (clubs_in rows) table.old }
+        ensures { AreTotalsFor (sheet_asked self.now) (finish_asked self.now)
+            (clubs_in group) (clubs_in rows) table.new }
     {
         let _season = self.season();
         let _sheet = self.sheet();
         let unplayed = self.zone_box.unplayed();
         for i in 0..unplayed.len() {
-            self.add_if_counted(table, group, unplayed[i]);
+            self.add_if_counted(table, group, rows, unplayed[i]);
         }
     }
 
-    // Adds a match, if both its sides are of the group.
-    fn add_if_counted(&self, table: &mut [Totals], group: ClubSet, fixture: u16)
+    // Adds a match, if both its sides are of the group and one of them has a row that is wanted.
+    fn add_if_counted(&self, table: &mut [Totals], group: ClubSet, rows: ClubSet, fixture: u16)
         requires in_range { fixture < length (season_asked self.now).scores }
         requires long { length table.old ≡ 24 }
         requires near { AreTotalsAllNear 100000000 table.old }
-        ensures { (club : ℕ) → TotalsGrowBy
+        ensures sums { (club : ℕ) → IsTrue (has_club (clubs_in rows) club) → TotalsGrowBy
             (worth_proposed self.now (clubs_in group) club fixture)
             (totals_at table.old club) (totals_at table.new club) }
+        ensures near { (club bound : ℕ) → AreTotalsNear bound (totals_at table.old club)
+            → AreTotalsNear (bound + 255) (totals_at table.new club) }
     {
         let sides = self.sides(fixture);
-        if group.has(sides.home) && group.has(sides.away) {
+        if is_among(group, sides) && is_of_one(rows, sides) {
             add(table, sides, self.score(fixture));
         }
     }
+}
+
+// Both sides are of the group.
+fn is_among(group: ClubSet, sides: Fixture) -> bool
+    ensures { result ≡ (has_club (clubs_in group) sides.home
+        && has_club (clubs_in group) sides.away) }
+{
+    group.has(sides.home) && group.has(sides.away)
+}
+
+// One of the sides is of the set, or both are.
+fn is_of_one(rows: ClubSet, sides: Fixture) -> bool
+    ensures { result ≡ (has_club (clubs_in rows) sides.home
+        || has_club (clubs_in rows) sides.away) }
+{
+    rows.has(sides.home) || rows.has(sides.away)
 }
 
 // Adds a match to the rows of its two clubs.
@@ -124,15 +146,24 @@ fn played_among(zone_box: &ZoneBox, group: ClubSet) -> [Totals; 24]
     table
 }
 
-// What all played matches add up to for each club.
-fn played_over(zone_box: &ZoneBox) -> [Totals; 24]
-    ensures totals { AreTotalsOver zone_box.now.sheet zone_box.now.season result }
+// What all played matches add up to for each club of a group.
+fn played_over(zone_box: &ZoneBox, group: ClubSet) -> [Totals; 24]
+    requires { IsGroupOf zone_box.now.sheet (clubs_in group) }
+    ensures totals { AreTotalsOver zone_box.now.sheet zone_box.now.season (clubs_in group)
+        result }
     ensures near { AreTotalsAllNear 5000000 result }
     ensures long { length result ≡ 24 }
 {
+    let _sheet = zone_box.sheet();
     let mut table = no_rows();
-    for club in 0..zone_box.sheet().clubs.len() as u8 {
+    let mut left = group;
+    for _step in 0..SET_WIDTH {
+        if left.is_empty() {
+            return table;
+        }
+        let club = left.first_club();
         table[club as usize] = zone_box.totals(club);
+        left = left.without(ClubSet::single(club));
     }
     table
 }

@@ -15,8 +15,7 @@ returns c =
     standing_agrees
     (by_criterion Overall c.sheet.result.now c.season.result.now c.totals_over-all.result)
     (by_overall sheet finish) group c.args.club c.by.result
-    (λ x has. by_overall_is sheet c.sheet.result.now c.season.result.now finish
-    c.totals_over-all.result x c.args.club c.sheet.ensures.sheet c.totals_over-all.ensures
-    (c.requires.of_group x has)
-    (c.requires.of_group c.args.club c.requires.among))
+    (λ x has. by_overall_is sheet c.sheet.result.now c.season.result.now finish group
+    c.totals_over-all.result x c.args.club c.sheet.ensures.sheet c.totals_over-all.ensures has
+    c.requires.among)
     c.by.ensures

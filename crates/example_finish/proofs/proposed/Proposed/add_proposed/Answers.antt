@@ -51,10 +51,12 @@ loop-i-preserved c =
     let all : c.unplayed-unplayed.result.now ≡ unplayed_in scores =
     c.unplayed-unplayed.ensures ∙ ap (λ (asked : Asked). unplayed_in (season_asked asked).scores)
     c.self.view_is in
-    with_one_more c.args.self.now (clubs_in c.args.group) (unplayed_in scores) c.loop-i.i
+    with_one_more c.args.self.now (clubs_in c.args.group) (clubs_in c.args.rows)
+    (unplayed_in scores) c.loop-i.i
     (get_or c.unplayed-unplayed.result.now c.loop-i.i 0) c.loop-i.table c.add_if_counted.new.table
     (omega (arith, ap (λ (ks : List ℕ). length ks) all)) (ap (λ (ks : List ℕ). get_or ks c.loop-i.i
-    0) all) c.loop-i.invariant c.add_if_counted.ensures
+    0) all) c.loop-i.invariant
+    c.add_if_counted.ensures.sums c.add_if_counted.ensures.near
 
 pub returns : goal.returns
 returns c =
@@ -62,7 +64,7 @@ returns c =
     let all : c.unplayed-unplayed.result.now ≡ unplayed_in scores =
     c.unplayed-unplayed.ensures ∙ ap (λ (asked : Asked). unplayed_in (season_asked asked).scores)
     c.self.view_is in
-    with_all c.args.self.now (clubs_in c.args.group) c.loop-i.i c.loop-i.table
+    with_all c.args.self.now (clubs_in c.args.group) (clubs_in c.args.rows) c.loop-i.i c.loop-i.table
     (subst (IsSeasonOf (sheet_asked c.args.self.now)) c.season-season.ensures.season
     c.season-season.ensures.of_sheet)
     (subst (λ (asked : Asked). HasFinish asked.setting) c.self.view_is c.self.invariant.has_finish)

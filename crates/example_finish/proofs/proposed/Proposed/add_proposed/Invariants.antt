@@ -7,4 +7,5 @@ use Rattle.example_finish.proofs.proposed.Proposed.add_proposed.Given as goal
 
 abbrev pub invariant-loop-i : goal.invariant-loop-i
 invariant-loop-i l =
-    AreTotalsWith l.self (clubs_in l.group) (unplayed_in (season_asked l.self).scores) l.i l.table
+    AreTotalsWith l.self (clubs_in l.group) (clubs_in l.rows)
+    (unplayed_in (season_asked l.self).scores) l.i l.table

@@ -3,7 +3,7 @@ use Rattle.league_core.specs.Sheets.{IsWithinLimits}
 use Rattle.league_core.specs.ClubSets.{clubs_in}
 use Rattle.score_box.specs.Settings.{Setting}
 use Rattle.example_finish.specs.ProposalViews.{sheet_asked, season_asked, finish_asked}
-use Rattle.example_finish.specs.ProposedTotals.{AreTotalsAmong, AreTotalsOver}
+use Rattle.example_finish.specs.ProposedTotals.{AreTotalsFor, AreTotalsOver}
 use Rattle.example_finish.proofs.ProposedTotalLemmas.{over_from_among, among_from_over}
 use Rattle.example_finish.proofs.ProposedTotalLemmas.{group_of_all}
 use Rattle.example_finish.proofs.ProposedTotalLemmas.{all_clubs}
@@ -11,34 +11,35 @@ use Rattle.example_finish.proofs.proposed.Proposed.totals_over.Goals as goal
 
 pub add_proposed-requires-clause-of_group : goal.add_proposed-requires-clause-of_group
 add_proposed-requires-clause-of_group c =
-    let all = all_clubs (sheet_asked c.args.self.now) c.sheet.result.now (clubs_in c.first.result)
-    c.len.result c.sheet.ensures.sheet c.len.ensures c.first.ensures in
-    group_of_all (sheet_asked c.args.self.now) (clubs_in c.first.result) all
+    let all = all_clubs (sheet_asked c.args.self.now) c.sheet.result.now (clubs_in c.first-all.result)
+    c.len.result c.sheet.ensures.sheet c.len.ensures c.first-all.ensures in
+    group_of_all (sheet_asked c.args.self.now) (clubs_in c.first-all.result) all
 
 pub add_proposed-requires-clause-played : goal.add_proposed-requires-clause-played
 add_proposed-requires-clause-played c =
     let sheet = sheet_asked c.args.self.now in
     let season = season_asked c.args.self.now in
-    let all = all_clubs sheet c.sheet.result.now (clubs_in c.first.result) c.len.result
-    c.sheet.ensures.sheet c.len.ensures c.first.ensures in
+    let all = all_clubs sheet c.sheet.result.now (clubs_in c.first-all.result) c.len.result
+    c.sheet.ensures.sheet c.len.ensures c.first-all.ensures in
     let limits : IsWithinLimits sheet = subst IsWithinLimits c.sheet.ensures.sheet
     c.sheet.ensures.limits in
-    let over : AreTotalsOver sheet season c.played_over-table.result =
-    subst (λ (setting : Setting). AreTotalsOver setting.sheet setting.season
+    let rows = clubs_in c.args.group in
+    let over : AreTotalsOver sheet season rows c.played_over-table.result =
+    subst (λ (setting : Setting). AreTotalsOver setting.sheet setting.season rows
     c.played_over-table.result) c.zone_box.ensures
     c.played_over-table.ensures.totals in
-    subst (λ (group : List ℕ). AreTotalsAmong sheet season group c.played_over-table.result) (sym
-    all)
-    (among_from_over sheet season c.played_over-table.result limits over)
+    subst (λ (group : List ℕ). AreTotalsFor sheet season group rows c.played_over-table.result)
+    (sym all) (among_from_over sheet season rows c.played_over-table.result limits over)
 
 pub returns : goal.returns
 returns c =
     let sheet = sheet_asked c.args.self.now in
     let finish = finish_asked c.args.self.now in
-    let all = all_clubs sheet c.sheet.result.now (clubs_in c.first.result) c.len.result
-    c.sheet.ensures.sheet c.len.ensures c.first.ensures in
+    let all = all_clubs sheet c.sheet.result.now (clubs_in c.first-all.result) c.len.result
+    c.sheet.ensures.sheet c.len.ensures c.first-all.ensures in
     let limits : IsWithinLimits sheet = subst IsWithinLimits c.sheet.ensures.sheet
     c.sheet.ensures.limits in
-    over_from_among sheet finish c.add_proposed.new.table limits
-    (subst (λ (group : List ℕ). AreTotalsAmong sheet finish group c.add_proposed.new.table) all
+    let rows = clubs_in c.args.group in
+    over_from_among sheet finish rows c.add_proposed.new.table limits
+    (subst (λ (group : List ℕ). AreTotalsFor sheet finish group rows c.add_proposed.new.table) all
     c.add_proposed.ensures)
