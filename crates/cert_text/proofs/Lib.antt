@@ -2,6 +2,7 @@
 -- and
 -- rows worked by hand.
 pub mod RowLemmas
+pub mod PlainRowLemmas
 pub mod SetLemmas
 pub mod SetListLemmas
 pub mod ReadLemmas

@@ -10,6 +10,7 @@ mod forms;
 mod laws;
 mod line;
 mod places;
+mod plain_row;
 mod proof_line;
 mod range;
 mod reader;

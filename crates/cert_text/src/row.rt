@@ -4,6 +4,7 @@ ghost use Rattle.std.specs.Prelude.{◌≡◌, ◌<◌, length, map, IfOk};
 ghost use Rattle.csv.specs.Records.{fields_of};
 ghost use Rattle.cert_text.specs.Rows.{text_of_row, ReadsBack};
 
+use crate::plain_row::{are_plain, plain_row};
 use csv::{ByteRecord, WriterBuilder};
 use league_core::OutOfMemory;
 use std::alloc::Global;
@@ -17,9 +18,21 @@ pub fn write_row(alloc: Global, fields: &[Vec<u8>]) -> Result<Vec<u8>, OutOfMemo
     ensures reads_back { IfOk result
         (λ row. ReadsBack row.items (map (λ field. field.items) fields.now)) }
 {
-    let gathered = gathered(alloc, fields)?;
-    let row = written(alloc, &gathered)?;
+    let row = row_of(alloc, fields)?;
     Ok(row)
+}
+
+// Without csv's writer where it would quote nothing.
+fn row_of(alloc: Global, fields: &[Vec<u8>]) -> Result<Vec<u8>, OutOfMemory>
+    requires some { 0 < length fields.now }
+    ensures { IfOk result
+        (λ row. row.items ≡ text_of_row (map (λ field. field.items) fields.now)) }
+{
+    if fields.len() > 1 && are_plain(fields) {
+        return plain_row(alloc, fields);
+    }
+    let gathered = gathered(alloc, fields)?;
+    written(alloc, &gathered)
 }
 
 fn gathered(alloc: Global, fields: &[Vec<u8>]) -> Result<ByteRecord, OutOfMemory>
