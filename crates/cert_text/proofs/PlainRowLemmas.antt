@@ -30,13 +30,13 @@ plain-step text fields place d inside plain =
     ap (row_body default_writer) (sym (take-map text (place + 1) fields))
     ∙ row-step default_writer (map text fields) place within
     ∙ ap (λ front. row_body default_writer front ++ (next_sep default_writer place
-        ++ field_text default_writer (get_or (map text fields) place []))) (take-map text place fields)
+    ++ field_text default_writer (get_or (map text fields) place []))) (take-map text place fields)
     ∙ ap (λ last. row_body default_writer (map text (take place fields))
-        ++ (next_sep default_writer place ++ last))
-        (ap (field_text default_writer) (get_or-map text fields place d [] inside)
-        ∙ field_stands (text (get_or fields place d))
-          (list_all-at (λ field. not (needs_quotes default_writer (text field))) fields place d
-          inside plain))
+    ++ (next_sep default_writer place ++ last))
+    (ap (field_text default_writer) (get_or-map text fields place d [] inside)
+    ∙ field_stands (text (get_or fields place d))
+    (list_all-at (λ field. not (needs_quotes default_writer (text field))) fields place d
+    inside plain))
 
 -- a row of two fields or more shows something, and ends with a line feed
 pub plain-whole : {A : Type 0} (text : A → List ℕ) (fields : List A) → 1 < length fields

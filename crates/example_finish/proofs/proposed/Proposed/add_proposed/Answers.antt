@@ -64,7 +64,8 @@ returns c =
     let all : c.unplayed-unplayed.result.now ≡ unplayed_in scores =
     c.unplayed-unplayed.ensures ∙ ap (λ (asked : Asked). unplayed_in (season_asked asked).scores)
     c.self.view_is in
-    with_all c.args.self.now (clubs_in c.args.group) (clubs_in c.args.rows) c.loop-i.i c.loop-i.table
+    with_all c.args.self.now (clubs_in c.args.group) (clubs_in c.args.rows) c.loop-i.i
+    c.loop-i.table
     (subst (IsSeasonOf (sheet_asked c.args.self.now)) c.season-season.ensures.season
     c.season-season.ensures.of_sheet)
     (subst (λ (asked : Asked). HasFinish asked.setting) c.self.view_is c.self.invariant.has_finish)
