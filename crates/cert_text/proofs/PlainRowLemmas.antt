@@ -3,7 +3,8 @@ use Rattle.std.proofs.Common.{◌≡◌, ◌<◌, ◌+◌, ◌++◌, ◌∷◌, 
 use Rattle.std.proofs.Common.{get_or, length, map, take, not, refl, sym, ap, ◌∙◌, arith}
 use Rattle.std.specs.List.{list_all}
 use Rattle.std.proofs.lemmas.List.{get_or-map, length-map, take-map}
-use Rattle.csv.specs.Writing.{default_writer, field_text, is_blank, needs_quotes, next_sep, row_body}
+use Rattle.csv.specs.Writing.{default_writer, field_text, is_blank, needs_quotes, next_sep}
+use Rattle.csv.specs.Writing.{row_body}
 use Rattle.csv.proofs.WriteFacts.{row-step}
 use Rattle.league_core.proofs.PlainLemmas.{list_all-at}
 use Rattle.cert_text.specs.Rows.{text_of_row}

@@ -14,7 +14,7 @@ const USUAL_LENGTH: usize = 48;
 
 /// Whether there is nothing to quote in any of these fields.
 pub fn are_plain(fields: &[Vec<u8>]) -> bool
-    ensures { result ≡ list_all (λ field. not (needs_quotes default_writer field.items)) fields.now }
+    ensures { result ≡ list_all (λ it. not (needs_quotes default_writer it.items)) fields.now }
 {
     fields.iter().all(|field| !has_mark(field.as_slice()))
 }
@@ -35,7 +35,7 @@ fn is_mark(byte: u8) -> bool
 /// The row of two fields or more with nothing to quote.
 pub fn plain_row(alloc: Global, fields: &[Vec<u8>]) -> Result<Vec<u8>, OutOfMemory>
     requires some { 1 < length fields.now }
-    requires plain { list_all (λ field. not (needs_quotes default_writer field.items)) fields.now ≡ true }
+    requires plain { list_all (λ it. not (needs_quotes default_writer it.items)) fields.now ≡ true }
     ensures { IfOk result (λ row. row.items ≡ text_of_row (map (λ field. field.items) fields.now)) }
 {
     let mut row = Vec::with_capacity(alloc, USUAL_LENGTH)?;

@@ -12,7 +12,8 @@ use Rattle.example_finish.proofs.proposed.Proposed.totals_over.Goals as goal
 pub add_proposed-requires-clause-of_group : goal.add_proposed-requires-clause-of_group
 add_proposed-requires-clause-of_group c =
     let all = all_clubs (sheet_asked c.args.self.now) c.sheet.result.now
-    (clubs_in c.first-all.result) c.len.result c.sheet.ensures.sheet c.len.ensures c.first-all.ensures in
+    (clubs_in c.first-all.result) c.len.result
+    c.sheet.ensures.sheet c.len.ensures c.first-all.ensures in
     group_of_all (sheet_asked c.args.self.now) (clubs_in c.first-all.result) all
 
 pub add_proposed-requires-clause-played : goal.add_proposed-requires-clause-played
