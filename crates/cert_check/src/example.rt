@@ -140,7 +140,15 @@ impl<'a> Report<'a> {
     {
         let place = place(self.alloc, self.sheet, finish, drawn, question.club)?;
         let on_side = question.claim.is_on_side(place <= question.line);
-        let points = points_of(self.sheet, finish, question.club);
-        Ok(question.is_in_window(points) && on_side)
+        Ok(self.is_in_window(question, finish) && on_side)
+    }
+
+    fn is_in_window(&self, question: Question, finish: &Season) -> bool
+        requires question { IsQuestionOf self.now.basis.sheet question }
+        requires of_sheet { IsSeasonOf self.now.basis.sheet finish.now }
+        ensures { result ≡ questions.is_in_window question
+            (sums.points_of self.now.basis.sheet finish.now question.club) }
+    {
+        question.is_in_window(points_of(self.sheet, finish, question.club))
     }
 }
