@@ -18,7 +18,7 @@ use crate::stop::Halt;
 use crate::token::Token;
 use cert_text::ProofLine;
 use final_rank::place;
-use league_core::{Claim, Event, Lots, OutOfMemory, Question, Score, Season};
+use league_core::{Event, Lots, OutOfMemory, Question, Score, Season};
 use tie_criteria::points_of;
 
 impl<'a> Report<'a> {
