@@ -18,7 +18,7 @@ use crate::stop::Halt;
 use crate::token::Token;
 use cert_text::ProofLine;
 use final_rank::place;
-use league_core::{Claim, Event, Lots, OutOfMemory, Question, Score, Season};
+use league_core::{Event, Lots, OutOfMemory, Question, Score, Season};
 use tie_criteria::points_of;
 
 impl<'a> Report<'a> {
@@ -140,7 +140,15 @@ impl<'a> Report<'a> {
     {
         let place = place(self.alloc, self.sheet, finish, drawn, question.club)?;
         let on_side = question.claim.is_on_side(place <= question.line);
-        let points = points_of(self.sheet, finish, question.club);
-        Ok(question.is_in_window(points) && on_side)
+        Ok(self.is_in_window(question, finish) && on_side)
+    }
+
+    fn is_in_window(&self, question: Question, finish: &Season) -> bool
+        requires question { IsQuestionOf self.now.basis.sheet question }
+        requires of_sheet { IsSeasonOf self.now.basis.sheet finish.now }
+        ensures { result ≡ questions.is_in_window question
+            (sums.points_of self.now.basis.sheet finish.now question.club) }
+    {
+        question.is_in_window(points_of(self.sheet, finish, question.club))
     }
 }

@@ -1,9 +1,8 @@
 //! How a new pool is told a season.
 
-ghost use Rattle.std.specs.Prelude.{◌≡◌, ◌<◌, ◌≤◌, ◌+◌, OnOk, length};
-ghost use Rattle.league_core.specs.Limits.{most_clubs, most_events};
-ghost use Rattle.league_core.specs.Seasons.{IsLeague, IsEventOf};
-ghost use Rattle.branch_pool.specs.Steps.{Changes};
+ghost use Rattle.std.specs.Prelude.{◌<◌, ◌≤◌, ◌+◌, OnOk, length};
+ghost use Rattle.league_core.specs.Limits.{most_clubs};
+ghost use Rattle.league_core.specs.Seasons.{IsLeague};
 ghost use Rattle.verdict_run.specs.Telling.{HasBeenTold, AsksTheSame};
 
 use branch_pool::Pool;

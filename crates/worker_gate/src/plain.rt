@@ -1,8 +1,7 @@
 //! A round on one thread, without workers.
 
-ghost use Rattle.std.specs.Prelude.{◌≡◌, IfOk, OnErr, OnOk, ◌++◌, ◌∷◌, [], ◌<◌, false, length};
-ghost use Rattle.league_core.specs.Seasons.{IsEventOf, season_after};
-ghost use Rattle.league_core.specs.Limits.{most_events};
+ghost use Rattle.std.specs.Prelude.{◌≡◌, IfOk, OnErr, ◌<◌, false, length};
+ghost use Rattle.league_core.specs.Seasons.{season_after};
 ghost use Rattle.result_log.specs.Records.{IsEntryAt};
 ghost use Rattle.branch_pool.specs.States.{out_count};
 ghost use Rattle.fixture_sheet.specs.LastReads.{ReadsOnWay};
@@ -13,7 +12,7 @@ ghost use Rattle.worker_gate.specs.Rounds.{BreaksOff, EndsRound, IsNextEntry, cl
 use crate::feeder::next_told;
 use crate::round::{Round, RoundEnd};
 use branch_pool::Pool;
-use league_core::{Event, OutOfMemory};
+use league_core::OutOfMemory;
 use port_core::{LineReader, Source};
 use result_log::{Entry, FeedStop};
 use std::alloc::Global;
