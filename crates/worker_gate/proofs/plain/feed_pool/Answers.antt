@@ -22,14 +22,14 @@ entries-preserved g c =
     let before = c.entries.invariant in
     let next = rw c.in-Ok-Change.field-0-is at c.in-Ok-Change.ensures.next in
     let log = ok-holds c.tell.result
-    (c.tell.new.pool.log ≡ c.entries.pool.log ++ c.in-Ok-Change.event ∷ [])
+    (c.tell.new.self.log ≡ c.entries.pool.log ++ c.in-Ok-Change.event ∷ [])
     (sym c.is_err.ensures.value ∙ c.if-is_err.false) c.tell.ensures.log in
     record {
       sheet = c.tell.ensures.sheet ∙ before.sheet;
       questions = c.tell.ensures.questions ∙ before.questions;
       home = ap out_count c.tell.ensures.home ∙ before.home;
       goes = goes-further-to c.args.pool.now.sheet c.args.pool.now.log c.entries.pool.log
-          c.tell.new.pool.log c.in-Ok-Change.event _ _ _ log before.goes
+          c.tell.new.self.log c.in-Ok-Change.event _ _ _ log before.goes
           (next-as _ _ _ _ (Ok (Change c.in-Ok-Change.event))
           (ap (λ sheet. live_entry sheet c.entries.pool.log) before.sheet) next);
       last = round-further g.S.Source.left g.S.Source.reads c.args.pool.now.sheet
