@@ -9,8 +9,8 @@ ghost use Rattle.pool_lock.specs.Lends.{IsEyeAfter};
 use crate::pools::{is_at, worked};
 use branch_pool::Pool;
 use epoch_cancel::{EpochWord, Eye, Front, Owner};
-use league_core::{Event, Score, TreeNode};
-use pool_lock::{Job, PoolLock};
+use league_core::{Event, Score, Season, TreeNode};
+use pool_lock::{Job, PoolLock, WorkBadge};
 use std::alloc::Global;
 use std::marker::Brand;
 use std::sync::Wait;
@@ -87,12 +87,7 @@ fn told_as<J: Job, R: Wait>(
         alloc, blank, word, owner, front, eyes, pool,
     )?;
     let mut badge = badges.pop().ok_or("no badge")?;
-    let is_taken = lock.report(rt, &mut front, RESULT).is_ok();
-    let then = lock.cancelled(&mut badge, 0);
-    if again && !is_taken {
-        let _ = lock.report(rt, &mut front, RESULT);
-    }
-    let at_last = lock.cancelled(&mut badge, 0);
+    let (is_taken, then, at_last) = report(rt, &lock, &mut front, &mut badge, again);
     Ok(Told {
         is_taken,
         then,
@@ -101,11 +96,39 @@ fn told_as<J: Job, R: Wait>(
     })
 }
 
+fn report<J: Job, R: Wait>(
+    rt: &R,
+    lock: &PoolLock<J>,
+    front: &mut pool_lock::Front<J>,
+    badge: &mut WorkBadge<J>,
+    again: bool,
+) -> (bool, Option<u64>, Option<u64>)
+    requires may_be { IsEventOf (season_after J.sheet front.old) RESULT }
+{
+    if lock.report(rt, front, RESULT).is_ok() {
+        let then = lock.cancelled(badge, 0);
+        return (true, then, then);
+    }
+    let then = lock.cancelled(badge, 0);
+    if again {
+        let _ = lock.report(rt, front, RESULT);
+    }
+    (false, then, lock.cancelled(badge, 0))
+}
+
+// Whether the pool may be told the result.
 fn may_be_told(pool: &Pool) -> bool
     ensures { IsTrue result → IsEventOf (season_after pool.now.sheet pool.now.log) RESULT }
 {
     let _log = pool.log();
-    !pool.season().scores().is_empty()
+    may_be(pool.season())
+}
+
+// Whether the season may be told the result.
+fn may_be(season: &Season) -> bool
+    ensures { IsTrue result → IsEventOf season.now RESULT }
+{
+    !season.scores().is_empty()
 }
 
 // The nodes of all trees, tree by tree.
@@ -122,7 +145,7 @@ fn all_nodes(alloc: Global, pool: &Pool) -> Result<Vec<TreeNode>, Fail> {
 }
 
 // Whether the pool has the result where that was taken, and else is as before, and whether the
-// word tells the same. A split and two refuted leaves stand among its nodes.
+// word tells the same. Of its six trees one is split.
 fn is_told_or_as_before<R: Wait>(
     rt: &R,
     alloc: Global,
@@ -132,13 +155,16 @@ fn is_told_or_as_before<R: Wait>(
     requires home { out_count pool.loans ≡ 0 }
 {
     let nodes = all_nodes(alloc, &pool)?;
+    if nodes.len() < 8 {
+        return Ok(false);
+    }
     let told = told(rt, alloc, pool, again)?;
     let is_then = told.then == if told.is_taken { Some(1) } else { None };
     if told.is_taken || again {
         return Ok(is_then && told.at_last == Some(1) && is_at(&told.pool, 1, 0, true));
     }
     let left = all_nodes(alloc, &told.pool)?;
-    let is_same = left.as_slice() == nodes.as_slice() && nodes.len() > 7;
+    let is_same = left.as_slice() == nodes.as_slice();
     Ok(is_then && told.at_last.is_none() && is_same && is_at(&told.pool, 0, 0, false))
 }
 
