@@ -1,6 +1,8 @@
 //! Calls on a pool while memory is wanting.
 
+ghost use Rattle.std.specs.Prelude.{◌≡◌, IfOk};
 ghost use Rattle.league_core.specs.Sheets.{IsWithinLimits};
+ghost use Rattle.branch_pool.specs.States.{out_count};
 
 use branch_pool::{Gave, Pool, Took};
 use league_core::{Event, OutOfMemory, Score, TreeNode};
@@ -28,8 +30,8 @@ fn pool(alloc: Global) -> Result<Pool, Fail> {
     Ok(begun(alloc, sample)??)
 }
 
-// So many events, so many numbers out, and a score known or not.
-fn is_at(pool: &Pool, epoch: u64, out: u64, is_played: bool) -> bool {
+/// So many events, so many numbers out, and a score known or not.
+pub fn is_at(pool: &Pool, epoch: u64, out: u64, is_played: bool) -> bool {
     pool.epoch() == epoch && pool.out() == out && has_score(pool) == is_played
 }
 
@@ -120,8 +122,10 @@ fn change_leaves_the_pool(rt: HostRuntime) -> Result<(), Fail> {
     Ok(())
 }
 
-// The pool of C with all work done.
-fn worked(alloc: Global) -> Result<Pool, Fail> {
+/// The pool of C with all work done.
+pub fn worked(alloc: Global) -> Result<Pool, Fail>
+    ensures home { IfOk result (λ pool. out_count pool.loans ≡ 0) }
+{
     let sample = sample_of(alloc, IDLE).ok_or("no league")?;
     let pool = begun(alloc, sample)??;
     if pool.out() > 0 {
