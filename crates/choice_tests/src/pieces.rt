@@ -1,0 +1,189 @@
+//! Pieces of three leagues that are worked on paper: C, the first club, is asked about the first
+//! place.
+
+use crate::help::{ahead, asked, behind, is_question_of, is_zone_for};
+use branch_rules::work;
+use league_core::{Claim, ClubSet, Finish, Listing, Literal, Question, Reason, Score, Test, Zone};
+use reason_core::{Done, Piece};
+use sample_leagues::sample_of;
+use score_box::ZoneBox;
+use std::alloc::Global;
+use std::process::Abort;
+use std::test::Fail;
+
+/// X and Y have 3 points each and still play each other, C can have 3.
+const LEVEL: &[u8] = b"league,Level,2\nclub,C,1\nclub,X,2\nclub,Y,3\nclub,Z,4\nmatch,X,Z
+match,Y,Z\nmatch,C,Z\nmatch,X,Y\nline,1\nseason\nresult,1,1,0\nresult,2,1,0\n";
+
+/// C has 2 points, X and Y have 4; C-Z and X-Y are open, at most one goal a side.
+const DRAWN: &[u8] = b"league,Drawn,1\nclub,C,1\nclub,X,2\nclub,Y,3\nclub,Z,4\nmatch,C,X
+match,C,Y\nmatch,X,Z\nmatch,Y,Z\nmatch,C,Z\nmatch,X,Y\nline,1\nseason\nresult,1,0,0
+result,2,0,0\nresult,3,3,0\nresult,4,3,0\n";
+
+/// C has beaten X twice, and a round is open.
+const TWICE: &[u8] = b"league,Twice,20\nclub,C,1\nclub,X,2\nclub,Y,3\nclub,Z,4\nmatch,C,X
+match,C,X\nmatch,C,X\nmatch,Y,Z\nline,1\nseason\nresult,1,1,0\nresult,2,1,0\n";
+
+/// What is found in a piece, without the piece; of an example the score of the last match.
+#[derive(Clone, Copy, Debug, PartialEq, Eq)]
+enum Found {
+    Won(Option<Score>),
+    Refuted(Reason),
+    Split(Test),
+    Undone,
+}
+
+fn found(
+    rt: &impl Abort,
+    alloc: Global,
+    text: &[u8],
+    question: Question,
+    literals: &[Literal],
+) -> Result<Found, Fail> {
+    let sample = sample_of(alloc, text).ok_or("no league")?;
+    let sheet = &sample.sheet;
+    let zone = Zone {
+        literals: Listing::from_vec(literals.to_vec(alloc)?),
+    };
+    assert!(rt; is_question_of(sheet, &question));
+    assert!(rt; is_zone_for(sheet, &question, zone.literals.as_slice()));
+    let zone_box = ZoneBox::of(alloc, sheet, &sample.season, &zone)?;
+    assert!(rt; zone_box.has_finish());
+    let piece = Piece {
+        season: sample.season.copy(alloc)?,
+        question,
+        zone,
+    };
+    Ok(match work(alloc, sheet, piece)? {
+        Done::Won(_, finish, _) => Found::Won(last_score(&finish)),
+        Done::Refuted(_, reason) => Found::Refuted(reason),
+        Done::Split(_, literal) => Found::Split(literal.test),
+        Done::Undone => Found::Undone,
+    })
+}
+
+fn last_score(finish: &Finish) -> Option<Score> {
+    match finish.as_season().scores() {
+        [.., score] => *score,
+        [] => None,
+    }
+}
+
+/// Asserts what is found where C is to be inside, with any points.
+fn inside(
+    rt: &impl Abort,
+    alloc: Global,
+    text: &[u8],
+    zone: &[Literal],
+    wanted: Found,
+) -> Result<(), Fail> {
+    let question = asked(Claim::Inside, -99, 1800);
+    assert_eq!(rt; found(rt, alloc, text, question, zone)?, wanted);
+    Ok(())
+}
+
+/// The same where it is to be outside.
+fn outside(
+    rt: &impl Abort,
+    alloc: Global,
+    text: &[u8],
+    zone: &[Literal],
+    wanted: Found,
+) -> Result<(), Fail> {
+    let question = asked(Claim::Outside, -99, 1800);
+    assert_eq!(rt; found(rt, alloc, text, question, zone)?, wanted);
+    Ok(())
+}
+
+fn rival(club: u8) -> Found {
+    Found::Split(Test::Rival { club })
+}
+
+fn low(bits: u32) -> Found {
+    Found::Refuted(Reason::Low(ClubSet { bits }))
+}
+
+fn high(bits: u32) -> Found {
+    Found::Refuted(Reason::High(ClubSet { bits }))
+}
+
+const COUNT: Found = Found::Refuted(Reason::Count);
+
+/// A rival before C leaves it no place; X and Y behind it have 8 points together, more than twice
+/// the 3 that C can have. To be outside C loses, and X and Y, which are both wished points, part
+/// with a narrow home win.
+#[test]
+fn two_level_rivals_refute_a_piece_together(rt: HostRuntime) -> Result<(), Fail> {
+    let alloc = rt.alloc();
+    inside(&rt, alloc, LEVEL, &[], rival(1))?;
+    inside(&rt, alloc, LEVEL, &[ahead(1)], COUNT)?;
+    inside(&rt, alloc, LEVEL, &[behind(1)], rival(2))?;
+    inside(&rt, alloc, LEVEL, &[behind(1), ahead(2)], COUNT)?;
+    inside(&rt, alloc, LEVEL, &[behind(1), behind(2)], low(6))?;
+    let score = Score { home: 1, away: 0 };
+    outside(&rt, alloc, LEVEL, &[], Found::Won(Some(score)))
+}
+
+/// Each rival can have 3 points, fewer than the 6 that C has for certain.
+#[test]
+fn rivals_that_cannot_come_up_refute_pieces_alone(rt: HostRuntime) -> Result<(), Fail> {
+    let alloc = rt.alloc();
+    outside(&rt, alloc, TWICE, &[], rival(1))?;
+    outside(&rt, alloc, TWICE, &[ahead(1)], high(2))?;
+    outside(&rt, alloc, TWICE, &[behind(1), ahead(2)], high(4))?;
+    outside(&rt, alloc, TWICE, &[behind(1), behind(2)], rival(3))?;
+    outside(&rt, alloc, TWICE, &[behind(1), behind(2), behind(3)], COUNT)
+}
+
+fn all_behind_and(tests: &[Literal], alloc: Global) -> Result<Vec<Literal>, Fail> {
+    let mut zone = vec![in alloc; behind(1); 1]?;
+    zone.push(behind(2))?;
+    zone.push(behind(3))?;
+    for literal in tests {
+        zone.push(*literal)?;
+    }
+    Ok(zone)
+}
+
+/// Asserts what is found in the second league, with all rivals behind C and these literals.
+fn drawn(rt: &impl Abort, alloc: Global, tests: &[Literal], wanted: Found) -> Result<(), Fail> {
+    let zone = all_behind_and(tests, alloc)?;
+    inside(rt, alloc, DRAWN, &zone, wanted)
+}
+
+const C_BEATS_Z: Test = Test::Home { fixture: 4 };
+
+const X_BEATS_Y: Test = Test::Home { fixture: 5 };
+
+const X_DRAWS_Y: Test = Test::Draw { fixture: 5 };
+
+const NO_GOAL_OF_X: Test = Test::HomeMost {
+    fixture: 5,
+    most: 0,
+};
+
+fn of(test: Test, yes: bool) -> Literal {
+    Literal { test, yes }
+}
+
+/// Where C does not win, X has too many points alone; where X or Y wins, the winner. Else X and Y
+/// have 10 points together, just twice what C has, so no set refutes. After 0:0 C has the worse
+/// difference over all matches, after 1:1 fewer goals against the two.
+#[test]
+fn criteria_refute_a_piece_where_points_do_not(rt: HostRuntime) -> Result<(), Fail> {
+    let alloc = rt.alloc();
+    let won = of(C_BEATS_Z, true);
+    let level = [won, of(X_BEATS_Y, false), of(X_DRAWS_Y, true)];
+    drawn(&rt, alloc, &[], Found::Split(C_BEATS_Z))?;
+    drawn(&rt, alloc, &[of(C_BEATS_Z, false)], low(2))?;
+    drawn(&rt, alloc, &[won], Found::Split(X_BEATS_Y))?;
+    drawn(&rt, alloc, &[won, of(X_BEATS_Y, true)], low(2))?;
+    let lost = [won, of(X_BEATS_Y, false), of(X_DRAWS_Y, false)];
+    drawn(&rt, alloc, &lost, low(4))?;
+    drawn(&rt, alloc, &level, Found::Split(NO_GOAL_OF_X))?;
+    for yes in [true, false] {
+        let fixed = [level[0], level[1], level[2], of(NO_GOAL_OF_X, yes)];
+        drawn(&rt, alloc, &fixed, Found::Refuted(Reason::Tie))?;
+    }
+    Ok(())
+}
