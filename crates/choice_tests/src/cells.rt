@@ -16,7 +16,7 @@ const HOME: Test = Test::Home { fixture: 0 };
 
 const DRAW: Test = Test::Draw { fixture: 0 };
 
-/// A number for a side that is wished points, and against one that is not.
+// A number for a side that is wished points, and against one that is not.
 fn weighed(wished: bool, number: i32) -> i32 {
     if wished {
         number
@@ -33,8 +33,8 @@ fn points(scored: u8, conceded: u8) -> i32 {
     }
 }
 
-/// The greater, the sooner a score is taken: by points, then by margins, then the fewer goals, then
-/// the more of them at home; one digit of a hundred for each.
+// The greater, the sooner a score is taken: by points, then by margins, then the fewer goals, then
+// the more of them at home; one digit of a hundred for each.
 fn merit(home: bool, away: bool, score: Score) -> i32 {
     let at_home = i32::from(score.home);
     let on_tour = i32::from(score.away);
@@ -57,7 +57,7 @@ fn is_sooner(home: bool, away: bool, best: Option<Score>, score: Score) -> bool 
     }
 }
 
-/// The first of the cell's scores, of all scores in a list.
+// The first of the cell's scores, of all scores in a list.
 fn listed(cell: &Cell, home: bool, away: bool) -> Option<Score> {
     let mut best = None;
     for scored in 0..=LIMIT {
@@ -74,7 +74,7 @@ fn listed(cell: &Cell, home: bool, away: bool) -> Option<Score> {
     best
 }
 
-/// Asserts the option for each of the four wishes; whether the cell has one.
+// Asserts the option for each of the four wishes; whether the cell has one.
 fn check(rt: &impl Abort, cell: &Cell) -> bool {
     for home in [false, true] {
         for away in [false, true] {
@@ -85,7 +85,7 @@ fn check(rt: &impl Abort, cell: &Cell) -> bool {
     listed(cell, true, true).is_some()
 }
 
-/// The cell, cut by a test of its fixture's score.
+// The cell, cut by a test of its fixture's score.
 fn with(cell: Cell, test: Test, yes: bool) -> Cell
     requires { IsTrue (is_of_score test) }
 {
@@ -94,7 +94,7 @@ fn with(cell: Cell, test: Test, yes: bool) -> Cell
     cell
 }
 
-/// Leaves goals of the home side from the least to the most.
+// Leaves goals of the home side from the least to the most.
 fn with_home(cell: Cell, least: u8, most: u8) -> Cell {
     let cell = with(cell, Test::HomeMost { fixture: 0, most }, true);
     if least == 0 {
@@ -111,7 +111,7 @@ fn with_home(cell: Cell, least: u8, most: u8) -> Cell {
     )
 }
 
-/// Leaves goals of the away side from the least to the most.
+// Leaves goals of the away side from the least to the most.
 fn with_away(cell: Cell, least: u8, most: u8) -> Cell {
     let cell = with(cell, Test::AwayMost { fixture: 0, most }, true);
     if least == 0 {
@@ -128,7 +128,7 @@ fn with_away(cell: Cell, least: u8, most: u8) -> Cell {
     )
 }
 
-/// Asserts the options of all ranges with these outcomes; how many cells have one.
+// Asserts the options of all ranges with these outcomes; how many cells have one.
 fn check_ranges(rt: &impl Abort, outcomes: Cell) -> u32 {
     let mut some = 0u32;
     for home_least in 0..=LIMIT {
@@ -140,7 +140,7 @@ fn check_ranges(rt: &impl Abort, outcomes: Cell) -> u32 {
     some
 }
 
-/// The same for the ranges of the away side's goals.
+// The same for the ranges of the away side's goals.
 fn check_away(rt: &impl Abort, at_home: Cell) -> u32 {
     let mut some = 0u32;
     for away_least in 0..=LIMIT {
@@ -152,8 +152,8 @@ fn check_away(rt: &impl Abort, at_home: Cell) -> u32 {
     some
 }
 
-/// The outcomes are all, two of them and one alone; where a home win and a draw alone are left, the
-/// ranges leave them. Of the 600 cells 481 have a score.
+// The outcomes are all, two of them and one alone; where a home win and a draw alone are left, the
+// ranges leave them. Of the 600 cells 481 have a score.
 #[test]
 fn a_cell_takes_the_first_of_its_scores(rt: HostRuntime) -> Result<(), Fail> {
     let any = Cell::any(LIMIT);

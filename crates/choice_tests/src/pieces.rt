@@ -69,7 +69,7 @@ fn last_score(finish: &Finish) -> Option<Score> {
     }
 }
 
-/// Asserts what is found where C is to be inside, with any points.
+// Asserts what is found where C is to be inside, with any points.
 fn inside(
     rt: &impl Abort,
     alloc: Global,
@@ -82,7 +82,7 @@ fn inside(
     Ok(())
 }
 
-/// The same where it is to be outside.
+// The same where it is to be outside.
 fn outside(
     rt: &impl Abort,
     alloc: Global,
@@ -109,9 +109,9 @@ fn high(bits: u32) -> Found {
 
 const COUNT: Found = Found::Refuted(Reason::Count);
 
-/// A rival before C leaves it no place; X and Y behind it have 8 points together, more than twice
-/// the 3 that C can have. To be outside C loses, and X and Y, which are both wished points, part
-/// with a narrow home win.
+// A rival before C leaves it no place; X and Y behind it have 8 points together, more than twice
+// the 3 that C can have. To be outside C loses, and X and Y, which are both wished points, part
+// with a narrow home win.
 #[test]
 fn two_level_rivals_refute_a_piece_together(rt: HostRuntime) -> Result<(), Fail> {
     let alloc = rt.alloc();
@@ -124,7 +124,7 @@ fn two_level_rivals_refute_a_piece_together(rt: HostRuntime) -> Result<(), Fail>
     outside(&rt, alloc, LEVEL, &[], Found::Won(Some(score)))
 }
 
-/// Each rival can have 3 points, fewer than the 6 that C has for certain.
+// Each rival can have 3 points, fewer than the 6 that C has for certain.
 #[test]
 fn rivals_that_cannot_come_up_refute_pieces_alone(rt: HostRuntime) -> Result<(), Fail> {
     let alloc = rt.alloc();
@@ -145,7 +145,7 @@ fn all_behind_and(tests: &[Literal], alloc: Global) -> Result<Vec<Literal>, Fail
     Ok(zone)
 }
 
-/// Asserts what is found in the second league, with all rivals behind C and these literals.
+// Asserts what is found in the second league, with all rivals behind C and these literals.
 fn drawn(rt: &impl Abort, alloc: Global, tests: &[Literal], wanted: Found) -> Result<(), Fail> {
     let zone = all_behind_and(tests, alloc)?;
     inside(rt, alloc, DRAWN, &zone, wanted)
@@ -166,9 +166,9 @@ fn of(test: Test, yes: bool) -> Literal {
     Literal { test, yes }
 }
 
-/// Where C does not win, X has too many points alone; where X or Y wins, the winner. Else X and Y
-/// have 10 points together, just twice what C has, so no set refutes. After 0:0 C has the worse
-/// difference over all matches, after 1:1 fewer goals against the two.
+// Where C does not win, X has too many points alone; where X or Y wins, the winner. Else X and Y
+// have 10 points together, just twice what C has, so no set refutes. After 0:0 C has the worse
+// difference over all matches, after 1:1 fewer goals against the two.
 #[test]
 fn criteria_refute_a_piece_where_points_do_not(rt: HostRuntime) -> Result<(), Fail> {
     let alloc = rt.alloc();
