@@ -42,7 +42,7 @@ struct Told {
 }
 
 // Reports to a lock round the pool; where that is refused, and where so wished, once again.
-fn told<R: Wait>(rt: &R, alloc: Global, pool: Pool, again: bool) -> Result<Told, Fail>
+fn reported<R: Wait>(rt: &R, alloc: Global, pool: Pool, again: bool) -> Result<Told, Fail>
     requires home { out_count pool.loans ≡ 0 }
 {
     let (word, owner, front, eyes) = EpochWord::new(alloc, pool.log(), 1)?;
@@ -52,10 +52,10 @@ fn told<R: Wait>(rt: &R, alloc: Global, pool: Pool, again: bool) -> Result<Told,
         front,
         eyes,
     };
-    told_as::<Brand, R>(rt, alloc, Blank::new(1), seated, pool, again)
+    reported_as::<Brand, R>(rt, alloc, Blank::new(1), seated, pool, again)
 }
 
-fn told_as<J: Job, R: Wait>(
+fn reported_as<J: Job, R: Wait>(
     rt: &R,
     alloc: Global,
     blank: Blank,
@@ -158,7 +158,7 @@ fn is_told_or_as_before<R: Wait>(
     if nodes.len() < 8 {
         return Ok(false);
     }
-    let told = told(rt, alloc, pool, again)?;
+    let told = reported(rt, alloc, pool, again)?;
     let is_then = told.then == if told.is_taken { Some(1) } else { None };
     if told.is_taken || again {
         return Ok(is_then && told.at_last == Some(1) && is_at(&told.pool, 1, 0, true));
