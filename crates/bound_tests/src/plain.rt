@@ -2,11 +2,11 @@
 
 use league_core::{ClubSet, Fixture, Literal, Score, Season, Sheet, Test};
 
-/// No score of a drawn league has more goals on a side.
-const MOST: u8 = 3;
+/// No score of a drawn league has so many goals on a side.
+const MOST: u8 = 4;
 
-// The goals of a score are as the literal says, where it is of this fixture.
-fn agrees(literal: &Literal, number: u16, score: Score) -> bool {
+/// The goals of a score are as the literal says, where it is of this fixture.
+pub fn agrees(literal: &Literal, number: u16, score: Score) -> bool {
     match literal.test {
         Test::Home { fixture } => fixture != number || (score.home > score.away) == literal.yes,
         Test::Draw { fixture } => fixture != number || (score.home == score.away) == literal.yes,

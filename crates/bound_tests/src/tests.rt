@@ -4,10 +4,11 @@
 ghost use Rattle.std.specs.Prelude.{◌<◌, IfOk, length};
 ghost use Rattle.league_core.specs.Seasons.{IsLeague};
 
+use crate::drawn::{CLUBS, MATCHES, drawn_literal};
 use crate::plain::{is_option, sums_of};
 use flow_bound::{high_cut, low_cut};
 use league_core::{
-    Claim, ClubSet, Listing, Literal, OutOfMemory, Question, Reason, Score, Sheet, Test, Zone,
+    Claim, ClubSet, Listing, Literal, OutOfMemory, Question, Reason, Score, Sheet, Zone,
 };
 use sample_leagues::{Draws, Sample, drawn_league, is_below, is_of_sheet, sample_of};
 use score_box::{Played, ZoneBox};
@@ -16,33 +17,15 @@ use std::process::Abort;
 use std::test::Fail;
 use tie_bound::{holds, tie_reason};
 
-const CLUBS: u8 = 6;
-
-const MATCHES: u8 = 12;
-
+// Up to three goals a side.
 fn drawn_sample(alloc: Global, draws: &mut Draws) -> Result<Sample, Fail>
     ensures { IfOk result (λ sample. IsLeague sample.sheet sample.season) }
 {
-    let text = drawn_league(alloc, draws, CLUBS, MATCHES, 7)?;
-    Ok(sample_of(alloc, &text).ok_or("no league")?)
-}
-
-fn drawn_literal(draws: &mut Draws) -> Literal {
-    let fixture = u16::from(draws.below(MATCHES));
-    let most = draws.below(2);
-    let test = match draws.below(7) {
-        0 => Test::Home { fixture },
-        1 => Test::Draw { fixture },
-        2 => Test::HomeMost { fixture, most },
-        3 => Test::AwayMost { fixture, most },
-        _ => Test::Rival {
-            club: draws.below(CLUBS),
-        },
-    };
-    Literal {
-        test,
-        yes: draws.flip(),
+    let mut text = drawn_league(alloc, draws, CLUBS, MATCHES, 9)?;
+    if let Some(limit) = text.get_mut("league,Drawn,".len()) {
+        *limit = b'3';
     }
+    Ok(sample_of(alloc, &text).ok_or("no league")?)
 }
 
 fn go_on(rt: &impl Abort, zone_box: &mut ZoneBox, literal: Literal) -> Result<(), OutOfMemory> {
@@ -64,8 +47,8 @@ fn check_cells(rt: &impl Abort, zone_box: &ZoneBox, zone: &[Literal]) {
         assert!(rt; (number as usize) < zone_box.season().scores().len());
         let played = zone_box.season().score(number);
         let cell = zone_box.cell(number);
-        for home in 0..4 {
-            for away in 0..4 {
+        for home in 0..5 {
+            for away in 0..5 {
                 let score = Score { home, away };
                 let wanted = is_option(zone_box.sheet(), played, zone, number, score);
                 assert_eq!(rt; cell.allows(&score), wanted, "{number}: {home}:{away}");
@@ -182,39 +165,63 @@ fn check(
     Ok(())
 }
 
-// Goes on or back by one literal, beside the path as a list.
+// Goes back by one literal, so many times in eight, or else on, beside the path as a list.
 fn step(
     rt: &impl Abort,
     draws: &mut Draws,
     kept: &mut ZoneBox,
     path: &mut Vec<Literal>,
+    back: u8,
 ) -> Result<(), Fail> {
-    if draws.below(2) == 0 && !path.is_empty() {
+    if draws.below(8) < back && !path.is_empty() {
         assert!(rt; Some(go_back(rt, kept)) == path.pop());
         return Ok(());
     }
-    let literal = drawn_literal(draws);
+    let literal = drawn_literal(draws, kept);
     go_on(rt, kept, literal)?;
     Ok(path.push(literal)?)
 }
 
-fn check_league(rt: &impl Abort, alloc: Global, draws: &mut Draws) -> Result<(), Fail> {
+// There and back at first, then down, but up where no finish is left.
+fn times_back(turn: u16, has_finish: bool) -> u8 {
+    if !has_finish {
+        6
+    } else if turn < 60 {
+        4
+    } else {
+        1
+    }
+}
+
+fn check_league(
+    rt: &impl Abort,
+    alloc: Global,
+    draws: &mut Draws,
+    turns: u16,
+) -> Result<(), Fail> {
     let sample = drawn_sample(alloc, draws)?;
     let played = Played::of(alloc, &sample.sheet, &sample.season)?;
     let mut kept = ZoneBox::over(alloc, &played, &[])?;
     let mut path = Vec::new(alloc);
-    for _ in 0..60 {
-        step(rt, draws, &mut kept, &mut path)?;
-        check(rt, alloc, &sample, &kept, draws)?;
+    for turn in 0..turns {
+        let back = times_back(turn, kept.has_finish());
+        step(rt, draws, &mut kept, &mut path, back)?;
+        if turn < 60 || turn % 10 == 0 {
+            check(rt, alloc, &sample, &kept, draws)?;
+        }
     }
+    assert!(rt; turns < 260 || kept.zone().len() >= 100);
     Ok(())
 }
 
 #[test]
 fn a_path_of_literals_leaves_what_the_plain_program_leaves(rt: HostRuntime) -> Result<(), Fail> {
     let mut draws = Draws::new(18);
-    for _ in 0..6 {
-        check_league(&rt, rt.alloc(), &mut draws)?;
+    for _ in 0..4 {
+        check_league(&rt, rt.alloc(), &mut draws, 60)?;
+    }
+    for _ in 0..2 {
+        check_league(&rt, rt.alloc(), &mut draws, 260)?;
     }
     Ok(())
 }
