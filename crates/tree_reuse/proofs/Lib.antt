@@ -1,6 +1,6 @@
 -- The arena: marks and lists of nodes, trees, weights, links, what each call does, lent leaves,
--- rooms, lists of nodes, how an arena is made, with its open leaves in order; then zones, and trees
--- that are carried over.
+-- rooms, the way that is kept, lists of nodes, how an arena is made, with its open leaves in order;
+-- then zones, and trees that are carried over.
 pub mod MarkLemmas
 pub mod ShapeLemmas
 pub mod WeightLemmas
@@ -8,6 +8,8 @@ pub mod LinkLemmas
 pub mod ArenaLemmas
 pub mod FindLemmas
 pub mod RoomLemmas
+pub mod KeptWayLemmas
+pub mod KeptRoomLemmas
 pub mod VisitLemmas
 pub mod FillLemmas
 pub mod BuildLemmas

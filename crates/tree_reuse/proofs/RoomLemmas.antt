@@ -127,7 +127,7 @@ pub record Returns (tree : Tree) (nodes : Roomy Node) (waiting lent : Roomy ℕ)
   pub tree_is : tree_below nodes.items 0 ≡ tree
 
 -- the leaf was taken off the list of lent ones
-leaf_removed : (number : ℕ) (nodes : Roomy Node) (lent less : Roomy ℕ) (list : List Node)
+pub leaf_removed : (number : ℕ) (nodes : Roomy Node) (lent less : Roomy ℕ) (list : List Node)
     (slice : List ℕ) (place leaf : ℕ) → list ≡ nodes.items → slice ≡ lent.items
     → IsLeafAt number list slice place (get_or slice place 0)
     → leaf ≡ get_or lent.items place leaf → less.items ≡ remove lent.items place
@@ -379,7 +379,7 @@ pub record OpensLast (opened : Tree) (nodes : Roomy Node) (waiting lent : Roomy 
   pub roomy : IsRoomy nodes waiting lent
   pub same : all_opened (tree_below nodes.items 0) ≡ opened
 
-lent_kind : (kind : Kind) → 1 ≤ lent_mark kind → IsLeafKind kind
+pub lent_kind : (kind : Kind) → 1 ≤ lent_mark kind → IsLeafKind kind
 lent_kind Open marked = tt
 lent_kind (Lent number) marked = tt
 lent_kind (Refuted reason fresh) marked = tt

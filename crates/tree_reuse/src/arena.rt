@@ -1,15 +1,13 @@
 //! Looks at the nodes of an arena, and a write of one.
 
-ghost use Rattle.std.specs.Prelude.{◌≡◌, ◌<◌, ◌≤◌, ◌+◌, ◌*◌, length, slice_index, slice_index_or};
-ghost use Rattle.std.specs.Prelude.{slice_set, if◌then◌else◌, IfOk};
-ghost use Rattle.league_core.specs.Lending.{times_lent};
+ghost use Rattle.std.specs.Prelude.{◌≡◌, ◌<◌, length, slice_index, slice_index_or};
+ghost use Rattle.std.specs.Prelude.{slice_set, if◌then◌else◌};
 ghost use Rattle.tree_reuse.specs.declared.node.Node.{Node};
 ghost use Rattle.tree_reuse.specs.Arena.{with_kind, IsListed, marks, lent_mark, number_mark, total};
-ghost use Rattle.tree_reuse.specs.Arena.{IsLeafAt, IsLinked, tree_below, IsWayTo};
+ghost use Rattle.tree_reuse.specs.Arena.{IsLeafAt};
 
 use crate::node::{Kind, Node};
-use league_core::{Literal, OutOfMemory, RoomyList};
-use std::alloc::Global;
+use league_core::RoomyList;
 
 /// Something else stands in a node.
 pub fn write(nodes: &mut RoomyList<Node>, leaf: u32, kind: Kind)
@@ -47,36 +45,4 @@ pub fn find(nodes: &[Node], lent: &[u32], number: u64) -> usize
         }
     }
     unreachable!()
-}
-
-/// The zone of the leaf that is lent under the number. Where it has no more literals than are
-/// likely, the list does not grow.
-pub fn way_to(
-    alloc: Global,
-    nodes: &[Node],
-    lent: &[u32],
-    number: u64,
-    likely: usize,
-) -> Result<Vec<Literal>, OutOfMemory>
-    requires linked { IsLinked nodes.now }
-    requires listed { IsListed (marks lent_mark nodes.now) lent.now }
-    requires marked { total (marks (number_mark number) nodes.now) ≡ 1 }
-    requires once { times_lent number (tree_below nodes.now 0) ≡ 1 }
-    ensures { IfOk result (λ way. IsWayTo number (tree_below nodes.now 0) way.items) }
-{
-    let leaf = lent[find(nodes, lent, number)];
-    let mut way = Vec::with_capacity(alloc, likely)?;
-    let mut at = leaf as usize;
-    while at > 0 {
-        let node = nodes[at];
-        let parent = node.parent as usize;
-        let Kind::Split(test, ..) = nodes[parent].kind else {
-            unreachable!()
-        };
-        let yes = node.yes;
-        way.push(Literal { test, yes })?;
-        at = parent;
-    }
-    way.reverse();
-    Ok(way)
 }

@@ -9,6 +9,7 @@ mod arena;
 mod build;
 mod carry;
 mod halves;
+mod kept_way;
 mod laws;
 mod list;
 mod node;

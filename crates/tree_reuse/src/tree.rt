@@ -11,8 +11,9 @@ ghost use Rattle.league_core.specs.Lending.{times_lent, lent_count, put, all_ope
 ghost use Rattle.tree_reuse.specs.Calls.{Lending, literals_of};
 ghost use Rattle.tree_reuse.specs.Arena.{IsWayTo};
 
-use crate::arena::{find, way_to, write};
+use crate::arena::{find, write};
 use crate::build::{Build, is_tree};
+use crate::kept_way::follow;
 use crate::list::list_nodes;
 use crate::node::{Kind, Node};
 use crate::stop::TreeStop;
@@ -31,8 +32,11 @@ pub struct Tree {
     nodes: RoomyList<Node>,
     waiting: RoomyList<u32>,
     lent: RoomyList<u32>,
-    // How many literals the next zone is likely to have: one more than the one before.
-    likely: usize,
+    // The way from the root to a node, the one whose zone was answered last, and a list for the
+    // time in which it is made.
+    way: Listing<Literal>,
+    last: u32,
+    hand: Listing<Literal>,
 }
 
 impl Model for Tree {
@@ -43,11 +47,13 @@ impl Model for Tree {
 
     ghost coded = { coded_tree };
 
-    ghost use Rattle.tree_reuse.specs.Arena.{tree_below, IsRoomy};
+    ghost use Rattle.tree_reuse.specs.Arena.{tree_below};
+    ghost use Rattle.tree_reuse.specs.KeptWays.{KeepsWay};
 
     ghost view = { λ tree. tree_below tree.nodes.items 0 };
 
-    ghost invariant = { λ tree. IsRoomy tree.nodes tree.waiting tree.lent };
+    ghost invariant = { λ tree.
+        KeepsWay tree.nodes tree.waiting tree.lent tree.way tree.last };
 }
 
 impl Tree {
@@ -66,12 +72,16 @@ impl Tree {
         });
         waiting.push(0);
         let lent = RoomyList::new(alloc);
+        let way = Listing::new(alloc);
+        let hand = Listing::new(alloc);
         Ok(Tree {
             alloc,
             nodes,
             waiting,
             lent,
-            likely: 0,
+            way,
+            last: 0,
+            hand,
         })
     }
 
@@ -117,12 +127,8 @@ impl Tree {
             return Ok(None);
         }
         self.lend_last(number)?;
-        match self.way(number) {
-            Ok(way) => {
-                self.likely = way.len() + 1;
-                let literals = Listing::from_vec(way);
-                Ok(Some(Zone { literals }))
-            }
+        match self.zone(number) {
+            Ok(literals) => Ok(Some(Zone { literals })),
             Err(_) => {
                 self.reopen(number);
                 Err(OutOfMemory)
@@ -151,17 +157,22 @@ impl Tree {
     }
 
     // The zone of the leaf that is lent under the number.
-    fn way(&self, number: u64) -> Result<Vec<Literal>, OutOfMemory>
-        requires { times_lent number self.now ≡ 1 }
-        ensures { IfOk result (λ way. IsWayTo number self.now way.items) }
+    fn zone(&mut self, number: u64) -> Result<Listing<Literal>, OutOfMemory>
+        requires { times_lent number self.old ≡ 1 }
+        ensures way { IfOk result (IsWayTo number self.old) }
+        ensures same { self.new ≡ self.old }
     {
-        way_to(
-            self.alloc,
+        let place = find(self.nodes.as_slice(), self.lent.as_slice(), number);
+        let leaf = self.lent.as_slice()[place];
+        follow(
             self.nodes.as_slice(),
-            self.lent.as_slice(),
-            number,
-            self.likely,
-        )
+            leaf,
+            &mut self.last,
+            &mut self.way,
+            &mut self.hand,
+        )?;
+        let literals = self.way.copy(self.alloc)?;
+        Ok(literals)
     }
 
     /// The leaf that is lent under the number is open again.
@@ -262,12 +273,16 @@ impl Tree {
             waiting,
             lent,
         } = build;
+        let way = Listing::new(alloc);
+        let hand = Listing::new(alloc);
         Ok(Tree {
             alloc,
             nodes,
             waiting,
             lent,
-            likely: 0,
+            way,
+            last: 0,
+            hand,
         })
     }
 

@@ -8,5 +8,5 @@ pub returns : goal.returns
 returns c =
     ap (nat_lt 0) c.len.ensures
     ∙ sym (arena-has_open c.self.inside.nodes.items c.self.inside.waiting.items
-    c.self.inside.lent.items c.self.invariant.arena)
+    c.self.inside.lent.items c.self.invariant.roomy.arena)
     ∙ ap has_open c.self.view_is

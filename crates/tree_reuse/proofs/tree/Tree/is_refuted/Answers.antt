@@ -8,7 +8,7 @@ use Rattle.tree_reuse.proofs.tree.Tree.is_refuted.Goals as goal
 pub returns-then-len-eq0 : goal.returns-then-len-eq0
 returns-then-len-eq0 c =
     let is = arena-is_refuted c.self.inside.nodes.items c.self.inside.waiting.items
-    c.self.inside.lent.items c.self.invariant.arena in
+    c.self.inside.lent.items c.self.invariant.roomy.arena in
     ap (λ n. n == 0) c.len-then-len-eq0.ensures
     ∙ ap (λ n. n == 0 && length c.self.inside.lent.items == 0)
     (sym (sym c.len.ensures ∙ c.if-len-eq0.true))
@@ -17,7 +17,7 @@ returns-then-len-eq0 c =
 pub returns-else-len-eq0 : goal.returns-else-len-eq0
 returns-else-len-eq0 c =
     let is = arena-is_refuted c.self.inside.nodes.items c.self.inside.waiting.items
-    c.self.inside.lent.items c.self.invariant.arena in
+    c.self.inside.lent.items c.self.invariant.roomy.arena in
     let none = ne_eqb c.len.result 0 c.if-len-eq0.false in
     none
     ∙ ap (λ b. b && length c.self.inside.lent.items == 0)

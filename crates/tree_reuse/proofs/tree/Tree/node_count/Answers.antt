@@ -7,5 +7,5 @@ pub returns : goal.returns
 returns c =
     c.len.ensures
     ∙ sym (arena-nodes c.self.inside.nodes.items c.self.inside.waiting.items
-    c.self.inside.lent.items c.self.invariant.arena)
+    c.self.inside.lent.items c.self.invariant.roomy.arena)
     ∙ ap node_count c.self.view_is

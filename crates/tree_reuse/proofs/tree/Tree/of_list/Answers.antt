@@ -1,6 +1,8 @@
-use Rattle.std.proofs.Common.{length, ap, ◌∙◌, arith}
+use Rattle.std.proofs.Common.{List, length, reverse, refl, sym, subst, ap, ◌∙◌, arith}
+use Rattle.league_core.specs.declared.zone.Literal.{Literal}
 use Rattle.league_core.specs.Trees.{preorder}
 use Rattle.tree_reuse.specs.Arena.{tree_below}
+use Rattle.tree_reuse.specs.KeptWays.{LeadsToNode}
 use Rattle.tree_reuse.proofs.BuildLemmas.{lents_few, built_roomy}
 use Rattle.tree_reuse.proofs.tree.Tree.of_list.Goals as goal
 
@@ -17,11 +19,15 @@ overflow_mul-more c =
 pub invariant_of-result : goal.invariant_of-result
 invariant_of-result c =
     let built = c.in_ok-build.ensures in
-    built_roomy (length c.args.list.now) c.in_ok-build.build.nodes c.reserve.new.self
-    c.in_ok-build.build.waiting c.reserve-2.new.self c.in_ok-build.build.lent built.arena
-    built.few c.requires.few c.in_ok-reserve.ensures.items c.in_ok-reserve-2.ensures.items
-    (let size = c.len-more.ensures in let ok = c.in_ok-reserve.ensures.ok in omega arith)
-    (let size = c.len-more.ensures in let ok = c.in_ok-reserve-2.ensures.ok in omega arith)
+    record {
+      roomy = built_roomy (length c.args.list.now) c.in_ok-build.build.nodes c.reserve.new.self
+          c.in_ok-build.build.waiting c.reserve-2.new.self c.in_ok-build.build.lent built.arena
+          built.few c.requires.few c.in_ok-reserve.ensures.items c.in_ok-reserve-2.ensures.items
+          (let size = c.len-more.ensures in let ok = c.in_ok-reserve.ensures.ok in omega arith)
+          (let size = c.len-more.ensures in let ok = c.in_ok-reserve-2.ensures.ok in omega arith);
+      leads = subst (λ (literals : List Literal).
+          LeadsToNode c.reserve.new.self.items (reverse literals) 0) (sym c.new-way.ensures) refl;
+    }
 
 pub returns : goal.returns
 returns c =

@@ -2,12 +2,15 @@ use Rattle.tree_reuse.proofs.RoomLemmas.{marked_once, reopens}
 use Rattle.tree_reuse.proofs.RoomLemmas.{Returns}
 use Rattle.league_core.specs.Trees.{open_leaf}
 use Rattle.league_core.specs.Lending.{put}
+use Rattle.std.proofs.Common.{reverse}
+use Rattle.tree_reuse.specs.declared.node.Kind.TheVariants.{Open}
+use Rattle.tree_reuse.proofs.KeptRoomLemmas.{leads_back}
 use Rattle.tree_reuse.proofs.tree.Tree.reopen.Goals as goal
 
 pub find-place-requires-clause-once : goal.find-place-requires-clause-once
 find-place-requires-clause-once c =
     marked_once c.args.number c.args.self.now c.self.inside.nodes c.self.inside.waiting
-    c.self.inside.lent c.as_slice.result.now c.self.invariant c.self.view_is c.requires
+    c.self.inside.lent c.as_slice.result.now c.self.invariant.roomy c.self.view_is c.requires
     c.as_slice.ensures
 
 step : (c : goal.After-push) → Returns (put c.args.number open_leaf c.args.self.now)
@@ -16,12 +19,19 @@ step c =
     reopens c.args.number c.args.self.now c.self.inside.nodes c.write.new.nodes
     c.self.inside.waiting c.self.inside.lent c.remove-leaf.new.self c.push.new.self
     c.as_slice.result.now c.as_slice-2.result.now c.find-place.result c.remove-leaf.result
-    c.self.invariant c.self.view_is c.requires c.as_slice.ensures c.as_slice-2.ensures
+    c.self.invariant.roomy c.self.view_is c.requires c.as_slice.ensures c.as_slice-2.ensures
     c.find-place.ensures c.remove-leaf.ensures.item c.remove-leaf.ensures.items
     c.write.ensures.room c.write.ensures.items c.push.ensures.items c.push.ensures.room
 
 pub invariant_of-self : goal.invariant_of-self
-invariant_of-self c = (step c).roomy
+invariant_of-self c = record {
+  roomy = (step c).roomy;
+  leads = leads_back c.args.number c.self.inside.nodes c.write.new.nodes c.self.inside.lent
+      c.remove-leaf.new.self c.as_slice.result.now c.as_slice-2.result.now c.find-place.result
+      c.remove-leaf.result Open (reverse c.self.inside.way) c.self.inside.last
+      c.as_slice.ensures c.as_slice-2.ensures c.find-place.ensures c.remove-leaf.ensures.item
+      c.remove-leaf.ensures.items c.write.ensures.items c.self.invariant.leads;
+}
 
 pub returns : goal.returns
 returns c = (step c).tree_is

@@ -2,12 +2,15 @@ use Rattle.std.proofs.Common.{true}
 use Rattle.tree_reuse.proofs.RoomLemmas.{marked_once, splits_pushed, Returns}
 use Rattle.league_core.specs.Trees.{open_leaf, branch}
 use Rattle.league_core.specs.Lending.{put}
+use Rattle.std.proofs.Common.{◌-◌, reverse, false}
+use Rattle.tree_reuse.specs.declared.node.Kind.TheVariants.{Open, Split}
+use Rattle.tree_reuse.proofs.KeptRoomLemmas.{leads_back, leads_pushed}
 use Rattle.tree_reuse.proofs.tree.Tree.split.Goals as goal
 
 pub find-place-requires-clause-once : goal.find-place-requires-clause-once
 find-place-requires-clause-once c =
     marked_once c.args.number c.args.self.now c.self.inside.nodes c.self.inside.waiting
-    c.self.inside.lent c.as_slice.result.now c.self.invariant c.self.view_is c.requires
+    c.self.inside.lent c.as_slice.result.now c.self.invariant.roomy c.self.view_is c.requires
     c.as_slice.ensures
 
 step : (c : goal.After-push-4)
@@ -18,14 +21,26 @@ step c =
     c.push.new.self c.push-2.new.self c.self.inside.waiting c.self.inside.lent
     c.remove-leaf.new.self c.push-3.new.self c.push-4.new.self c.as_slice.result.now
     c.as_slice-2.result.now c.find-place.result c.remove-leaf.result c.len-size.result c.args.test
-    c.self.invariant c.self.view_is c.requires c.as_slice.ensures c.as_slice-2.ensures
+    c.self.invariant.roomy c.self.view_is c.requires c.as_slice.ensures c.as_slice-2.ensures
     c.find-place.ensures c.remove-leaf.ensures.item c.remove-leaf.ensures.items
     c.len-size.ensures c.write.ensures.room c.write.ensures.items c.push.ensures.items
     c.push.ensures.room c.push-2.ensures.items c.push-2.ensures.room c.push-3.ensures.items
     c.push-3.ensures.room c.push-4.ensures.items c.push-4.ensures.room
 
 pub invariant_of-self : goal.invariant_of-self
-invariant_of-self c = (step c).roomy
+invariant_of-self c = record {
+  roomy = (step c).roomy;
+  leads = leads_pushed c.write.new.nodes c.push.new.self c.push-2.new.self
+      (record { kind = Open; parent = c.remove-leaf.result; yes = true })
+      (record { kind = Open; parent = c.remove-leaf.result; yes = false })
+      (reverse c.self.inside.way) c.self.inside.last c.push.ensures.items c.push-2.ensures.items
+      (leads_back c.args.number c.self.inside.nodes c.write.new.nodes c.self.inside.lent
+      c.remove-leaf.new.self c.as_slice.result.now c.as_slice-2.result.now c.find-place.result
+      c.remove-leaf.result (Split c.args.test true (c.len-size.result - c.remove-leaf.result - 1))
+      (reverse c.self.inside.way) c.self.inside.last
+      c.as_slice.ensures c.as_slice-2.ensures c.find-place.ensures c.remove-leaf.ensures.item
+      c.remove-leaf.ensures.items c.write.ensures.items c.self.invariant.leads);
+}
 
 pub returns : goal.returns
 returns c = (step c).tree_is
