@@ -193,12 +193,7 @@ fn times_back(turn: u16, has_finish: bool) -> u8 {
     }
 }
 
-fn check_league(
-    rt: &impl Abort,
-    alloc: Global,
-    draws: &mut Draws,
-    turns: u16,
-) -> Result<(), Fail> {
+fn check_league(rt: &impl Abort, alloc: Global, draws: &mut Draws, turns: u16) -> Result<(), Fail> {
     let sample = drawn_sample(alloc, draws)?;
     let played = Played::of(alloc, &sample.sheet, &sample.season)?;
     let mut kept = ZoneBox::over(alloc, &played, &[])?;
