@@ -33,7 +33,7 @@ enum Found {
     Undone,
 }
 
-fn found(
+fn work_in(
     rt: &impl Abort,
     alloc: Global,
     text: &[u8],
@@ -78,7 +78,7 @@ fn inside(
     wanted: Found,
 ) -> Result<(), Fail> {
     let question = asked(Claim::Inside, -99, 1800);
-    assert_eq!(rt; found(rt, alloc, text, question, zone)?, wanted);
+    assert_eq!(rt; work_in(rt, alloc, text, question, zone)?, wanted);
     Ok(())
 }
 
@@ -91,7 +91,7 @@ fn outside(
     wanted: Found,
 ) -> Result<(), Fail> {
     let question = asked(Claim::Outside, -99, 1800);
-    assert_eq!(rt; found(rt, alloc, text, question, zone)?, wanted);
+    assert_eq!(rt; work_in(rt, alloc, text, question, zone)?, wanted);
     Ok(())
 }
 
@@ -146,7 +146,12 @@ fn all_behind_and(tests: &[Literal], alloc: Global) -> Result<Vec<Literal>, Fail
 }
 
 // Asserts what is found in the second league, with all rivals behind C and these literals.
-fn drawn(rt: &impl Abort, alloc: Global, tests: &[Literal], wanted: Found) -> Result<(), Fail> {
+fn level_after_draws(
+    rt: &impl Abort,
+    alloc: Global,
+    tests: &[Literal],
+    wanted: Found,
+) -> Result<(), Fail> {
     let zone = all_behind_and(tests, alloc)?;
     inside(rt, alloc, DRAWN, &zone, wanted)
 }
@@ -174,16 +179,16 @@ fn criteria_refute_a_piece_where_points_do_not(rt: HostRuntime) -> Result<(), Fa
     let alloc = rt.alloc();
     let won = of(C_BEATS_Z, true);
     let level = [won, of(X_BEATS_Y, false), of(X_DRAWS_Y, true)];
-    drawn(&rt, alloc, &[], Found::Split(C_BEATS_Z))?;
-    drawn(&rt, alloc, &[of(C_BEATS_Z, false)], low(2))?;
-    drawn(&rt, alloc, &[won], Found::Split(X_BEATS_Y))?;
-    drawn(&rt, alloc, &[won, of(X_BEATS_Y, true)], low(2))?;
+    level_after_draws(&rt, alloc, &[], Found::Split(C_BEATS_Z))?;
+    level_after_draws(&rt, alloc, &[of(C_BEATS_Z, false)], low(2))?;
+    level_after_draws(&rt, alloc, &[won], Found::Split(X_BEATS_Y))?;
+    level_after_draws(&rt, alloc, &[won, of(X_BEATS_Y, true)], low(2))?;
     let lost = [won, of(X_BEATS_Y, false), of(X_DRAWS_Y, false)];
-    drawn(&rt, alloc, &lost, low(4))?;
-    drawn(&rt, alloc, &level, Found::Split(NO_GOAL_OF_X))?;
+    level_after_draws(&rt, alloc, &lost, low(4))?;
+    level_after_draws(&rt, alloc, &level, Found::Split(NO_GOAL_OF_X))?;
     for yes in [true, false] {
         let fixed = [level[0], level[1], level[2], of(NO_GOAL_OF_X, yes)];
-        drawn(&rt, alloc, &fixed, Found::Refuted(Reason::Tie))?;
+        level_after_draws(&rt, alloc, &fixed, Found::Refuted(Reason::Tie))?;
     }
     Ok(())
 }
