@@ -15,6 +15,7 @@ use Rattle.league_core.specs.SureOrder.{first_sum_ranges, by_first_sum_ranges, s
 use Rattle.league_core.specs.SureOrder.{are_all_sure_overall, surely_level_overall}
 use Rattle.league_core.specs.declared.sheet.Order.TheVariants.{OverallFirst}
 use Rattle.check_bounds.specs.declared.span.Span.{Span}
+use Rattle.check_bounds.specs.Spans.{ranges_at}
 use Rattle.check_bounds.specs.Tables.{HoldRanges}
 use Rattle.check_bounds.specs.Steps.{sure_by_tables, is_level_by_tables, is_sure_by_tables}
 
@@ -87,17 +88,18 @@ unsure_round (suc times) sheet corners tables group rival club some hold unsure 
 pub last_round : (times : ℕ) (sheet : Sheet) (corners : List (List Score))
     (tables overall : List (List Span)) (group level : List ℕ) (rival club : ℕ) → times ≢ 0
     → HoldRanges tables (record_ranges sheet corners group)
-    → HoldRanges overall (overall_ranges sheet corners)
+    → ranges_at overall club ≡ overall_ranges sheet corners club
+    → ranges_at overall rival ≡ overall_ranges sheet corners rival
     → list_all (is_sure_by_tables tables club) group ≡ true
     → level ≡ filter (is_level_by_tables tables club) group → length level ≡ length group
     → sure_then (sure_by_tables tables club rival) (sure_by_tables overall club rival)
     ≡ sure_within times sheet corners group rival club
-last_round zero sheet corners tables overall group level rival club some hold sums sure level_is
-    same = absurd (some refl)
-last_round (suc times) sheet corners tables overall group level rival club some hold sums sure
+last_round zero sheet corners tables overall group level rival club some hold own other sure
+    level_is same = absurd (some refl)
+last_round (suc times) sheet corners tables overall group level rival club some hold own other sure
     level_is same =
     (λ i. sure_then (by_tables-is tables (record_ranges sheet corners group) club rival hold i)
-    (by_tables-is overall (overall_ranges sheet corners) club rival sums i))
+    (sure_by_ranges (other i) (own i)))
     ∙ sym (round_is times sheet corners group rival club true true
     (ap (λ test. list_all test group)
     (sym (sure_by_tables-is tables (record_ranges sheet corners group) club hold)) ∙ sure)

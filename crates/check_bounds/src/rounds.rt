@@ -9,7 +9,7 @@ ghost use Rattle.league_core.specs.Sums.{has_club};
 ghost use Rattle.league_core.specs.Zones.{rivals_of};
 ghost use Rattle.league_core.specs.SureOrder.{record_ranges, overall_ranges, first_sum_ranges};
 ghost use Rattle.league_core.specs.SureOrder.{sure_within, sure_by};
-ghost use Rattle.check_bounds.specs.Tables.{HoldRanges};
+ghost use Rattle.check_bounds.specs.Tables.{HoldRanges, HoldRangesIn};
 ghost use Rattle.check_bounds.specs.Steps.{sure_at, sure_by_tables, is_level_by_tables};
 ghost use Rattle.check_bounds.specs.Steps.{is_sure_by_tables, TakesNext, TakesNextIn};
 ghost use Rattle.check_bounds.specs.Refutes.{sure_over};
@@ -17,7 +17,9 @@ ghost use Rattle.check_bounds.specs.Refutes.{sure_over};
 use crate::cells::Cells;
 use crate::compare::{by_tables, is_level, is_sure, then};
 use crate::look::Kind;
+use crate::records::Records;
 use crate::span::Span;
+use crate::sums::Sums;
 use crate::table::ranks_of;
 use crate::total::points_table;
 use league_core::{ClubSet, Order, Season, Sure};
@@ -27,11 +29,12 @@ fn records_of(cells: &Cells, group: ClubSet) -> [[Span; 32]; 3]
     ensures { HoldRanges result
         (record_ranges cells.now.sheet cells.now.corners (clubs_in group)) }
 {
-    [
-        cells.table(Kind::Points, group),
-        cells.table(Kind::Difference, group),
-        cells.table(Kind::Goals, group),
-    ]
+    let Records {
+        points,
+        difference,
+        goals,
+    } = cells.records(group);
+    [points, difference, goals]
 }
 
 // Goal difference and goals over all matches.
@@ -41,18 +44,21 @@ fn first_sums_of(cells: &Cells) -> [[Span; 32]; 2]
     [cells.sums(Kind::Difference), cells.sums(Kind::Goals)]
 }
 
-// The sums over all matches that decide after the records, the fixed ranks last.
-fn overall_of(cells: &Cells) -> [[Span; 32]; 6]
-    ensures { HoldRanges result (overall_ranges cells.now.sheet cells.now.corners) }
+// The sums over all matches that decide after the records, the fixed ranks last, for the clubs of a
+// group.
+fn overall_of(cells: &Cells, group: ClubSet) -> [[Span; 32]; 6]
+    ensures { HoldRangesIn (clubs_in group) result
+        (overall_ranges cells.now.sheet cells.now.corners) }
 {
-    [
-        cells.sums(Kind::Difference),
-        cells.sums(Kind::Goals),
-        cells.sums(Kind::AwayGoals),
-        cells.sums(Kind::Wins),
-        cells.sums(Kind::AwayWins),
-        ranks_of(cells.sheet()),
-    ]
+    let Sums {
+        difference,
+        goals,
+        away_goals,
+        wins,
+        away_wins,
+    } = cells.sums_in(group);
+    let ranks = ranks_of(cells.sheet());
+    [difference, goals, away_goals, wins, away_wins, ranks]
 }
 
 // Each answer that is level takes what these tables say.
@@ -125,7 +131,7 @@ fn take_rounds(times: u8, answers: &mut [Sure; 32], cells: &Cells, group: ClubSe
     }
     let level = level_in(group, &records, club);
     if level.len() == group.len() {
-        step(answers, &overall_of(cells), club);
+        step(answers, &overall_of(cells, group.with_if(true, club)), club);
     } else {
         take_rounds(times - 1, answers, cells, level, club);
     }
