@@ -3,6 +3,7 @@
 use Rattle.std.proofs.Common.{◌≡◌, ℕ, zero, suc, ◌+◌, ◌<◌, ◌≤◌, Bool, true, false, ◌&&◌, ◌==◌}
 use Rattle.std.proofs.Common.{List, [], ◌∷◌, length, get_or, set, drop, refl, sym, ap, ◌∙◌, arith}
 use Rattle.std.specs.List.{list_all}
+use Rattle.std.proofs.lemmas.Bool.{ne_eqb}
 use Rattle.std.proofs.lemmas.List.{drop_more, drop_all}
 use Rattle.league_core.specs.declared.season.Score.{Score}
 use Rattle.league_core.specs.Options.{has_option, has_one_outcome}
@@ -56,7 +57,7 @@ failing-set test (own ∷ corners) (suc k) new inside =
 with_first : (passed : Bool) (count : ℕ) (rest : Bool) → (count == 0) ≡ rest
     → (fails passed + count == 0) ≡ (passed && rest)
 with_first true count rest same = same
-with_first false count rest same = refl
+with_first false count rest same = ne_eqb (fails false + count) 0 (λ e. omega (arith, e))
 
 -- none fails exactly where all pass
 pub failing-none : (test : List Score → Bool) (corners : List (List Score))

@@ -19,8 +19,6 @@ use Rattle.league_core.specs.Sums.{Worth, match_points, has_club, worth_to, wort
 use Rattle.league_core.specs.ClubSets.{clubs_below}
 use Rattle.league_core.specs.PointRanges.{one_value, added, range_of, range_from}
 use Rattle.league_core.specs.PointRanges.{points_together, points_of_sides}
-use Rattle.league_core.proofs.ClubBitLemmas.{clubs_below-ones}
-use Rattle.league_core.proofs.ClubSetLemmas.{has_club-range}
 use Rattle.league_core.proofs.PointRangeLemmas.{range_from-more, range_from-all, range_of-same}
 use Rattle.league_core.proofs.PointRangeLemmas.{points_together-sides}
 use Rattle.league_core.proofs.RangeLemmas.{added-none, none-added, added-assoc, range_of-none}

@@ -5,7 +5,7 @@ use Rattle.std.specs.List.{list_all}
 use Rattle.league_core.specs.declared.sheet.Fixture.{Fixture}
 use Rattle.league_core.specs.declared.season.Score.{Score}
 use Rattle.league_core.specs.Sheets.{is_fixture}
-use Rattle.league_core.specs.Sums.{Worth, has_club, worth_to}
+use Rattle.league_core.specs.Sums.{Worth, worth_to}
 use Rattle.league_core.specs.PointRanges.{Range, added, range_of, range_from}
 use Rattle.check_bounds.specs.declared.span.Span.{Span}
 use Rattle.check_bounds.specs.Spans.{range_of_span, span_at, ranges_at, IsSpanWithin}
@@ -39,8 +39,3 @@ pub record AddsMatch (value : ℕ → Score → ℤ) (corners : List Score) (old
 -- each club's ranges
 abbrev pub HoldRanges : List (List Span) → (ℕ → List Range) → Type 0
 HoldRanges tables ranges = (club : ℕ) → ranges_at tables club ≡ ranges club
-
--- the ranges of each club of a group
-abbrev pub HoldRangesIn : List ℕ → List (List Span) → (ℕ → List Range) → Type 0
-HoldRangesIn group tables ranges =
-    (club : ℕ) → IsTrue (has_club group club) → ranges_at tables club ≡ ranges club

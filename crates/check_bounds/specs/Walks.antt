@@ -1,12 +1,17 @@
--- Several tables at once, in one walk over the matches: the records of a group, and the sums over all
--- matches of its clubs.
-use Rattle.std.specs.Prelude.{ℕ, ℤ, pos, ◌<◌, Bool, ◌||◌, if◌then◌else◌, List, length, ◌≡◌}
+-- Walks over the matches of a group: the records of its clubs in one walk, and their sums over all
+-- matches, one measure after the other.
+use Rattle.std.specs.Prelude.{ℕ, ℤ, pos, neg_ℤ, Bool, ◌||◌, if◌then◌else◌, List, [], ◌∷◌}
+use Rattle.league_core.specs.declared.sheet.Sheet.{Sheet}
 use Rattle.league_core.specs.declared.sheet.Fixture.{Fixture}
 use Rattle.league_core.specs.declared.season.Score.{Score}
 use Rattle.league_core.specs.Sums.{Worth, has_club, worth_to, worth_among, match_points}
-use Rattle.league_core.specs.Sums.{goal_difference, goals, away_goals, wins, away_wins}
+use Rattle.league_core.specs.Sums.{goal_difference, goals}
+use Rattle.league_core.specs.Ahead.{rank_of}
+use Rattle.league_core.specs.PointRanges.{Range, one_value}
+use Rattle.league_core.specs.SureOrder.{range_over}
+use Rattle.check_bounds.specs.Looks.{worth_by}
 use Rattle.check_bounds.specs.declared.records.Records.{Records}
-use Rattle.check_bounds.specs.declared.sums.Sums.{Sums}
+use Rattle.check_bounds.specs.declared.look.Kind.{Kind}
 use Rattle.check_bounds.specs.declared.span.Span.{Span}
 use Rattle.check_bounds.specs.Spans.{span_at, IsSpanWithin}
 use Rattle.check_bounds.specs.Tables.{IsTableOf, AddsMatch, worth_if}
@@ -41,28 +46,8 @@ pub record AreRecordsOf (group : List ℕ) (fixtures : List Fixture) (corners : 
   pub difference : IsTableOf (worth_among group goal_difference) fixtures corners records.difference
   pub goals : IsTableOf (worth_among group goals) fixtures corners records.goals
 
--- none is far from 0
-pub record AreSumsNear (sums : Sums) : Type 0 where
-  pub difference : IsTableNear sums.difference
-  pub goals : IsTableNear sums.goals
-  pub away_goals : IsTableNear sums.away_goals
-  pub wins : IsTableNear sums.wins
-  pub away_wins : IsTableNear sums.away_wins
-
--- each takes a match where it counts
-pub record AddsSums (counts : Bool) (match : Fixture) (corners : List Score)
-    (old new : Sums) : Type 0 where
-  pub difference : AddsMatch (worth_if counts goal_difference match) corners old.difference new.difference
-  pub goals : AddsMatch (worth_if counts goals match) corners old.goals new.goals
-  pub away_goals : AddsMatch (worth_if counts away_goals match) corners old.away_goals new.away_goals
-  pub wins : AddsMatch (worth_if counts wins match) corners old.wins new.wins
-  pub away_wins : AddsMatch (worth_if counts away_wins match) corners old.away_wins new.away_wins
-
--- the sums over the matches of the clubs of a group
-pub record AreSumsOf (group : List ℕ) (fixtures : List Fixture) (corners : List (List Score))
-    (sums : Sums) : Type 0 where
-  pub difference : IsTableOf (worth_near group goal_difference) fixtures corners sums.difference
-  pub goals : IsTableOf (worth_near group goals) fixtures corners sums.goals
-  pub away_goals : IsTableOf (worth_near group away_goals) fixtures corners sums.away_goals
-  pub wins : IsTableOf (worth_near group wins) fixtures corners sums.wins
-  pub away_wins : IsTableOf (worth_near group away_wins) fixtures corners sums.away_wins
+-- the ranges of a club's sums over all matches by these measures, and its fixed rank last
+abbrev pub sum_ranges : Sheet → List (List Score) → List Kind → ℕ → List Range
+sum_ranges sheet corners [] club = one_value (neg_ℤ (pos (rank_of sheet club))) ∷ []
+sum_ranges sheet corners (kind ∷ kinds) club =
+    range_over (worth_by kind) sheet corners club ∷ sum_ranges sheet corners kinds club

@@ -13,7 +13,7 @@ ghost use Rattle.check_bounds.specs.declared.scope.Scope.{Scope};
 ghost use Rattle.check_bounds.specs.Looks.{worth_by};
 ghost use Rattle.check_bounds.specs.Spans.{range_of_span, IsSpanWithin};
 ghost use Rattle.check_bounds.specs.Tables.{IsTableOf};
-ghost use Rattle.check_bounds.specs.Walks.{AreRecordsOf, AreSumsOf};
+ghost use Rattle.check_bounds.specs.Walks.{AreRecordsOf, worth_near};
 ghost use Rattle.check_bounds.specs.Zones.{AreScopesOf};
 ghost use Rattle.check_bounds.specs.Cells.{FitScopes};
 
@@ -23,7 +23,7 @@ use crate::loose::Loose;
 use crate::records::{Records, records_of};
 use crate::scope::Scope;
 use crate::span::Span;
-use crate::sums::{Sums, sums_in};
+use crate::sums::sums_in;
 use crate::table::sums_of;
 use crate::total::won_by;
 use crate::won::{exchange_match, points_of_club};
@@ -135,13 +135,15 @@ impl<'a> Cells<'a> {
         )
     }
 
-    /// The sums over all matches of the clubs of a group.
-    pub fn sums_in(&self, group: ClubSet) -> Sums
-        ensures { AreSumsOf (clubs_in group) self.now.sheet.fixtures self.now.corners result }
+    /// The sums of the clubs of a group by one measure, over all matches.
+    pub fn sums_in(&self, kind: Kind, group: ClubSet) -> [Span; 32]
+        ensures { IsTableOf (worth_near (clubs_in group) (worth_by kind))
+            self.now.sheet.fixtures self.now.corners result }
     {
         sums_in(
             self.sheet.fixtures.as_slice(),
             self.corners.as_slice(),
+            kind,
             group,
         )
     }

@@ -7,13 +7,13 @@ pub returns-then-counts : goal.returns-then-counts
 returns-then-counts c = record {
   points =
       adds_when c.args.counts (λ club. worth_to match_points club c.args.fixture) c.args.corners.now
-      c.args.records.now.points c.add_match-then-counts.new.points c.if-counts.true c.add_match-then-counts.ensures;
+      c.args.records.now.points c.add_match.new.table c.if-counts.true c.add_match.ensures;
   difference =
       adds_when c.args.counts (λ club. worth_to goal_difference club c.args.fixture) c.args.corners.now
-      c.args.records.now.difference c.add_match-then-counts-2.new.difference c.if-counts.true c.add_match-then-counts-2.ensures;
+      c.args.records.now.difference c.add_match-then-counts.new.table c.if-counts.true c.add_match-then-counts.ensures;
   goals =
       adds_when c.args.counts (λ club. worth_to goals club c.args.fixture) c.args.corners.now
-      c.args.records.now.goals c.add_match-then-counts-3.new.goals c.if-counts.true c.add_match-then-counts-3.ensures;
+      c.args.records.now.goals c.add_match-then-counts-2.new.table c.if-counts.true c.add_match-then-counts-2.ensures;
 }
 
 pub returns-else-counts : goal.returns-else-counts
