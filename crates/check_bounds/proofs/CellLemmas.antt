@@ -84,6 +84,6 @@ cells_set sheet scopes corners won now loose after place scope own inside are is
       };
       fit = fit_set scopes corners place scope own inside are.fit is;
       won = won_is;
-      loose = loose_set corners loose after place own (omega (arith, inside, are.fit.many)) are.loose
-          loose_is;
+      loose = loose_set corners loose after place own (omega (arith, inside, are.fit.many))
+          are.loose loose_is;
     }

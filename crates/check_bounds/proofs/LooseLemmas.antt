@@ -56,7 +56,8 @@ failing-set test (own ∷ corners) (suc k) new inside =
 
 with_first : (passed : Bool) (count : ℕ) (rest : Bool) → (count == 0) ≡ rest
     → (fails passed + count == 0) ≡ (passed && rest)
-with_first true count rest same = same
+with_first true count rest same =
+    let e : 0 + count ≡ count = omega arith in ap (λ n. n == 0) e ∙ same
 with_first false count rest same = ne_eqb (fails false + count) 0 (λ e. omega (arith, e))
 
 -- none fails exactly where all pass

@@ -1,7 +1,7 @@
 -- Tables of sums, match by match.
 use Rattle.std.proofs.Common.{◌≡◌, ◌≢◌, ◌⊎◌, inl, inr, ℕ, ◌+◌, ◌*◌, ◌<◌, ◌≤◌, ℤ, pos, neg_ℤ, Bool}
-use Rattle.std.proofs.Common.{true, false, ◌&&◌, ◌||◌, nat_lt, eqb, cond, List, [], ◌∷◌, length, get_or}
-use Rattle.std.proofs.Common.{set}
+use Rattle.std.proofs.Common.{true, false, ◌&&◌, ◌||◌, nat_lt, eqb, cond, List, [], ◌∷◌, length}
+use Rattle.std.proofs.Common.{get_or, set}
 use Rattle.std.proofs.Common.{drop, replicate, not, ◌-◌, ◌^◌, ◌+ℤ◌, refl, sym}
 use Rattle.std.proofs.Common.{ap, subst, ◌∙◌, arith}
 use Rattle.std.specs.List.{list_all}
@@ -26,7 +26,7 @@ use Rattle.check_bounds.specs.declared.look.Kind.{Kind}
 use Rattle.check_bounds.specs.declared.span.Span.{Span}
 use Rattle.check_bounds.specs.Looks.{worth_by, side_worth}
 use Rattle.check_bounds.specs.Spans.{range_of_span, span_at, no_span, IsSpanWithin}
-use Rattle.check_bounds.specs.Tables.{IsTableOf, AddsMatch, worth_if}
+use Rattle.check_bounds.specs.Tables.{IsTableOf, TableTakes, worth_if}
 use Rattle.check_bounds.specs.Walks.{worth_near}
 use Rattle.check_bounds.proofs.SpanLemmas.{near_wider}
 
@@ -142,17 +142,17 @@ match_adds kind match corners table middle new home away apart home_is away_is
 
 -- where it counts, that is what a match adds; where it does not, nothing
 pub adds_when : (counts : Bool) (value : ℕ → Score → ℤ) (corners : List Score)
-    (old new : List Span) → counts ≡ true → AddsMatch value corners old new
-    → AddsMatch (λ club score. cond counts (value club score) (pos 0)) corners old new
+    (old new : List Span) → counts ≡ true → TableTakes value corners old new
+    → TableTakes (λ club score. cond counts (value club score) (pos 0)) corners old new
 adds_when counts value corners old new is adds =
-    subst (λ (b : Bool). AddsMatch (λ club score. cond b (value club score) (pos 0)) corners old
+    subst (λ (b : Bool). TableTakes (λ club score. cond b (value club score) (pos 0)) corners old
     new) (sym is) adds
 
 pub adds_unless : (counts : Bool) (value : ℕ → Score → ℤ) (corners : List Score)
     (table : List Span) → counts ≡ false
-    → AddsMatch (λ club score. cond counts (value club score) (pos 0)) corners table table
+    → TableTakes (λ club score. cond counts (value club score) (pos 0)) corners table table
 adds_unless counts value corners table is =
-    subst (λ (b : Bool). AddsMatch (λ club score. cond b (value club score) (pos 0)) corners table
+    subst (λ (b : Bool). TableTakes (λ club score. cond b (value club score) (pos 0)) corners table
     table) (sym is) (record {
       long = refl;
       sums = λ club.
@@ -170,7 +170,7 @@ pub adds_more : (value : ℕ → Fixture → Score → ℤ) (worth : Worth) (fix
     → ((club : ℕ) → worth_if counts worth (get_or fixtures count d) club
     ≡ value club (get_or fixtures count d))
     → IsTableSoFar value fixtures corners count table
-    → AddsMatch (worth_if counts worth (get_or fixtures count d)) own table new
+    → TableTakes (worth_if counts worth (get_or fixtures count d)) own table new
     → IsTableSoFar value fixtures corners (count + 1) new
 adds_more value worth fixtures corners count table new d counts own inside there own_is same
     so_far adds =

@@ -24,7 +24,8 @@ no_records = record {
 pub record AreRecordsSoFar (group : List ℕ) (fixtures : List Fixture) (corners : List (List Score))
     (count : ℕ) (records : Records) : Type 0 where
   pub points : IsTableSoFar (worth_among group match_points) fixtures corners count records.points
-  pub difference : IsTableSoFar (worth_among group goal_difference) fixtures corners count records.difference
+  pub difference : IsTableSoFar (worth_among group goal_difference) fixtures corners count
+      records.difference
   pub goals : IsTableSoFar (worth_among group goals) fixtures corners count records.goals
 
 pub records_none : (group : List ℕ) (fixtures : List Fixture) (corners : List (List Score))
@@ -41,8 +42,8 @@ pub records_near : (group : List ℕ) (fixtures : List Fixture) (corners : List 
 records_near group fixtures corners count records few so_far = record {
   points = so_far_near (worth_among group match_points) fixtures corners count records.points few
       so_far.points;
-  difference = so_far_near (worth_among group goal_difference) fixtures corners count records.difference few
-      so_far.difference;
+  difference = so_far_near (worth_among group goal_difference) fixtures corners count
+      records.difference few so_far.difference;
   goals = so_far_near (worth_among group goals) fixtures corners count records.goals few
       so_far.goals;
 }
@@ -62,8 +63,8 @@ records_more group fixtures corners count old new d counts own inside there own_
           old.points new.points d counts own inside there own_is
           (λ club i. worth_if (is i) match_points (get_or fixtures count d) club)
           so_far.points adds.points;
-      difference = adds_more (worth_among group goal_difference) goal_difference fixtures corners count
-          old.difference new.difference d counts own inside there own_is
+      difference = adds_more (worth_among group goal_difference) goal_difference fixtures corners
+          count old.difference new.difference d counts own inside there own_is
           (λ club i. worth_if (is i) goal_difference (get_or fixtures count d) club)
           so_far.difference adds.difference;
       goals = adds_more (worth_among group goals) goals fixtures corners count
@@ -80,8 +81,8 @@ pub records_all : (group : List ℕ) (fixtures : List Fixture) (corners : List (
 records_all group fixtures corners count records all so_far = record {
   points = table_all (worth_among group match_points) fixtures corners count records.points all
       so_far.points;
-  difference = table_all (worth_among group goal_difference) fixtures corners count records.difference all
-      so_far.difference;
+  difference = table_all (worth_among group goal_difference) fixtures corners count
+      records.difference all so_far.difference;
   goals = table_all (worth_among group goals) fixtures corners count records.goals all
       so_far.goals;
 }

@@ -28,7 +28,7 @@ worth_if counts worth match club score =
     if counts then worth_to worth club match score else pos 0
 
 -- each club's sum takes what a match is worth to it, and gets no further from 0 than by 255
-pub record AddsMatch (value : ℕ → Score → ℤ) (corners : List Score) (old new : List Span)
+pub record TableTakes (value : ℕ → Score → ℤ) (corners : List Score) (old new : List Span)
     : Type 0 where
   pub long : length new ≡ length old
   pub sums : (club : ℕ) → range_of_span (span_at new club)

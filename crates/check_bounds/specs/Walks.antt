@@ -14,7 +14,7 @@ use Rattle.check_bounds.specs.declared.records.Records.{Records}
 use Rattle.check_bounds.specs.declared.look.Kind.{Kind}
 use Rattle.check_bounds.specs.declared.span.Span.{Span}
 use Rattle.check_bounds.specs.Spans.{span_at, IsSpanWithin}
-use Rattle.check_bounds.specs.Tables.{IsTableOf, AddsMatch, worth_if}
+use Rattle.check_bounds.specs.Tables.{IsTableOf, TableTakes, worth_if}
 
 -- no sum of a table is far from 0
 abbrev pub IsTableNear : List Span → Type 0
@@ -35,9 +35,10 @@ pub record AreRecordsNear (records : Records) : Type 0 where
 -- each takes a match where it counts
 pub record AddsRecord (counts : Bool) (match : Fixture) (corners : List Score)
     (old new : Records) : Type 0 where
-  pub points : AddsMatch (worth_if counts match_points match) corners old.points new.points
-  pub difference : AddsMatch (worth_if counts goal_difference match) corners old.difference new.difference
-  pub goals : AddsMatch (worth_if counts goals match) corners old.goals new.goals
+  pub points : TableTakes (worth_if counts match_points match) corners old.points new.points
+  pub difference : TableTakes (worth_if counts goal_difference match) corners old.difference
+      new.difference
+  pub goals : TableTakes (worth_if counts goals match) corners old.goals new.goals
 
 -- the records of all clubs in a group
 pub record AreRecordsOf (group : List ℕ) (fixtures : List Fixture) (corners : List (List Score))

@@ -6,7 +6,7 @@ ghost use Rattle.league_core.specs.Sums.{has_club};
 ghost use Rattle.league_core.specs.ClubSets.{clubs_in};
 ghost use Rattle.check_bounds.specs.Looks.{worth_by};
 ghost use Rattle.check_bounds.specs.Spans.{span_at, IsSpanWithin};
-ghost use Rattle.check_bounds.specs.Tables.{ArePlayedOver, AddsMatch, IsTableOf, worth_if};
+ghost use Rattle.check_bounds.specs.Tables.{ArePlayedOver, TableTakes, IsTableOf, worth_if};
 ghost use Rattle.check_bounds.specs.Walks.{worth_near};
 
 use crate::corners::Corners;
@@ -34,7 +34,7 @@ fn add_if(table: &mut [Span], fixture: Fixture, corners: &Corners, kind: Kind, c
     requires long { length table.old ≡ 32 }
     requires team { IsTrue (is_fixture 24 fixture) }
     requires near { (club : ℕ) → IsSpanWithin 500000 (span_at table.old club) }
-    ensures { AddsMatch (worth_if counts (worth_by kind) fixture) corners.now table.old table.new }
+    ensures { TableTakes (worth_if counts (worth_by kind) fixture) corners.now table.old table.new }
 {
     if counts {
         add_match(table, fixture, corners, kind);

@@ -7,7 +7,7 @@ ghost use Rattle.league_core.specs.Ahead.{rank_of};
 ghost use Rattle.league_core.specs.PointRanges.{one_value, added};
 ghost use Rattle.check_bounds.specs.Spans.{range_of_span, span_at, IsSpanWithin};
 ghost use Rattle.check_bounds.specs.Looks.{worth_by};
-ghost use Rattle.check_bounds.specs.Tables.{ArePlayedOver, IsTableOf, AddsMatch, worth_if};
+ghost use Rattle.check_bounds.specs.Tables.{ArePlayedOver, IsTableOf, TableTakes, worth_if};
 
 use crate::corners::Corners;
 use crate::look::{Kind, Look};
@@ -31,7 +31,7 @@ pub fn add_match(table: &mut [Span], fixture: Fixture, corners: &Corners, kind: 
     requires long { length table.old ≡ 32 }
     requires team { IsTrue (is_fixture 24 fixture) }
     requires near { (club : ℕ) → IsSpanWithin 500000 (span_at table.old club) }
-    ensures { AddsMatch (worth_if true (worth_by kind) fixture) corners.now table.old table.new }
+    ensures { TableTakes (worth_if true (worth_by kind) fixture) corners.now table.old table.new }
 {
     let scores = corners.as_slice();
     add(

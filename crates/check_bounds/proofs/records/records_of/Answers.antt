@@ -1,4 +1,4 @@
-use Rattle.std.proofs.Common.{◌≡◌, get_or, [], ◌∙◌, arith}
+use Rattle.std.proofs.Common.{[], ◌∙◌, arith}
 use Rattle.std.proofs.lemmas.List.{get_or_default}
 use Rattle.league_core.specs.ClubSets.{clubs_in}
 use Rattle.check_bounds.proofs.WalkLemmas.{records_none, records_more, records_all, records_near}
@@ -15,8 +15,8 @@ loop-i-init c = records_none (clubs_in c.args.group) c.args.fixtures.now c.args.
 pub loop-i-preserved : goal.loop-i-preserved
 loop-i-preserved c =
     records_more (clubs_in c.args.group) c.args.fixtures.now c.args.corners.now c.loop-i.i
-    c.loop-i.records c.add_record.new.records (record { home = 0; away = 0 }) c.has_both-counts.result
-    c.index-corners-i.result (omega arith) (omega (arith, c.requires.many))
+    c.loop-i.records c.add_record.new.records (record { home = 0; away = 0 })
+    c.has_both-counts.result c.index-corners-i.result (omega arith) (omega (arith, c.requires.many))
     (c.index-corners-i.is ∙ get_or_default c.args.corners.now c.loop-i.i _ []
     (omega (arith, c.requires.many)))
     c.has_both-counts.ensures c.loop-i.invariant c.add_record.ensures

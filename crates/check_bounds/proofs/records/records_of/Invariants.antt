@@ -1,4 +1,3 @@
-use Rattle.std.proofs.Common.{◌≡◌}
 use Rattle.league_core.specs.ClubSets.{clubs_in}
 use Rattle.check_bounds.proofs.WalkLemmas.{AreRecordsSoFar}
 use Rattle.check_bounds.proofs.records.records_of.Given as goal

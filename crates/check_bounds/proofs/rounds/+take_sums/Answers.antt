@@ -1,6 +1,6 @@
 -- Each sum decides where those before left a rival of the group level.
 use Rattle.std.proofs.Common.{◌≡◌, ◌≢◌, ◌∷◌, [], inl, inr, true, false, not, ◌&&◌, ◌||◌, ◌==◌}
-use Rattle.std.proofs.Common.{◌-◌, List, ℕ, length, take, drop, get_or, refl, ap, sym, ◌∙◌, arith}
+use Rattle.std.proofs.Common.{◌-◌, length, take, drop, get_or, refl, ap, sym, ◌∙◌, arith}
 use Rattle.std.proofs.lemmas.Bool.{or_right, eq-eqb, eqb-false, ne_eqb, false≢true}
 use Rattle.std.proofs.lemmas.Bool.{cases_Bool}
 use Rattle.std.proofs.lemmas.List.{length-drop, take_all}
@@ -62,7 +62,8 @@ returns n c = λ rival below other within.
           c.with_if.ensures rival ∙ ap (λ b. b || (club == rival)) member in
           taken
           ∙ ap (sure_then was)
-          (sums_say sheet corners kinds later _ c.sums_in-table.result club rival (omega (arith, some)) all
+          (sums_say sheet corners kinds later _ c.sums_in-table.result club rival
+          (omega (arith, some)) all
           (c.sums_in-table.ensures club
           ∙ ap (λ value. range_from value sheet.fixtures corners)
           (near_is kept (worth_by (get_or kinds 0 _)) club own))

@@ -1,4 +1,4 @@
-use Rattle.std.proofs.Common.{◌≡◌, get_or, [], ◌∙◌, arith}
+use Rattle.std.proofs.Common.{get_or, [], ◌∙◌, arith}
 use Rattle.std.proofs.lemmas.List.{get_or_default}
 use Rattle.league_core.specs.ClubSets.{clubs_in}
 use Rattle.check_bounds.specs.Looks.{worth_by}

@@ -1,8 +1,8 @@
-use Rattle.std.proofs.Common.{◌≡◌, get_or, [], refl, true, ◌∙◌, arith}
+use Rattle.std.proofs.Common.{[], refl, true, ◌∙◌, arith}
 use Rattle.std.proofs.lemmas.List.{get_or_default}
 use Rattle.league_core.specs.Sums.{worth_to}
 use Rattle.check_bounds.specs.Looks.{worth_by}
-use Rattle.check_bounds.proofs.TableLemmas.{table_none, table_all, adds_more, so_far_near}
+use Rattle.check_bounds.proofs.TableLemmas.{table_none, adds_more}
 use Rattle.check_bounds.proofs.table.sums_of.Goals as goal
 
 pub loop-i-init : goal.loop-i-init
