@@ -11,6 +11,9 @@ use Rattle.check_bounds.specs.Scopes.{IsScopeOf}
 use Rattle.check_bounds.specs.Corners.{AreCornersOf}
 use Rattle.check_bounds.specs.Zones.{AreScopesOf, AreAllCornersOf}
 use Rattle.check_bounds.specs.Cells.{FitScopes, AreCells, AreWonIn}
+use Rattle.check_bounds.specs.declared.loose.Loose.{Loose}
+use Rattle.check_bounds.specs.Loose.{AreExchanged}
+use Rattle.check_bounds.proofs.LooseLemmas.{loose_set}
 
 -- corners that fit scopes are those of what the scopes leave
 pub fit_zone : (scopes : List Scope) (corners options : List (List Score))
@@ -65,18 +68,22 @@ fit_set scopes corners place scope own inside fit is = record {
 
 -- another scope at one place
 pub cells_set : (sheet : Sheet) (scopes : List Scope) (corners : List (List Score))
-    (won now : List Span) (place : ℕ) (scope : Scope) (own : List Score)
-    → place < length scopes → AreCells sheet scopes corners won
+    (won now : List Span) (loose after : Loose) (place : ℕ) (scope : Scope) (own : List Score)
+    → place < length scopes → AreCells sheet scopes corners won loose
     → ((options : List Score) → IsScopeOf scope options → AreCornersOf own options)
     → AreWonIn sheet (set corners place own) now
-    → AreCells sheet (set scopes place scope) (set corners place own) now
-cells_set sheet scopes corners won now place scope own inside are is won_is = record {
-  limits = are.limits;
-  played = record {
-    many = length-set corners place own ∙ are.played.many;
-    few = are.played.few;
-    teams = are.played.teams;
-  };
-  fit = fit_set scopes corners place scope own inside are.fit is;
-  won = won_is;
-}
+    → AreExchanged loose (get_or corners place []) own after
+    → AreCells sheet (set scopes place scope) (set corners place own) now after
+cells_set sheet scopes corners won now loose after place scope own inside are is won_is loose_is =
+    record {
+      limits = are.limits;
+      played = record {
+        many = length-set corners place own ∙ are.played.many;
+        few = are.played.few;
+        teams = are.played.teams;
+      };
+      fit = fit_set scopes corners place scope own inside are.fit is;
+      won = won_is;
+      loose = loose_set corners loose after place own (omega (arith, inside, are.fit.many))
+          are.loose loose_is;
+    }

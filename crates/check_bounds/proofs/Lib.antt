@@ -3,6 +3,7 @@
 -- change, cells, rounds, and ways.
 pub mod SpanLemmas
 pub mod TableLemmas
+pub mod WalkLemmas
 pub mod ScopeLemmas
 pub mod TransferLemmas
 pub mod MeaningLemmas
@@ -10,6 +11,7 @@ pub mod RivalLemmas
 pub mod StepLemmas
 pub mod CornerLemmas
 pub mod WonLemmas
+pub mod LooseLemmas
 pub mod CellLemmas
 pub mod RoundLemmas
 pub mod WayLemmas

@@ -1,6 +1,7 @@
 -- Rounds of the criteria: what tables of records say, and how the next round goes on.
 use Rattle.std.proofs.Common.{◌≡◌, ◌≢◌, ℕ, zero, suc, ◌-◌, Bool, true, false, ◌||◌, ◌==◌}
-use Rattle.std.proofs.Common.{List, length, filter, refl, sym, ap, ◌∙◌, arith}
+use Rattle.std.proofs.Common.{List, [], ◌∷◌, ◌<◌, length, drop, get_or, filter, refl, sym, ap, ◌∙◌}
+use Rattle.std.proofs.Common.{arith}
 use Rattle.std.specs.List.{list_all}
 use Rattle.std.proofs.lemmas.Bool.{eq-eqb, ne_eqb}
 use Rattle.league_core.specs.declared.sheet.Sheet.{Sheet}
@@ -14,7 +15,13 @@ use Rattle.league_core.specs.SureOrder.{are_all_sure, sure_within, is_level, is_
 use Rattle.league_core.specs.SureOrder.{first_sum_ranges, by_first_sum_ranges, sure_by}
 use Rattle.league_core.specs.SureOrder.{are_all_sure_overall, surely_level_overall}
 use Rattle.league_core.specs.declared.sheet.Order.TheVariants.{OverallFirst}
+use Rattle.league_core.specs.SureOrder.{range_over, sure_by_range}
+use Rattle.league_core.proofs.SureLemmas.{sure_then-level}
+use Rattle.check_bounds.specs.declared.look.Kind.{Kind}
 use Rattle.check_bounds.specs.declared.span.Span.{Span}
+use Rattle.check_bounds.specs.Looks.{worth_by}
+use Rattle.check_bounds.specs.Spans.{range_of_span, span_at}
+use Rattle.check_bounds.specs.Walks.{sum_ranges}
 use Rattle.check_bounds.specs.Tables.{HoldRanges}
 use Rattle.check_bounds.specs.Steps.{sure_by_tables, is_level_by_tables, is_sure_by_tables}
 
@@ -85,19 +92,17 @@ unsure_round (suc times) sheet corners tables group rival club some hold unsure 
 
 -- where all share it, the sums over all matches decide
 pub last_round : (times : ℕ) (sheet : Sheet) (corners : List (List Score))
-    (tables overall : List (List Span)) (group level : List ℕ) (rival club : ℕ) → times ≢ 0
+    (tables : List (List Span)) (group level : List ℕ) (rival club : ℕ) → times ≢ 0
     → HoldRanges tables (record_ranges sheet corners group)
-    → HoldRanges overall (overall_ranges sheet corners)
     → list_all (is_sure_by_tables tables club) group ≡ true
     → level ≡ filter (is_level_by_tables tables club) group → length level ≡ length group
-    → sure_then (sure_by_tables tables club rival) (sure_by_tables overall club rival)
+    → sure_then (sure_by_tables tables club rival) (by_overall_ranges sheet corners rival club)
     ≡ sure_within times sheet corners group rival club
-last_round zero sheet corners tables overall group level rival club some hold sums sure level_is
-    same = absurd (some refl)
-last_round (suc times) sheet corners tables overall group level rival club some hold sums sure
-    level_is same =
-    (λ i. sure_then (by_tables-is tables (record_ranges sheet corners group) club rival hold i)
-    (by_tables-is overall (overall_ranges sheet corners) club rival sums i))
+last_round zero sheet corners tables group level rival club some hold sure level_is same =
+    absurd (some refl)
+last_round (suc times) sheet corners tables group level rival club some hold sure level_is same =
+    ap (λ s. sure_then s (by_overall_ranges sheet corners rival club))
+    (by_tables-is tables (record_ranges sheet corners group) club rival hold)
     ∙ sym (round_is times sheet corners group rival club true true
     (ap (λ test. list_all test group)
     (sym (sure_by_tables-is tables (record_ranges sheet corners group) club hold)) ∙ sure)
@@ -130,6 +135,23 @@ next_round (suc times) sheet corners tables group level rival club some hold sur
   where
     less : suc times - 1 ≡ times
     less = omega arith
+
+-- the first of the sums over all matches says what a table of it says, and the others what they say
+pub sums_say : (sheet : Sheet) (corners : List (List Score)) (kinds later : List Kind) (d : Kind)
+    (table : List Span) (club rival : ℕ) → 0 < length kinds → later ≡ drop 1 kinds
+    → range_of_span (span_at table club)
+    ≡ range_over (worth_by (get_or kinds 0 d)) sheet corners club
+    → range_of_span (span_at table rival)
+    ≡ range_over (worth_by (get_or kinds 0 d)) sheet corners rival
+    → sure_then (sure_by_tables (table ∷ []) club rival)
+    (sure_by_ranges (sum_ranges sheet corners later rival) (sum_ranges sheet corners later club))
+    ≡ sure_by_ranges (sum_ranges sheet corners kinds rival) (sum_ranges sheet corners kinds club)
+sums_say sheet corners [] later d table club rival some rest own there =
+    absurd (omega (arith, some))
+sums_say sheet corners (kind ∷ kinds) later d table club rival some rest own there =
+    let first = sure_then-level _ ∙ (λ i. sure_by_range (there i) (own i)) in
+    λ i. sure_then (first i) (sure_by_ranges (sum_ranges sheet corners (rest i) rival)
+    (sum_ranges sheet corners (rest i) club))
 
 -- how the second order goes on behind difference and goals
 abbrev pub rest_of_sums : Bool → Sure → Sure

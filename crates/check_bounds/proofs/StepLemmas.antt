@@ -101,7 +101,7 @@ stays Level next apart = absurd (apart refl)
 stays Unknown next apart = refl
 
 -- an answer is level behind a step where it was so before, and by the step
-both_level : (a b : Sure) → is_level (sure_then a b) ≡ true
+pub both_level : (a b : Sure) → is_level (sure_then a b) ≡ true
     → (is_level a ≡ true) × (is_level b ≡ true)
 both_level Above b level = absurd (false≢true level)
 both_level Below b level = absurd (false≢true level)

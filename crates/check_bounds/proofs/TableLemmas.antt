@@ -1,10 +1,12 @@
 -- Tables of sums, match by match.
 use Rattle.std.proofs.Common.{◌≡◌, ◌≢◌, ◌⊎◌, inl, inr, ℕ, ◌+◌, ◌*◌, ◌<◌, ◌≤◌, ℤ, pos, neg_ℤ, Bool}
-use Rattle.std.proofs.Common.{true, false, ◌&&◌, eqb, cond, List, [], ◌∷◌, length, get_or}
-use Rattle.std.proofs.Common.{set}
-use Rattle.std.proofs.Common.{drop, replicate, ◌-◌, ◌^◌, ◌+ℤ◌, refl, sym}
+use Rattle.std.proofs.Common.{true, false, ◌&&◌, ◌||◌, nat_lt, eqb, cond, List, [], ◌∷◌, length}
+use Rattle.std.proofs.Common.{get_or, set}
+use Rattle.std.proofs.Common.{drop, replicate, not, ◌-◌, ◌^◌, ◌+ℤ◌, refl, sym}
 use Rattle.std.proofs.Common.{ap, subst, ◌∙◌, arith}
-use Rattle.std.proofs.lemmas.Bool.{cases_eq, cases_lt, eq-eqb, ne_eqb, lt-ltb}
+use Rattle.std.specs.List.{list_all}
+use Rattle.std.proofs.lemmas.Bool.{cases_eq, cases_lt, eq-eqb, ne_eqb, and_parts, and_from, lt-ltb}
+use Rattle.std.proofs.lemmas.Bool.{ltb-true, eqb-false, not-true, or_right}
 use Rattle.std.proofs.lemmas.Int.{ints}
 use Rattle.std.proofs.lemmas.List.{get_or-set_same, get_or-set_other, length-set, get_or_past}
 use Rattle.std.proofs.lemmas.List.{get_or-replicate, length-replicate}
@@ -12,12 +14,11 @@ use Rattle.league_core.specs.declared.sheet.Sheet.{Sheet}
 use Rattle.league_core.specs.declared.sheet.Fixture.{Fixture}
 use Rattle.league_core.specs.declared.season.Score.{Score}
 use Rattle.league_core.specs.Ahead.{rank_of}
-use Rattle.league_core.specs.Sums.{match_points, has_club, worth_to, worth_among}
+use Rattle.league_core.specs.Sheets.{is_fixture}
+use Rattle.league_core.specs.Sums.{Worth, match_points, has_club, worth_to, worth_among}
 use Rattle.league_core.specs.ClubSets.{clubs_below}
 use Rattle.league_core.specs.PointRanges.{one_value, added, range_of, range_from}
 use Rattle.league_core.specs.PointRanges.{points_together, points_of_sides}
-use Rattle.league_core.proofs.ClubBitLemmas.{clubs_below-ones}
-use Rattle.league_core.proofs.ClubSetLemmas.{has_club-range}
 use Rattle.league_core.proofs.PointRangeLemmas.{range_from-more, range_from-all, range_of-same}
 use Rattle.league_core.proofs.PointRangeLemmas.{points_together-sides}
 use Rattle.league_core.proofs.RangeLemmas.{added-none, none-added, added-assoc, range_of-none}
@@ -25,7 +26,8 @@ use Rattle.check_bounds.specs.declared.look.Kind.{Kind}
 use Rattle.check_bounds.specs.declared.span.Span.{Span}
 use Rattle.check_bounds.specs.Looks.{worth_by, side_worth}
 use Rattle.check_bounds.specs.Spans.{range_of_span, span_at, no_span, IsSpanWithin}
-use Rattle.check_bounds.specs.Tables.{IsTableOf}
+use Rattle.check_bounds.specs.Tables.{IsTableOf, TableTakes, worth_if}
+use Rattle.check_bounds.specs.Walks.{worth_near}
 use Rattle.check_bounds.proofs.SpanLemmas.{near_wider}
 
 -- each club's sum so far, and that of the matches that are left, make the whole; none is far from 0
@@ -73,10 +75,9 @@ table_all value fixtures corners count table all so_far club =
     (sym (range_from-all (value club) fixtures corners count all))
     ∙ so_far.sums club
 
--- what a match in which both clubs count adds to the sums of each club
-pub match_adds : (group : List ℕ) (kind : Kind) (match : Fixture) (corners : List Score)
+-- what a match adds to the sums of each club
+pub match_adds : (kind : Kind) (match : Fixture) (corners : List Score)
     (table middle new : List Span) (home away : Span)
-    → (has_club group match.home && has_club group match.away) ≡ true
     → match.home ≢ match.away
     → range_of_span home ≡ range_of (side_worth kind false) corners
     → range_of_span away ≡ range_of (side_worth kind true) corners
@@ -88,13 +89,10 @@ pub match_adds : (group : List ℕ) (kind : Kind) (match : Fixture) (corners : L
     → ((other : ℕ) → other ≢ match.away → span_at new other ≡ span_at middle other)
     → (club : ℕ) → range_of_span (span_at new club)
     ≡ added (range_of_span (span_at table club))
-    (range_of (worth_among group (worth_by kind) club match) corners)
-match_adds group kind match corners table middle new home away counts apart home_is away_is
+    (range_of (worth_to (worth_by kind) club match) corners)
+match_adds kind match corners table middle new home away apart home_is away_is
     home_adds home_others away_adds away_others club =
     by_home (cases_eq match.home club)
-    ∙ ap (λ b. added (range_of_span (span_at table club))
-    (range_of (λ score. cond b (worth_to (worth_by kind) club match score) (pos 0)) corners))
-    (sym counts)
   where
     side : Bool → Bool → Score → ℤ
     side at_home at_away score = cond at_home (side_worth kind false score)
@@ -142,19 +140,83 @@ match_adds group kind match corners table middle new home away counts apart home
         (sym (eq-eqb match.home club same))
     by_home (inr not_home) = by_away not_home (cases_eq match.away club)
 
--- and one in which they do not
-pub match_adds_nothing : (group : List ℕ) (kind : Kind) (match : Fixture) (corners : List Score)
-    (table : List Span) (counts : Bool)
-    → counts ≡ (has_club group match.home && has_club group match.away) → counts ≡ false
-    → (club : ℕ) → range_of_span (span_at table club)
-    ≡ added (range_of_span (span_at table club))
-    (range_of (worth_among group (worth_by kind) club match) corners)
-match_adds_nothing group kind match corners table counts is none club =
-    sym (added-none (range_of_span (span_at table club)))
-    ∙ ap (added (range_of_span (span_at table club))) (sym (range_of-none corners))
-    ∙ ap (λ b. added (range_of_span (span_at table club))
-    (range_of (λ score. cond b (worth_to (worth_by kind) club match score) (pos 0)) corners))
-    (sym (sym is ∙ none))
+-- where it counts, that is what a match adds; where it does not, nothing
+pub adds_when : (counts : Bool) (value : ℕ → Score → ℤ) (corners : List Score)
+    (old new : List Span) → counts ≡ true → TableTakes value corners old new
+    → TableTakes (λ club score. cond counts (value club score) (pos 0)) corners old new
+adds_when counts value corners old new is adds =
+    subst (λ (b : Bool). TableTakes (λ club score. cond b (value club score) (pos 0)) corners old
+    new) (sym is) adds
+
+pub adds_unless : (counts : Bool) (value : ℕ → Score → ℤ) (corners : List Score)
+    (table : List Span) → counts ≡ false
+    → TableTakes (λ club score. cond counts (value club score) (pos 0)) corners table table
+adds_unless counts value corners table is =
+    subst (λ (b : Bool). TableTakes (λ club score. cond b (value club score) (pos 0)) corners table
+    table) (sym is) (record {
+      long = refl;
+      sums = λ club.
+          sym (added-none (range_of_span (span_at table club)))
+          ∙ ap (added (range_of_span (span_at table club))) (sym (range_of-none corners));
+      near = λ bound all club.
+          near_wider bound (bound + 255) (span_at table club) (omega arith) (all club);
+    })
+
+-- one match more, by what it added
+pub adds_more : (value : ℕ → Fixture → Score → ℤ) (worth : Worth) (fixtures : List Fixture)
+    (corners : List (List Score)) (count : ℕ) (table new : List Span) (d : Fixture)
+    (counts : Bool) (own : List Score) → count < length fixtures → count < length corners
+    → own ≡ get_or corners count []
+    → ((club : ℕ) → worth_if counts worth (get_or fixtures count d) club
+    ≡ value club (get_or fixtures count d))
+    → IsTableSoFar value fixtures corners count table
+    → TableTakes (worth_if counts worth (get_or fixtures count d)) own table new
+    → IsTableSoFar value fixtures corners (count + 1) new
+adds_more value worth fixtures corners count table new d counts own inside there own_is same
+    so_far adds =
+    table_more value fixtures corners count table new d inside there so_far
+    (adds.long ∙ so_far.long)
+    (λ club.
+    adds.sums club
+    ∙ (λ i. added (range_of_span (span_at table club)) (range_of (same club i) (own_is i))))
+    adds.near
+
+-- sums so far are not far from 0
+pub so_far_near : (value : ℕ → Fixture → Score → ℤ) (fixtures : List Fixture)
+    (corners : List (List Score)) (count : ℕ) (table : List Span) → count < 600
+    → IsTableSoFar value fixtures corners count table → (club : ℕ)
+    → IsSpanWithin 500000 (span_at table club)
+so_far_near value fixtures corners count table few so_far club =
+    near_wider (255 * count) 500000 (span_at table club) (omega (arith, few)) (so_far.near club)
+
+-- what matches with an end in a group are worth to a club of the group is all that matches are
+pub near_is : (group : List ℕ) (worth : Worth) (club : ℕ) → has_club group club ≡ true
+    → worth_near group worth club ≡ worth_to worth club
+near_is group worth club has =
+    λ i match score. at match score (cases_eq match.home club) (cases_eq match.away club) i
+  where
+    same : (b : Bool) (n : ℤ) → n ≡ pos 0 → cond b n (pos 0) ≡ n
+    same true n none = refl
+    same false n none = sym none
+
+    at : (match : Fixture) (score : Score) → (match.home ≡ club) ⊎ (match.home ≢ club)
+        → (match.away ≡ club) ⊎ (match.away ≢ club)
+        → worth_near group worth club match score ≡ worth_to worth club match score
+    at match score (inl home) away =
+        ap (λ b. cond (b || has_club group match.away) (worth_to worth club match score) (pos 0))
+        (ap (has_club group) home ∙ has)
+    at match score (inr home) (inl away) =
+        ap (λ b. cond b (worth_to worth club match score) (pos 0))
+        (or_right (has_club group match.home) (has_club group match.away)
+        (ap (has_club group) away ∙ has))
+    at match score (inr home) (inr away) =
+        same (has_club group match.home || has_club group match.away)
+        (worth_to worth club match score)
+        (ap (λ b. cond b (worth score.home score.away false)
+        (cond (eqb match.away club) (worth score.away score.home true) (pos 0)))
+        (ne_eqb match.home club home)
+        ∙ ap (λ b. cond b (worth score.away score.home true) (pos 0))
+        (ne_eqb match.away club away))
 
 -- the clubs below a number have their ranks, the others none
 pub record AreRanksBelow (sheet : Sheet) (table : List Span) (count : ℕ) : Type 0 where
@@ -266,12 +328,6 @@ ranks_none sheet = record {
   done = λ club below. absurd (omega (arith, below));
   left = λ club above. ap range_of_span (nothing_at 32 club);
 }
-
--- the set of all numbers has each of them
-pub all_clubs : (x : ℕ) → x < 24 → has_club (clubs_below 32 (2 ^ 32 - 1)) x ≡ true
-all_clubs x below =
-    ap (λ xs. has_club xs x) (clubs_below-ones 32 32 (omega arith))
-    ∙ has_club-range 32 x ∙ lt-ltb x 32 (omega (arith, below))
 
 -- the points of a set in a match, by which of its ends are of the set
 pub together_by_ends : (bits : ℕ) (match : Fixture) (corners : List Score) (home away : Bool)

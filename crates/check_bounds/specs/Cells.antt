@@ -12,6 +12,8 @@ use Rattle.check_bounds.specs.Scopes.{IsScopeOf}
 use Rattle.check_bounds.specs.Corners.{AreCornersOf}
 use Rattle.check_bounds.specs.Spans.{range_of_span, span_at}
 use Rattle.check_bounds.specs.Tables.{ArePlayedOver, IsTableOf}
+use Rattle.check_bounds.specs.declared.loose.Loose.{Loose}
+use Rattle.check_bounds.specs.Loose.{AreLoose}
 
 -- what is kept of the fixtures of a sheet
 pub record Kept : Type 0 where
@@ -30,13 +32,15 @@ pub record FitScopes (scopes : List Scope) (corners : List (List Score)) : Type 
 abbrev pub AreWonIn : Sheet → List (List Score) → List Span → Type 0
 AreWonIn sheet corners won = IsTableOf (worth_to match_points) sheet.fixtures corners won
 
--- scopes of a sheet's fixtures with their corners, and the match points of each club
+-- scopes of a sheet's fixtures with their corners, the match points of each club, and how many
+-- fixtures are without a score or without one outcome
 pub record AreCells (sheet : Sheet) (scopes : List Scope) (corners : List (List Score))
-    (table : List Span) : Type 0 where
+    (table : List Span) (counts : Loose) : Type 0 where
   pub limits : IsWithinLimits sheet
   pub played : ArePlayedOver sheet.fixtures corners
   pub fit : FitScopes scopes corners
   pub won : AreWonIn sheet corners table
+  pub loose : AreLoose corners counts
 
 -- a club's points, by its match points in a table and by what is taken off it
 abbrev pub points_by_table : Results → List Span → ℕ → Range

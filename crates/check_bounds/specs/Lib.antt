@@ -8,6 +8,8 @@ pub mod Zones
 pub mod Ways
 pub mod Spans
 pub mod Tables
+pub mod Walks
+pub mod Loose
 pub mod Cells
 pub mod Steps
 pub mod Refutes

@@ -1,6 +1,6 @@
 -- What is sure of each club against one club, step by step: where a step leaves the two level, the
 -- next one decides.
-use Rattle.std.specs.Prelude.{◌≡◌, ◌≢◌, ℕ, ◌<◌, Bool, ◌||◌, IsTrue, List, slice_index_or}
+use Rattle.std.specs.Prelude.{◌≡◌, ◌≢◌, ℕ, ◌<◌, Bool, false, ◌||◌, IsTrue, List, slice_index_or}
 use Rattle.league_core.specs.Sums.{has_club}
 use Rattle.league_core.specs.declared.sure.Sure.{Sure}
 use Rattle.league_core.specs.declared.sure.Sure.TheVariants.{Unknown}
@@ -37,3 +37,9 @@ TakesNextIn group club old new next =
     (rival : ℕ) → rival < 32 → rival ≢ club
     → (IsTrue (is_level (sure_at old rival)) → IsTrue (has_club group rival))
     → sure_at new rival ≡ sure_then (sure_at old rival) (next rival)
+
+-- no club of a group has an answer that is level
+abbrev pub IsNoneLevel : List ℕ → List Sure → Type 0
+IsNoneLevel group answers =
+    (rival : ℕ) → rival < 32 → IsTrue (has_club group rival)
+    → is_level (sure_at answers rival) ≡ false

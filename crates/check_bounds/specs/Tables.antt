@@ -1,13 +1,14 @@
 -- What tables of sums hold: the ranges of the definitions, with a fixture's corners in place of its
 -- options.
-use Rattle.std.specs.Prelude.{◌≡◌, ℕ, ℤ, ◌≤◌, IsTrue, List, length}
+use Rattle.std.specs.Prelude.{◌≡◌, ℕ, ◌+◌, ℤ, pos, ◌≤◌, Bool, IsTrue, if◌then◌else◌, List, length}
 use Rattle.std.specs.List.{list_all}
 use Rattle.league_core.specs.declared.sheet.Fixture.{Fixture}
 use Rattle.league_core.specs.declared.season.Score.{Score}
 use Rattle.league_core.specs.Sheets.{is_fixture}
-use Rattle.league_core.specs.PointRanges.{Range, range_from}
+use Rattle.league_core.specs.Sums.{Worth, worth_to}
+use Rattle.league_core.specs.PointRanges.{Range, added, range_of, range_from}
 use Rattle.check_bounds.specs.declared.span.Span.{Span}
-use Rattle.check_bounds.specs.Spans.{range_of_span, span_at, ranges_at}
+use Rattle.check_bounds.specs.Spans.{range_of_span, span_at, ranges_at, IsSpanWithin}
 
 -- as many lists of corners as fixtures, at most 600, each of two different clubs out of 24
 pub record ArePlayedOver (fixtures : List Fixture) (corners : List (List Score)) : Type 0 where
@@ -20,6 +21,20 @@ abbrev pub IsTableOf : (ℕ → Fixture → Score → ℤ) → List Fixture → 
     → Type 0
 IsTableOf value fixtures corners table =
     (club : ℕ) → range_of_span (span_at table club) ≡ range_from (value club) fixtures corners
+
+-- what a match is worth to a club where it counts
+abbrev pub worth_if : Bool → Worth → Fixture → ℕ → Score → ℤ
+worth_if counts worth match club score =
+    if counts then worth_to worth club match score else pos 0
+
+-- each club's sum takes what a match is worth to it, and gets no further from 0 than by 255
+pub record TableTakes (value : ℕ → Score → ℤ) (corners : List Score) (old new : List Span)
+    : Type 0 where
+  pub long : length new ≡ length old
+  pub sums : (club : ℕ) → range_of_span (span_at new club)
+      ≡ added (range_of_span (span_at old club)) (range_of (value club) corners)
+  pub near : (bound : ℕ) → ((club : ℕ) → IsSpanWithin bound (span_at old club))
+      → (club : ℕ) → IsSpanWithin (bound + 255) (span_at new club)
 
 -- each club's ranges
 abbrev pub HoldRanges : List (List Span) → (ℕ → List Range) → Type 0

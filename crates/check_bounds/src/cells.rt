@@ -4,22 +4,27 @@
 ghost use Rattle.std.specs.Prelude.{◌≡◌, ◌<◌, [], ◌∷◌, IfOk, length, set, slice_index_or};
 ghost use Rattle.league_core.specs.Seasons.{IsLeague};
 ghost use Rattle.league_core.specs.Sheets.{IsWithinLimits};
-ghost use Rattle.league_core.specs.Sums.{worth_among, worth_to};
+ghost use Rattle.league_core.specs.Sums.{worth_to};
 ghost use Rattle.league_core.specs.ClubSets.{clubs_in};
-ghost use Rattle.league_core.specs.Options.{options_in};
+ghost use Rattle.std.specs.List.{list_all};
+ghost use Rattle.league_core.specs.Options.{options_in, has_option, has_one_outcome};
 ghost use Rattle.league_core.specs.PointRanges.{points_range, points_together, range_from};
 ghost use Rattle.check_bounds.specs.declared.scope.Scope.{Scope};
 ghost use Rattle.check_bounds.specs.Looks.{worth_by};
 ghost use Rattle.check_bounds.specs.Spans.{range_of_span, IsSpanWithin};
 ghost use Rattle.check_bounds.specs.Tables.{IsTableOf};
+ghost use Rattle.check_bounds.specs.Walks.{AreRecordsOf, worth_near};
 ghost use Rattle.check_bounds.specs.Zones.{AreScopesOf};
 ghost use Rattle.check_bounds.specs.Cells.{FitScopes};
 
 use crate::corners::Corners;
 use crate::look::Kind;
+use crate::loose::Loose;
+use crate::records::{Records, records_of};
 use crate::scope::Scope;
 use crate::span::Span;
-use crate::table::{sums_of, table_of};
+use crate::sums::sums_in;
+use crate::table::sums_of;
 use crate::total::won_by;
 use crate::won::{exchange_match, points_of_club};
 use crate::zone::{all_corners, season_scopes};
@@ -34,6 +39,7 @@ pub struct Cells<'a> {
     scopes: Vec<Scope>,
     corners: Vec<Corners>,
     won: [Span; 32],
+    loose: Loose,
 }
 
 impl<'a> Model for Cells<'a> {
@@ -48,7 +54,7 @@ impl<'a> Model for Cells<'a> {
     } };
 
     ghost invariant = { λ cells.
-        AreCells cells.sheet.now cells.scopes.items cells.corners.items cells.won };
+        AreCells cells.sheet.now cells.scopes.items cells.corners.items cells.won cells.loose };
 }
 
 impl<'a> Cells<'a> {
@@ -62,11 +68,13 @@ impl<'a> Cells<'a> {
         let scopes = season_scopes(alloc, season.scores(), sheet.goal_limit)?;
         let corners = all_corners(alloc, scopes.as_slice())?;
         let won = sums_of(sheet.fixtures.as_slice(), corners.as_slice(), Kind::Points);
+        let loose = Loose::of(corners.as_slice());
         Ok(Cells {
             sheet,
             scopes,
             corners,
             won,
+            loose,
         })
     }
 
@@ -78,12 +86,19 @@ impl<'a> Cells<'a> {
         self.sheet
     }
 
-    /// The corners of each fixture.
-    pub fn corners(&self) -> &[Corners]
-        ensures value { result.now ≡ self.now.corners }
+    /// Each fixture has a score left.
+    pub fn have_scores(&self) -> bool
+        ensures value { result ≡ list_all has_option self.now.corners }
         ensures fit { FitScopes self.now.scopes self.now.corners }
     {
-        self.corners.as_slice()
+        self.loose.without_score == 0
+    }
+
+    /// Each fixture has one outcome left.
+    pub fn have_one_outcome(&self) -> bool
+        ensures { result ≡ list_all has_one_outcome self.now.corners }
+    {
+        self.loose.undecided == 0
     }
 
     /// What is left of a fixture.
@@ -104,16 +119,28 @@ impl<'a> Cells<'a> {
         let corners = Corners::of(&scope);
         let teams = self.sheet.fixtures.as_slice()[place];
         exchange_match(&mut self.won, teams, &self.corners[place], &corners);
+        self.loose = self.loose.exchanged(&self.corners[place], &corners);
         self.scopes[place] = scope;
         self.corners[place] = corners;
     }
 
-    /// The sums of all clubs by one measure, over the matches with both ends in the group.
-    pub fn table(&self, kind: Kind, group: ClubSet) -> [Span; 32]
-        ensures { IsTableOf (worth_among (clubs_in group) (worth_by kind))
+    /// The records of all clubs in a group.
+    pub fn records(&self, group: ClubSet) -> Records
+        ensures { AreRecordsOf (clubs_in group) self.now.sheet.fixtures self.now.corners result }
+    {
+        records_of(
+            self.sheet.fixtures.as_slice(),
+            self.corners.as_slice(),
+            group,
+        )
+    }
+
+    /// The sums of the clubs of a group by one measure, over all matches.
+    pub fn sums_in(&self, kind: Kind, group: ClubSet) -> [Span; 32]
+        ensures { IsTableOf (worth_near (clubs_in group) (worth_by kind))
             self.now.sheet.fixtures self.now.corners result }
     {
-        table_of(
+        sums_in(
             self.sheet.fixtures.as_slice(),
             self.corners.as_slice(),
             kind,

@@ -1,6 +1,7 @@
 //! Two clubs by their sums: what is sure of a rival against the club.
 
 ghost use Rattle.std.specs.Prelude.{◌≡◌};
+ghost use Rattle.league_core.specs.SureOrder as order;
 ghost use Rattle.league_core.specs.SureOrder.{sure_by_range, sure_then, is_apart};
 ghost use Rattle.check_bounds.specs.Spans as spans;
 ghost use Rattle.check_bounds.specs.Spans.{range_of_span, ranges_at};
@@ -35,6 +36,18 @@ pub fn then(first: Sure, next: Sure) -> Sure
     }
 }
 
+/// Where the answer is level, the tables decide; else it stays, and no table is looked at.
+pub fn then_by(answer: Sure, tables: &[[Span; 32]], club: u8, rival: u8) -> Sure
+    ensures { result ≡ sure_then answer (sure_by_tables tables.now club rival) }
+{
+    match answer {
+        Sure::Above => Sure::Above,
+        Sure::Below => Sure::Below,
+        Sure::Level => by_tables(tables, club, rival),
+        Sure::Unknown => Sure::Unknown,
+    }
+}
+
 /// What the table has at the club's number; past the last one a sum without a match.
 pub fn span_at(table: &[Span; 32], club: u8) -> Span
     ensures { result ≡ spans.span_at table.now club }
@@ -64,16 +77,23 @@ fn are_apart(tables: &[[Span; 32]], club: u8, other: u8) -> bool
     own.greatest < found.least || found.greatest < own.least || are_apart(&tables[1..], club, other)
 }
 
-/// The other club is surely level with the club by these tables.
-pub fn is_level(tables: &[[Span; 32]], club: u8, other: u8) -> bool
-    ensures { result ≡ is_level_by_tables tables.now club other }
+/// The answer is that the two are level.
+pub fn is_level_answer(answer: Sure) -> bool
+    ensures { result ≡ order.is_level answer }
 {
-    match by_tables(tables, club, other) {
+    match answer {
         Sure::Level => true,
         Sure::Above => false,
         Sure::Below => false,
         Sure::Unknown => false,
     }
+}
+
+/// The other club is surely level with the club by these tables.
+pub fn is_level(tables: &[[Span; 32]], club: u8, other: u8) -> bool
+    ensures { result ≡ is_level_by_tables tables.now club other }
+{
+    is_level_answer(by_tables(tables, club, other))
 }
 
 /// It is sure whether it is.

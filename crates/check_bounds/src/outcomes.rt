@@ -1,4 +1,4 @@
-//! Which outcomes the corners of the fixtures still have.
+//! Whether a fixture has a score left, and whether its scores have one outcome.
 
 ghost use Rattle.std.specs.Prelude.{◌≡◌, ◌&&◌, ◌<◌};
 ghost use Rattle.std.specs.Prelude.{◌||◌};
@@ -9,31 +9,15 @@ ghost use Rattle.league_core.specs.Options.{has_option, has_one_outcome};
 use crate::corners::Corners;
 use league_core::Score;
 
-/// Each fixture has a score left.
-pub fn have_scores(corners: &[Corners]) -> bool
-    ensures { result ≡ list_all has_option corners.now }
+/// The fixture has a score left.
+pub fn has_score(corners: &Corners) -> bool
+    ensures { result ≡ has_option corners.now }
 {
-    for scores in corners {
-        if scores.as_slice().is_empty() {
-            return false;
-        }
-    }
-    true
+    !corners.as_slice().is_empty()
 }
 
-/// Each fixture has one outcome left.
-pub fn have_one_outcome(corners: &[Corners]) -> bool
-    ensures { result ≡ list_all has_one_outcome corners.now }
-{
-    for scores in corners {
-        if !is_one_outcome(scores.as_slice()) {
-            return false;
-        }
-    }
-    true
-}
-
-fn is_one_outcome(scores: &[Score]) -> bool
+/// All of its scores have one outcome.
+pub fn is_one_outcome(scores: &[Score]) -> bool
     ensures { result ≡ has_one_outcome scores.now }
 {
     if scores.is_empty() {

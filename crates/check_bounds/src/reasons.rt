@@ -16,7 +16,6 @@ ghost use Rattle.check_bounds.specs.Refutes.{refutes_over, own_range, is_floor, 
 ghost use Rattle.check_bounds.specs.Refutes.{sure_over};
 
 use crate::cells::Cells;
-use crate::outcomes::{have_one_outcome, have_scores};
 use crate::rivals::{has_members_in, is_decided, too_many};
 use crate::rounds::sure_against;
 use crate::span::Span;
@@ -39,7 +38,7 @@ pub fn holds_over(
         && refutes_over cells.now.sheet season.now question.now cells.now.corners
         (has_club (clubs_in marks.before)) (has_club (clubs_in marks.after)) reason) }
 {
-    have_scores(cells.corners()) && refutes(season, question, cells, marks, reason)
+    cells.have_scores() && refutes(season, question, cells, marks, reason)
 }
 
 // What the reason says, over cells and marks.
@@ -140,7 +139,7 @@ fn by_tie(season: &Season, question: &Question, cells: &Cells, marks: Marks) -> 
         (has_club (clubs_in marks.after))
         (sure_over cells.now.sheet season.now cells.now.corners question.now.club)) }
 {
-    if !have_one_outcome(cells.corners()) {
+    if !cells.have_one_outcome() {
         return false;
     }
     let sure = sure_against(season, cells, question.club);

@@ -1,22 +1,24 @@
 //! What is sure of the rivals of a club: by points, then by the criteria among those level.
 
-ghost use Rattle.std.specs.Prelude.{◌≡◌, ◌<◌, ◌∷◌, [], ℕ, filter, IsTrue};
+ghost use Rattle.std.specs.Prelude.{◌≡◌, ◌<◌, ◌∷◌, [], ℕ, filter, IsTrue, IsFalse};
 ghost use Rattle.std.specs.List.{list_all};
 ghost use Rattle.league_core.specs.declared.sure.Sure.TheVariants.{Unknown};
 ghost use Rattle.league_core.specs.declared.sheet.Order.TheVariants.{OverallFirst};
 ghost use Rattle.league_core.specs.ClubSets.{clubs_in};
 ghost use Rattle.league_core.specs.Sums.{has_club};
 ghost use Rattle.league_core.specs.Zones.{rivals_of};
-ghost use Rattle.league_core.specs.SureOrder.{record_ranges, overall_ranges, first_sum_ranges};
-ghost use Rattle.league_core.specs.SureOrder.{sure_within, sure_by};
+ghost use Rattle.league_core.specs.SureOrder.{record_ranges, first_sum_ranges};
+ghost use Rattle.league_core.specs.SureOrder.{sure_within, sure_by, sure_by_ranges};
 ghost use Rattle.check_bounds.specs.Tables.{HoldRanges};
+ghost use Rattle.check_bounds.specs.Walks.{sum_ranges};
 ghost use Rattle.check_bounds.specs.Steps.{sure_at, sure_by_tables, is_level_by_tables};
-ghost use Rattle.check_bounds.specs.Steps.{is_sure_by_tables, TakesNext, TakesNextIn};
+ghost use Rattle.check_bounds.specs.Steps.{is_sure_by_tables, IsNoneLevel, TakesNext, TakesNextIn};
 ghost use Rattle.check_bounds.specs.Refutes.{sure_over};
 
 use crate::cells::Cells;
-use crate::compare::{by_tables, is_level, is_sure, then};
+use crate::compare::{is_level, is_level_answer, is_sure, then, then_by};
 use crate::look::Kind;
+use crate::records::Records;
 use crate::span::Span;
 use crate::table::ranks_of;
 use crate::total::points_table;
@@ -27,11 +29,12 @@ fn records_of(cells: &Cells, group: ClubSet) -> [[Span; 32]; 3]
     ensures { HoldRanges result
         (record_ranges cells.now.sheet cells.now.corners (clubs_in group)) }
 {
-    [
-        cells.table(Kind::Points, group),
-        cells.table(Kind::Difference, group),
-        cells.table(Kind::Goals, group),
-    ]
+    let Records {
+        points,
+        difference,
+        goals,
+    } = cells.records(group);
+    [points, difference, goals]
 }
 
 // Goal difference and goals over all matches.
@@ -41,27 +44,13 @@ fn first_sums_of(cells: &Cells) -> [[Span; 32]; 2]
     [cells.sums(Kind::Difference), cells.sums(Kind::Goals)]
 }
 
-// The sums over all matches that decide after the records, the fixed ranks last.
-fn overall_of(cells: &Cells) -> [[Span; 32]; 6]
-    ensures { HoldRanges result (overall_ranges cells.now.sheet cells.now.corners) }
-{
-    [
-        cells.sums(Kind::Difference),
-        cells.sums(Kind::Goals),
-        cells.sums(Kind::AwayGoals),
-        cells.sums(Kind::Wins),
-        cells.sums(Kind::AwayWins),
-        ranks_of(cells.sheet()),
-    ]
-}
-
 // Each answer that is level takes what these tables say.
 fn step(answers: &mut [Sure; 32], tables: &[[Span; 32]], club: u8)
     ensures { TakesNext answers.old answers.new (sure_by_tables tables.now club) }
 {
     for rival in 0..32u8 {
-        let next = by_tables(tables, club, rival);
-        answers[rival as usize] = then(answers[rival as usize], next);
+        let answer = answers[rival as usize];
+        answers[rival as usize] = then_by(answer, tables, club, rival);
     }
 }
 
@@ -104,6 +93,38 @@ fn is_alone(group: ClubSet, club: u8) -> bool
     group.without(ClubSet::single(club)).is_empty()
 }
 
+// A rival of the set has an answer that is level.
+fn has_level(answers: &[Sure; 32], rivals: ClubSet) -> bool
+    ensures { IsFalse result → IsNoneLevel (clubs_in rivals) answers.now }
+{
+    for rival in 0..32u8 {
+        if rivals.has(rival) && is_level_answer(answers[rival as usize]) {
+            return true;
+        }
+    }
+    false
+}
+
+// The sums over all matches by these measures, one after the other, and then the fixed ranks, among
+// the clubs of a group. Where no rival is level any more there is nothing to decide.
+fn take_sums(answers: &mut [Sure; 32], kinds: &[Kind], cells: &Cells, group: ClubSet, club: u8)
+    requires { club < 32 }
+    ensures { TakesNextIn (clubs_in group) club answers.old answers.new (λ rival. sure_by_ranges
+        (sum_ranges cells.now.sheet cells.now.corners kinds.now rival)
+        (sum_ranges cells.now.sheet cells.now.corners kinds.now club)) }
+{
+    if !has_level(answers, group.without(ClubSet::single(club))) {
+        return;
+    }
+    if kinds.is_empty() {
+        step(answers, &[ranks_of(cells.sheet())], club);
+        return;
+    }
+    let table = cells.sums_in(kinds[0], group.with_if(true, club));
+    step(answers, &[table], club);
+    take_sums(answers, &kinds[1..], cells, group, club);
+}
+
 // The criteria within a group with the head-to-head first, which is taken so many times at most.
 // In a group that has no rival there is nothing to decide.
 fn take_rounds(times: u8, answers: &mut [Sure; 32], cells: &Cells, group: ClubSet, club: u8)
@@ -125,7 +146,14 @@ fn take_rounds(times: u8, answers: &mut [Sure; 32], cells: &Cells, group: ClubSe
     }
     let level = level_in(group, &records, club);
     if level.len() == group.len() {
-        step(answers, &overall_of(cells), club);
+        let kinds = [
+            Kind::Difference,
+            Kind::Goals,
+            Kind::AwayGoals,
+            Kind::Wins,
+            Kind::AwayWins,
+        ];
+        take_sums(answers, &kinds, cells, group, club);
     } else {
         take_rounds(times - 1, answers, cells, level, club);
     }

@@ -1,10 +1,10 @@
 use Rattle.std.proofs.Common.{◌-◌, ap, sym, ◌∙◌, arith}
 use Rattle.league_core.specs.ClubSets.{clubs_in}
 use Rattle.league_core.specs.declared.sure.Sure.TheVariants.{Unknown}
-use Rattle.league_core.specs.SureOrder.{sure_then, sure_within}
+use Rattle.league_core.specs.SureOrder.{sure_then, sure_within, is_level, by_overall_ranges}
 use Rattle.league_core.proofs.SureLemmas.{sure_then-assoc}
 use Rattle.check_bounds.specs.Steps.{sure_at, sure_by_tables}
-use Rattle.check_bounds.proofs.StepLemmas.{stays, still_level}
+use Rattle.check_bounds.proofs.StepLemmas.{stays, still_level, both_level}
 use Rattle.check_bounds.proofs.RivalLemmas.{alone_is}
 use Rattle.check_bounds.proofs.RoundLemmas.{unsure_round, last_round, next_round}
 use Rattle.check_bounds.proofs.rounds.+take_rounds.Goals as goal
@@ -27,15 +27,19 @@ returns-then-not-are_all_sure n c = λ rival below other within.
 
 pub returns-then-len : goal.returns-then-len
 returns-then-len n c = λ rival below other within.
-    c.step-then-len.ensures rival below
-    ∙ ap (λ s. sure_then s (sure_by_tables c.overall_of.result c.args.club rival))
-    (c.step.ensures rival below)
-    ∙ sure_then-assoc (sure_at c.args.answers.now rival) _
-    (sure_by_tables c.overall_of.result c.args.club rival)
-    ∙ ap (sure_then (sure_at c.args.answers.now rival))
-    (last_round c.args.times c.args.cells.now.sheet c.args.cells.now.corners _ c.overall_of.result
+    let overall = by_overall_ranges c.args.cells.now.sheet c.args.cells.now.corners rival
+    c.args.club in
+    let was = sure_at c.args.answers.now rival in
+    let records = sure_by_tables c.records_of-records.result c.args.club rival in
+    c.take_sums.ensures rival below other
+    (λ level. within (both_level was records
+    (sym (ap is_level (c.step.ensures rival below)) ∙ level)).0)
+    ∙ ap (λ s. sure_then s overall) (c.step.ensures rival below)
+    ∙ sure_then-assoc was records overall
+    ∙ ap (sure_then was)
+    (last_round c.args.times c.args.cells.now.sheet c.args.cells.now.corners _
     (clubs_in c.args.group) (clubs_in c.level_in-level.result) rival c.args.club (omega arith)
-    c.records_of-records.ensures c.overall_of.ensures
+    c.records_of-records.ensures
     (sym c.are_all_sure.ensures ∙ c.if-not-are_all_sure.false) c.level_in-level.ensures
     (sym c.len.ensures ∙ c.if-len.true ∙ c.len-2.ensures))
 

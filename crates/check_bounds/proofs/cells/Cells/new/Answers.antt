@@ -12,6 +12,7 @@ use Rattle.check_bounds.specs.declared.scope.Scope.{Scope}
 use Rattle.check_bounds.specs.Zones.{AreScopesOf}
 use Rattle.check_bounds.specs.Tables.{ArePlayedOver, IsTableOf}
 use Rattle.check_bounds.specs.Cells.{FitScopes}
+use Rattle.check_bounds.specs.Loose.{AreLoose}
 use Rattle.check_bounds.proofs.ScopeLemmas.{played_over}
 use Rattle.check_bounds.proofs.CellLemmas.{fit_zone}
 use Rattle.check_bounds.proofs.cells.Cells.new.Goals as goal
@@ -52,6 +53,7 @@ invariant_of-result c =
     c.as_slice-3.result.now c.sums_of-won.result in
     let Corners : List (List Score) → Type 0 = λ corners. IsTableOf (worth_to match_points)
     sheet.fixtures corners c.sums_of-won.result in
+    let Loosely : List (List Score) → Type 0 = λ corners. AreLoose corners c.of-loose.result in
     record {
       limits = c.requires.limits;
       played = played sheet c.args.season.now c.scores.result.now c.in_ok-scopes.scopes.items
@@ -60,4 +62,5 @@ invariant_of-result c =
       fit = subst Fit c.as_slice.ensures.value c.in_ok-corners.ensures;
       won = subst Corners c.as_slice-3.ensures.value
           (subst Fixtures c.as_slice-2.ensures c.sums_of-won.ensures);
+      loose = subst Loosely c.as_slice-4.ensures.value c.of-loose.ensures;
     }

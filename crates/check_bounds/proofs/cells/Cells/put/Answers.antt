@@ -8,6 +8,8 @@ use Rattle.league_core.specs.PointRanges.{added, range_of}
 use Rattle.check_bounds.specs.Spans.{range_of_span, span_at}
 use Rattle.check_bounds.specs.Cells.{Kept}
 use Rattle.check_bounds.proofs.WonLemmas.{won_near, won_exchanged}
+use Rattle.check_bounds.specs.Loose.{AreExchanged, IsAmong}
+use Rattle.check_bounds.proofs.LooseLemmas.{is_among}
 use Rattle.check_bounds.proofs.CellLemmas.{cells_set}
 use Rattle.check_bounds.proofs.cells.Cells.put.Goals as goal
 
@@ -20,6 +22,20 @@ exchange_match-requires-clause-near c =
     won_near cells.sheet.now cells.corners.items cells.won c.self.invariant.played.few
     c.self.invariant.won
 
+pub exchanged-self-inside-requires : goal.exchanged-self-inside-requires
+exchanged-self-inside-requires c =
+    let cells = c.self.inside in
+    let place = c.args.fixture in
+    let Inside : Kept → Type 0 = λ kept. place < length kept.scopes in
+    let inside : place < length cells.scopes.items = subst Inside (sym c.self.view_is) c.requires in
+    let there : place < length cells.corners.items =
+    omega (arith, inside, c.self.invariant.fit.many) in
+    let Was : List Score → Type 0 = λ old. IsAmong old cells.loose in
+    subst Was (sym (c.index-2.ensures ∙ get_or_default cells.corners.items place _ [] there))
+    (is_among cells.corners.items cells.loose place there
+    (omega (arith, c.self.invariant.played.many, c.self.invariant.played.few))
+    c.self.invariant.loose)
+
 pub invariant_of-self : goal.invariant_of-self
 invariant_of-self c =
     let cells = c.self.inside in
@@ -31,7 +47,10 @@ invariant_of-self c =
     omega (arith, inside, c.self.invariant.fit.many) in
     let here : place < length sheet.fixtures =
     omega (arith, there, c.self.invariant.played.many) in
-    cells_set sheet cells.scopes.items cells.corners.items cells.won c.exchange_match.new.won place
+    let Was : List Score → Type 0 = λ old. AreExchanged cells.loose old c.of-corners.result
+    c.exchanged-self-inside.result in
+    cells_set sheet cells.scopes.items cells.corners.items cells.won c.exchange_match.new.won
+    cells.loose c.exchanged-self-inside.result place
     c.args.scope c.of-corners.result inside c.self.invariant c.of-corners.ensures
     (won_exchanged sheet cells.corners.items cells.won c.exchange_match.new.won place
     c.of-corners.result none here there c.self.invariant.won
@@ -44,3 +63,5 @@ invariant_of-self c =
     let Over : List Fixture → Type 0 = λ fixtures. Says fixtures c.index.result.now in
     subst Old (c.index.ensures ∙ get_or_default cells.corners.items place _ [] there)
     (subst Over c.as_slice.ensures (c.exchange_match.ensures club))))
+    (subst Was (c.index-2.ensures ∙ get_or_default cells.corners.items place _ [] there)
+    c.exchanged-self-inside.ensures)
