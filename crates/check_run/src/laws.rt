@@ -1,9 +1,11 @@
 //! Laws: functions that do nothing, each with a law as its contract.
 //!
-//! The statements are in `specs/ReportTruths.antt` and `specs/WrittenLines.antt`.
+//! The statements are in `specs/ReportTruths.antt`, `specs/WrittenLines.antt` and
+//! `specs/WrittenReports.antt`.
 
 ghost use Rattle.check_run.specs.ReportTruths.{AcceptedInputsTellTruly};
 ghost use Rattle.check_run.specs.WrittenLines.{WrittenLinesAreTokens, WrittenLinesReadBack};
+ghost use Rattle.check_run.specs.WrittenReports.{WrittenReportsReadBack};
 
 /// An input whose report is accepted has one that tells the truth: each row that says clinched,
 /// lost or possible is so in the season at its ask, for every finish and every drawing of lots.
@@ -15,4 +17,10 @@ pub fn accepted_inputs_tell_truly()
 pub fn written_lines_read_back()
     ensures reads { WrittenLinesReadBack }
     ensures tokens { WrittenLinesAreTokens }
+{}
+
+/// The bytes of an answer with proofs, rows as csv writes them and proof lines with their line
+/// feeds, are read as the lines that were written.
+pub fn written_reports_read_back()
+    ensures { WrittenReportsReadBack }
 {}

@@ -14,6 +14,6 @@ mod report;
 
 pub use feed::ToldFeed;
 pub use input::check_input;
-pub use laws::{accepted_inputs_tell_truly, written_lines_read_back};
+pub use laws::{accepted_inputs_tell_truly, written_lines_read_back, written_reports_read_back};
 pub use lines::{LinesStop, ToldLines};
 pub use outcome::{CheckFailure, CheckOutcome, ReportFault};

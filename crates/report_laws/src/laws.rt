@@ -1,6 +1,7 @@
 //! The laws: a function that does nothing, with the laws as its contract.
 
 ghost use Rattle.report_laws.specs.AcceptedAnswers.{AnswersAreAccepted};
+ghost use Rattle.report_laws.specs.AcceptedBytes.{WrittenAnswersAreAccepted};
 ghost use Rattle.report_laws.specs.AcceptedReports.{ReportsAreAccepted};
 
 /// An answer with proofs is one part of a report that the checker accepts for that season and that
@@ -9,4 +10,5 @@ ghost use Rattle.report_laws.specs.AcceptedReports.{ReportsAreAccepted};
 pub fn answers_are_accepted()
     ensures answers { AnswersAreAccepted }
     ensures reports { ReportsAreAccepted }
+    ensures bytes { WrittenAnswersAreAccepted }
 {}

@@ -1,3 +1,4 @@
+use Rattle.report_laws.proofs.ByteLemmas.{bytes_of_answers}
 use Rattle.report_laws.proofs.ItemLemmas.{answer_of_verdicts}
 use Rattle.report_laws.proofs.ReportLemmas.{report_of_answers}
 use Rattle.report_laws.proofs.laws.answers_are_accepted.Goals as goal
@@ -7,3 +8,6 @@ returns-clause-answers c = answer_of_verdicts
 
 pub returns-clause-reports : goal.returns-clause-reports
 returns-clause-reports c = report_of_answers
+
+pub returns-clause-bytes : goal.returns-clause-bytes
+returns-clause-bytes c = bytes_of_answers
