@@ -1,10 +1,10 @@
 -- A row that csv writes is read back as its fields, also without the line feed that ends it.
 use Rattle.std.proofs.Common.{◌≡◌, ℕ, Bool, true, false, not, ◌&&◌, ◌||◌, ◌==◌, cond}
-use Rattle.std.proofs.Common.{List, [], ◌∷◌, ◌++◌, Option, Some, None, refl, sym, ap, subst, ◌∙◌}
-use Rattle.std.proofs.Common.{append_assoc, append-nil, arith}
+use Rattle.std.proofs.Common.{List, [], ◌∷◌, ◌++◌, Option, Some, None, refl, sym, ap, ◌∙◌}
+use Rattle.std.proofs.Common.{append-nil}
 use Rattle.std.specs.Prelude.{option_map, option_and_then, is_some}
 use Rattle.std.specs.List.{list_all, list_any}
-use Rattle.std.proofs.lemmas.Bool.{and_parts, and_from, false≢true, cases_Bool}
+use Rattle.std.proofs.lemmas.Bool.{and_parts, and_from, false≢true}
 use Rattle.std.proofs.lemmas.List.Folds.{list_all-append}
 use Rattle.csv.specs.Machine.{Read, next_record, step, is_end, fields_after, field_after}
 use Rattle.csv.specs.Reading.{default_config, strip_bom}
@@ -12,9 +12,8 @@ use Rattle.csv.specs.Writing.{default_writer, escaped, quoted, field_text, field
 use Rattle.csv.specs.declared.parser.State.{State}
 use Rattle.csv.specs.declared.parser.State.TheVariants as st
 use Rattle.csv.proofs.RoundTrip.{read-write}
-use Rattle.fixture_sheet.specs.Fields.{csv_read, csv_record, record_of, without_padding, unless_empty}
+use Rattle.fixture_sheet.specs.Fields.{csv_record, record_of, without_padding, unless_empty}
 use Rattle.fixture_sheet.specs.Fields.{has_return}
-use Rattle.cert_text.specs.Rows.{text_of_row}
 use Rattle.cert_check.specs.declared.token.Token.TheVariants.{Row}
 use Rattle.cert_check.specs.Tokens.{token_of, token_of_row, token_of_record, begins_proof}
 use Rattle.check_run.specs.WrittenReports.{is_within_line, are_within_line}

@@ -1,11 +1,11 @@
 -- The bytes of an answer are cut into the lines that were written, and each is read as what it was.
-use Rattle.std.proofs.Common.{◌≡◌, ◌≢◌, ◌⊎◌, inl, inr, ℕ, ◌+◌, ◌-◌, ◌%◌, ◌<◌, ◌≤◌, ◌^◌, Bool, true}
+use Rattle.std.proofs.Common.{◌≡◌, ◌≢◌, inl, inr, ℕ, ◌+◌, ◌-◌, ◌%◌, ◌<◌, ◌^◌, Bool, true}
 use Rattle.std.proofs.Common.{false, not, ◌&&◌, ◌==◌, cond, List, [], ◌∷◌, ◌++◌, length, map, take}
-use Rattle.std.proofs.Common.{get_or, Option, Some, None, Result, Ok, Err, refl, sym, ap, subst, ◌∙◌}
+use Rattle.std.proofs.Common.{Option, Some, None, Ok, refl, sym, ap, subst, ◌∙◌}
 use Rattle.std.proofs.Common.{append_assoc, arith}
 use Rattle.std.specs.Prelude.{codes, decimal}
 use Rattle.std.specs.Prelude.{nat_eq, nat_le, nat_lt, is_ok}
-use Rattle.std.specs.List.{list_all, list_any, ends_with, flat_map}
+use Rattle.std.specs.List.{list_all, ends_with, flat_map}
 use Rattle.std.proofs.lemmas.Bool.{and_parts, and_from, false≢true, ne_eqb, leb-true}
 use Rattle.std.proofs.lemmas.Fmt.{decimal_by_steps, decimal_nonempty}
 use Rattle.std.proofs.lemmas.Bool.Decides.{Decides-eqb}
@@ -13,8 +13,8 @@ use Rattle.std.proofs.lemmas.Slice.Eq.{ends_is}
 use Rattle.port_core.specs.declared.answers.ReadStop.{ReadStop}
 use Rattle.port_core.specs.Lines.{lines_of, text_of_line, onto_first}
 use Rattle.port_core.specs.Contents.{Contents, Position, content_at, contents_by, contents_from}
-use Rattle.port_core.specs.Contents.{ended, is_skipped, line_stop, number_at, position_behind}
-use Rattle.port_core.specs.Contents.{with_content, with_line, without_mark, without_return}
+use Rattle.port_core.specs.Contents.{is_skipped, line_stop, number_at, position_behind}
+use Rattle.port_core.specs.Contents.{with_line, without_mark, without_return}
 use Rattle.csv.specs.Reading.{strip_bom}
 use Rattle.csv.specs.Writing.{default_writer, fields_text, row_body}
 use Rattle.csv.specs.Writing.{is_blank as csv_blank}
@@ -31,8 +31,8 @@ use Rattle.cert_check.specs.Dues.{ask_fields, text_of_word, verdict_fields}
 use Rattle.cert_check.specs.LineLists.{tokens_of}
 use Rattle.check_run.specs.Outcomes.{numbered}
 use Rattle.check_run.specs.WrittenLines.{IsWritable}
-use Rattle.check_run.specs.WrittenReports.{is_within_line, are_within_line, written, IsTold}
-use Rattle.check_run.specs.WrittenReports.{IsAskTold, IsVerdictTold, AreTold}
+use Rattle.check_run.specs.WrittenReports.{is_within_line, are_within_line, written, IsLineTold}
+use Rattle.check_run.specs.WrittenReports.{AreTold}
 use Rattle.check_run.proofs.ReadBackLemmas.{token_of-text}
 use Rattle.check_run.proofs.RowBackLemmas.{last_passes, append_within, body_within, row_back}
 
@@ -223,7 +223,7 @@ verdict_body line name word small plain =
           within (whole_row (decimal line) name word);
     }
 
-body_of : (told : Token) → IsTold told → HasBody told
+body_of : (told : Token) → IsLineTold told → HasBody told
 body_of Passed is = absurd is
 body_of (Row fields) (inl ask) =
     subst (λ (row : List (List ℕ)). HasBody (Row row)) (sym ask.2) (ask_body ask.0 ask.1)

@@ -41,16 +41,16 @@ IsVerdictTold fields =
     × IsTrue (are_within_line name) × (fields ≡ verdict_fields line name word)
 
 -- a line that an answer may have
-abbrev pub IsTold : Token → Type 0
-IsTold Passed = ⊥
-IsTold (Row fields) = IsAskTold fields ⊎ IsVerdictTold fields
-IsTold (Proof line) = IsWritable line
-IsTold Neither = ⊥
+abbrev pub IsLineTold : Token → Type 0
+IsLineTold Passed = ⊥
+IsLineTold (Row fields) = IsAskTold fields ⊎ IsVerdictTold fields
+IsLineTold (Proof line) = IsWritable line
+IsLineTold Neither = ⊥
 
 -- so is each of these
 abbrev pub AreTold : List Token → Type 0
 AreTold [] = Unit {0}
-AreTold (first ∷ told) = IsTold first × AreTold told
+AreTold (first ∷ told) = IsLineTold first × AreTold told
 
 -- where an input is read to its end behind its first line, and what is left of it are the bytes of
 -- these lines, the report has these lines and no other
