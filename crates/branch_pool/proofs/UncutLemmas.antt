@@ -1,19 +1,13 @@
 -- Trees that are one open leaf stay over a change of the season; another one is made.
-use Rattle.std.proofs.Common.{◌≡◌, Some, None, refl, sym, ◌∙◌}
+use Rattle.std.proofs.Common.{◌≡◌, Some, None, refl, sym}
 use Rattle.std.proofs.lemmas.Option.{none-some, same_Some}
 use Rattle.league_core.specs.declared.sheet.Sheet.{Sheet}
 use Rattle.league_core.specs.declared.question.Question.{Question}
 use Rattle.league_core.specs.Results.{Results}
 use Rattle.league_core.specs.Trees.{Tree, open_leaf, lent_leaf, refuted_leaf, branch}
 use Rattle.tree_reuse.specs.Retargets.{retargeted}
-use Rattle.tree_reuse.proofs.RetargetLemmas.{retargeted-open}
+use Rattle.tree_reuse.proofs.RetargetLemmas.{open_leaf_stays}
 use Rattle.branch_pool.specs.Seats.{tree_left}
-
--- one open leaf stays as it is
-pub uncut_stays : (sheet : Sheet) (season : Results) (question : Question) (tree : Tree)
-    → tree ≡ open_leaf → retargeted sheet season question tree ≡ tree
-uncut_stays sheet season question tree is =
-    sym (retargeted-open sheet season question tree is) ∙ sym is
 
 -- nothing is made of it
 pub none_left : (sheet : Sheet) (season : Results) (question : Question) (tree : Tree)
@@ -45,7 +39,7 @@ pub stays : (sheet : Sheet) (season : Results) (question : Question) (tree : Tre
     → tree_left sheet season question tree ≡ None
     → retargeted sheet season question tree ≡ tree
 stays sheet season question open_leaf made =
-    uncut_stays sheet season question open_leaf refl
+    open_leaf_stays sheet season question open_leaf refl
 stays sheet season question (lent_leaf number) made = absurd (none-some _ (sym made))
 stays sheet season question (refuted_leaf reason fresh) made =
     absurd (none-some _ (sym made))

@@ -216,7 +216,7 @@ impl Seat {
 
     /// Goes on in another season with its tree as it is, which is one open leaf; an example stays
     /// where it is one there.
-    #[tactic(auto, using(crate::proofs::UncutLemmas::uncut_stays))]
+    #[tactic(auto, using(tree_reuse::proofs::RetargetLemmas::open_leaf_stays))]
     pub fn change_uncut(&mut self, sheet: &Sheet, season: &Season)
         requires { self.old.tree ≡ open_leaf }
         ensures { self.new ≡ seat_changed sheet.now season.now self.old }

@@ -2,12 +2,11 @@
 use Rattle.std.proofs.Common.{◌≡◌, ◌≢◌, ℕ, zero, suc, ◌+◌, ◌*◌, ◌-◌, ◌<◌, ◌≤◌, ℤ, pos, neg_ℤ, ◌*ℤ◌}
 use Rattle.std.proofs.Common.{◌≤ℤ◌, Bool, true, false, not, ◌&&◌, ◌||◌, ◌==◌, nat_lt, nat_le, ltb}
 use Rattle.std.proofs.Common.{cond, List, [], ◌∷◌, length, refl, sym, ap, ◌∙◌, arith}
-use Rattle.std.specs.Prelude.{IsTrue, ◌↔◌, count_by}
+use Rattle.std.specs.Prelude.{count_by}
 use Rattle.std.specs.List.{list_all, list_any, range_with_len}
-use Rattle.std.proofs.Math.Bool.{or-false, not-not}
+use Rattle.std.proofs.Math.Bool.{or-false}
 use Rattle.std.proofs.lemmas.Bool.{and_parts, ltb-true, lt-ltb}
 use Rattle.std.proofs.lemmas.Bool.{eqb-true, eqb-false, not-true}
-use Rattle.std.proofs.lemmas.Bool.Decides.{same_from_decides}
 use Rattle.std.proofs.lemmas.Int.{ints}
 use Rattle.std.proofs.lemmas.List.Sums.{length-filter, sum_by-cons}
 use Rattle.league_core.specs.declared.sheet.Sheet.{Sheet}
@@ -23,7 +22,7 @@ use Rattle.league_core.specs.Reasons.{too_many}
 use Rattle.league_core.proofs.PlainLemmas.{eqb-swap, times-suc}
 use Rattle.league_core.proofs.ClubSetLemmas.{clubs_below-filter_range, has_club-range}
 use Rattle.league_core.proofs.ClubSetLemmas.{filter-filter, filter_agree_in, has_club-filter}
-use Rattle.league_core.proofs.ClubLemmas.{each_member, all_members, no_member}
+use Rattle.league_core.proofs.ClubLemmas.{each_member}
 
 -- the rivals of a set, counted
 pub count_rivals-is : (clubs club bits chosen without first single : ℕ) → clubs ≤ 32
@@ -96,24 +95,6 @@ any_counted test (x ∷ xs) =
     counted true all rest later more is = lt-ltb 0 all (omega (arith, more))
     counted false all rest later more is =
         let none : all ≡ rest = omega (arith, more) in ap (nat_lt 0) none ∙ is
-
--- all of a list are in another where nothing is left of it without the other
-pub all_within : (clubs others rest : List ℕ) (is_empty : Bool)
-    → ((club : ℕ) → has_club rest club ≡ (has_club clubs club && not (has_club others club)))
-    → (IsTrue is_empty ↔ (rest ≡ [])) → is_empty ≡ list_all (has_club others) clubs
-all_within clubs others rest is_empty has says =
-    same_from_decides {P = rest ≡ []} is_empty (list_all (has_club others) clubs) says (
-      λ all. no_member rest (λ club. has club ∙ neither club (has_club clubs club) all refl),
-      λ empty. all_members (has_club others) clubs (λ club here.
-          sym (not-not (has_club others club))
-          ∙ ap not (sym (ap (λ b. b && not (has_club others club)) here) ∙ sym (has club)
-          ∙ ap (λ xs. has_club xs club) empty)),
-    )
-  where
-    neither : (club : ℕ) (b : Bool) → list_all (has_club others) clubs ≡ true
-        → has_club clubs club ≡ b → (b && not (has_club others club)) ≡ false
-    neither club false all here = refl
-    neither club true all here = ap not (each_member (has_club others) clubs all club here)
 
 -- so many times a number that is not far from 0
 pub times_near : (count : ℕ) (number : ℤ) → neg_ℤ (pos 3000000000) ≤ℤ number

@@ -1,12 +1,14 @@
 -- Lists of clubs: which clubs a list has, how many pass a test, and where in the lots a club
 -- stands.
 use Rattle.std.proofs.Common.{◌≡◌, ◌≢◌, ℕ, zero, suc, ◌+◌, ◌<◌, ◌≤◌, Bool, true, false, not, ◌||◌}
-use Rattle.std.proofs.Common.{◌==◌, cond, List, [], ◌∷◌, length, get_or, count_by, refl, ◌∙◌, subst}
-use Rattle.std.proofs.Common.{arith, eqb, sym, ap, inl, inr}
+use Rattle.std.proofs.Common.{◌&&◌, ◌==◌, cond, List, [], ◌∷◌, length, get_or, count_by, refl, ◌∙◌}
+use Rattle.std.proofs.Common.{arith, eqb, sym, ap, inl, inr, subst}
 use Rattle.std.specs.Prelude.{IsTrue, ◌↔◌}
 use Rattle.std.specs.List.{list_all, list_any, range_with_len}
 use Rattle.std.proofs.lemmas.Bool.{and_parts, and_from, eqb-true, eqb-false, eq-eqb, false≢true}
+use Rattle.std.proofs.Math.Bool.{not-not}
 use Rattle.std.proofs.lemmas.Bool.{or_cases, or_left, or_right}
+use Rattle.std.proofs.lemmas.Bool.Decides.{same_from_decides}
 use Rattle.std.proofs.lemmas.List.Sums.{sum_by-cons}
 use Rattle.std.proofs.lemmas.List.Folds.{list_any_at}
 use Rattle.std.proofs.lemmas.List.FromFn.{length-range_with_len, get_or-range_with_len}
@@ -137,3 +139,21 @@ pub has_member-not_empty : (clubs : List ℕ) (is_empty : Bool) → (IsTrue is_e
 has_member-not_empty [] is_empty says = ap not (says.1 refl)
 has_member-not_empty (club ∷ clubs) true says = absurd (let e = says.0 refl in cc)
 has_member-not_empty (club ∷ clubs) false says = refl
+
+-- the rest of a list behind those that pass a test is empty exactly where all pass it
+pub list_all-rest_empty : (test : ℕ → Bool) (clubs rest : List ℕ) (is_empty : Bool)
+    → ((club : ℕ) → has_club rest club ≡ (has_club clubs club && not (test club)))
+    → (IsTrue is_empty ↔ (rest ≡ [])) → is_empty ≡ list_all test clubs
+list_all-rest_empty test clubs rest is_empty has says =
+    same_from_decides {P = rest ≡ []} is_empty (list_all test clubs) says (
+      λ all. no_member rest (λ club. has club ∙ neither club (has_club clubs club) all refl),
+      λ empty. all_members test clubs (λ club here.
+          sym (not-not (test club))
+          ∙ ap not (sym (ap (λ b. b && not (test club)) here) ∙ sym (has club)
+          ∙ ap (λ xs. has_club xs club) empty)),
+    )
+  where
+    neither : (club : ℕ) (b : Bool) → list_all test clubs ≡ true → has_club clubs club ≡ b
+        → (b && not (test club)) ≡ false
+    neither club false all here = refl
+    neither club true all here = ap not (each_member test clubs all club here)

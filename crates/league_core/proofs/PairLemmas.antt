@@ -93,12 +93,15 @@ no_pair group worth club match score home away =
     either true = refl
     either false = refl
 
--- what a match is worth in a group, it is worth against all of its clubs together
-match_of_pairs : (group : List ℕ) (worth : Worth) (club : ℕ) (match : Fixture) (score : Score)
-    → are_different nat_eq group ≡ true → has_club group club ≡ true → match.home ≢ match.away
+-- what a match is worth in a group that counts each of its clubs once, it is worth against all of
+-- them together
+pub match_of_pairs : (group : List ℕ) (worth : Worth) (club : ℕ) (match : Fixture) (score : Score)
+    → ((x : ℕ) (number : ℤ) → total_of (λ rival. cond (rival == x) number (pos 0)) group
+    ≡ cond (has_club group x) number (pos 0))
+    → has_club group club ≡ true → match.home ≢ match.away
     → worth_among group worth club match score
     ≡ total_of (λ rival. worth_among (club ∷ rival ∷ []) worth club match score) group
-match_of_pairs group worth club match score different member apart =
+match_of_pairs group worth club match score once member apart =
     by_side (cases_eq match.home club) (cases_eq match.away club)
   where
     by_side : (match.home ≡ club) ⊎ (match.home ≢ club)
@@ -108,7 +111,7 @@ match_of_pairs group worth club match score different member apart =
     by_side (inl home) (inl away) = absurd (apart (home ∙ sym away))
     by_side (inl home) (inr away) =
         rw (ap (has_club group) home ∙ member, eq-eqb match.home club home)
-        (sym (total_of-one match.away (worth score.home score.away false) group different))
+        (sym (once match.away (worth score.home score.away false)))
         ∙ sym (total_of-same _ _ group (home_pair worth club match score home away))
     by_side (inr home) (inl away) =
         rw (
@@ -118,7 +121,7 @@ match_of_pairs group worth club match score different member apart =
         )
         (ap (λ b. cond b (worth score.away score.home true) (pos 0))
         (and-true (has_club group match.home))
-        ∙ sym (total_of-one match.home (worth score.away score.home true) group different))
+        ∙ sym (once match.home (worth score.away score.home true)))
         ∙ sym (total_of-same _ _ group (away_pair worth club match score home away))
     by_side (inr home) (inr away) =
         no_pair group worth club match score home away
@@ -164,7 +167,8 @@ sum_among-pairs worth sheet season group club limits different member =
     ∙ sum_over-zero sheet.fixtures season.scores in
     sum_over-agree known (worth_among group worth club)
     (λ match score. total_of (λ rival. pair rival match score) group)
-    (λ match score is. match_of_pairs group worth club match score different member
+    (λ match score is. match_of_pairs group worth club match score
+    (λ x number. total_of-one x number group different) member
     (clubs_apart (length sheet.clubs) match is))
     sheet.fixtures season.scores limits.fixtures
     ∙ sym (total_of-sum_over pair group sheet.fixtures season.scores)

@@ -21,12 +21,13 @@ use Rattle.std.proofs.lemmas.List.Sums.{sum_by-set, get_or-le-sum_by}
 use Rattle.std.proofs.lemmas.List.Sums.{count_by_more_no, count_by_more_yes}
 use Rattle.league_core.specs.declared.sheet.Fixture.{Fixture}
 use Rattle.league_core.specs.declared.season.Score.{Score}
-use Rattle.league_core.specs.Sums.{match_points, worth_to}
+use Rattle.league_core.specs.Sums.{match_points}
 use Rattle.league_core.specs.Options.{has_option, has_one_outcome}
 use Rattle.league_core.specs.PointRanges.{Range, one_value, added, range_of, range_from}
 use Rattle.league_core.specs.PointRanges.{points_together, points_of_sides}
 use Rattle.league_core.proofs.OptionLemmas.{has_score-first}
 use Rattle.league_core.proofs.PointRangeLemmas.{range_of-same}
+use Rattle.league_core.proofs.PointsLemmas.{match_worth}
 use Rattle.league_core.proofs.RangeLemmas.{range_of-none}
 use Rattle.league_core.proofs.FixtureLemmas.{fixture_of_sheet}
 use Rattle.score_box.specs.declared.cell.Cell.{Cell}
@@ -45,29 +46,11 @@ use Rattle.score_box.proofs.OutcomeLemmas.{one_outcome_of, outcome_of_cell}
 abbrev pub IsSmall : ℤ → Type 0
 IsSmall value = (pos 0 ≤ℤ value) × (value ≤ℤ pos 3)
 
-cond_small : (b : Bool) (x y : ℤ) → IsSmall x → IsSmall y → IsSmall (cond b x y)
-cond_small true x y first second = first
-cond_small false x y first second = second
-
-points_small : (scored conceded : ℕ) (away : Bool) → IsSmall (match_points scored conceded away)
-points_small scored conceded away =
-    cond_small _ (pos 3) _ (omega (arith, ints), omega (arith, ints))
-    (cond_small _ (pos 1) (pos 0) (omega (arith, ints), omega (arith, ints))
-    (omega (arith, ints), omega (arith, ints)))
-
-worth_small : (club : ℕ) (match : Fixture) (score : Score)
-    → IsSmall (worth_to match_points club match score)
-worth_small club match score =
-    cond_small (eqb match.home club) (match_points score.home score.away false) _
-    (points_small score.home score.away false)
-    (cond_small (eqb match.away club) (match_points score.away score.home true) (pos 0)
-    (points_small score.away score.home true) (omega (arith, ints), omega (arith, ints)))
-
 alone_small : (club : ℕ) (match : Fixture) (score : Score)
     → IsSmall (points_together (club ∷ []) match score)
 alone_small club match score =
-    let one = worth_small club match score in
-    (omega (arith, ints, one.0), omega (arith, ints, one.1))
+    let one = match_worth club match score in
+    (omega (arith, ints, one.least), omega (arith, ints, one.most))
 
 -- both ends of a range of small values are small
 pub range_small : (value : Score → ℤ) → ((score : Score) → IsSmall (value score))

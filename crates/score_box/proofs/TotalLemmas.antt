@@ -11,9 +11,7 @@ use Rattle.league_core.specs.declared.sheet.Fixture.{Fixture}
 use Rattle.league_core.specs.declared.season.Score.{Score}
 use Rattle.league_core.specs.Sums.{Worth}
 use Rattle.league_core.specs.Sums.{has_club, worth_among, if_played, sum_over}
-use Rattle.std.proofs.Common.{◌==◌, not}
-use Rattle.std.proofs.Math.Bool.{and-true}
-use Rattle.std.proofs.lemmas.Bool.{and_parts, true≢false}
+use Rattle.std.proofs.Common.{◌==◌}
 use Rattle.league_core.specs.declared.sheet.Sheet.{Sheet}
 use Rattle.league_core.specs.Sheets.{IsWithinLimits, is_fixture}
 use Rattle.league_core.specs.Results.{Results}
@@ -23,8 +21,9 @@ use Rattle.league_core.specs.PairSums.{sum_against}
 use Rattle.league_core.specs.PointRanges.{total_of}
 use Rattle.league_core.proofs.ClubSetLemmas.{has_club-clubs_below}
 use Rattle.league_core.proofs.PointRangeLemmas.{total_of-same, total_of-one}
-use Rattle.league_core.proofs.SumLemmas.{sum_over-agree, total_of-sum_over, total_of-zero}
-use Rattle.league_core.proofs.PairLemmas.{no_pair, home_pair, away_pair}
+use Rattle.league_core.proofs.SumLemmas.{sum_over-agree, total_of-sum_over}
+use Rattle.league_core.proofs.FixtureLemmas.{clubs_apart}
+use Rattle.league_core.proofs.PairLemmas.{match_of_pairs}
 use Rattle.league_core.proofs.PlainLemmas.{eqb-swap}
 use Rattle.score_box.specs.declared.totals.Totals.{Totals}
 use Rattle.score_box.specs.Totals.{Column, points_column, difference_column, goals_column}
@@ -342,53 +341,14 @@ near_wider bound more totals fewer near column =
 -- ---- a group, from its pairs
 
 -- what one club of a set is worth
-pub one_in_set : (x : ℕ) (number : ℤ) (bits : ℕ)
-    → total_of (λ club. cond (eqb x club) number (pos 0)) (clubs_below 32 bits)
+one_in_set : (bits x : ℕ) (number : ℤ)
+    → total_of (λ club. cond (club == x) number (pos 0)) (clubs_below 32 bits)
     ≡ cond (has_club (clubs_below 32 bits) x) number (pos 0)
-one_in_set x number bits =
-    total_of-one x number 32 bits
+one_in_set bits x number =
+    total_of-same _ _ (clubs_below 32 bits)
+    (λ club. ap (λ b. cond b number (pos 0)) (eqb-swap club x))
+    ∙ total_of-one x number 32 bits
     ∙ ap (λ b. cond b number (pos 0)) (sym (has_club-clubs_below 32 bits x))
-
--- what a match is worth in a group, it is worth against all of its clubs together
-match_among : (bits : ℕ) (worth : Worth) (club : ℕ) (match : Fixture) (score : Score)
-    → has_club (clubs_below 32 bits) club ≡ true → match.home ≢ match.away
-    → worth_among (clubs_below 32 bits) worth club match score
-    ≡ total_of (λ rival. worth_among (club ∷ rival ∷ []) worth club match score)
-    (clubs_below 32 bits)
-match_among bits worth club match score member apart =
-    by_side (cases_eq match.home club) (cases_eq match.away club)
-  where
-    by_side : (match.home ≡ club) ⊎ (match.home ≢ club)
-        → (match.away ≡ club) ⊎ (match.away ≢ club)
-        → worth_among (clubs_below 32 bits) worth club match score
-        ≡ total_of (λ rival. worth_among (club ∷ rival ∷ []) worth club match score)
-        (clubs_below 32 bits)
-    by_side (inl home) (inl away) = absurd (apart (home ∙ sym away))
-    by_side (inl home) (inr away) =
-        rw (ap (has_club (clubs_below 32 bits)) home ∙ member, eq-eqb match.home club home)
-        (sym (one_in_set match.away (worth score.home score.away false) bits))
-        ∙ sym (total_of-same _ _ (clubs_below 32 bits)
-        (λ rival. home_pair worth club match score home away rival
-        ∙ ap (λ b. cond b (worth score.home score.away false) (pos 0))
-        (eqb-swap rival match.away)))
-    by_side (inr home) (inl away) =
-        rw (
-          ap (has_club (clubs_below 32 bits)) away ∙ member,
-          ne_eqb match.home club home,
-          eq-eqb match.away club away,
-        )
-        (ap (λ b. cond b (worth score.away score.home true) (pos 0))
-        (and-true (has_club (clubs_below 32 bits) match.home))
-        ∙ sym (one_in_set match.home (worth score.away score.home true) bits))
-        ∙ sym (total_of-same _ _ (clubs_below 32 bits)
-        (λ rival. away_pair worth club match score home away rival
-        ∙ ap (λ b. cond b (worth score.away score.home true) (pos 0))
-        (eqb-swap rival match.home)))
-    by_side (inr home) (inr away) =
-        no_pair (clubs_below 32 bits) worth club match score home away
-        ∙ sym (total_of-same _ (λ rival. pos 0) (clubs_below 32 bits)
-        (λ rival. no_pair (club ∷ rival ∷ []) worth club match score home away)
-        ∙ total_of-zero (clubs_below 32 bits))
 
 -- so a club's sum in a group is that of its pairs with the clubs of the group
 pub sum_among-set : (worth : Worth) (sheet : Sheet) (season : Results) (bits club : ℕ)
@@ -400,16 +360,9 @@ sum_among-set worth sheet season bits club limits member =
     let pair = λ (rival : ℕ). worth_among (club ∷ rival ∷ []) worth club in
     sum_over-agree (is_fixture (length sheet.clubs)) (worth_among group worth club)
     (λ match score. total_of (λ rival. pair rival match score) group)
-    (λ match score is. match_among bits worth club match score member
+    (λ match score is. match_of_pairs group worth club match score (one_in_set bits) member
     (clubs_apart (length sheet.clubs) match is)) sheet.fixtures season.scores limits.fixtures
     ∙ sym (total_of-sum_over pair group sheet.fixtures season.scores)
-  where
-    clubs_apart : (clubs : ℕ) (match : Fixture) → is_fixture clubs match ≡ true
-        → match.home ≢ match.away
-    clubs_apart clubs match is same =
-        let different = (and_parts (nat_lt match.home clubs && nat_lt match.away clubs)
-        (not (match.home == match.away)) is).1 in
-        true≢false (sym different ∙ ap not (eq-eqb match.home match.away same))
 
 -- of no club there is none
 pub zero_in : (column : Column) → total_in no_totals column ≡ pos 0

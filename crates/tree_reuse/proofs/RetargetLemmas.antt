@@ -368,14 +368,14 @@ open_leaf_is (branch test fresh yes_half no_half) one some =
     let second = node_count-some no_half in
     absurd (omega arith)
 
--- a tree of one open leaf stays one
-pub retargeted-open : (sheet : Sheet) (season : Results) (question : Question) (tree : Tree)
-    → tree ≡ open_leaf → open_leaf ≡ retargeted sheet season question tree
+-- a tree of one open leaf stays as it is
+pub open_leaf_stays : (sheet : Sheet) (season : Results) (question : Question) (tree : Tree)
+    → tree ≡ open_leaf → retargeted sheet season question tree ≡ tree
 unfolding retargeted
-retargeted-open sheet season question tree is =
-    limit_cases (λ kept. open_leaf ≡ kept) open_leaf (λ few. refl) refl
-    ∙ ap (λ t. within_limit (retargeted_from sheet season question [] t))
-    (sym is)
+open_leaf_stays sheet season question tree is =
+    ap (λ t. within_limit (retargeted_from sheet season question [] t)) is
+    ∙ limit_cases (λ kept. kept ≡ open_leaf) open_leaf (λ few. refl) refl
+    ∙ sym is
 
 -- a list of more nodes than the limit is that of a tree that becomes one open leaf
 pub retargeted-many : (sheet : Sheet) (season : Results) (question : Question) (tree : Tree)
