@@ -8,24 +8,24 @@ use Rattle.league_core.specs.Sums.{has_club}
 use Rattle.league_core.specs.ClubSets.{clubs_in}
 use Rattle.league_core.specs.SureOrder.{is_above, is_below, is_level}
 use Rattle.tie_bound.specs.declared.answer_sets.Answers.{Answers}
-use Rattle.tie_bound.specs.Answers.{answer_of, answer_at, is_answer}
+use Rattle.tie_bound.specs.Answers.{in_sets, answer_at, is_answer}
 
 -- the answer of a club, from which of the sets have it
 pub answer_is : (answers : Answers) (club : ℕ) (above below level : Bool)
     → has_club (clubs_in answers.above) club ≡ above
     → has_club (clubs_in answers.below) club ≡ below
     → has_club (clubs_in answers.level) club ≡ level
-    → answer_at answers club ≡ answer_of above below level
+    → answer_at answers club ≡ in_sets above below level
 unfolding answer_at
 answer_is answers club above below level in_above in_below in_level =
-    ap (λ b. answer_of b (has_club (clubs_in answers.below) club)
+    ap (λ b. in_sets b (has_club (clubs_in answers.below) club)
     (has_club (clubs_in answers.level) club)) in_above
-    ∙ ap (λ b. answer_of above b (has_club (clubs_in answers.level) club)) in_below
-    ∙ ap (answer_of above below) in_level
+    ∙ ap (λ b. in_sets above b (has_club (clubs_in answers.level) club)) in_below
+    ∙ ap (in_sets above below) in_level
 
 -- in none of the sets
 pub none_of : (above below level : Bool) → above ≡ false → below ≡ false → level ≡ false
-    → answer_of above below level ≡ Unknown
+    → in_sets above below level ≡ Unknown
 none_of above below level no_above no_below no_level = rw (no_above, no_below, no_level) refl
 
 pub open_answers : (answers : Answers) → clubs_in answers.above ≡ [] → clubs_in answers.below ≡ []
@@ -38,10 +38,10 @@ open_answers answers above below level club =
 
 -- with the answer of one club more
 with_one : (here above below level : Bool) (answer : Sure)
-    → (here ≡ true → answer_of above below level ≡ Unknown)
-    → answer_of (above || (is_answer Above answer && here))
+    → (here ≡ true → in_sets above below level ≡ Unknown)
+    → in_sets (above || (is_answer Above answer && here))
     (below || (is_answer Below answer && here)) (level || (is_answer Level answer && here))
-    ≡ cond here answer (answer_of above below level)
+    ≡ cond here answer (in_sets above below level)
 with_one true true below level answer nothing = absurd (above_is (nothing refl))
   where
     above_is : Above ≡ Unknown → ⊥
@@ -59,11 +59,11 @@ with_one true false false false Below nothing = refl
 with_one true false false false Level nothing = refl
 with_one true false false false Unknown nothing = refl
 with_one false above below level answer nothing =
-    ap (λ b. answer_of b (below || (is_answer Below answer && false))
+    ap (λ b. in_sets b (below || (is_answer Below answer && false))
     (level || (is_answer Level answer && false))) (stays above (is_answer Above answer))
-    ∙ ap (λ b. answer_of above b (level || (is_answer Level answer && false)))
+    ∙ ap (λ b. in_sets above b (level || (is_answer Level answer && false)))
     (stays below (is_answer Below answer))
-    ∙ ap (answer_of above below) (stays level (is_answer Level answer))
+    ∙ ap (in_sets above below) (stays level (is_answer Level answer))
   where
     stays : (b c : Bool) → (b || (c && false)) ≡ b
     stays true c = refl
@@ -83,24 +83,24 @@ pub answers_with : (old new : Answers) (club : ℕ) (answer : Sure) (above below
 unfolding answer_at
 answers_with old new club answer above below level nothing above_is below_is level_is in_above
     in_below in_level x =
-    ap (λ b. answer_of b (has_club (clubs_in new.below) x) (has_club (clubs_in new.level) x))
+    ap (λ b. in_sets b (has_club (clubs_in new.below) x) (has_club (clubs_in new.level) x))
     (in_above x ∙ ap (λ b. has_club (clubs_in old.above) x || (b && (club == x))) above_is)
-    ∙ ap (λ b. answer_of (has_club (clubs_in old.above) x
+    ∙ ap (λ b. in_sets (has_club (clubs_in old.above) x
     || (is_answer Above answer && (club == x))) b (has_club (clubs_in new.level) x))
     (in_below x ∙ ap (λ b. has_club (clubs_in old.below) x || (b && (club == x))) below_is)
-    ∙ ap (answer_of (has_club (clubs_in old.above) x || (is_answer Above answer && (club == x)))
+    ∙ ap (in_sets (has_club (clubs_in old.above) x || (is_answer Above answer && (club == x)))
     (has_club (clubs_in old.below) x || (is_answer Below answer && (club == x))))
     (in_level x ∙ ap (λ b. has_club (clubs_in old.level) x || (b && (club == x))) level_is)
     ∙ with_one (club == x) (has_club (clubs_in old.above) x) (has_club (clubs_in old.below) x)
     (has_club (clubs_in old.level) x) answer
-    (λ same. ap (λ k. answer_of (has_club (clubs_in old.above) k)
+    (λ same. ap (λ k. in_sets (has_club (clubs_in old.above) k)
     (has_club (clubs_in old.below) k) (has_club (clubs_in old.level) k))
     (sym (eqb-true club x same)) ∙ nothing)
 
 -- without the answer of one club
 without_one : (here above below level : Bool)
-    → answer_of (above && not here) (below && not here) (level && not here)
-    ≡ cond here Unknown (answer_of above below level)
+    → in_sets (above && not here) (below && not here) (level && not here)
+    ≡ cond here Unknown (in_sets above below level)
 without_one true above below level =
     none_of (above && false) (below && false) (level && false) (never above) (never below)
     (never level)
@@ -109,9 +109,9 @@ without_one true above below level =
     never true = refl
     never false = refl
 without_one false above below level =
-    ap (λ b. answer_of b (below && true) (level && true)) (ever above)
-    ∙ ap (λ b. answer_of above b (level && true)) (ever below)
-    ∙ ap (answer_of above below) (ever level)
+    ap (λ b. in_sets b (below && true) (level && true)) (ever above)
+    ∙ ap (λ b. in_sets above b (level && true)) (ever below)
+    ∙ ap (in_sets above below) (ever level)
   where
     ever : (b : Bool) → (b && true) ≡ b
     ever true = refl
@@ -127,12 +127,12 @@ pub answers_without : (old new : Answers) (club : ℕ) (single : List ℕ) → s
     → (x : ℕ) → answer_at new x ≡ cond (club == x) Unknown (answer_at old x)
 unfolding answer_at
 answers_without old new club single alone in_above in_below in_level x =
-    ap (λ b. answer_of b (has_club (clubs_in new.below) x) (has_club (clubs_in new.level) x))
+    ap (λ b. in_sets b (has_club (clubs_in new.below) x) (has_club (clubs_in new.level) x))
     (in_above x ∙ ap (λ b. has_club (clubs_in old.above) x && not b) here)
-    ∙ ap (λ b. answer_of (has_club (clubs_in old.above) x && not (club == x)) b
+    ∙ ap (λ b. in_sets (has_club (clubs_in old.above) x && not (club == x)) b
     (has_club (clubs_in new.level) x))
     (in_below x ∙ ap (λ b. has_club (clubs_in old.below) x && not b) here)
-    ∙ ap (answer_of (has_club (clubs_in old.above) x && not (club == x))
+    ∙ ap (in_sets (has_club (clubs_in old.above) x && not (club == x))
     (has_club (clubs_in old.below) x && not (club == x)))
     (in_level x ∙ ap (λ b. has_club (clubs_in old.level) x && not b) here)
     ∙ without_one (club == x) (has_club (clubs_in old.above) x) (has_club (clubs_in old.below) x)
@@ -167,7 +167,7 @@ unfolding answer_at
 above_of answers x = at (has_club (clubs_in answers.above) x)
     (has_club (clubs_in answers.below) x) (has_club (clubs_in answers.level) x)
   where
-    at : (a b l : Bool) → a ≡ is_above (answer_of a b l)
+    at : (a b l : Bool) → a ≡ is_above (in_sets a b l)
     at true b l = refl
     at false true l = refl
     at false false true = refl
@@ -180,7 +180,7 @@ unfolding answer_at
 below_of answers x = at (has_club (clubs_in answers.above) x)
     (has_club (clubs_in answers.below) x) (has_club (clubs_in answers.level) x)
   where
-    at : (a b l : Bool) → (b && not a) ≡ is_below (answer_of a b l)
+    at : (a b l : Bool) → (b && not a) ≡ is_below (in_sets a b l)
     at true true l = refl
     at true false l = refl
     at false true l = refl
@@ -195,7 +195,7 @@ unfolding answer_at
 level_of answers x low = at (has_club (clubs_in answers.above) x)
     (has_club (clubs_in answers.below) x) (has_club (clubs_in answers.level) x) low
   where
-    at : (a b l low : Bool) → ((l && not (a || b)) && low) ≡ (low && is_level (answer_of a b l))
+    at : (a b l low : Bool) → ((l && not (a || b)) && low) ≡ (low && is_level (in_sets a b l))
     at true b true true = refl
     at true b true false = refl
     at true b false true = refl

@@ -215,7 +215,8 @@ sure_order-is box club bits rival answers last few by_points level low takes =
 
     here : (x : ℕ) → x < length box.sheet.clubs → answer_at answers x ≡ on_points x
     here x below =
-        by_points x ∙ ap (λ b. cond b (on_points x) Unknown) (lt-ltb x (length box.sheet.clubs) below)
+        by_points x
+        ∙ ap (λ b. cond b (on_points x) Unknown) (lt-ltb x (length box.sheet.clubs) below)
 
     as_level : (x : ℕ) → (x < length box.sheet.clubs) ⊎ (length box.sheet.clubs ≤ x)
         → (ltb x (length box.sheet.clubs) && is_level (answer_at answers x))

@@ -61,14 +61,14 @@ is_sure_by parts table club other =
     || is_apart (ranges_of parts (sums_at table other)) (ranges_of parts (sums_at table club))
 
 -- a club that is in one of these three sets
-abbrev pub answer_of : Bool → Bool → Bool → Sure
-answer_of above below level =
+abbrev pub in_sets : Bool → Bool → Bool → Sure
+in_sets above below level =
     if above then Above else if below then Below else if level then Level else Unknown
 
 -- the answer of a club
 unfoldable pub answer_at : Answers → ℕ → Sure
 answer_at answers club =
-    answer_of (has_club (clubs_in answers.above) club) (has_club (clubs_in answers.below) club)
+    in_sets (has_club (clubs_in answers.above) club) (has_club (clubs_in answers.below) club)
     (has_club (clubs_in answers.level) club)
 
 -- the answers are those of the sheet's clubs by points

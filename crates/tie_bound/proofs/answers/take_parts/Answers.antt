@@ -10,7 +10,9 @@ use Rattle.tie_bound.proofs.AnswerLemmas.{by_table-read, next_is}
 use Rattle.tie_bound.proofs.answers.take_parts.Goals as goal
 
 pub loop-step-init : goal.loop-step-init
-loop-step-init c = step_begins (by_table c.args.parts c.args.table.now c.args.club) c.args.group c.args.answers
+loop-step-init c =
+    step_begins (by_table c.args.parts c.args.table.now c.args.club) c.args.group
+    c.args.answers
 
 pub first_club-rival-requires : goal.first_club-rival-requires
 first_club-rival-requires c = λ none.
@@ -26,14 +28,14 @@ put-now-requires c = member_below c.loop-step.left c.first_club-rival.result
 
 pub returns-then-is_empty : goal.returns-then-is_empty
 returns-then-is_empty c =
-    step_ends (by_table c.args.parts c.args.table.now c.args.club) c.args.group c.loop-step.left c.loop-step._step c.args.answers
-    c.loop-step.now c.loop-step.invariant
+    step_ends (by_table c.args.parts c.args.table.now c.args.club) c.args.group
+    c.loop-step.left c.loop-step._step c.args.answers c.loop-step.now c.loop-step.invariant
     (λ club. empty_left c.loop-step.left club (c.is_empty.ensures.0 c.if-is_empty.true))
 
 pub returns : goal.returns
 returns c =
-    step_ends (by_table c.args.parts c.args.table.now c.args.club) c.args.group c.loop-step.left c.loop-step._step c.args.answers
-    c.loop-step.now c.loop-step.invariant
+    step_ends (by_table c.args.parts c.args.table.now c.args.club) c.args.group
+    c.loop-step.left c.loop-step._step c.args.answers c.loop-step.now c.loop-step.invariant
     (λ club. none_left c.args.group c.loop-step.left c.loop-step._step club
     c.loop-step.invariant.left_is (omega (arith, c.loop-step-test.false)))
 

@@ -84,8 +84,9 @@ returns-then-len c =
     λ rival low asked.
     judged_whole task next group (clubs_in c.those_level-level.result) c.smaller.now taken
     c.take_overall.result judged takes
-    (taken_overall box.sheet c.sheet-sheet.result.now options club group c.sums_for-overall.result taken
-    c.take_overall.result c.sheet-sheet.ensures.sheet c.sums_for-overall.ensures
+    (taken_overall box.sheet c.sheet-sheet.result.now options club group
+    c.sums_for-overall.result taken c.take_overall.result c.sheet-sheet.ensures.sheet
+    c.sums_for-overall.ensures
     (others_stay (length box.sheet.clubs) (by_table Record table club) group c.smaller.now taken
     (others_decided (length box.sheet.clubs) c.smaller.now group judged.level)
     c.take_parts-taken.ensures)
