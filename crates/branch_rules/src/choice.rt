@@ -9,7 +9,6 @@ ghost use Rattle.branch_rules.specs.Choices.{IsDueSplit};
 use crate::goals::goal_test;
 use crate::outcomes::outcome_test;
 use crate::rivals::unmarked_rival;
-use crate::totals::Totals;
 use league_core::{Literal, Question, Test};
 use score_box::ZoneBox;
 
@@ -23,15 +22,14 @@ pub fn choose(zone_box: &ZoneBox, question: &Question) -> Literal
         ≡ false }
     ensures { IsDueSplit zone_box.now question.now result.test }
 {
-    let totals = Totals::of(zone_box);
-    let test = match unmarked_rival(zone_box, question, &totals) {
+    let test = match unmarked_rival(zone_box, question) {
         Some(club) => Test::Rival { club },
-        None => score_test(zone_box, question, &totals),
+        None => score_test(zone_box, question),
     };
     Literal { test, yes: true }
 }
 
-fn score_test(zone_box: &ZoneBox, question: &Question, totals: &Totals) -> Test
+fn score_test(zone_box: &ZoneBox, question: &Question) -> Test
     requires has_finish { HasFinish zone_box.now }
     requires of_sheet { question.now.club < length zone_box.now.sheet.clubs }
     requires marked { IsTrue
@@ -40,8 +38,8 @@ fn score_test(zone_box: &ZoneBox, question: &Question, totals: &Totals) -> Test
         ≡ false }
     ensures { IsDueSplit zone_box.now question.now result }
 {
-    match outcome_test(zone_box, question, totals) {
+    match outcome_test(zone_box, question) {
         Some(test) => test,
-        None => goal_test(zone_box, question, totals).unwrap(),
+        None => goal_test(zone_box, question).unwrap(),
     }
 }

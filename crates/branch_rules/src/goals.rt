@@ -13,15 +13,15 @@ ghost use Rattle.branch_rules.specs.GoalTests.{DividesByGoals, HasOneAtMost, Are
 
 use crate::outcomes::sides_of;
 use crate::rated::{Rated, better, test_of};
-use crate::totals::Totals;
 use league_core::{Fixture, Question, Test};
 use score_box::{Cell, Goals, ZoneBox};
 
 /// The test of goals that is rated highest, of those that split the zone: in the widest range of
 /// goals, matches of clubs level with the question's club before all others. None where each
 /// fixture has one score, if each has one outcome.
-pub fn goal_test(zone_box: &ZoneBox, question: &Question, totals: &Totals) -> Option<Test>
+pub fn goal_test(zone_box: &ZoneBox, question: &Question) -> Option<Test>
     requires has_finish { HasFinish zone_box.now }
+    requires of_sheet { question.now.club < length zone_box.now.sheet.clubs }
     requires fixed { IsTrue
         (are_outcomes_fixed zone_box.now.sheet zone_box.now.season zone_box.now.zone) }
     ensures some { IfSome result (IsGoalSplit zone_box.now question.now) }
@@ -31,25 +31,21 @@ pub fn goal_test(zone_box: &ZoneBox, question: &Question, totals: &Totals) -> Op
     let unplayed = zone_box.unplayed();
     let mut best = None;
     for i in 0..unplayed.len() {
-        best = better(best, rated_goals(zone_box, question, totals, unplayed[i]));
+        best = better(best, rated_goals(zone_box, question, unplayed[i]));
     }
     test_of(best)
 }
 
 // The test of a fixture's goals, where it has several scores.
-fn rated_goals(
-    zone_box: &ZoneBox,
-    question: &Question,
-    totals: &Totals,
-    fixture: u16,
-) -> Option<Rated>
+fn rated_goals(zone_box: &ZoneBox, question: &Question, fixture: u16) -> Option<Rated>
     requires has_finish { HasFinish zone_box.now }
+    requires of_sheet { question.now.club < length zone_box.now.sheet.clubs }
     requires in_range { fixture < length zone_box.now.season.scores }
     ensures some { IfSome result (λ one. IsGoalSplit zone_box.now question.now one.test) }
     ensures none { IfNone result (IsTrue (has_one_outcome (options_at_fixture zone_box.now fixture))
         → IsTrue (has_one_score (options_at_fixture zone_box.now fixture))) }
 {
-    let level = level_sides(question, totals, sides_of(zone_box, fixture));
+    let level = level_sides(zone_box, question, sides_of(zone_box, fixture));
     match goal_split(zone_box.cell(fixture), fixture) {
         Some(split) => Some(Rated {
             test: split.test,
@@ -61,12 +57,22 @@ fn rated_goals(
 
 // A hundred for each side that is level with the question's club at the least points, and for the
 // club itself.
-fn level_sides(question: &Question, totals: &Totals, sides: Fixture) -> i32 {
-    let own = totals.least_of(question.club);
-    let home = i32::from(totals.least_of(sides.home) == own);
-    let away = i32::from(totals.least_of(sides.away) == own);
+fn level_sides(zone_box: &ZoneBox, question: &Question, sides: Fixture) -> i32
+    requires has_finish { HasFinish zone_box.now }
+    requires of_sheet { question.now.club < length zone_box.now.sheet.clubs }
+{
+    let own = zone_box.low(question.club);
+    let home = i32::from(has_least(zone_box, sides.home, own));
+    let away = i32::from(has_least(zone_box, sides.away, own));
     let plays = i32::from(sides.home == question.club || sides.away == question.club);
     100 * (home + away + plays)
+}
+
+// So many are the least points of the club.
+fn has_least(zone_box: &ZoneBox, club: u8, points: i32) -> bool
+    requires { HasFinish zone_box.now }
+{
+    (club as usize) < zone_box.sheet().clubs.len() && zone_box.low(club) == points
 }
 
 // A test of goals that splits what the cell has left of its first outcome; none where that is one

@@ -17,7 +17,6 @@ mod reasons;
 mod rivals;
 mod rooms;
 mod search;
-mod totals;
 mod worker;
 
 pub use choice::choose;

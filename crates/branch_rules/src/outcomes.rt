@@ -12,19 +12,19 @@ ghost use Rattle.branch_rules.specs.Outcomes.{AreOutcomesOf};
 use crate::left::Outcomes;
 use crate::rated::{Rated, better, test_of};
 use crate::rating::Rater;
-use crate::totals::Totals;
 use league_core::{Fixture, Question, Test};
 use score_box::ZoneBox;
 
 /// The test of an outcome that is rated highest, of those that split the zone; none where each
 /// fixture has one outcome.
-pub fn outcome_test(zone_box: &ZoneBox, question: &Question, totals: &Totals) -> Option<Test>
-    requires { HasFinish zone_box.now }
+pub fn outcome_test(zone_box: &ZoneBox, question: &Question) -> Option<Test>
+    requires has_finish { HasFinish zone_box.now }
+    requires of_sheet { question.now.club < length zone_box.now.sheet.clubs }
     ensures some { IfSome result (IsOutcomeSplit zone_box.now question.now) }
     ensures none { IfNone result (IsTrue
         (are_outcomes_fixed zone_box.now.sheet zone_box.now.season zone_box.now.zone)) }
 {
-    let rater = Rater::of(zone_box, question, totals);
+    let rater = Rater::of(zone_box, question);
     let unplayed = zone_box.unplayed();
     let mut best = None;
     for i in 0..unplayed.len() {

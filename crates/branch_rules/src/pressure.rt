@@ -1,12 +1,14 @@
 //! What becomes of the rivals that a zone marks where a match has fewer outcomes. It stands in no
 //! clause.
 
+ghost use Rattle.std.specs.Prelude.{◌<◌, length};
+ghost use Rattle.score_box.specs.Settings.{HasFinish};
+
 use crate::left::Outcomes;
 use crate::rooms::Rooms;
-use crate::totals::Totals;
 use league_core::limits::SET_WIDTH;
 use league_core::{Claim, ClubSet, Fixture, Question};
-use score_box::ZoneBox;
+use score_box::{ZoneBox, own_least, own_most};
 
 /// By how many points a match can move a bound of a club.
 const MOST_OF_A_MATCH: i32 = 3;
@@ -16,7 +18,8 @@ const MOST_OF_A_MATCH: i32 = 3;
 #[derive(Clone, Copy)]
 pub struct Pressure<'a> {
     question: &'a Question,
-    totals: &'a Totals,
+    high: i32,
+    low: i32,
     rises: Rooms,
     falls: Rooms,
     most: i32,
@@ -38,16 +41,18 @@ struct Step {
 }
 
 impl<'a> Pressure<'a> {
-    pub fn of(zone_box: &ZoneBox, question: &'a Question, totals: &'a Totals) -> Pressure<'a> {
-        let most = totals.own_most(question);
-        let least = totals.own_least(question);
-        let rises = rises_of(zone_box.after(), question, totals, most);
-        let falls = falls_of(zone_box.before(), question, totals, least);
+    pub fn of(zone_box: &ZoneBox, question: &'a Question) -> Pressure<'a>
+        requires has_finish { HasFinish zone_box.now }
+        requires of_sheet { question.now.club < length zone_box.now.sheet.clubs }
+    {
+        let most = own_most(zone_box, question);
+        let least = own_least(zone_box, question);
         Pressure {
             question,
-            totals,
-            rises,
-            falls,
+            high: zone_box.high(question.club),
+            low: zone_box.low(question.club),
+            rises: rises_of(zone_box, question, most),
+            falls: falls_of(zone_box, question, least),
             most,
             least,
         }
@@ -90,9 +95,8 @@ impl<'a> Pressure<'a> {
 
     // The same in a match of the question's club against a rival.
     fn own_outlook(&self, own: Step, rival: u8, step: Step) -> Outlook {
-        let club = self.question.club;
-        let most = self.totals.most_of(club).wrapping_sub(own.fall);
-        let least = self.totals.least_of(club).wrapping_add(own.rise);
+        let most = self.high.wrapping_sub(own.fall);
+        let least = self.low.wrapping_add(own.rise);
         let moved = Step {
             rise: self.most.wrapping_sub(most.min(self.question.high)),
             fall: least.max(self.question.low).wrapping_sub(self.least),
@@ -122,34 +126,42 @@ impl<'a> Pressure<'a> {
     }
 }
 
-// By how many points the least of each rival of a set may rise until it meets this number.
-fn rises_of(marked: ClubSet, question: &Question, totals: &Totals, most: i32) -> Rooms {
+// By how many points the least of each rival marked after the club may rise until it meets this
+// number.
+fn rises_of(zone_box: &ZoneBox, question: &Question, most: i32) -> Rooms
+    requires { HasFinish zone_box.now }
+{
+    let clubs = zone_box.sheet().clubs.len() as u8;
     let mut rooms = Rooms::ample();
-    let mut left = marked;
+    let mut left = zone_box.after();
     for _step in 0..SET_WIDTH {
         if left.is_empty() {
             return rooms;
         }
         let club = left.first_club();
-        if club != question.club {
-            rooms.put(club, most.wrapping_sub(totals.least_of(club)));
+        if club != question.club && club < clubs {
+            rooms.put(club, most.wrapping_sub(zone_box.low(club)));
         }
         left = left.without(ClubSet::single(club));
     }
     rooms
 }
 
-// By how many points the most of each rival of a set may fall until it meets this number.
-fn falls_of(marked: ClubSet, question: &Question, totals: &Totals, least: i32) -> Rooms {
+// By how many points the most of each rival marked before the club may fall until it meets this
+// number.
+fn falls_of(zone_box: &ZoneBox, question: &Question, least: i32) -> Rooms
+    requires { HasFinish zone_box.now }
+{
+    let clubs = zone_box.sheet().clubs.len() as u8;
     let mut rooms = Rooms::ample();
-    let mut left = marked;
+    let mut left = zone_box.before();
     for _step in 0..SET_WIDTH {
         if left.is_empty() {
             return rooms;
         }
         let club = left.first_club();
-        if club != question.club {
-            rooms.put(club, totals.most_of(club).wrapping_sub(least));
+        if club != question.club && club < clubs {
+            rooms.put(club, zone_box.high(club).wrapping_sub(least));
         }
         left = left.without(ClubSet::single(club));
     }

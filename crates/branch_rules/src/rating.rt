@@ -6,12 +6,12 @@
 //! is level the criteria decide, and they are sure only when all outcomes are fixed. Where the
 //! club's own points may miss the window, its own matches come before all that.
 
-ghost use Rattle.std.specs.Prelude.{pos, neg_ℤ, ◌≤ℤ◌, ◌≢◌, IsTrue, None};
+ghost use Rattle.std.specs.Prelude.{pos, neg_ℤ, ◌<◌, ◌≤ℤ◌, ◌≢◌, IsTrue, None, length};
+ghost use Rattle.score_box.specs.Settings.{HasFinish};
 
 use crate::left::Outcomes;
 use crate::pressure::Pressure;
 use crate::rated::Rated;
-use crate::totals::Totals;
 use league_core::{Claim, ClubSet, Fixture, Question};
 use score_box::ZoneBox;
 
@@ -35,14 +35,17 @@ pub struct Rater<'a> {
 }
 
 impl<'a> Rater<'a> {
-    pub fn of(zone_box: &ZoneBox, question: &'a Question, totals: &'a Totals) -> Rater<'a> {
+    pub fn of(zone_box: &ZoneBox, question: &'a Question) -> Rater<'a>
+        requires has_finish { HasFinish zone_box.now }
+        requires of_sheet { question.now.club < length zone_box.now.sheet.clubs }
+    {
         let excess = match question.claim {
-            Claim::Inside => totals.most_of(question.club).wrapping_sub(question.high),
-            Claim::Outside => question.low.wrapping_sub(totals.least_of(question.club)),
+            Claim::Inside => zone_box.high(question.club).wrapping_sub(question.high),
+            Claim::Outside => question.low.wrapping_sub(zone_box.low(question.club)),
         };
         Rater {
             question,
-            pressure: Pressure::of(zone_box, question, totals),
+            pressure: Pressure::of(zone_box, question),
             before: zone_box.before(),
             after: zone_box.after(),
             excess,

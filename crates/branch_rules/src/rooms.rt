@@ -1,7 +1,7 @@
 //! How many points rivals can move until they pass the bound that their marks set. It stands in no
 //! clause.
 
-use crate::totals::place_of;
+ghost use Rattle.std.specs.Prelude.{◌<◌};
 
 /// More room than any rival can use up.
 const AMPLE: i32 = 1_000_000;
@@ -50,4 +50,11 @@ impl Rooms {
             self.least
         }
     }
+}
+
+// Where the table of a club that a set has room for has it.
+fn place_of(club: u8) -> usize
+    ensures { result < 32 }
+{
+    usize::from(club % 32)
 }

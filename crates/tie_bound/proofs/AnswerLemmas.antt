@@ -1,13 +1,12 @@
--- Tables of answers: a step at each club of a group in turn, and what the steps of the sure order
+-- Answers: a step at each club of a group in turn, and what the steps of the sure order
 -- say.
-use Rattle.std.proofs.Common.{◌≡◌, ◌≢◌, ◌⊎◌, inl, inr, ℕ, ◌+◌, ◌<◌, ◌≤◌, ℤ, pos, neg_ℤ, ◌+ℤ◌, ◌-ℤ◌}
-use Rattle.std.proofs.Common.{Bool, true, false, nat_lt, ◌&&◌, ◌||◌, List, [], ◌∷◌, length}
-use Rattle.std.proofs.Common.{set, slice_index}
+use Rattle.std.proofs.Common.{◌≡◌, ◌≢◌, ◌⊎◌, inl, inr, ℕ, ◌+◌, ◌<◌, ℤ, pos, neg_ℤ, ◌+ℤ◌, ◌-ℤ◌}
+use Rattle.std.proofs.Common.{Bool, true, false, nat_lt, ◌&&◌, ◌||◌, ◌==◌, cond, List, [], ◌∷◌}
+use Rattle.std.proofs.Common.{slice_index}
 use Rattle.std.proofs.Common.{refl, sym, ap, ◌∙◌, arith}
-use Rattle.std.proofs.lemmas.Bool.{false≢true, cases_eq}
-use Rattle.std.proofs.lemmas.Bool.{and_parts, lt-ltb, ltb-true, cases_Bool}
+use Rattle.std.proofs.lemmas.Bool.{false≢true, cases_eq, cases_lt, eq-eqb, ne_eqb}
+use Rattle.std.proofs.lemmas.Bool.{lt-ltb, le-ltb, cases_Bool}
 use Rattle.std.proofs.lemmas.Int.{ints}
-use Rattle.std.proofs.lemmas.List.{get_or-set_same, get_or-set_other, length-set}
 use Rattle.league_core.specs.declared.sheet.Sheet.{Sheet}
 use Rattle.league_core.specs.declared.club_set.ClubSet.{ClubSet}
 use Rattle.league_core.specs.ClubSets.{clubs_in}
@@ -26,18 +25,21 @@ use Rattle.league_core.specs.SureOrder.{is_level, is_apart, record_ranges, overa
 use Rattle.league_core.specs.SureOrder.{first_sum_ranges}
 use Rattle.tie_criteria.specs.declared.measure.Measure.TheVariants.{Points, Difference, Goals}
 use Rattle.tie_criteria.specs.declared.measure.Measure.TheVariants.{AwayGoals, Wins, AwayWins}
+use Rattle.tie_criteria.specs.declared.measure.Measure.{Measure}
+use Rattle.tie_criteria.specs.Measures.{worth_of}
+use Rattle.tie_bound.specs.declared.answer_sets.Answers.{Answers}
 use Rattle.tie_bound.specs.declared.parts.Parts.{Parts}
 use Rattle.tie_bound.specs.declared.sums.Sums.{Sums}
 use Rattle.tie_bound.specs.Spans.{as_range}
-use Rattle.tie_bound.specs.Sums.{sums_at}
+use Rattle.tie_bound.specs.Sums.{range_by, sums_at}
 use Rattle.tie_bound.specs.Tables.{AreSums}
 use Rattle.tie_bound.specs.Answers.{record_spans_of, first_spans_of, ranges_of, overall_spans_of}
 use Rattle.tie_bound.specs.Answers.{by_table}
 use Rattle.tie_bound.specs.Answers.{by_overall_table, is_sure_by}
-use Rattle.tie_bound.specs.Answers.{answer_at, AreLevelIn, StepDecides, IsStepIn, HaveAnswers}
+use Rattle.tie_bound.specs.Answers.{answer_at, AreLevelIn, StepDecides, IsStepIn}
 
 -- a step in the clubs of a group on its way: those that are left have their old answers still
-pub record IsOnTheWay (next : ℕ → Sure) (group left : ClubSet) (steps : ℕ) (old now : List Sure)
+pub record IsOnTheWay (next : ℕ → Sure) (group left : ClubSet) (steps : ℕ) (old now : Answers)
     : Type 0 where
   pub left_is : IsLeftOf group left steps
   pub done : (club : ℕ) → has_club (clubs_in group) club ≡ true
@@ -47,57 +49,60 @@ pub record IsOnTheWay (next : ℕ → Sure) (group left : ClubSet) (steps : ℕ)
       → answer_at now club ≡ answer_at old club
   pub outside : (club : ℕ) → has_club (clubs_in group) club ≡ false
       → answer_at now club ≡ answer_at old club
-  pub long : length now ≡ length old
 
-pub step_begins : (next : ℕ → Sure) (group : ClubSet) (old : List Sure)
+pub step_begins : (next : ℕ → Sure) (group : ClubSet) (old : Answers)
     → IsOnTheWay next group group 0 old old
 step_begins next group old = record {
   left_is = all_left group;
   done = λ club has gone. absurd (false≢true (sym gone ∙ has));
   kept = λ club has. refl;
   outside = λ club out. refl;
-  long = refl;
 }
 
+-- an answer is put in the place of one, and the others stay
+pub record IsPut (at : ℕ) (answer : Sure) (old new : Answers) : Type 0 where
+  pub is : (other : ℕ) → answer_at new other ≡ cond (at == other) answer (answer_at old other)
+
+put_here : (at : ℕ) (answer : Sure) (old new : Answers) → IsPut at answer old new
+    → answer_at new at ≡ answer
+put_here at answer old new put =
+    put.is at ∙ ap (λ b. cond b answer (answer_at old at)) (eq-eqb at at refl)
+
+put_beside : (at club : ℕ) (answer : Sure) (old new : Answers) → IsPut at answer old new
+    → club ≢ at → answer_at new club ≡ answer_at old club
+put_beside at club answer old new put apart =
+    put.is club
+    ∙ ap (λ b. cond b answer (answer_at old club)) (ne_eqb at club (λ same. apart (sym same)))
+
 pub step_goes_on : (next : ℕ → Sure) (group left rest : ClubSet) (at steps : ℕ)
-    (old now : List Sure) (answer : Sure) → IsOnTheWay next group left steps old now
-    → HaveAnswers (clubs_in group) old → IsTakenOff left rest at
+    (old now new : Answers) (answer : Sure) → IsOnTheWay next group left steps old now
+    → IsTakenOff left rest at → IsPut at answer now new
     → answer ≡ sure_then (answer_at now at) (next at)
-    → IsOnTheWay next group rest (steps + 1) old (set now at answer)
-step_goes_on next group left rest at steps old now answer so_far answered taken is =
+    → IsOnTheWay next group rest (steps + 1) old new
+step_goes_on next group left rest at steps old now new answer so_far taken put is =
     let inside = so_far.left_is.part at taken.among in
-    let within : at < length now = omega (arith, so_far.long, answered at inside) in
     let apart = λ (club : ℕ) (other : club ≢ at).
-    get_or-set_other now at club answer Unknown other in
+    put_beside at club answer now new put other in
     record {
       left_is = left_next group left rest at steps so_far.left_is taken;
       done = each_next
           (λ club. answer_at now club ≡ sure_then (answer_at old club) (next club))
-          (λ club. answer_at (set now at answer) club
-          ≡ sure_then (answer_at old club) (next club)) group left rest at taken
-          (λ club other before. apart club other ∙ before)
-          (get_or-set_same now at answer Unknown within
+          (λ club. answer_at new club ≡ sure_then (answer_at old club) (next club)) group left rest
+          at taken (λ club other before. apart club other ∙ before)
+          (put_here at answer now new put
           ∙ is
           ∙ ap (λ a. sure_then a (next at)) (so_far.kept at taken.among))
           so_far.done;
       kept = each_left (λ club. answer_at now club ≡ answer_at old club)
-          (λ club. answer_at (set now at answer) club ≡ answer_at old club) left rest at taken
+          (λ club. answer_at new club ≡ answer_at old club) left rest at taken
           (λ club other before. apart club other ∙ before) so_far.kept;
       outside = λ club out.
           apart club (λ same. false≢true (sym out
           ∙ ap (has_club (clubs_in group)) same ∙ inside))
           ∙ so_far.outside club out;
-      long = length-set now at answer ∙ so_far.long;
     }
 
--- a club that is left has an answer
-pub left_has_answer : (next : ℕ → Sure) (group left : ClubSet) (at steps : ℕ)
-    (old now : List Sure) → IsOnTheWay next group left steps old now
-    → HaveAnswers (clubs_in group) old → has_club (clubs_in left) at ≡ true → at < length now
-left_has_answer next group left at steps old now so_far answered has =
-    omega (arith, so_far.long, answered at (so_far.left_is.part at has))
-
-pub step_ends : (next : ℕ → Sure) (group left : ClubSet) (steps : ℕ) (old now : List Sure)
+pub step_ends : (next : ℕ → Sure) (group left : ClubSet) (steps : ℕ) (old now : Answers)
     → IsOnTheWay next group left steps old now
     → ((club : ℕ) → has_club (clubs_in left) club ≡ false)
     → IsStepIn (clubs_in group) next old now
@@ -114,7 +119,7 @@ not_level_keeps Below next is = refl
 not_level_keeps Level next is = absurd (false≢true (sym is))
 not_level_keeps Unknown next is = refl
 
-pub not_level : (clubs : ℕ) (answers : List Sure) (group : List ℕ) (club : ℕ)
+pub not_level : (clubs : ℕ) (answers : Answers) (group : List ℕ) (club : ℕ)
     → AreLevelIn clubs answers group → club < clubs → has_club group club ≡ false
     → is_level (answer_at answers club) ≡ false
 not_level clubs answers group club level low out =
@@ -122,23 +127,23 @@ not_level clubs answers group club level low out =
     ∙ sym (level club) ∙ out
 
 -- no club outside a group is level
-abbrev pub AreOthersDecided : ℕ → List Sure → List ℕ → Type 0
+abbrev pub AreOthersDecided : ℕ → Answers → List ℕ → Type 0
 AreOthersDecided clubs answers group =
     (club : ℕ) → club < clubs → has_club group club ≡ false
     → is_level (answer_at answers club) ≡ false
 
-pub others_decided : (clubs : ℕ) (answers : List Sure) (group : List ℕ)
+pub others_decided : (clubs : ℕ) (answers : Answers) (group : List ℕ)
     → AreLevelIn clubs answers group → AreOthersDecided clubs answers group
 others_decided clubs answers group level club low out = not_level clubs answers group club level
     low out
 
-pub others_stay : (clubs : ℕ) (next : ℕ → Sure) (group : List ℕ) (old new : List Sure)
+pub others_stay : (clubs : ℕ) (next : ℕ → Sure) (group : List ℕ) (old new : Answers)
     → AreOthersDecided clubs old group → IsStepIn group next old new
     → AreOthersDecided clubs new group
 others_stay clubs next group old new decided step club low out =
     ap is_level (step.outside club out) ∙ decided club low out
 
-pub step_decides : (clubs : ℕ) (next : ℕ → Sure) (group : List ℕ) (old new : List Sure)
+pub step_decides : (clubs : ℕ) (next : ℕ → Sure) (group : List ℕ) (old new : Answers)
     → AreOthersDecided clubs old group → IsStepIn group next old new
     → StepDecides clubs next old new
 step_decides clubs next group old new decided step club low =
@@ -149,20 +154,6 @@ step_decides clubs next group old new decided step club low =
           step.outside club out
           ∙ sym (not_level_keeps (answer_at old club) (next club) (decided club low out))
     ]
-
--- the clubs that are level have answers
-pub level_have_answers : (clubs : ℕ) (answers : List Sure) (group : List ℕ)
-    → AreLevelIn clubs answers group → clubs ≤ length answers → HaveAnswers group answers
-level_have_answers clubs answers group level few club has =
-    let low = ltb-true club clubs
-    (and_parts (nat_lt club clubs) (is_level (answer_at answers club)) (sym (level club) ∙ has)).0
-    in
-    omega arith
-
-pub have_answers_still : (group : List ℕ) (old new : List Sure) → length old ≡ length new
-    → HaveAnswers group old → HaveAnswers group new
-have_answers_still group old new same answered club has =
-    let low = answered club has in omega arith
 
 pub is_level-then : (a b : Sure) → is_level (sure_then a b) ≡ (is_level a && is_level b)
 is_level-then Above b = refl
@@ -196,24 +187,29 @@ record_spans_of-is sheet options group table club are =
     let goals = are.each club Goals in
     (λ j. points j ∷ difference j ∷ goals j ∷ [])
 
+-- of a club whose sums over all matches a table has
+abbrev pub HasSums : Sheet → List (List Score) → List Sums → ℕ → Type 0
+HasSums sheet options table club =
+    (measure : Measure) → range_by (sums_at table club) measure
+    ≡ range_from (worth_to (worth_of measure) club) sheet.fixtures options
+
 pub first_spans_of-is : (sheet : Sheet) (options : List (List Score)) (table : List Sums) (club : ℕ)
-    → AreSums worth_to sheet.fixtures options table
+    → HasSums sheet options table club
     → first_spans_of (sums_at table club) ≡ first_sum_ranges sheet options club
-first_spans_of-is sheet options table club are =
-    let difference = are.each club Difference in
-    let goals = are.each club Goals in
+first_spans_of-is sheet options table club has =
+    let difference = has Difference in
+    let goals = has Goals in
     (λ j. difference j ∷ goals j ∷ [])
 
 pub overall_spans_of-is : (sheet : Sheet) (options : List (List Score)) (table : List Sums)
-    (club : ℕ)
-    → AreSums worth_to sheet.fixtures options table
+    (club : ℕ) → HasSums sheet options table club
     → overall_spans_of (sums_at table club) (rank_of sheet club) ≡ overall_ranges sheet options club
-overall_spans_of-is sheet options table club are =
-    let difference = are.each club Difference in
-    let goals = are.each club Goals in
-    let away_goals = are.each club AwayGoals in
-    let wins = are.each club Wins in
-    let away_wins = are.each club AwayWins in
+overall_spans_of-is sheet options table club has =
+    let difference = has Difference in
+    let goals = has Goals in
+    let away_goals = has AwayGoals in
+    let wins = has Wins in
+    let away_wins = has AwayWins in
     (λ j. difference j ∷ goals j ∷ away_goals j ∷ wins j ∷ away_wins j ∷ one_value
     (neg_ℤ (pos (rank_of sheet club))) ∷ [])
 
@@ -300,17 +296,50 @@ points-read read season table club sums season_is sums_are =
     ∙ ap (λ (r : Results). added (as_range (sums_at table club).points)
     (one_value (pos 0 -ℤ pos (slice_index r.deductions club)))) season_is
 
+-- the answers of the clubs below a number, and of no others
+pub record AreAnswersBelow (wanted : ℕ → Sure) (count : ℕ) (answers : Answers) : Type 0 where
+  pub is : (club : ℕ) → answer_at answers club ≡ cond (nat_lt club count) (wanted club) Unknown
+
+pub none_below : (wanted : ℕ → Sure) (answers : Answers)
+    → ((club : ℕ) → answer_at answers club ≡ Unknown) → AreAnswersBelow wanted 0 answers
+none_below wanted answers none = record {
+  is = λ club. none club
+      ∙ ap (λ b. cond b (wanted club) Unknown) (sym (le-ltb club 0 (omega arith)));
+}
+
+-- the next one is open
+pub next_open : (wanted : ℕ → Sure) (count : ℕ) (answers : Answers)
+    → AreAnswersBelow wanted count answers → answer_at answers count ≡ Unknown
+next_open wanted count answers so_far =
+    so_far.is count
+    ∙ ap (λ b. cond b (wanted count) Unknown) (le-ltb count count (omega arith))
+
 -- one answer more
-pub answers_more : (wanted : ℕ → Sure) (now : List Sure) (bound : ℕ) (answer : Sure)
-    → bound < length now → ((k : ℕ) → k < bound → answer_at now k ≡ wanted k)
-    → answer ≡ wanted bound → (k : ℕ) → k < bound + 1
-    → answer_at (set now bound answer) k ≡ wanted k
-answers_more wanted now bound answer within so_far is k below = at (cases_eq k bound)
+pub answers_more : (wanted : ℕ → Sure) (count : ℕ) (answer : Sure) (now new : Answers)
+    → AreAnswersBelow wanted count now → IsPut count answer now new → answer ≡ wanted count
+    → AreAnswersBelow wanted (count + 1) new
+answers_more wanted count answer now new so_far put same = record {
+  is = λ club. at club (cases_eq club count);
+}
   where
-    at : (k ≡ bound) ⊎ (k ≢ bound) → answer_at (set now bound answer) k ≡ wanted k
-    at (inl same) =
-        ap (answer_at (set now bound answer)) same
-        ∙ get_or-set_same now bound answer Unknown within
-        ∙ is
-        ∙ ap wanted (sym same)
-    at (inr other) = get_or-set_other now bound k answer Unknown other ∙ so_far k (omega arith)
+    beyond : (club : ℕ) → club ≢ count → nat_lt club count ≡ nat_lt club (count + 1)
+    beyond club other =
+        elim (cases_lt club count) as (λ _. nat_lt club count ≡ nat_lt club (count + 1)) [
+          | inl below ↦ lt-ltb club count below ∙ sym (lt-ltb club (count + 1) (omega arith))
+          | inr past ↦
+              le-ltb club count past
+              ∙ sym (le-ltb club (count + 1) (omega (arith, past, other)))
+        ]
+
+    at : (club : ℕ) → (club ≡ count) ⊎ (club ≢ count)
+        → answer_at new club ≡ cond (nat_lt club (count + 1)) (wanted club) Unknown
+    at club (inl is_next) =
+        ap (answer_at new) is_next
+        ∙ put_here count answer now new put
+        ∙ same
+        ∙ ap wanted (sym is_next)
+        ∙ ap (λ b. cond b (wanted club) Unknown) (sym (lt-ltb club (count + 1) (omega arith)))
+    at club (inr other) =
+        put_beside count club answer now new put other
+        ∙ so_far.is club
+        ∙ ap (λ b. cond b (wanted club) Unknown) (beyond club other)

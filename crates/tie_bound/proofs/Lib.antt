@@ -8,6 +8,8 @@ pub mod BoxLemmas
 pub mod TableLemmas
 pub mod SoFarLemmas
 pub mod RowLemmas
+pub mod WantedLemmas
+pub mod AnswerSetLemmas
 pub mod AnswerLemmas
 pub mod RoundLemmas
 pub mod TakenLemmas

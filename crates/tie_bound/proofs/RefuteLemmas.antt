@@ -1,13 +1,12 @@
 -- More clubs that are above or below refute no less.
-use Rattle.std.proofs.Common.{◌≡◌, ◌≢◌, ◌⊎◌, ℕ, ◌+◌, ◌-◌, ◌<◌, ◌≤◌, Bool, true, false, not}
+use Rattle.std.proofs.Common.{◌≡◌, ℕ, ◌-◌, ◌≤◌, Bool, true, false, not}
 use Rattle.std.proofs.Common.{◌&&◌, ◌||◌, cond, nat_le, nat_lt, ◌==◌, List, [], ◌∷◌, length}
-use Rattle.std.proofs.Common.{count_by, refl, sym, ap, ◌∙◌, inl, inr, arith}
+use Rattle.std.proofs.Common.{count_by, refl, sym, ap, ◌∙◌, arith}
 use Rattle.std.specs.List.{list_any}
 use Rattle.std.proofs.lemmas.Bool.{false≢true, eq-eqb, or_right, and_parts, and_from}
 use Rattle.std.proofs.lemmas.List.Sums.{sum_by-cons}
 use Rattle.league_core.proofs.ClubLemmas.{one_at_most}
-use Rattle.std.proofs.lemmas.Bool.{leb-true, le-leb, lt-ltb, le-ltb, ne_eqb}
-use Rattle.std.proofs.lemmas.Bool.{false_from_ne_true, cases_lt, cases_eq}
+use Rattle.std.proofs.lemmas.Bool.{leb-true, le-leb, lt-ltb, false_from_ne_true}
 use Rattle.league_core.specs.declared.question.Claim.{Claim}
 use Rattle.league_core.specs.declared.question.Claim.TheVariants.{Inside, Outside}
 use Rattle.league_core.specs.declared.question.Question.{Question}
@@ -20,7 +19,9 @@ use Rattle.league_core.specs.SureOrder.{sure_then, sure_by_points}
 use Rattle.league_core.specs.SureOrder.{sure_order, is_above, is_below}
 use Rattle.league_core.proofs.PlainLemmas.{same_tests}
 use Rattle.score_box.specs.Settings.{Setting}
+use Rattle.tie_bound.specs.declared.answer_sets.Answers.{Answers}
 use Rattle.tie_bound.specs.Boxes.{options_in_box}
+use Rattle.tie_bound.specs.Answers.{answer_at, AreByPoints}
 use Rattle.tie_bound.specs.Rivals.{are_too_many_with, is_wrong_with, refutes_with, refutes_surely}
 use Rattle.tie_bound.proofs.RivalLemmas.{rival_below}
 
@@ -163,6 +164,33 @@ not_above Below next is = refl
 not_above Level next is = refl
 not_above Unknown next is = refl
 
+-- the clubs that points put above and below, from the answers by points
+pub above_by_points : (box : Setting) (club : ℕ) (answers : Answers) → AreByPoints box club answers
+    → (x : ℕ) → is_above (answer_at answers x) ≡ (nat_lt x (length box.sheet.clubs)
+    && is_above (sure_by_points box.sheet box.season (options_in_box box) x club))
+above_by_points box club answers by_points x =
+    ap is_above (by_points x)
+    ∙ at (nat_lt x (length box.sheet.clubs))
+    (sure_by_points box.sheet box.season (options_in_box box) x club)
+  where
+    at : (low : Bool) (answer : Sure)
+        → is_above (cond low answer Unknown) ≡ (low && is_above answer)
+    at true answer = refl
+    at false answer = refl
+
+pub below_by_points : (box : Setting) (club : ℕ) (answers : Answers) → AreByPoints box club answers
+    → (x : ℕ) → is_below (answer_at answers x) ≡ (nat_lt x (length box.sheet.clubs)
+    && is_below (sure_by_points box.sheet box.season (options_in_box box) x club))
+below_by_points box club answers by_points x =
+    ap is_below (by_points x)
+    ∙ at (nat_lt x (length box.sheet.clubs))
+    (sure_by_points box.sheet box.season (options_in_box box) x club)
+  where
+    at : (low : Bool) (answer : Sure)
+        → is_below (cond low answer Unknown) ≡ (low && is_below answer)
+    at true answer = refl
+    at false answer = refl
+
 -- points that put a club above or below are not overruled
 pub refuted_by_points : (box : Setting) (question : Question) (above below : ℕ → Bool)
     → ((x : ℕ) → above x ≡ (nat_lt x (length box.sheet.clubs) && is_above (sure_by_points box.sheet
@@ -220,48 +248,3 @@ open_by_points box question above below most_above most_below above_is below_is 
     and_false : (b : Bool) → (b && false) ≡ false
     and_false true = refl
     and_false false = refl
-
--- ---- a set that takes one club after another
-
-pub one_more_club : (old new : ℕ → Bool) (test : ℕ → Bool) (keep : Bool) (club : ℕ)
-    → ((x : ℕ) → old x ≡ (nat_lt x club && test x))
-    → ((x : ℕ) → new x ≡ (old x || (keep && (club == x)))) → keep ≡ test club
-    → (x : ℕ) → new x ≡ (nat_lt x (club + 1) && test x)
-one_more_club old new test keep club old_is new_is keep_is x =
-    new_is x ∙ ap (λ b. b || (keep && (club == x))) (old_is x) ∙ at (cases_lt x club)
-  where
-    at : (x < club) ⊎ (club ≤ x)
-        → ((nat_lt x club && test x) || (keep && (club == x))) ≡ (nat_lt x (club + 1) && test x)
-    at (inl below) =
-        ap (λ b. (b && test x) || (keep && (club == x))) (lt-ltb x club below)
-        ∙ ap (λ b. test x || (keep && b)) (ne_eqb club x (λ same. absurd (omega arith)))
-        ∙ neither (test x) keep
-        ∙ ap (λ b. b && test x) (sym (lt-ltb x (club + 1) (omega arith)))
-      where
-        neither : (a b : Bool) → (a || (b && false)) ≡ a
-        neither true b = refl
-        neither false true = refl
-        neither false false = refl
-    at (inr past) =
-        ap (λ b. (b && test x) || (keep && (club == x))) (le-ltb x club past)
-        ∙ here (cases_eq club x)
-      where
-        and_true : (b : Bool) → (b && true) ≡ b
-        and_true true = refl
-        and_true false = refl
-
-        and_false : (b : Bool) → (b && false) ≡ false
-        and_false true = refl
-        and_false false = refl
-
-        here : (club ≡ x) ⊎ (club ≢ x) → (keep && (club == x)) ≡ (nat_lt x (club + 1) && test x)
-        here (inl same) =
-            ap (λ b. keep && b) (eq-eqb club x same) ∙ and_true keep ∙ keep_is ∙ ap test same
-            ∙ ap (λ b. b && test x) (sym (lt-ltb x (club + 1) (omega arith)))
-        here (inr other) =
-            ap (λ b. keep && b) (ne_eqb club x other) ∙ and_false keep
-            ∙ ap (λ b. b && test x)
-            (sym (le-ltb x (club + 1) (omega (arith, beyond past other))))
-          where
-            beyond : club ≤ x → club ≢ x → club + 1 ≤ x
-            beyond above other = omega arith

@@ -12,6 +12,7 @@ use Rattle.league_core.specs.ClubSets.{clubs_below}
 use Rattle.league_core.proofs.ClubSetLemmas.{clubs_below-filter}
 use Rattle.league_core.specs.Sums.{has_club}
 use Rattle.league_core.proofs.SureLemmas.{sure_then-assoc, sure_then-level}
+use Rattle.tie_bound.specs.declared.answer_sets.Answers.{Answers}
 use Rattle.tie_bound.specs.Answers.{answer_at, AreLevelIn, StepDecides}
 use Rattle.tie_bound.proofs.AnswerLemmas.{is_level-then}
 use Rattle.tie_bound.proofs.AnswerLemmas.{not_level, not_level_keeps}
@@ -79,7 +80,7 @@ pub record Judging : Type 0 where
 
 -- what is judged so far: each club's answer, and the rounds to come for those that are level, who
 -- are the group
-pub record IsJudged (task : Judging) (times : ℕ) (group : List ℕ) (answers : List Sure) : Type 0
+pub record IsJudged (task : Judging) (times : ℕ) (group : List ℕ) (answers : Answers) : Type 0
   where
     pub order : (rival : ℕ) → rival < length task.sheet.clubs
         → task.wanted rival
@@ -88,12 +89,12 @@ pub record IsJudged (task : Judging) (times : ℕ) (group : List ℕ) (answers :
     pub level : AreLevelIn (length task.sheet.clubs) answers group
 
 -- each answer is the wanted one
-abbrev pub AreWanted : Judging → List Sure → Type 0
+abbrev pub AreWanted : Judging → Answers → Type 0
 AreWanted task answers =
     (rival : ℕ) → rival < length task.sheet.clubs → answer_at answers rival ≡ task.wanted rival
 
 -- the criteria within a group are wanted, and as many rounds are to come as it has clubs
-abbrev pub task_in : Sheet → List (List Score) → List ℕ → ℕ → List Sure → Judging
+abbrev pub task_in : Sheet → List (List Score) → List ℕ → ℕ → Answers → Judging
 task_in sheet options group club answers = record {
   sheet = sheet;
   options = options;
@@ -102,7 +103,7 @@ task_in sheet options group club answers = record {
 }
 
 pub judged_first : (sheet : Sheet) (options : List (List Score)) (club times : ℕ) (group : List ℕ)
-    (answers : List Sure) → AreLevelIn (length sheet.clubs) answers group → times ≡ length group
+    (answers : Answers) → AreLevelIn (length sheet.clubs) answers group → times ≡ length group
     → IsJudged (task_in sheet options group club answers) times group answers
 judged_first sheet options club times group answers level all = record {
   order = λ rival within.
@@ -112,7 +113,7 @@ judged_first sheet options club times group answers level all = record {
 }
 
 -- a last step after the records
-judged_last : (task : Judging) (times : ℕ) (group : List ℕ) (answers taken last : List Sure)
+judged_last : (task : Judging) (times : ℕ) (group : List ℕ) (answers taken last : Answers)
     (next : ℕ → Sure) → IsJudged task times group answers
     → StepDecides (length task.sheet.clubs)
     (λ rival. by_record_ranges task.sheet task.options group rival task.club) answers taken
@@ -129,7 +130,7 @@ judged_last task times group answers taken last next judged takes lasts round ri
     ∙ sym (judged.order rival within)
 
 -- where it is not sure who shares the record, nothing more is
-pub judged_open : (task : Judging) (times : ℕ) (group : List ℕ) (answers taken last : List Sure)
+pub judged_open : (task : Judging) (times : ℕ) (group : List ℕ) (answers taken last : Answers)
     → IsJudged task (suc times) group answers
     → StepDecides (length task.sheet.clubs)
     (λ rival. by_record_ranges task.sheet task.options group rival task.club) answers taken
@@ -141,7 +142,7 @@ judged_open task times group answers taken last judged takes lasts not_sure =
 
 -- where the whole group shares it, the sums over all matches decide
 pub judged_whole : (task : Judging) (times : ℕ) (group level : List ℕ)
-    (answers taken last : List Sure) → IsJudged task (suc times) group answers
+    (answers taken last : Answers) → IsJudged task (suc times) group answers
     → StepDecides (length task.sheet.clubs)
     (λ rival. by_record_ranges task.sheet task.options group rival task.club) answers taken
     → StepDecides (length task.sheet.clubs)
@@ -157,7 +158,7 @@ judged_whole task times group level answers taken last judged takes lasts sure i
 
 -- else the round is made again
 pub judged_deeper : (task : Judging) (times : ℕ) (group level : List ℕ)
-    (answers taken : List Sure) → IsJudged task (suc times) group answers
+    (answers taken : Answers) → IsJudged task (suc times) group answers
     → StepDecides (length task.sheet.clubs)
     (λ rival. by_record_ranges task.sheet task.options group rival task.club) answers taken
     → are_all_sure task.sheet task.options group task.club ≡ true
@@ -183,13 +184,13 @@ judged_deeper task times group level answers taken judged takes sure is fewer le
 }
 
 -- with no round to come each answer is the wanted one
-pub judged_all : (task : Judging) (group : List ℕ) (answers : List Sure)
+pub judged_all : (task : Judging) (group : List ℕ) (answers : Answers)
     → IsJudged task 0 group answers → AreWanted task answers
 judged_all task group answers judged rival within =
     sym (judged.order rival within ∙ sure_then-level (answer_at answers rival))
 
 -- a club that is level no more has its answer
-pub judged_apart : (task : Judging) (times : ℕ) (group : List ℕ) (answers : List Sure) (club : ℕ)
+pub judged_apart : (task : Judging) (times : ℕ) (group : List ℕ) (answers : Answers) (club : ℕ)
     → IsJudged task times group answers → club < length task.sheet.clubs
     → has_club group club ≡ false → answer_at answers club ≡ task.wanted club
 judged_apart task times group answers club judged low out =
@@ -199,14 +200,14 @@ judged_apart task times group answers club judged low out =
     (not_level (length task.sheet.clubs) answers group club judged.level low out))
 
 -- one round less
-pub one_less : (task : Judging) (left next : ℕ) (group : List ℕ) (answers : List Sure)
+pub one_less : (task : Judging) (left next : ℕ) (group : List ℕ) (answers : Answers)
     → left ≡ suc next → IsJudged task left group answers → IsJudged task (suc next) group answers
 one_less task left next group answers same judged =
     let P : ℕ → Type 0 = λ n. IsJudged task n group answers in
     subst P same judged
 
 -- the clubs of a group that are level after a step are those that the step leaves level
-pub level_is : (clubs group bits : ℕ) (answers taken : List Sure) (step : ℕ → Sure)
+pub level_is : (clubs group bits : ℕ) (answers taken : Answers) (step : ℕ → Sure)
     → AreLevelIn clubs answers (clubs_below 32 group) → StepDecides clubs step answers taken
     → AreLevelIn clubs taken (clubs_below 32 bits)
     → clubs_below 32 bits ≡ filter (λ other. is_level (step other)) (clubs_below 32 group)

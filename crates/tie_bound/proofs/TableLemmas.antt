@@ -41,7 +41,7 @@ pub wider : (bound more : ℕ) (sums : Sums) → bound ≤ more → AreNear boun
 wider bound more sums fewer near measure = near_in bound more (range_by sums measure) fewer
     (near measure)
 
-same_sums : (options : List Score) (sums : Sums)
+pub same_sums : (options : List Score) (sums : Sums)
     → SpansGrowBy (λ measure. range_of (λ score. pos 0) options) sums sums
 same_sums options sums = record {
   sums = λ measure. sym (ap (added (range_by sums measure)) (range_of-none options)

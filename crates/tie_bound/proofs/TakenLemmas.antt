@@ -1,14 +1,14 @@
 -- What tables of sums say of clubs is what the ranges of the definition say, step by step.
 use Rattle.std.proofs.Common.{◌≡◌, ◌⊎◌, inl, inr, ℕ, ◌<◌, ◌≤◌, Bool, true, false, ◌&&◌, ◌||◌, ltb}
-use Rattle.std.proofs.Common.{List, length, sym, ap, ◌∙◌, arith}
+use Rattle.std.proofs.Common.{◌==◌, cond, List, [], ◌∷◌, length, refl, sym, ap, ◌∙◌, arith}
 use Rattle.std.specs.List.{list_all}
-use Rattle.std.proofs.lemmas.Bool.{cases_lt, le-ltb}
+use Rattle.std.proofs.lemmas.Bool.{cases_lt, lt-ltb, le-ltb, eq-eqb, or_right}
 use Rattle.league_core.specs.declared.sheet.Sheet.{Sheet}
 use Rattle.league_core.specs.declared.sheet.Order.TheVariants.{OverallFirst}
 use Rattle.league_core.specs.declared.season.Score.{Score}
 use Rattle.league_core.specs.declared.sure.Sure.{Sure}
 use Rattle.league_core.specs.declared.sure.Sure.TheVariants.{Unknown}
-use Rattle.league_core.specs.Sums.{worth_to, worth_among}
+use Rattle.league_core.specs.Sums.{has_club, worth_among}
 use Rattle.league_core.specs.Ahead.{rank_of}
 use Rattle.league_core.specs.SureOrder.{sure_by_ranges, sure_then, sure_by_points, is_level}
 use Rattle.league_core.specs.SureOrder.{is_apart, record_ranges, overall_ranges, first_sum_ranges}
@@ -21,28 +21,34 @@ use Rattle.league_core.specs.ClubSets.{clubs_below}
 use Rattle.league_core.proofs.ClubSetLemmas.{clubs_below-filter_range}
 use Rattle.league_core.proofs.SureLemmas.{sure_then-assoc}
 use Rattle.score_box.specs.Settings.{Setting}
+use Rattle.tie_bound.specs.declared.answer_sets.Answers.{Answers}
 use Rattle.tie_bound.specs.declared.parts.Parts.TheVariants.{Record, FirstSums}
 use Rattle.tie_bound.specs.declared.sums.Sums.{Sums}
 use Rattle.tie_bound.specs.Sums.{sums_at}
 use Rattle.tie_bound.specs.Boxes.{options_in_box}
-use Rattle.tie_bound.specs.Tables.{AreSums}
+use Rattle.tie_bound.specs.Tables.{AreSums, AreSumsFor}
 use Rattle.tie_bound.specs.Answers.{record_spans_of, first_spans_of, overall_spans_of, by_table}
-use Rattle.tie_bound.specs.Answers.{by_overall_table, is_sure_by, answer_at, AreLevelIn}
+use Rattle.tie_bound.specs.Answers.{by_overall_table, is_sure_by, answer_at, AreByPoints}
+use Rattle.tie_bound.specs.Answers.{AreLevelIn}
 use Rattle.tie_bound.specs.Answers.{StepDecides, IsStepIn}
 use Rattle.tie_bound.proofs.AnswerLemmas.{record_spans_of-is, overall_spans_of-is}
 use Rattle.tie_bound.proofs.AnswerLemmas.{first_spans_of-is, step_decides, AreOthersDecided}
 
--- a step in the group of the clubs that are level, by what it says of each
-taken_by : (clubs : ℕ) (step next : ℕ → Sure) (group : List ℕ) (answers taken : List Sure)
+-- a step in the group of the clubs that are level, by what it says of each of them
+taken_by : (clubs : ℕ) (step next : ℕ → Sure) (group : List ℕ) (answers taken : Answers)
     → AreOthersDecided clubs answers group → IsStepIn group step answers taken
-    → ((rival : ℕ) → step rival ≡ next rival) → StepDecides clubs next answers taken
-taken_by clubs step next group answers taken decided goes same rival low =
-    step_decides clubs step group answers taken decided goes rival low
-    ∙ ap (sure_then (answer_at answers rival)) (same rival)
+    → ((rival : ℕ) → has_club group rival ≡ true → step rival ≡ next rival)
+    → StepDecides clubs next answers taken
+taken_by clubs step next group answers taken decided goes same =
+    step_decides clubs next group answers taken decided (record {
+      inside = λ rival has. goes.inside rival has
+          ∙ ap (sure_then (answer_at answers rival)) (same rival has);
+      outside = goes.outside;
+    })
 
 -- the records by the table of a group
 pub taken_records : (sheet : Sheet) (options : List (List Score)) (club : ℕ) (group : List ℕ)
-    (table : List Sums) (answers taken : List Sure)
+    (table : List Sums) (answers taken : Answers)
     → AreSums (worth_among group) sheet.fixtures options table
     → AreOthersDecided (length sheet.clubs) answers group
     → IsStepIn group (by_table Record table club) answers taken
@@ -51,16 +57,16 @@ pub taken_records : (sheet : Sheet) (options : List (List Score)) (club : ℕ) (
 taken_records sheet options club group table answers taken are decided goes =
     taken_by (length sheet.clubs) (by_table Record table club)
     (λ rival. by_record_ranges sheet options group rival club) group answers taken decided goes
-    (λ rival.
+    (λ rival has.
     ap (λ rs. sure_by_ranges rs (record_spans_of (sums_at table club)))
     (record_spans_of-is sheet options group table rival are)
     ∙ ap (sure_by_ranges (record_ranges sheet options group rival))
     (record_spans_of-is sheet options group table club are))
 
--- difference and goals by the table of all matches
+-- difference and goals by a table of all matches for the group and the club
 pub taken_first_sums : (sheet : Sheet) (options : List (List Score)) (club : ℕ) (group : List ℕ)
-    (table : List Sums) (answers taken : List Sure)
-    → AreSums worth_to sheet.fixtures options table
+    (table : List Sums) (answers taken : Answers)
+    → AreSumsFor group club sheet.fixtures options table
     → AreOthersDecided (length sheet.clubs) answers group
     → IsStepIn group (by_table FirstSums table club) answers taken
     → StepDecides (length sheet.clubs) (λ rival. by_first_sum_ranges sheet options rival club)
@@ -68,16 +74,16 @@ pub taken_first_sums : (sheet : Sheet) (options : List (List Score)) (club : ℕ
 taken_first_sums sheet options club group table answers taken are decided goes =
     taken_by (length sheet.clubs) (by_table FirstSums table club)
     (λ rival. by_first_sum_ranges sheet options rival club) group answers taken decided goes
-    (λ rival.
+    (λ rival has.
     ap (λ rs. sure_by_ranges rs (first_spans_of (sums_at table club)))
-    (first_spans_of-is sheet options table rival are)
+    (first_spans_of-is sheet options table rival (are rival (inl has)))
     ∙ ap (sure_by_ranges (first_sum_ranges sheet options rival))
-    (first_spans_of-is sheet options table club are))
+    (first_spans_of-is sheet options table club (are club (inr refl))))
 
 -- the sums over all matches, and the ranks
 pub taken_overall : (sheet read : Sheet) (options : List (List Score)) (club : ℕ)
-    (group : List ℕ) (table : List Sums) (taken last : List Sure) → read ≡ sheet
-    → AreSums worth_to sheet.fixtures options table
+    (group : List ℕ) (table : List Sums) (taken last : Answers) → read ≡ sheet
+    → AreSumsFor group club sheet.fixtures options table
     → AreOthersDecided (length sheet.clubs) taken group
     → IsStepIn group (by_overall_table read table club) taken last
     → StepDecides (length sheet.clubs) (λ rival. by_overall_ranges sheet options rival club)
@@ -85,12 +91,12 @@ pub taken_overall : (sheet read : Sheet) (options : List (List Score)) (club : �
 taken_overall sheet read options club group table taken last same are decided goes =
     taken_by (length sheet.clubs) (by_overall_table read table club)
     (λ rival. by_overall_ranges sheet options rival club) group taken last decided goes
-    (λ rival.
+    (λ rival has.
     ap (λ s. by_overall_table s table club rival) same
     ∙ ap (λ rs. sure_by_ranges rs (overall_spans_of (sums_at table club) (rank_of sheet club)))
-    (overall_spans_of-is sheet options table rival are)
+    (overall_spans_of-is sheet options table rival (are rival (inl has)))
     ∙ ap (sure_by_ranges (overall_ranges sheet options rival))
-    (overall_spans_of-is sheet options table club are))
+    (overall_spans_of-is sheet options table club (are club (inr refl))))
 
 -- it is sure by the table of a group who shares the club's record there
 pub all_sure-records : (sheet : Sheet) (options : List (List Score)) (group : List ℕ)
@@ -110,24 +116,37 @@ all_sure-records sheet options group table club are =
         || is_apart (record_ranges sheet options group other) rs)
         (record_spans_of-is sheet options group table club are)
 
--- and by the table of all matches who shares the club's difference and goals
+-- two tests that agree on each club of a group
+all_agree : (test other : ℕ → Bool) (group : List ℕ)
+    → ((x : ℕ) → has_club group x ≡ true → test x ≡ other x)
+    → list_all test group ≡ list_all other group
+all_agree test other [] same = refl
+all_agree test other (club ∷ group) same =
+    ap (λ b. b && list_all test group)
+    (same club (ap (λ b. b || has_club group club) (eq-eqb club club refl)))
+    ∙ ap (λ b. other club && b)
+    (all_agree test other group (λ x has. same x (or_right (club == x) (has_club group x) has)))
+
+-- and by a table of all matches who shares the club's difference and goals
 pub all_sure-first_sums : (sheet : Sheet) (options : List (List Score)) (group : List ℕ)
-    (table : List Sums) (club : ℕ) → AreSums worth_to sheet.fixtures options table
+    (table : List Sums) (club : ℕ) → AreSumsFor group club sheet.fixtures options table
     → list_all (is_sure_by FirstSums table club) group
     ≡ are_all_sure_overall sheet options group club
 all_sure-first_sums sheet options group table club are =
-    ap (λ test. list_all test group) (λ i other. same other i)
+    all_agree (is_sure_by FirstSums table club)
+    (λ other. is_surely_level_overall sheet options club other
+    || is_surely_apart_overall sheet options club other) group same
   where
-    same : (other : ℕ) → is_sure_by FirstSums table club other
+    same : (other : ℕ) → has_club group other ≡ true → is_sure_by FirstSums table club other
         ≡ (is_surely_level_overall sheet options club other
         || is_surely_apart_overall sheet options club other)
-    same other =
+    same other has =
         ap (λ rs. is_level (sure_by_ranges rs (first_spans_of (sums_at table club)))
         || is_apart rs (first_spans_of (sums_at table club)))
-        (first_spans_of-is sheet options table other are)
+        (first_spans_of-is sheet options table other (are other (inl has)))
         ∙ ap (λ rs. is_level (sure_by_ranges (first_sum_ranges sheet options other) rs)
         || is_apart (first_sum_ranges sheet options other) rs)
-        (first_spans_of-is sheet options table club are)
+        (first_spans_of-is sheet options table club (are club (inr refl)))
 
 -- with difference and goals first: nothing more is sure where it is not sure who shares them
 abbrev after_first_sums : Sheet → List (List Score) → List ℕ → ℕ → ℕ → Bool → Sure
@@ -138,7 +157,7 @@ after_first_sums sheet options group rival club sure =
     ]
 
 pub overall_first_open : (sheet : Sheet) (options : List (List Score)) (club : ℕ) (group : List ℕ)
-    (rival : ℕ) (answers taken last : List Sure)
+    (rival : ℕ) (answers taken last : Answers)
     → are_all_sure_overall sheet options group club ≡ false
     → answer_at taken rival
     ≡ sure_then (answer_at answers rival) (by_first_sum_ranges sheet options rival club)
@@ -155,7 +174,7 @@ overall_first_open sheet options club group rival answers taken last not_sure ta
 
 -- and else the criteria are taken among the clubs that share them
 pub overall_first_sure : (sheet : Sheet) (options : List (List Score)) (club : ℕ)
-    (group level : List ℕ) (rival : ℕ) (answers taken last : List Sure)
+    (group level : List ℕ) (rival : ℕ) (answers taken last : Answers)
     → are_all_sure_overall sheet options group club ≡ true
     → level ≡ surely_level_overall sheet options group club
     → answer_at taken rival
@@ -175,10 +194,8 @@ overall_first_sure sheet options club group level rival answers taken last sure 
     (sure_then first (after_first_sums sheet options group rival club b))) sure)
 
 -- by points and then by the criteria within the group of all clubs on the club's points
-pub sure_order-is : (box : Setting) (club bits rival : ℕ) (answers last : List Sure)
-    → length box.sheet.clubs ≤ 24
-    → ((other : ℕ) → other < length box.sheet.clubs → answer_at answers other
-    ≡ sure_by_points box.sheet box.season (options_in_box box) other club)
+pub sure_order-is : (box : Setting) (club bits rival : ℕ) (answers last : Answers)
+    → length box.sheet.clubs ≤ 24 → AreByPoints box club answers
     → AreLevelIn (length box.sheet.clubs) answers (clubs_below 32 bits)
     → rival < length box.sheet.clubs
     → answer_at last rival ≡ sure_then (answer_at answers rival)
@@ -189,24 +206,28 @@ sure_order-is box club bits rival answers last few by_points level low takes =
     takes
     ∙ ap (λ a. sure_then a (sure_by box.sheet.order box.sheet (options_in_box box)
     (clubs_below 32 bits) rival
-    club)) (by_points rival low)
-    ∙ ap (λ g. sure_then (sure_by_points box.sheet box.season (options_in_box box) rival club)
+    club)) (here rival low)
+    ∙ ap (λ g. sure_then (on_points rival)
     (sure_by box.sheet.order box.sheet (options_in_box box) g rival club)) same
   where
-    on_points : (x : ℕ) → (x < length box.sheet.clubs) ⊎ (length box.sheet.clubs ≤ x)
+    on_points : ℕ → Sure
+    on_points x = sure_by_points box.sheet box.season (options_in_box box) x club
+
+    here : (x : ℕ) → x < length box.sheet.clubs → answer_at answers x ≡ on_points x
+    here x below =
+        by_points x
+        ∙ ap (λ b. cond b (on_points x) Unknown) (lt-ltb x (length box.sheet.clubs) below)
+
+    as_level : (x : ℕ) → (x < length box.sheet.clubs) ⊎ (length box.sheet.clubs ≤ x)
         → (ltb x (length box.sheet.clubs) && is_level (answer_at answers x))
-        ≡ (ltb x (length box.sheet.clubs)
-        && is_level (sure_by_points box.sheet box.season (options_in_box box) x club))
-    on_points x (inl below) =
-        ap (λ a. ltb x (length box.sheet.clubs) && is_level a) (by_points x below)
-    on_points x (inr past) =
+        ≡ (ltb x (length box.sheet.clubs) && is_level (on_points x))
+    as_level x (inl below) =
+        ap (λ a. ltb x (length box.sheet.clubs) && is_level a) (here x below)
+    as_level x (inr past) =
         ap (λ b. b && is_level (answer_at answers x)) (le-ltb x (length box.sheet.clubs) past)
-        ∙ sym (ap (λ b. b && is_level (sure_by_points box.sheet box.season (options_in_box box) x
-        club))
-        (le-ltb x (length box.sheet.clubs) past))
+        ∙ sym (ap (λ b. b && is_level (on_points x)) (le-ltb x (length box.sheet.clubs) past))
 
     same : clubs_below 32 bits ≡ level_on_points box.sheet box.season (options_in_box box) club
     same =
-        clubs_below-filter_range 32 bits (length box.sheet.clubs)
-        (λ x. is_level (sure_by_points box.sheet box.season (options_in_box box) x club))
-        (omega arith) (λ x. level x ∙ on_points x (cases_lt x (length box.sheet.clubs)))
+        clubs_below-filter_range 32 bits (length box.sheet.clubs) (λ x. is_level (on_points x))
+        (omega arith) (λ x. level x ∙ as_level x (cases_lt x (length box.sheet.clubs)))

@@ -1,20 +1,23 @@
--- Tables of answers: what is sure of each club against one club.
+-- Answers: what is sure of each club against one club.
 use Rattle.std.specs.Prelude.{◌≡◌, ℕ, ◌<◌, Bool, true, false, ◌&&◌, ◌||◌, nat_lt, List, [], ◌∷◌}
-use Rattle.std.specs.Prelude.{pos, neg_ℤ}
-use Rattle.std.specs.Prelude.{length, slice_index_or}
+use Rattle.std.specs.Prelude.{pos, neg_ℤ, length, if◌then◌else◌}
 use Rattle.league_core.specs.declared.sheet.Sheet.{Sheet}
 use Rattle.league_core.specs.declared.sure.Sure.{Sure}
 use Rattle.league_core.specs.declared.sure.Sure.TheVariants.{Above, Below, Level, Unknown}
 use Rattle.league_core.specs.Sums.{has_club}
+use Rattle.league_core.specs.ClubSets.{clubs_in}
 use Rattle.league_core.specs.Ahead.{rank_of}
 use Rattle.league_core.specs.PointRanges.{Range, one_value}
 use Rattle.league_core.specs.SureOrder.{sure_by_ranges, sure_then, is_above, is_below, is_level}
-use Rattle.league_core.specs.SureOrder.{is_apart}
+use Rattle.league_core.specs.SureOrder.{is_apart, sure_by_points}
+use Rattle.score_box.specs.Settings.{Setting}
+use Rattle.tie_bound.specs.declared.answer_sets.Answers.{Answers}
 use Rattle.tie_bound.specs.declared.parts.Parts.{Parts}
 use Rattle.tie_bound.specs.declared.parts.Parts.TheVariants.{Record, FirstSums}
 use Rattle.tie_bound.specs.declared.sums.Sums.{Sums}
 use Rattle.tie_bound.specs.Spans.{as_range}
 use Rattle.tie_bound.specs.Sums.{sums_at}
+use Rattle.tie_bound.specs.Boxes.{options_in_box}
 
 -- the ranges of a club's head-to-head record, from its sums over the matches of a group
 abbrev pub record_spans_of : Sums → List Range
@@ -57,34 +60,43 @@ is_sure_by parts table club other =
     is_level (by_table parts table club other)
     || is_apart (ranges_of parts (sums_at table other)) (ranges_of parts (sums_at table club))
 
--- the answer at a club's number
-abbrev pub answer_at : List Sure → ℕ → Sure
-answer_at answers club = slice_index_or answers club Unknown
+-- a club that is in one of these three sets
+abbrev pub in_sets : Bool → Bool → Bool → Sure
+in_sets above below level =
+    if above then Above else if below then Below else if level then Level else Unknown
+
+-- the answer of a club
+unfoldable pub answer_at : Answers → ℕ → Sure
+answer_at answers club =
+    in_sets (has_club (clubs_in answers.above) club) (has_club (clubs_in answers.below) club)
+    (has_club (clubs_in answers.level) club)
+
+-- the answers are those of the sheet's clubs by points
+abbrev pub AreByPoints : Setting → ℕ → Answers → Type 0
+AreByPoints box club answers =
+    (rival : ℕ) → answer_at answers rival ≡ (if nat_lt rival (length box.sheet.clubs)
+    then sure_by_points box.sheet box.season (options_in_box box) rival club else Unknown)
 
 -- where one of so many clubs was level so far, the next step decides
-abbrev pub StepDecides : ℕ → (ℕ → Sure) → List Sure → List Sure → Type 0
+abbrev pub StepDecides : ℕ → (ℕ → Sure) → Answers → Answers → Type 0
 StepDecides clubs next old new =
     (club : ℕ) → club < clubs → answer_at new club ≡ sure_then (answer_at old club) (next club)
 
 -- so it does for those of the clubs that are asked for
-abbrev pub StepDecidesFor : List ℕ → ℕ → (ℕ → Sure) → List Sure → List Sure → Type 0
+abbrev pub StepDecidesFor : List ℕ → ℕ → (ℕ → Sure) → Answers → Answers → Type 0
 StepDecidesFor asked clubs next old new =
     (club : ℕ) → club < clubs → has_club asked club ≡ true
     → answer_at new club ≡ sure_then (answer_at old club) (next club)
 
 -- for each club of a group that was level so far the next step decides, and the others' answers
 -- stay
-pub record IsStepIn (group : List ℕ) (next : ℕ → Sure) (old new : List Sure) : Type 0 where
+pub record IsStepIn (group : List ℕ) (next : ℕ → Sure) (old new : Answers) : Type 0 where
   pub inside : (club : ℕ) → has_club group club ≡ true
       → answer_at new club ≡ sure_then (answer_at old club) (next club)
   pub outside : (club : ℕ) → has_club group club ≡ false → answer_at new club ≡ answer_at old club
 
--- each club of the group has an answer
-abbrev pub HaveAnswers : List ℕ → List Sure → Type 0
-HaveAnswers group answers = (club : ℕ) → has_club group club ≡ true → club < length answers
-
 -- the group is all clubs, out of so many, that are level so far
-abbrev pub AreLevelIn : ℕ → List Sure → List ℕ → Type 0
+abbrev pub AreLevelIn : ℕ → Answers → List ℕ → Type 0
 AreLevelIn clubs answers group =
     (club : ℕ) → has_club group club ≡ (nat_lt club clubs && is_level (answer_at answers club))
 

@@ -2,44 +2,28 @@
 //! are not played for each group in which the head-to-head record is taken. The groups depend on
 //! the one club alone, so all its rivals are judged together.
 
-ghost use Rattle.std.specs.Prelude.{◌≡◌, ◌<◌, ◌≤◌, ℕ, true, IsTrue, length};
+ghost use Rattle.std.specs.Prelude.{◌≡◌, ◌<◌, ℕ, true, IsTrue, length};
 ghost use Rattle.league_core.specs.declared.sheet.Order.TheVariants.{OverallFirst};
 ghost use Rattle.league_core.specs.Sums.{has_club};
 ghost use Rattle.league_core.specs.ClubSets.{clubs_in};
-ghost use Rattle.league_core.specs.SureOrder.{sure_by, sure_by_points, sure_order};
+ghost use Rattle.league_core.specs.SureOrder.{sure_by, sure_order};
 ghost use Rattle.tie_bound.specs.Boxes.{options_in_box, have_one_outcome};
-ghost use Rattle.tie_bound.specs.Answers.{answer_at, AreLevelIn, StepDecidesFor};
+ghost use Rattle.tie_bound.specs.Answers.{answer_at, AreByPoints, AreLevelIn, StepDecidesFor};
 
-use crate::answers::{are_all_sure, by_ends, by_points, leave_open, take_parts, those_that_are};
+use crate::answer_sets::Answers;
+use crate::answers::{are_all_sure, by_ends, by_points, leave_open, take_parts};
 use crate::parts::Parts;
 use crate::rounds::take_rounds;
 use crate::table::sums_over;
-use league_core::{ClubSet, Order, Sure};
+use crate::wanted::sums_for;
+use league_core::{ClubSet, Order};
 use score_box::ZoneBox;
 
-/// The answers of the clubs that are asked for against the one, by the clubs' numbers.
-pub fn answers_against(zone_box: &ZoneBox, asked: ClubSet, club: u8) -> [Sure; 24]
+/// The answers of the sheet's clubs by points. Without a finish, or against a number that is no
+/// club's, the box keeps no ends of points to look at.
+pub fn answers_on_points(zone_box: &ZoneBox, club: u8) -> Answers
     requires { IsTrue (have_one_outcome zone_box.now) }
-    ensures answers { (rival : ℕ) → rival < length zone_box.now.sheet.clubs
-        → has_club (clubs_in asked) rival ≡ true → answer_at result rival
-        ≡ sure_order zone_box.now.sheet zone_box.now.season zone_box.now.zone rival club }
-    ensures clubs { length zone_box.now.sheet.clubs ≤ 24 }
-{
-    let clubs = zone_box.sheet().clubs.len() as u8;
-    let mut answers = on_points(zone_box, club);
-    let group = those_that_are(&answers, Sure::Level, clubs);
-    take_criteria(&mut answers, zone_box, asked, group, club);
-    answers
-}
-
-// The answers of the sheet's clubs by points. Without a finish, or against a number that is no
-// club's, the box keeps no ends of points to look at.
-fn on_points(zone_box: &ZoneBox, club: u8) -> [Sure; 24]
-    requires { IsTrue (have_one_outcome zone_box.now) }
-    ensures answers { (rival : ℕ) → rival < length zone_box.now.sheet.clubs
-        → answer_at result rival ≡ sure_by_points zone_box.now.sheet zone_box.now.season
-        (options_in_box zone_box.now) rival club }
-    ensures long { length result ≡ 24 }
+    ensures { AreByPoints zone_box.now club result }
 {
     let clubs = zone_box.sheet().clubs.len() as u8;
     if club < clubs && zone_box.has_finish() {
@@ -49,14 +33,32 @@ fn on_points(zone_box: &ZoneBox, club: u8) -> [Sure; 24]
     }
 }
 
-// Takes the criteria within the group of all clubs that are level on points, in the sheet's order.
-fn take_criteria(answers: &mut [Sure], zone_box: &ZoneBox, asked: ClubSet, group: ClubSet, club: u8)
+/// The answers of the clubs that are asked for against the one, from those by points.
+pub fn answers_against(zone_box: &ZoneBox, points: Answers, asked: ClubSet, club: u8) -> Answers
     requires outcomes { IsTrue (have_one_outcome zone_box.now) }
-    requires long { length answers.old ≡ 24 }
-    requires level { AreLevelIn (length zone_box.now.sheet.clubs) answers.old (clubs_in group) }
+    requires points { AreByPoints zone_box.now club points }
+    ensures { (rival : ℕ) → rival < length zone_box.now.sheet.clubs
+        → has_club (clubs_in asked) rival ≡ true → answer_at result rival
+        ≡ sure_order zone_box.now.sheet zone_box.now.season zone_box.now.zone rival club }
+{
+    let clubs = zone_box.sheet().clubs.len() as u8;
+    let group = points.those_level(clubs);
+    take_criteria(points, zone_box, asked, group, club)
+}
+
+// Takes the criteria within the group of all clubs that are level on points, in the sheet's order.
+fn take_criteria(
+    answers: Answers,
+    zone_box: &ZoneBox,
+    asked: ClubSet,
+    group: ClubSet,
+    club: u8,
+) -> Answers
+    requires outcomes { IsTrue (have_one_outcome zone_box.now) }
+    requires level { AreLevelIn (length zone_box.now.sheet.clubs) answers (clubs_in group) }
     ensures { StepDecidesFor (clubs_in asked) (length zone_box.now.sheet.clubs)
         (λ rival. sure_by zone_box.now.sheet.order zone_box.now.sheet
-        (options_in_box zone_box.now) (clubs_in group) rival club) answers.old answers.new }
+        (options_in_box zone_box.now) (clubs_in group) rival club) answers result }
 {
     match zone_box.sheet().order {
         Order::HeadFirst => take_rounds(answers, zone_box, asked, group, club),
@@ -67,26 +69,24 @@ fn take_criteria(answers: &mut [Sure], zone_box: &ZoneBox, asked: ClubSet, group
 // Takes difference and goals over all matches, and then the criteria among the clubs of the group
 // that surely share them, if it is sure which these are.
 fn take_overall_first(
-    answers: &mut [Sure],
+    answers: Answers,
     zone_box: &ZoneBox,
     asked: ClubSet,
     group: ClubSet,
     club: u8,
-)
+) -> Answers
     requires outcomes { IsTrue (have_one_outcome zone_box.now) }
-    requires long { length answers.old ≡ 24 }
-    requires level { AreLevelIn (length zone_box.now.sheet.clubs) answers.old (clubs_in group) }
+    requires level { AreLevelIn (length zone_box.now.sheet.clubs) answers (clubs_in group) }
     ensures { StepDecidesFor (clubs_in asked) (length zone_box.now.sheet.clubs)
         (λ rival. sure_by OverallFirst zone_box.now.sheet (options_in_box zone_box.now)
-        (clubs_in group) rival club) answers.old answers.new }
+        (clubs_in group) rival club) answers result }
 {
     let clubs = zone_box.sheet().clubs.len() as u8;
-    let overall = sums_over(zone_box);
-    take_parts(answers, Parts::FirstSums, &overall, group, club);
+    let overall = sums_for(zone_box, group, club);
+    let taken = take_parts(answers, Parts::FirstSums, &overall, group, club);
     if !are_all_sure(Parts::FirstSums, &overall, group, club) {
-        leave_open(answers, group);
-        return;
+        return leave_open(taken, group);
     }
-    let level = those_that_are(answers, Sure::Level, clubs);
-    take_rounds(answers, zone_box, asked, level, club);
+    let level = taken.those_level(clubs);
+    take_rounds(taken, zone_box, asked, level, club)
 }

@@ -1,25 +1,23 @@
-//! Tables of answers, one for each club against one club, and the steps that carry them on. Where
-//! an earlier step decides, a later one leaves the answer as it is.
+//! The steps that carry answers on, which are what is sure of each club against one club. Where an
+//! earlier step decides, a later one leaves the answer as it is.
 
-ghost use Rattle.std.specs.Prelude.{◌≡◌, ◌<◌, ◌≤◌, ◌-ℤ◌, ◌≤ℤ◌, ◌&&◌, ◌||◌, ℕ, pos, nat_lt, length};
-ghost use Rattle.std.specs.Prelude.{slice_index};
+ghost use Rattle.std.specs.Prelude.{◌≡◌, ◌<◌, ◌-ℤ◌, ◌≤ℤ◌, ◌&&◌, ◌||◌, pos, length, slice_index};
 ghost use Rattle.std.specs.List.{list_all};
 ghost use Rattle.league_core.specs.declared.sure.Sure.TheVariants.{Unknown};
-ghost use Rattle.league_core.specs.Sums.{has_club, worth_to};
+ghost use Rattle.league_core.specs.Sums.{worth_to};
 ghost use Rattle.league_core.specs.Ahead.{rank_of};
 ghost use Rattle.league_core.specs.ClubSets.{clubs_in};
 ghost use Rattle.league_core.specs.PointRanges.{one_value, added};
-ghost use Rattle.league_core.specs.SureOrder.{sure_by_points, sure_by_ranges, sure_then};
-ghost use Rattle.league_core.specs.SureOrder.{is_level, is_apart};
+ghost use Rattle.league_core.specs.SureOrder.{sure_by_ranges, sure_then, is_level, is_apart};
 ghost use Rattle.score_box.specs.Settings.{HasFinish};
 ghost use Rattle.tie_bound.specs.Spans.{as_range, IsSpanNear};
 ghost use Rattle.tie_bound.specs.Sums.{sums_at};
 ghost use Rattle.tie_bound.specs.Boxes.{options_in_box};
 ghost use Rattle.tie_bound.specs.Tables.{AreSums};
 ghost use Rattle.tie_bound.specs.Answers.{ranges_of, overall_spans_of, by_table};
-ghost use Rattle.tie_bound.specs.Answers.{by_overall_table, is_sure_by};
-ghost use Rattle.tie_bound.specs.Answers.{answer_at, is_answer, IsStepIn, HaveAnswers};
+ghost use Rattle.tie_bound.specs.Answers.{by_overall_table, is_sure_by, AreByPoints, IsStepIn};
 
+use crate::answer_sets::Answers;
 use crate::ends::ends_of;
 use crate::order::{are_apart, by_overall, by_parts, by_span, is_answer, then};
 use crate::parts::Parts;
@@ -30,37 +28,32 @@ use league_core::{ClubSet, Season, Sheet, Sure};
 use score_box::ZoneBox;
 
 /// The answers of the sheet's clubs by points, from the least and the most of each.
-pub fn by_ends(zone_box: &ZoneBox, club: u8) -> [Sure; 24]
+pub fn by_ends(zone_box: &ZoneBox, club: u8) -> Answers
     requires has_finish { HasFinish zone_box.now }
     requires in_range { club < length zone_box.now.sheet.clubs }
-    ensures answers { (rival : ℕ) → rival < length zone_box.now.sheet.clubs
-        → answer_at result rival ≡ sure_by_points zone_box.now.sheet zone_box.now.season
-        (options_in_box zone_box.now) rival club }
-    ensures long { length result ≡ 24 }
+    ensures { AreByPoints zone_box.now club result }
 {
     let own = ends_of(zone_box, club);
-    let mut answers = [Sure::Unknown; 24];
+    let mut answers = Answers::open();
     for rival in 0..zone_box.sheet().clubs.len() as u8 {
-        answers[rival as usize] = by_span(ends_of(zone_box, rival), own);
+        let answer = by_span(ends_of(zone_box, rival), own);
+        answers = answers.with(rival, answer);
     }
     answers
 }
 
 /// The answers by points: match points less deductions, which have one value each.
-pub fn by_points(zone_box: &ZoneBox, overall: &[Sums], club: u8) -> [Sure; 24]
+pub fn by_points(zone_box: &ZoneBox, overall: &[Sums], club: u8) -> Answers
     requires { AreSums worth_to zone_box.now.sheet.fixtures (options_in_box zone_box.now)
         overall.now }
-    ensures answers { (rival : ℕ) → rival < 24 → answer_at result rival
-        ≡ sure_by_points zone_box.now.sheet zone_box.now.season (options_in_box zone_box.now)
-        rival club }
-    ensures long { length result ≡ 24 }
+    ensures { AreByPoints zone_box.now club result }
 {
     let season = zone_box.season();
     let own = points_of(season, sums_at(overall, club).points, club);
-    let mut answers = [Sure::Unknown; 24];
-    for rival in 0..24u8 {
+    let mut answers = Answers::open();
+    for rival in 0..zone_box.sheet().clubs.len() as u8 {
         let points = points_of(season, sums_at(overall, rival).points, rival);
-        answers[rival as usize] = by_span(points, own);
+        answers = answers.with(rival, by_span(points, own));
     }
     answers
 }
@@ -83,21 +76,28 @@ fn deducted(deductions: &[u8], club: u8) -> i32
 }
 
 /// Takes these parts for the clubs of a group, by a table of sums.
-pub fn take_parts(answers: &mut [Sure], parts: Parts, table: &[Sums], group: ClubSet, club: u8)
-    requires { HaveAnswers (clubs_in group) answers.old }
-    ensures { IsStepIn (clubs_in group) (by_table parts table.now club) answers.old answers.new }
+pub fn take_parts(
+    answers: Answers,
+    parts: Parts,
+    table: &[Sums],
+    group: ClubSet,
+    club: u8,
+) -> Answers
+    ensures { IsStepIn (clubs_in group) (by_table parts table.now club) answers result }
 {
     let own = sums_at(table, club);
+    let mut now = answers;
     let mut left = group;
     for _step in 0..SET_WIDTH {
         if left.is_empty() {
-            return;
+            return now;
         }
         let rival = left.first_club();
-        let answer = then_parts(answers[rival as usize], parts, table, rival, &own);
-        answers[rival as usize] = answer;
+        let answer = then_parts(now.of(rival), parts, table, rival, &own);
+        now = now.put(rival, answer);
         left = left.without(ClubSet::single(rival));
     }
+    now
 }
 
 // The answer, where it decides; else what these parts say.
@@ -114,23 +114,30 @@ fn then_parts(answer: Sure, parts: Parts, table: &[Sums], rival: u8, own: &Sums)
 }
 
 /// Takes the sums over all matches, and the ranks, for the clubs of a group.
-pub fn take_overall(answers: &mut [Sure], sheet: &Sheet, overall: &[Sums], group: ClubSet, club: u8)
-    requires { HaveAnswers (clubs_in group) answers.old }
-    ensures { IsStepIn (clubs_in group) (by_overall_table sheet.now overall.now club) answers.old
-        answers.new }
+pub fn take_overall(
+    answers: Answers,
+    sheet: &Sheet,
+    overall: &[Sums],
+    group: ClubSet,
+    club: u8,
+) -> Answers
+    ensures { IsStepIn (clubs_in group) (by_overall_table sheet.now overall.now club) answers
+        result }
 {
     let own = sums_at(overall, club);
     let own_rank = sheet.rank_of(club);
+    let mut now = answers;
     let mut left = group;
     for _step in 0..SET_WIDTH {
         if left.is_empty() {
-            return;
+            return now;
         }
         let rival = left.first_club();
-        let old = answers[rival as usize];
-        answers[rival as usize] = then_overall(old, sheet, overall, rival, &own, own_rank);
+        let answer = then_overall(now.of(rival), sheet, overall, rival, &own, own_rank);
+        now = now.put(rival, answer);
         left = left.without(ClubSet::single(rival));
     }
+    now
 }
 
 // The answer, where it decides; else what the sums over all matches say, and the ranks.
@@ -158,33 +165,20 @@ fn then_overall(
 }
 
 /// Where nothing has decided yet for the clubs of a group, nothing is sure.
-pub fn leave_open(answers: &mut [Sure], group: ClubSet)
-    requires { HaveAnswers (clubs_in group) answers.old }
-    ensures { IsStepIn (clubs_in group) (λ rival. Unknown) answers.old answers.new }
+pub fn leave_open(answers: Answers, group: ClubSet) -> Answers
+    ensures { IsStepIn (clubs_in group) (λ rival. Unknown) answers result }
 {
+    let mut now = answers;
     let mut left = group;
     for _step in 0..SET_WIDTH {
         if left.is_empty() {
-            return;
+            return now;
         }
         let rival = left.first_club();
-        answers[rival as usize] = then(answers[rival as usize], Sure::Unknown);
+        now = now.put(rival, then(now.of(rival), Sure::Unknown));
         left = left.without(ClubSet::single(rival));
     }
-}
-
-/// The clubs below a number that have the wanted answer.
-pub fn those_that_are(answers: &[Sure], wanted: Sure, clubs: u8) -> ClubSet
-    requires in_range { clubs ≤ length answers.now }
-    requires few { clubs ≤ 32 }
-    ensures { (club : ℕ) → has_club (clubs_in result) club
-        ≡ (nat_lt club clubs && is_answer wanted (answer_at answers.now club)) }
-{
-    let mut found = ClubSet::empty();
-    for club in 0..clubs {
-        found = found.with_if(is_answer(wanted, answers[club as usize]), club);
-    }
-    found
+    now
 }
 
 /// Of each club of the group it is sure whether it has the club's parts, by a table of sums.

@@ -7,6 +7,7 @@
 #![tactic(auto)]
 
 mod against;
+mod answer_sets;
 mod answers;
 mod apart;
 mod ends;
@@ -24,6 +25,7 @@ mod sums;
 mod sure;
 mod table;
 mod tie;
+mod wanted;
 
 pub use given::{count_reason, high_reason, holds, low_reason, window_reason};
 pub use league_core::Sure;

@@ -44,7 +44,8 @@ pub fn rows_among(zone_box: &ZoneBox, group: ClubSet) -> [Sums; 24]
     table
 }
 
-fn row_over(zone_box: &ZoneBox, club: u8) -> Sums
+/// A club's sums over all matches that are played.
+pub fn row_over(zone_box: &ZoneBox, club: u8) -> Sums
     requires { club < length zone_box.now.sheet.clubs }
     ensures { IsRow worth_to zone_box.now.sheet.fixtures zone_box.now.season.scores club result }
 {

@@ -4,7 +4,7 @@ ghost use Rattle.std.specs.Prelude.{◌≡◌, ◌<◌, IsTrue, length};
 ghost use Rattle.league_core.specs.SureOrder.{sure_order};
 ghost use Rattle.tie_bound.specs.Boxes.{have_one_outcome};
 
-use crate::against::answers_against;
+use crate::against::{answers_against, answers_on_points};
 use league_core::{ClubSet, Sure};
 use score_box::ZoneBox;
 
@@ -17,6 +17,7 @@ pub fn judge(zone_box: &ZoneBox, club: u8, rival: u8) -> Sure
         ≡ sure_order zone_box.now.sheet zone_box.now.season zone_box.now.zone rival club }
 {
     let _sheet = zone_box.sheet();
-    let answers = answers_against(zone_box, ClubSet::single(rival), club);
-    answers[rival as usize]
+    let points = answers_on_points(zone_box, club);
+    let answers = answers_against(zone_box, points, ClubSet::single(rival), club);
+    answers.of(rival)
 }

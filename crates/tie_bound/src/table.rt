@@ -136,7 +136,8 @@ fn counts(group: ClubSet, fixture: Fixture) -> bool
     group.has(fixture.home) && group.has(fixture.away)
 }
 
-fn add(table: &mut [Sums], fixture: Fixture, cell: &Cell)
+/// Adds the match to the sums of its two clubs.
+pub fn add(table: &mut [Sums], fixture: Fixture, cell: &Cell)
     requires one { HasOneOutcome cell.now }
     requires different { fixture.home ≢ fixture.away }
     requires home { fixture.home < length table.old }

@@ -10,11 +10,13 @@ ghost use Rattle.league_core.specs.ClubSets.{clubs_in};
 ghost use Rattle.league_core.specs.Zones.{rivals_of};
 ghost use Rattle.league_core.specs.Options.{has_finish};
 ghost use Rattle.league_core.specs.Reasons.{has_reason};
-ghost use Rattle.score_box.specs.Settings.{HasFinish};
+ghost use Rattle.tie_bound.specs.Answers.{AreByPoints};
 ghost use Rattle.tie_bound.specs.Boxes.{have_one_outcome};
 ghost use Rattle.tie_bound.specs.Rivals.{AreRivalsIn, are_too_many_with, is_wrong_with};
 ghost use Rattle.tie_bound.specs.Rivals.{refutes_with, refutes_surely};
 
+use crate::against::{answers_against, answers_on_points};
+use crate::answer_sets::Answers;
 use crate::apart::Apart;
 use crate::outcomes::has_one_outcome;
 use crate::rivals::Rivals;
@@ -32,29 +34,31 @@ pub fn tie_reason(zone_box: &ZoneBox, question: &Question) -> bool
 }
 
 fn is_refuted(zone_box: &ZoneBox, question: &Question) -> bool
-    requires outcomes { IsTrue (have_one_outcome zone_box.now) }
-    requires has_finish { HasFinish zone_box.now }
+    requires { IsTrue (have_one_outcome zone_box.now) }
     ensures { result ≡ refutes_surely zone_box.now question.now }
 {
     let rivals = Rivals::of(zone_box, question.club);
-    match by_points(zone_box, question, &rivals) {
+    let points = answers_on_points(zone_box, question.club);
+    match by_points(zone_box, question, &rivals, points) {
         Some(refuted) => refuted,
-        None => by_criteria(zone_box, question, &rivals),
+        None => by_criteria(zone_box, question, &rivals, points),
     }
 }
 
 // What points alone tell: whether the question is refuted whoever the criteria put in front, or
 // not refuted at all.
-fn by_points(zone_box: &ZoneBox, question: &Question, rivals: &Rivals) -> Option<bool>
-    requires has_finish { HasFinish zone_box.now }
+fn by_points(
+    zone_box: &ZoneBox,
+    question: &Question,
+    rivals: &Rivals,
+    points: Answers,
+) -> Option<bool>
     requires rivals { AreRivalsIn zone_box.now question.now.club rivals.now }
+    requires points { AreByPoints zone_box.now question.now.club points }
     ensures { IfSome result (λ refuted. refuted ≡ refutes_surely zone_box.now question.now) }
 {
     let clubs = zone_box.sheet().clubs.len() as u8;
-    if clubs <= question.club {
-        return None;
-    }
-    let apart = Apart::by_points(zone_box, question.club);
+    let apart = Apart::by(points);
     if refutes(zone_box, question, rivals, apart) {
         return Some(true);
     }
@@ -64,13 +68,14 @@ fn by_points(zone_box: &ZoneBox, question: &Question, rivals: &Rivals) -> Option
     Some(false)
 }
 
-fn by_criteria(zone_box: &ZoneBox, question: &Question, rivals: &Rivals) -> bool
+fn by_criteria(zone_box: &ZoneBox, question: &Question, rivals: &Rivals, points: Answers) -> bool
     requires outcomes { IsTrue (have_one_outcome zone_box.now) }
     requires rivals { AreRivalsIn zone_box.now question.now.club rivals.now }
+    requires points { AreByPoints zone_box.now question.now.club points }
     ensures { result ≡ refutes_surely zone_box.now question.now }
 {
-    let apart = Apart::by_criteria(zone_box, rivals.all, question.club);
-    refutes(zone_box, question, rivals, apart)
+    let answers = answers_against(zone_box, points, rivals.all, question.club);
+    refutes(zone_box, question, rivals, Apart::by(answers))
 }
 
 // Who is above and who is below refutes the question.

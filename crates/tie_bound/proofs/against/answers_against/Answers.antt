@@ -6,18 +6,16 @@ use Rattle.tie_bound.specs.Answers.{answer_at, AreLevelIn}
 use Rattle.tie_bound.proofs.TakenLemmas.{sure_order-is}
 use Rattle.tie_bound.proofs.against.answers_against.Goals as goal
 
-pub returns-clause-answers : goal.returns-clause-answers
-returns-clause-answers c = λ rival low asked.
+pub returns : goal.returns
+returns c = λ rival low asked.
     let box = c.args.zone_box.now in
-    let answers = c.on_points-answers.result in
+    let points = c.args.points in
     let many : c.len-clubs.result ≡ length box.sheet.clubs =
     c.len-clubs.ensures ∙ ap (λ (s : Sheet). length s.clubs) c.sheet.ensures.sheet in
     let few : length box.sheet.clubs ≤ 24 = omega
     (arith, many, c.sheet.ensures.limits.most_clubs) in
-    let level : AreLevelIn (length box.sheet.clubs) answers (clubs_in c.those_that_are-group.result)
-    =
-    λ x. c.those_that_are-group.ensures x
-    ∙ ap (λ n. nat_lt x n && is_level (answer_at answers x)) many in
-    sure_order-is box c.args.club c.those_that_are-group.result.bits rival answers
-    c.take_criteria.new.answers few c.on_points-answers.ensures.answers level low
-    (c.take_criteria.ensures rival low asked)
+    let level : AreLevelIn (length box.sheet.clubs) points (clubs_in c.those_level-group.result) =
+    λ x. c.those_level-group.ensures x
+    ∙ ap (λ n. nat_lt x n && is_level (answer_at points x)) many in
+    sure_order-is box c.args.club c.those_level-group.result.bits rival points
+    c.take_criteria.result few c.requires.points level low (c.take_criteria.ensures rival low asked)

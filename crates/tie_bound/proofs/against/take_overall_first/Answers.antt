@@ -3,7 +3,6 @@ use Rattle.league_core.specs.declared.sure.Sure.TheVariants.{Unknown}
 use Rattle.tie_bound.specs.declared.parts.Parts.TheVariants.{FirstSums}
 use Rattle.tie_bound.specs.Answers.{by_table}
 use Rattle.tie_bound.proofs.AnswerLemmas.{others_decided, others_stay, step_decides}
-use Rattle.tie_bound.proofs.AnswerLemmas.{level_have_answers, have_answers_still}
 use Rattle.league_core.specs.declared.sheet.Sheet.{Sheet}
 use Rattle.league_core.specs.ClubSets.{clubs_in}
 use Rattle.league_core.specs.SureOrder.{are_all_sure_overall, by_first_sum_ranges, is_level}
@@ -20,19 +19,19 @@ returns-then-not-are_all_sure c =
     let options = options_in_box c.args.zone_box.now in
     let club = c.args.club in
     let group = clubs_in c.args.group in
-    let table = c.sums_over-overall.result in
-    let old = c.args.answers.now in
-    let taken = c.take_parts.new.answers in
+    let table = c.sums_for-overall.result in
+    let old = c.args.answers in
+    let taken = c.take_parts-taken.result in
     let takes = taken_first_sums sheet options club group table old taken
-    c.sums_over-overall.ensures (others_decided (length sheet.clubs) old group c.requires.level)
-    c.take_parts.ensures in
+    c.sums_for-overall.ensures (others_decided (length sheet.clubs) old group c.requires.level)
+    c.take_parts-taken.ensures in
     λ rival low asked.
-    overall_first_open sheet options club group rival old taken c.leave_open.new.answers
-    (sym (all_sure-first_sums sheet options group table club c.sums_over-overall.ensures)
+    overall_first_open sheet options club group rival old taken c.leave_open.result
+    (sym (all_sure-first_sums sheet options group table club c.sums_for-overall.ensures)
     ∙ sym c.are_all_sure.ensures ∙ c.if-not-are_all_sure.true) (takes rival low)
-    (step_decides (length sheet.clubs) (λ _. Unknown) group taken c.leave_open.new.answers
+    (step_decides (length sheet.clubs) (λ _. Unknown) group taken c.leave_open.result
     (others_stay (length sheet.clubs) (by_table FirstSums table club) group old taken
-    (others_decided (length sheet.clubs) old group c.requires.level) c.take_parts.ensures)
+    (others_decided (length sheet.clubs) old group c.requires.level) c.take_parts-taken.ensures)
     c.leave_open.ensures rival low)
 
 pub returns : goal.returns
@@ -41,49 +40,25 @@ returns c =
     let options = options_in_box c.args.zone_box.now in
     let club = c.args.club in
     let group = clubs_in c.args.group in
-    let table = c.sums_over-overall.result in
-    let old = c.args.answers.now in
-    let taken = c.take_parts.new.answers in
+    let table = c.sums_for-overall.result in
+    let old = c.args.answers in
+    let taken = c.take_parts-taken.result in
     let takes = taken_first_sums sheet options club group table old taken
-    c.sums_over-overall.ensures (others_decided (length sheet.clubs) old group c.requires.level)
-    c.take_parts.ensures in
+    c.sums_for-overall.ensures (others_decided (length sheet.clubs) old group c.requires.level)
+    c.take_parts-taken.ensures in
     let many : c.len-clubs.result ≡ length sheet.clubs =
     c.len-clubs.ensures ∙ ap (λ (s : Sheet). length s.clubs) c.sheet.ensures.sheet in
     let few : length sheet.clubs ≤ 24 = omega (arith, many, c.sheet.ensures.limits.most_clubs) in
-    let level : AreLevelIn (length sheet.clubs) taken (clubs_in c.those_that_are-level.result) =
-    λ x. c.those_that_are-level.ensures x
+    let level : AreLevelIn (length sheet.clubs) taken (clubs_in c.those_level-level.result) =
+    λ x. c.those_level-level.ensures x
     ∙ ap (λ n. nat_lt x n && is_level (answer_at taken x)) many in
     let sure : are_all_sure_overall sheet options group club ≡ true =
-    sym (all_sure-first_sums sheet options group table club c.sums_over-overall.ensures)
+    sym (all_sure-first_sums sheet options group table club c.sums_for-overall.ensures)
     ∙ sym c.are_all_sure.ensures ∙ c.if-not-are_all_sure.false in
     let shared = level_is (length sheet.clubs) c.args.group.bits
-    c.those_that_are-level.result.bits old taken
+    c.those_level-level.result.bits old taken
     (λ rival. by_first_sum_ranges sheet options rival club) c.requires.level takes level in
     λ rival low asked.
-    overall_first_sure sheet options club group (clubs_in c.those_that_are-level.result) rival old
-    taken c.take_rounds.new.answers sure shared (takes rival low)
+    overall_first_sure sheet options club group (clubs_in c.those_level-level.result) rival old
+    taken c.take_rounds.result sure shared (takes rival low)
     (c.take_rounds.ensures rival low asked)
-
-pub take_parts-requires : goal.take_parts-requires
-take_parts-requires c =
-    let sheet = c.args.zone_box.now.sheet in
-    let few : length sheet.clubs ≤ 24 = omega (
-      arith,
-      ap (λ (s : Sheet). length s.clubs) c.sheet.ensures.sheet,
-      c.sheet.ensures.limits.most_clubs,
-    ) in
-    level_have_answers (length sheet.clubs) c.args.answers.now (clubs_in c.args.group)
-    c.requires.level (omega (arith, few, c.requires.long))
-
-pub leave_open-requires : goal.leave_open-requires
-leave_open-requires c =
-    let sheet = c.args.zone_box.now.sheet in
-    let few : length sheet.clubs ≤ 24 = omega (
-      arith,
-      ap (λ (s : Sheet). length s.clubs) c.sheet.ensures.sheet,
-      c.sheet.ensures.limits.most_clubs,
-    ) in
-    have_answers_still (clubs_in c.args.group) c.args.answers.now c.take_parts.new.answers
-    (sym c.take_parts.auto.answers)
-    (level_have_answers (length sheet.clubs) c.args.answers.now (clubs_in c.args.group)
-    c.requires.level (omega (arith, few, c.requires.long)))

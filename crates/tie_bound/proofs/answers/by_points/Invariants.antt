@@ -1,12 +1,10 @@
-use Rattle.std.proofs.Common.{◌≡◌, ℕ, ◌<◌, length}
 use Rattle.league_core.specs.SureOrder.{sure_by_points}
 use Rattle.tie_bound.specs.Boxes.{options_in_box}
-use Rattle.tie_bound.specs.Answers.{answer_at}
+use Rattle.tie_bound.proofs.AnswerLemmas.{AreAnswersBelow}
 use Rattle.tie_bound.proofs.answers.by_points.Given as goal
 
 -- the answers passed are those by points
 abbrev pub invariant-loop-rival : goal.invariant-loop-rival
 invariant-loop-rival l =
-    ((k : ℕ) → k < l.rival → answer_at l.answers k ≡ sure_by_points l.zone_box.sheet
-    l.zone_box.season (options_in_box l.zone_box) k l.club)
-    × (length l.answers ≡ 24)
+    AreAnswersBelow (λ rival. sure_by_points l.zone_box.sheet l.zone_box.season
+    (options_in_box l.zone_box) rival l.club) l.rival l.answers

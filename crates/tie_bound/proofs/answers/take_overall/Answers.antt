@@ -1,21 +1,19 @@
-use Rattle.std.proofs.Common.{◌<◌, length, refl, sym, ◌∙◌, arith}
+use Rattle.std.proofs.Common.{refl, sym, ◌∙◌, arith}
 use Rattle.std.proofs.lemmas.Bool.{false≢true}
-use Rattle.std.proofs.lemmas.List.{get_or_default}
-use Rattle.league_core.specs.declared.sure.Sure.TheVariants.{Unknown}
 use Rattle.tie_criteria.proofs.MemberLemmas.{taken_off, none_left, empty_left}
-use Rattle.tie_bound.proofs.AnswerLemmas.{step_begins, step_goes_on, step_ends}
-use Rattle.tie_bound.proofs.AnswerLemmas.{left_has_answer}
+use Rattle.league_core.proofs.ClubCountLemmas.{member_below}
 use Rattle.league_core.specs.Ahead.{rank_of}
 use Rattle.league_core.specs.SureOrder.{sure_by_ranges}
-use Rattle.league_core.proofs.ClubCountLemmas.{member_below}
 use Rattle.tie_bound.specs.Sums.{sums_at}
 use Rattle.tie_bound.specs.Answers.{overall_spans_of, by_overall_table, answer_at}
+use Rattle.tie_bound.proofs.AnswerLemmas.{step_begins, step_goes_on, step_ends}
 use Rattle.tie_bound.proofs.AnswerLemmas.{by_overall_table-read, next_is}
 use Rattle.tie_bound.proofs.answers.take_overall.Goals as goal
 
 pub loop-step-init : goal.loop-step-init
-loop-step-init c = step_begins (by_overall_table c.args.sheet.now c.args.overall.now c.args.club)
-    c.args.group c.args.answers.now
+loop-step-init c =
+    step_begins (by_overall_table c.args.sheet.now c.args.overall.now c.args.club) c.args.group
+    c.args.answers
 
 pub first_club-rival-requires : goal.first_club-rival-requires
 first_club-rival-requires c = λ none.
@@ -25,18 +23,20 @@ pub single-requires : goal.single-requires
 single-requires c = member_below c.loop-step.left c.first_club-rival.result
     c.first_club-rival.ensures.member
 
+pub put-now-requires : goal.put-now-requires
+put-now-requires c = member_below c.loop-step.left c.first_club-rival.result
+    c.first_club-rival.ensures.member
+
 pub returns-then-is_empty : goal.returns-then-is_empty
 returns-then-is_empty c =
     step_ends (by_overall_table c.args.sheet.now c.args.overall.now c.args.club) c.args.group
-    c.loop-step.left c.loop-step._step c.args.answers.now
-    c.loop-step.answers c.loop-step.invariant
+    c.loop-step.left c.loop-step._step c.args.answers c.loop-step.now c.loop-step.invariant
     (λ club. empty_left c.loop-step.left club (c.is_empty.ensures.0 c.if-is_empty.true))
 
 pub returns : goal.returns
 returns c =
     step_ends (by_overall_table c.args.sheet.now c.args.overall.now c.args.club) c.args.group
-    c.loop-step.left c.loop-step._step c.args.answers.now
-    c.loop-step.answers c.loop-step.invariant
+    c.loop-step.left c.loop-step._step c.args.answers c.loop-step.now c.loop-step.invariant
     (λ club. none_left c.args.group c.loop-step.left c.loop-step._step club
     c.loop-step.invariant.left_is (omega (arith, c.loop-step-test.false)))
 
@@ -45,38 +45,19 @@ loop-step-preserved c =
     let sheet = c.args.sheet.now in
     let table = c.args.overall.now in
     let club = c.args.club in
-    let now = c.loop-step.answers in
+    let now = c.loop-step.now in
     let rival = c.first_club-rival.result in
     let own = c.sums_at-own.result in
     let own_rank = c.rank_of-own_rank.result in
     let taken = taken_off c.loop-step.left c.without-left.result c.single.result rival
     c.first_club-rival.ensures.member c.single.ensures c.without-left.ensures in
-    let within : rival < length now =
-    omega (
-      arith,
-      c.loop-step.invariant.long,
-      c.requires rival (c.loop-step.invariant.left_is.part rival taken.among),
-    ) in
     let next = by_overall_table-read sheet table club rival (sums_at table rival) own
     (rank_of sheet rival) own_rank refl c.sums_at-own.ensures refl c.rank_of-own_rank.ensures in
     step_goes_on (by_overall_table sheet table club) c.args.group c.loop-step.left
-    c.without-left.result rival c.loop-step._step c.args.answers.now now c.then_overall.result
-    c.loop-step.invariant c.requires taken
-    (next_is (answer_at now) (by_overall_table sheet table club) c.then_overall.result _
+    c.without-left.result rival c.loop-step._step c.args.answers now c.put-now.result
+    c.then_overall-answer.result c.loop-step.invariant taken (record { is = c.put-now.ensures })
+    (next_is (answer_at now) (by_overall_table sheet table club) c.then_overall-answer.result
+    c.of.result
     (sure_by_ranges (overall_spans_of (sums_at table rival) (rank_of sheet rival))
     (overall_spans_of own own_rank)) rival
-    c.then_overall.ensures (get_or_default now rival _ Unknown within) next)
-
-pub slice_copy_out-old : goal.slice_copy_out-old
-slice_copy_out-old c =
-    left_has_answer (by_overall_table c.args.sheet.now c.args.overall.now c.args.club)
-    c.args.group c.loop-step.left
-    c.first_club-rival.result c.loop-step._step c.args.answers.now c.loop-step.answers
-    c.loop-step.invariant c.requires c.first_club-rival.ensures.member
-
-pub bounds-answers-rival : goal.bounds-answers-rival
-bounds-answers-rival c =
-    left_has_answer (by_overall_table c.args.sheet.now c.args.overall.now c.args.club)
-    c.args.group c.loop-step.left
-    c.first_club-rival.result c.loop-step._step c.args.answers.now c.loop-step.answers
-    c.loop-step.invariant c.requires c.first_club-rival.ensures.member
+    c.then_overall-answer.ensures c.of.ensures next)

@@ -5,4 +5,4 @@ use Rattle.tie_bound.proofs.answers.take_parts.Given as goal
 -- the clubs that are not left have gone on, the others are as they were
 abbrev pub invariant-loop-step : goal.invariant-loop-step
 invariant-loop-step l = IsOnTheWay (by_table l.parts l.table l.club) l.fn.group l.left l._step
-    l.fn.answers l.answers
+    l.fn.answers l.now

@@ -1,4 +1,4 @@
-use Rattle.std.proofs.Common.{◌≡◌, ◌-◌, length}
+use Rattle.std.proofs.Common.{◌-◌}
 use Rattle.league_core.specs.ClubSets.{clubs_in}
 use Rattle.tie_bound.specs.Boxes.{options_in_box}
 use Rattle.tie_bound.proofs.RoundLemmas.{IsJudged, task_in}
@@ -8,5 +8,4 @@ use Rattle.tie_bound.proofs.rounds.take_rounds.Given as goal
 abbrev pub invariant-smaller : goal.invariant-smaller
 invariant-smaller l =
     IsJudged (task_in l.zone_box.sheet (options_in_box l.zone_box) (clubs_in l.initial.group) l.club
-    l.fn.answers) (l.time-end - l.time) (clubs_in l.group) l.answers
-    × (length l.answers ≡ 24)
+    l.fn.answers) (l.time-end - l.time) (clubs_in l.group) l.now
