@@ -7,7 +7,6 @@ pub mod NodeLemmas
 pub mod ScoreLemmas
 pub mod PartLemmas
 pub mod CallLemmas
-pub mod SetLemmas
 pub mod ReachLemmas
 pub mod ExampleLemmas
 pub mod FillLemmas

@@ -5,8 +5,7 @@ use Rattle.league_core.specs.Sums.{has_club}
 use Rattle.league_core.specs.ClubSets.{clubs_in}
 use Rattle.league_core.proofs.PlainLemmas.{eqb-swap}
 use Rattle.league_core.proofs.ClubSetLemmas.{has_club-range}
-use Rattle.league_core.proofs.ClubLemmas.{has_member-not_empty}
-use Rattle.cert_check.proofs.SetLemmas.{list_all-rest_empty}
+use Rattle.league_core.proofs.ClubLemmas.{has_member-not_empty, list_all-rest_empty}
 use Rattle.cert_check.proofs.ranges.is_set_for.Goals as goal
 
 pub returns-then-not-is_empty : goal.returns-then-not-is_empty
