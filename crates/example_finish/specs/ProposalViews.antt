@@ -1,13 +1,13 @@
 -- The proposed finish of a box, as it is looked at: the box and the question that it is proposed
 -- for.
-use Rattle.std.specs.Prelude.{◌<◌, length}
+use Rattle.std.specs.Prelude.{◌<◌, Bool, List, length}
 use Rattle.league_core.specs.declared.sheet.Sheet.{Sheet}
 use Rattle.league_core.specs.declared.question.Question.{Question}
 use Rattle.league_core.specs.Results.{Results}
 use Rattle.league_core.specs.Proposals.{proposed_finish}
 use Rattle.score_box.specs.Settings.{Setting, HasFinish}
 use Rattle.example_finish.specs.declared.wishes.Wishes.{Wishes}
-use Rattle.example_finish.specs.Wished.{AreWishesOf}
+use Rattle.example_finish.specs.Wished.{AreWished, AreWishesOf}
 
 -- a sheet, a season and a zone of it, with a question
 pub record Asked : Type 0 where
@@ -28,9 +28,10 @@ finish_asked asked =
     proposed_finish asked.setting.sheet asked.setting.season asked.question asked.setting.zone
 
 -- what a look at a proposed finish keeps: the zone has a finish, the club is one of the sheet's,
--- and
--- the wishes are those of the question
-pub record IsProposalFor (setting : Setting) (question : Question) (wishes : Wishes) : Type 0 where
+-- the wishes are those of the question, and the table is that of the wishes
+pub record IsProposalFor (setting : Setting) (question : Question) (wishes : Wishes)
+    (wished : List Bool) : Type 0 where
   pub has_finish : HasFinish setting
   pub of_sheet : question.club < length setting.sheet.clubs
   pub wishes_are : AreWishesOf setting.zone question wishes
+  pub wished_are : AreWished wishes wished

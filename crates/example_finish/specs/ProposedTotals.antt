@@ -1,6 +1,6 @@
 -- What matches add up to for clubs, kept by the clubs' numbers, and the comparisons of clubs by
 -- these sums.
-use Rattle.std.specs.Prelude.{ℕ, ℤ, pos, neg_ℤ, IsTrue, List, [], ◌∷◌, length}
+use Rattle.std.specs.Prelude.{ℕ, ℤ, pos, neg_ℤ, IsTrue, List, [], ◌∷◌}
 use Rattle.std.specs.Prelude.{slice_index_or, None}
 use Rattle.std.specs.declared.cmp.Ordering.{Ordering}
 use Rattle.league_core.specs.declared.sheet.Sheet.{Sheet}

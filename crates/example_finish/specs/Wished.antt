@@ -1,5 +1,5 @@
 -- Which clubs the proposed finish of a zone wishes points, as a set and a claim.
-use Rattle.std.specs.Prelude.{◌≡◌, ℕ, Bool, not, List}
+use Rattle.std.specs.Prelude.{◌≡◌, ℕ, ◌<◌, Bool, false, not, List, length, slice_index_or}
 use Rattle.league_core.specs.declared.club_set.ClubSet.{ClubSet}
 use Rattle.league_core.specs.declared.question.Claim.{Claim}
 use Rattle.league_core.specs.declared.question.Claim.TheVariants.{Inside, Outside}
@@ -20,3 +20,9 @@ abbrev pub AreWishesOf : List Literal → Question → Wishes → Type 0
 AreWishesOf zone question wishes =
     (club : ℕ)
     → has_wish wishes.near club wishes.claim ≡ is_wished zone question.club club question.claim
+
+-- the table tells of each number of a club whether it is wished points
+pub record AreWished (wishes : Wishes) (table : List Bool) : Type 0 where
+  pub long : length table ≡ 24
+  pub each : (club : ℕ) → club < 24
+      → slice_index_or table club false ≡ has_wish wishes.near club wishes.claim

@@ -10,7 +10,7 @@ ghost use Rattle.example_finish.specs.ProposalViews.{sheet_asked, season_asked, 
 
 use crate::outcome::{Outcome, first_outcome};
 use crate::proposal::option_of;
-use crate::wishes::Wishes;
+use crate::wishes::{Wishes, is_wished};
 use league_core::{Fixture, Question, Score, Season, Sheet};
 use score_box::ZoneBox;
 use std::marker::Model;
@@ -21,6 +21,7 @@ pub struct Proposed<'a> {
     pub(crate) zone_box: &'a ZoneBox<'a>,
     question: &'a Question,
     wishes: Wishes,
+    wished: [bool; 24],
 }
 
 impl<'a> Model for Proposed<'a> {
@@ -30,7 +31,8 @@ impl<'a> Model for Proposed<'a> {
 
     ghost view = { λ p. record { setting = p.zone_box.now; question = p.question.now } };
 
-    ghost invariant = { λ p. IsProposalFor p.zone_box.now p.question.now p.wishes };
+    ghost invariant = { λ p. IsProposalFor p.zone_box.now p.question.now p.wishes
+        p.wished };
 }
 
 impl<'a> Proposed<'a> {
@@ -44,6 +46,7 @@ impl<'a> Proposed<'a> {
             zone_box,
             question,
             wishes,
+            wished: wishes.table(),
         }
     }
 
@@ -64,8 +67,8 @@ impl<'a> Proposed<'a> {
     {
         let _season = self.season();
         let sides = self.sides(fixture);
-        let home = self.wishes.has(sides.home);
-        let away = self.wishes.has(sides.away);
+        let home = is_wished(&self.wished, sides.home);
+        let away = is_wished(&self.wished, sides.away);
         let left = self.zone_box.outcomes_left(fixture);
         first_outcome(self.zone_box.cell(fixture), left, home, away)
     }

@@ -1,7 +1,7 @@
 //! Which clubs the proposed finish wishes points.
 
-ghost use Rattle.std.specs.Prelude.{◌<◌, ◌≡◌, length};
-ghost use Rattle.example_finish.specs.Wished.{AreWishesOf, has_wish};
+ghost use Rattle.std.specs.Prelude.{◌<◌, ◌≡◌, false, length, slice_index_or};
+ghost use Rattle.example_finish.specs.Wished.{AreWished, AreWishesOf, has_wish};
 
 use league_core::{Claim, ClubSet, Question};
 use score_box::ZoneBox;
@@ -39,6 +39,27 @@ impl Wishes {
             Claim::Outside => !self.near.has(club),
         }
     }
+}
+
+impl Wishes {
+    /// Whether the club of each number is wished points: a look, where many matches ask.
+    pub fn table(self) -> [bool; 24]
+        ensures { AreWished self result }
+    {
+        let mut table = [false; 24];
+        for club in 0..24u8 {
+            table[club as usize] = self.has(club);
+        }
+        table
+    }
+}
+
+/// The table says so of the club.
+pub fn is_wished(table: &[bool], club: u8) -> bool
+    requires { club < length table.now }
+    ensures { result ≡ slice_index_or table.now club false }
+{
+    table[club as usize]
 }
 
 // The question's club, of which a set has room.

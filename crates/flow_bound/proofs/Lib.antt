@@ -2,6 +2,7 @@
 -- answers, what a fixture is worth, cuts.
 pub mod PartLemmas
 pub mod OneMoreLemmas
+pub mod MeetingLemmas
 pub mod PeelLemmas
 pub mod SpareLemmas
 pub mod PlaceLemmas

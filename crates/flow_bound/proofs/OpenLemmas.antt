@@ -22,9 +22,8 @@ use Rattle.score_box.proofs.SplitLemmas.{end_at_fixture, greatest_end, keeps_pla
 use Rattle.score_box.proofs.SplitLemmas.{no_match, range_split}
 use Rattle.flow_bound.specs.declared.cut.Cut.{Cut}
 use Rattle.flow_bound.specs.declared.cut.Cut.TheVariants.{Floor, Ceiling}
-use Rattle.flow_bound.specs.declared.tally.Pair.{Pair}
 use Rattle.flow_bound.specs.Fixtures.{pair_at, pairs_in, surplus_in}
-use Rattle.flow_bound.specs.Parts.{has_both, sum_of_pairs}
+use Rattle.flow_bound.specs.Parts.{sum_of_pairs}
 use Rattle.flow_bound.specs.Network.{has_home_in, has_away_in}
 use Rattle.flow_bound.proofs.PairsLemmas.{IsOpenAt, open_at_each, surplus_in-is}
 use Rattle.flow_bound.proofs.PartLemmas.{sum_of_pairs-cons}

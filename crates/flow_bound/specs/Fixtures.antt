@@ -1,7 +1,7 @@
 -- What a fixture adds to the excess of a set, by the sides that are in the set.
 use Rattle.std.specs.Prelude.{◌≡◌, ℕ, ℤ, pos, negsuc, ◌+ℤ◌, ◌-ℤ◌, ◌≤ℤ◌, neg_ℤ, ◌≤◌, Bool, true}
 use Rattle.std.specs.Prelude.{false, ◌&&◌, ◌||◌, if◌then◌else◌, List, [], ◌∷◌, map, slice_index_or}
-use Rattle.std.specs.Prelude.{length, nat_le, int_lt}
+use Rattle.std.specs.Prelude.{length, nat_le, int_lt, sum_by}
 use Rattle.league_core.specs.declared.sheet.Fixture.{Fixture}
 use Rattle.league_core.specs.declared.sheet.Sheet.{Sheet}
 use Rattle.league_core.specs.declared.season.Score.{Score}
@@ -112,6 +112,12 @@ pair_at cut box number =
 -- the pairs of a box: one for each match that is not played
 unfoldable pub pairs_in : Cut → Setting → List Pair
 pairs_in cut box = map (pair_at cut box) (unplayed_in box.season.scores)
+
+-- the surplus of the pairs of some matches that pass a test, added
+abbrev pub sum_at : (Pair → Bool) → Cut → Setting → List ℕ → ℕ
+sum_at test cut box numbers =
+    sum_by (λ number. if test (pair_at cut box number) then (pair_at cut box number).surplus else 0)
+    numbers
 
 -- the club's entry is above 0 together with all that its matches leave open: what its most points
 -- are beyond its least; a number past the clubs counts as one that may add something

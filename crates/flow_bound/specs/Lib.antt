@@ -3,4 +3,5 @@ pub mod Excess
 -- what the inner functions promise each other
 pub mod Parts
 pub mod Fixtures
+pub mod Meetings
 pub mod Network

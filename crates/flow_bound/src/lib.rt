@@ -12,6 +12,7 @@
 mod choice;
 mod cut;
 mod hopeful;
+mod meetings;
 mod network;
 mod peel;
 mod places;

@@ -2,25 +2,26 @@
 //!
 //! A club whose own entry and all its pairs together add nothing is no loss to any set. Without it
 //! others may add nothing. Where none is left no set has an excess, and no flow is needed. The
-//! pairs are read off from the box, so that no memory is taken.
+//! matches of the clubs are found once and held on the stack, so that no memory is taken.
 
 ghost use Rattle.std.specs.Prelude.{◌≡◌, ℕ, ◌+◌, ◌*◌, ◌<◌, ◌≤◌, ◌+ℤ◌, ◌&&◌, if◌then◌else◌, pos};
-ghost use Rattle.std.specs.Prelude.{int_lt, Bool, IsTrue, length, ◌↔◌};
+ghost use Rattle.std.specs.Prelude.{int_lt, Bool, IsTrue, length, take, slice_index_or, ◌↔◌};
 ghost use Rattle.league_core.specs.ClubSets.{clubs_in};
 ghost use Rattle.league_core.specs.Limits.{most_fixtures};
 ghost use Rattle.score_box.specs.Settings.{HasFinish};
 ghost use Rattle.flow_bound.specs.Parts.{most_credits};
 ghost use Rattle.flow_bound.specs.Parts.{EachAdds, IsClubTable, KeepsExcess, entry};
 ghost use Rattle.flow_bound.specs.Parts.{side_of};
-ghost use Rattle.flow_bound.specs.Parts.{sum_of_side, sum_of_pairs};
+ghost use Rattle.flow_bound.specs.Parts.{sum_of_side};
 ghost use Rattle.flow_bound.specs.Network.{has_away_in, has_home_in};
-ghost use Rattle.flow_bound.specs.Fixtures.{pair_at, pairs_in};
+ghost use Rattle.flow_bound.specs.Fixtures.{pair_at, pairs_in, sum_at};
 
 use crate::cut::Cut;
+use crate::meetings::hold_meetings;
 use crate::table::{Table, credit, is_over};
 use crate::tally::pair_within;
 use league_core::ClubSet;
-use league_core::limits::SET_WIDTH;
+use league_core::limits::{MOST_FIXTURES, SET_WIDTH};
 use score_box::ZoneBox;
 
 /// The clubs that may be needed.
@@ -31,10 +32,12 @@ pub fn peel(zone_box: &ZoneBox, cut: Cut, alone: &Table, marked: ClubSet) -> Clu
         (side_of result) }
     ensures needed { EachAdds alone.now (pairs_in cut zone_box.now) (side_of result) }
 {
+    let mut held = [0; MOST_FIXTURES as usize];
+    let count = hold_meetings(&mut held, zone_box, cut, marked);
     let mut rest = marked;
     // Each round but the last drops a club, and a set has no more than `SET_WIDTH`.
     for _round in 0..SET_WIDTH {
-        let next = positive(&reach(zone_box, cut, alone, rest), rest);
+        let next = positive(&reach(zone_box, cut, alone, rest, &held, count), rest);
         if next.is_empty() {
             return next;
         }
@@ -53,21 +56,29 @@ fn are_as_many(set: ClubSet, other: ClubSet) -> bool
 }
 
 // What each club can add at most where only clubs of `rest` are taken: its own entry, and all
-// its pairs there.
-fn reach(zone_box: &ZoneBox, cut: Cut, alone: &Table, rest: ClubSet) -> Table
+// its pairs there, of the matches whose numbers are held in front.
+fn reach(
+    zone_box: &ZoneBox,
+    cut: Cut,
+    alone: &Table,
+    rest: ClubSet,
+    held: &[u16],
+    count: usize,
+) -> Table
     requires has_finish { HasFinish zone_box.now }
     requires sized { IsClubTable most_credits alone.now }
+    requires room { length held.now ≡ most_fixtures }
+    requires many { count ≤ most_fixtures }
+    requires in_range { (k d : ℕ) → k < count
+        → slice_index_or held.now k d < length zone_box.now.season.scores }
     ensures { (side : ℕ → Bool) → sum_of_side result side
         ≡ sum_of_side alone.now side
-        +ℤ pos (sum_of_pairs (has_home_in (side_of rest) side) (pairs_in cut zone_box.now))
-        +ℤ pos (sum_of_pairs (has_away_in (side_of rest) side) (pairs_in cut zone_box.now)) }
+        +ℤ pos (sum_at (has_home_in (side_of rest) side) cut zone_box.now (take count held.now))
+        +ℤ pos (sum_at (has_away_in (side_of rest) side) cut zone_box.now (take count held.now)) }
 {
     let mut reach = *alone;
-    let unplayed = zone_box.unplayed();
-    let _sheet = zone_box.sheet();
-    let _season = zone_box.season();
-    for i in 0..unplayed.len() {
-        credit_match(&mut reach, zone_box, cut, unplayed[i], rest);
+    for i in 0..count {
+        credit_match(&mut reach, zone_box, cut, held[i], rest);
     }
     reach
 }

@@ -1,17 +1,15 @@
 -- A club that may not add anything has no more than nothing, with all its pairs and alone.
-use Rattle.std.proofs.Common.{◌≡◌, ℕ, ℤ, pos, ◌+ℤ◌, ◌-ℤ◌, ◌≤ℤ◌, Bool, true, false, ◌&&◌, ◌||◌}
-use Rattle.std.proofs.Common.{[], ◌∷◌, length, refl, sym, ap, subst, ◌∙◌, arith}
+use Rattle.std.proofs.Common.{◌≡◌, ℤ, pos, ◌+ℤ◌, ◌-ℤ◌, ◌≤ℤ◌, Bool, true, false, ◌&&◌, ◌||◌}
+use Rattle.std.proofs.Common.{[], ◌∷◌, length, sym, ap, subst, ◌∙◌, arith}
 use Rattle.std.specs.Prelude.{int_lt, nat_le}
 use Rattle.std.proofs.lemmas.Int.{ints}
 use Rattle.std.proofs.lemmas.Bool.{and_parts, false≢true}
 use Rattle.league_core.specs.Results.{Results}
 use Rattle.league_core.specs.PointRanges.{least_points_of, most_points_of}
 use Rattle.league_core.specs.Sheets.{IsWithinLimits}
-use Rattle.flow_bound.specs.declared.cut.Cut.{Cut}
 use Rattle.flow_bound.specs.declared.cut.Cut.TheVariants.{Floor}
 use Rattle.flow_bound.specs.Fixtures.{may_add, pairs_in}
-use Rattle.flow_bound.specs.Parts.{entry, side_of, sum_of_pairs}
-use Rattle.flow_bound.specs.Network.{has_away_in, has_home_in}
+use Rattle.flow_bound.specs.Parts.{entry, side_of}
 use Rattle.flow_bound.proofs.OpenLemmas.{pairs_open}
 use Rattle.flow_bound.proofs.SetLemmas.{side_of-lt}
 use Rattle.flow_bound.proofs.SpareLemmas.{KeepsExcess-spare}

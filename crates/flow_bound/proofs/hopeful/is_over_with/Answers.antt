@@ -1,6 +1,6 @@
 use mir.Syntax.{w64}
 use mir.Val.{to_z, of_z}
-use Rattle.std.proofs.Common.{◌≡◌, pos, ◌+ℤ◌, sym, ap, arith}
+use Rattle.std.proofs.Common.{◌≡◌, pos, ◌+ℤ◌, ap, arith}
 use Rattle.std.specs.Prelude.{int_lt}
 use Rattle.std.proofs.lemmas.Int.{ints}
 use Rattle.flow_bound.specs.Parts.{entry}

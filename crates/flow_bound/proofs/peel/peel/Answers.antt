@@ -1,11 +1,12 @@
 -- Each round drops clubs that are no loss, and the last none.
-use Rattle.std.proofs.Common.{◌≢◌, length, sym, ◌∙◌, arith}
+use Rattle.std.proofs.Common.{◌≢◌, length, take, sym, ◌∙◌, arith}
 use Rattle.std.specs.Prelude.{int_lt, pos}
 use Rattle.std.proofs.lemmas.Bool.{and_parts, false≢true}
 use Rattle.league_core.specs.ClubSets.{clubs_in}
 use Rattle.league_core.proofs.ClubCountLemmas.{few_below}
 use Rattle.flow_bound.specs.Fixtures.{pairs_in}
 use Rattle.flow_bound.specs.Parts.{IsPartOf, entry, side_of}
+use Rattle.flow_bound.proofs.MeetingLemmas.{reach_is}
 use Rattle.flow_bound.proofs.PeelLemmas.{EachAdds-empty, EachAdds-kept, KeepsExcess-all}
 use Rattle.flow_bound.proofs.PeelLemmas.{KeepsExcess-next}
 use Rattle.flow_bound.proofs.SetLemmas.{length-part, no_club_left, no_club_of_none, side_of-lt}
@@ -31,7 +32,12 @@ loop-round-preserved c =
       keeps = KeepsExcess-next c.args.alone.now c.reach.result
           (pairs_in c.args.cut c.args.zone_box.now) (side_of c.args.marked)
           (side_of c.loop-round.rest) (side_of c.positive-next.result)
-          c.loop-round.invariant.keeps c.reach.ensures c.positive-next.ensures;
+          c.loop-round.invariant.keeps
+          (reach_is c.args.cut c.args.zone_box.now c.args.alone.now
+          c.reach.result (take c.hold_meetings-count.result c.hold_meetings-count.new.held)
+          (side_of c.args.marked) (side_of c.loop-round.rest) c.loop-round.invariant.keeps.part
+          c.hold_meetings-count.ensures.sums c.reach.ensures)
+          c.positive-next.ensures;
       few = omega (
         arith,
         apart,
@@ -45,7 +51,12 @@ returns-then-is_empty-clause-kept c =
     KeepsExcess-next c.args.alone.now c.reach.result
     (pairs_in c.args.cut c.args.zone_box.now) (side_of c.args.marked)
     (side_of c.loop-round.rest) (side_of c.positive-next.result)
-    c.loop-round.invariant.keeps c.reach.ensures c.positive-next.ensures
+    c.loop-round.invariant.keeps
+    (reach_is c.args.cut c.args.zone_box.now c.args.alone.now
+    c.reach.result (take c.hold_meetings-count.result c.hold_meetings-count.new.held)
+    (side_of c.args.marked) (side_of c.loop-round.rest) c.loop-round.invariant.keeps.part
+    c.hold_meetings-count.ensures.sums c.reach.ensures)
+    c.positive-next.ensures
 
 pub returns-then-is_empty-clause-needed : goal.returns-then-is_empty-clause-needed
 returns-then-is_empty-clause-needed c =
@@ -63,7 +74,11 @@ returns-then-are_as_many-clause-needed c =
     (int_lt (pos 0) (entry c.reach.result club))
     (sym (c.positive-next.ensures club) ∙ among)).0 in
     EachAdds-kept c.args.alone.now c.reach.result (pairs_in c.args.cut c.args.zone_box.now)
-    (side_of c.loop-round.rest) (side_of c.positive-next.result) c.reach.ensures
+    (side_of c.loop-round.rest) (side_of c.positive-next.result)
+    (reach_is c.args.cut c.args.zone_box.now c.args.alone.now
+    c.reach.result (take c.hold_meetings-count.result c.hold_meetings-count.new.held)
+    (side_of c.args.marked) (side_of c.loop-round.rest) c.loop-round.invariant.keeps.part
+    c.hold_meetings-count.ensures.sums c.reach.ensures)
     c.positive-next.ensures (side_of-lt c.loop-round.rest)
     (whole_is_part c.positive-next.result c.loop-round.rest part
     (c.are_as_many.ensures.0 c.if-are_as_many.true))

@@ -1,6 +1,6 @@
 use Rattle.std.proofs.Common.{◌≡◌, ℕ, ◌+◌, ◌*◌, pos, ◌+ℤ◌, Bool, take}
-use Rattle.flow_bound.specs.Parts.{IsClubTable, side_of, sum_of_pairs, sum_of_side}
-use Rattle.flow_bound.specs.Fixtures.{pairs_in}
+use Rattle.flow_bound.specs.Parts.{IsClubTable, side_of, sum_of_side}
+use Rattle.flow_bound.specs.Fixtures.{sum_at}
 use Rattle.flow_bound.specs.Network.{has_away_in, has_home_in}
 use Rattle.flow_bound.proofs.peel.reach.Given as goal
 
@@ -8,9 +8,7 @@ use Rattle.flow_bound.proofs.peel.reach.Given as goal
 abbrev pub invariant-loop-i : goal.invariant-loop-i
 invariant-loop-i l = record {
   sums : (side : ℕ → Bool) → sum_of_side l.reach side ≡ sum_of_side l.alone side
-      +ℤ pos (sum_of_pairs (has_home_in (side_of l.rest) side)
-      (take l.i (pairs_in l.cut l.zone_box)))
-      +ℤ pos (sum_of_pairs (has_away_in (side_of l.rest) side)
-      (take l.i (pairs_in l.cut l.zone_box)));
+      +ℤ pos (sum_at (has_home_in (side_of l.rest) side) l.cut l.zone_box (take l.i l.held))
+      +ℤ pos (sum_at (has_away_in (side_of l.rest) side) l.cut l.zone_box (take l.i l.held));
   sized : IsClubTable (1200 + 2 * l.i) l.reach;
 }

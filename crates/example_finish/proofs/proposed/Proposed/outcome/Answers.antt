@@ -1,4 +1,4 @@
-use Rattle.std.proofs.Common.{◌<◌, None, [], length, get_or, ap, ap₂, Bool, sym, ◌∙◌, subst}
+use Rattle.std.proofs.Common.{◌<◌, None, [], length, get_or, ap, ap₂, Bool, sym, ◌∙◌, subst, arith}
 use Rattle.league_core.specs.declared.sheet.Fixture.{Fixture}
 use Rattle.league_core.specs.Options.{options_in}
 use Rattle.league_core.specs.Proposals.{first_option}
@@ -11,6 +11,7 @@ use Rattle.example_finish.proofs.proposed.Proposed.outcome.Goals as goal
 pub returns : goal.returns
 returns c =
     let wishes = c.self.inside.wishes in
+    let wished = c.self.invariant.wished_are in
     let inside : Asked =
     record { setting = c.self.inside.zone_box.now; question = c.self.inside.question.now } in
     let sheet = inside.setting.sheet in
@@ -36,5 +37,17 @@ returns c =
     c.self.invariant.has_finish within c.self.invariant.wishes_are
     (λ score is. c.first_outcome.ensures options score c.cell.ensures
     c.outcomes_left-left.ensures.among
-    (ap₂ (λ (x y : Bool). first_option x y options) c.has-home.ensures c.has-away.ensures
+    (ap₂ (λ (x y : Bool). first_option x y options)
+    (c.is_wished-home.ensures ∙ wished.each c.sides-sides.result.home
+    c.sides-sides.ensures.of_match.home)
+    (c.is_wished-away.ensures ∙ wished.each c.sides-sides.result.away
+    c.sides-sides.ensures.of_match.away)
     ∙ ap (λ (match : Fixture). option_at wishes sheet season zone fixture match) sides ∙ is)))
+
+pub is_wished-home-requires : goal.is_wished-home-requires
+is_wished-home-requires c =
+    omega (arith, c.self.invariant.wished_are.long, c.sides-sides.ensures.of_match.home)
+
+pub is_wished-away-requires : goal.is_wished-away-requires
+is_wished-away-requires c =
+    omega (arith, c.self.invariant.wished_are.long, c.sides-sides.ensures.of_match.away)
