@@ -73,7 +73,7 @@ points_back (pos n) within =
         grind (arith, ints)
 points_back (negsuc n) within = ap (λ b. cond b (Some (negsuc n)) None) within
 
-clubs_back : (clubs : List ℕ) → list_all is_club_number clubs ≡ true
+pub clubs_back : (clubs : List ℕ) → list_all is_club_number clubs ≡ true
     → listed_clubs (items_of (map (λ club. number (unsigned (number_in_text club))) clubs))
     ≡ Some clubs
 clubs_back [] all = refl

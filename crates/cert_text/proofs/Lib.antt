@@ -15,4 +15,7 @@ pub mod LotRangeLemmas
 pub mod ExampleRangeLemmas
 pub mod LineLemmas
 pub mod PrintedLemmas
+pub mod ReadBackLemmas
+pub mod PlainNumberLemmas
+pub mod PlainFormLemmas
 pub mod WorkedLines

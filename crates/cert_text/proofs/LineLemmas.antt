@@ -23,7 +23,7 @@ use Rattle.cert_text.specs.Lines.{text_of_proof_line}
 use Rattle.cert_text.specs.Values.{part_value, parts_value}
 
 -- a byte that stands for itself in a JSON string
-abbrev is_plain : ℕ → Bool
+abbrev pub is_plain : ℕ → Bool
 is_plain byte = not (nat_lt 0 (escape_letter byte)) && not (nat_lt byte 32)
 
 -- so a string of such bytes has no escape
@@ -37,12 +37,12 @@ escape-plain (byte ∷ name) plain =
     (ap (λ rest. byte ∷ rest) (escape-plain name parts.1))
 
 -- the items that follow the first, each after a comma, and the bracket that closes the array
-abbrev more_items : List (List ℕ) → List ℕ
+abbrev pub more_items : List (List ℕ) → List ℕ
 more_items [] = 93 ∷ []
 more_items (item ∷ items) = 44 ∷ (item ++ more_items items)
 
 -- an array with an item is that item and those that follow
-join-more : (item : List ℕ) (items : List (List ℕ))
+pub join-more : (item : List ℕ) (items : List (List ℕ))
     → join_with_byte 44 (item ∷ items) ++ 93 ∷ [] ≡ item ++ more_items items
 join-more item [] = refl
 join-more item (next ∷ items) =
@@ -77,7 +77,7 @@ list_all-true [] = refl
 list_all-true (x ∷ xs) = list_all-true xs
 
 -- a part whose word needs no escape
-abbrev is_plain_part : Part → Bool
+abbrev pub is_plain_part : Part → Bool
 is_plain_part (word name) = list_all is_plain name
 is_plain_part (whole n) = true
 is_plain_part (points n) = true
@@ -116,7 +116,7 @@ plain_reason (Low set) = refl
 plain_reason (High set) = refl
 plain_reason Tie = refl
 
-plain_line : (x : ProofLine) → list_all is_plain_part (parts_of x) ≡ true
+pub plain_line : (x : ProofLine) → list_all is_plain_part (parts_of x) ≡ true
 plain_line (line.Tree claim) = ap (λ b. b && true) (plain_claim claim)
 plain_line (line.Spent claim) = ap (λ b. b && true) (plain_claim claim)
 plain_line (line.SpentWindow claim low high) = ap (λ b. b && true) (plain_claim claim)
@@ -129,10 +129,15 @@ plain_line (line.Finish claim) = ap (λ b. b && true) (plain_claim claim)
 plain_line (line.Score fixture score) = refl
 plain_line (line.Lots lots) = refl
 
+-- the text of the array of parts is theirs
+pub text_of_parts : (parts : List Part) → list_all is_plain_part parts ≡ true
+    → compact_text (parts_value parts) ≡ array_text (map part_text parts)
+text_of_parts parts plain =
+    array_text-known part_value part_text is_plain_part part_text-plain parts plain
+
 -- the text of a line's value is the line's
 pub line_text : (x : ProofLine) → compact_text (parts_value (parts_of x)) ≡ text_of_proof_line x
-line_text x = array_text-known part_value part_text is_plain_part part_text-plain (parts_of x)
-    (plain_line x)
+line_text x = text_of_parts (parts_of x) (plain_line x)
 
 -- no part has a float, and none nests deeper than a list
 items_no_float : {X : Type 0} (value : X → Data) → ((x : X) → has_float (value x) ≡ false)

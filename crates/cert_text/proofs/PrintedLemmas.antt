@@ -72,7 +72,7 @@ array_printed text known each xs all =
     (items_printed text known each xs all) refl
 
 -- a part whose word is printed and whose numbers are small
-abbrev is_small_part : Part → Bool
+abbrev pub is_small_part : Part → Bool
 is_small_part (word name) = list_all is_printed name
 is_small_part (whole n) = nat_lt n 10000
 is_small_part (points n) = are_points n
@@ -176,7 +176,7 @@ small_score fixture score known =
     (small_goals score.home 99 (omega arith) goals.0)
     (small_goals score.away 99 (omega arith) goals.1))
 
-small_line : (x : ProofLine) → is_in_range x ≡ true → list_all is_small_part (parts_of x) ≡ true
+pub small_line : (x : ProofLine) → is_in_range x ≡ true → list_all is_small_part (parts_of x) ≡ true
 small_line (line.Tree claim) known = alone (list_all is_printed (claim_word claim))
     (small_claim claim)
 small_line (line.Spent claim) known = alone (list_all is_printed (claim_word claim))
@@ -195,8 +195,12 @@ small_line (line.Finish claim) known = alone (list_all is_printed (claim_word cl
 small_line (line.Score fixture score) known = small_score fixture score known
 small_line (line.Lots lots) known = alone (list_all is_club_number lots.list) known
 
+-- the text of small parts is printed
+pub parts_printed : (parts : List Part) → list_all is_small_part parts ≡ true
+    → list_all is_printed (array_text (map part_text parts)) ≡ true
+parts_printed parts small = array_printed part_text is_small_part part_printed parts small
+
 -- the text of a line in range is printed
 pub line_printed : (x : ProofLine) → is_in_range x ≡ true
     → list_all is_printed (text_of_proof_line x) ≡ true
-line_printed x known = array_printed part_text is_small_part part_printed (parts_of x)
-    (small_line x known)
+line_printed x known = parts_printed (parts_of x) (small_line x known)

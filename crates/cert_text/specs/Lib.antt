@@ -1,6 +1,6 @@
 -- Reading order: what a row of fields is, what each proof line says in its parts, which lines have
 -- a form, which lists of lines are trees and examples, the JSON values that stand for lines, and
--- which line a text has the form of.
+-- which line a text has the form of; then lines by their own texts.
 pub mod Rows
 pub mod Lines
 pub mod Ranges
@@ -11,3 +11,4 @@ pub mod Values
 pub mod Places
 pub mod Forms
 pub mod Widths
+pub mod PlainForms

@@ -117,8 +117,8 @@ pub fn clubs(alloc: Global, value: &Value, place: usize) -> Result<Option<Vec<u8
     }
 }
 
-// The set of the clubs of a list that rises and has a club.
-fn set_of(clubs: &[u8]) -> Option<ClubSet>
+/// The set of the clubs of a list that rises and has a club.
+pub fn set_of(clubs: &[u8]) -> Option<ClubSet>
     ensures { result ≡ set_listed clubs.now }
 {
     if clubs.is_empty() {

@@ -5,6 +5,7 @@ ghost use Rattle.serde_json.specs.View.{view};
 ghost use Rattle.cert_text.specs.Forms.{json_of, line_in};
 
 use crate::forms::line_of;
+use crate::plain_form::plain_line;
 use crate::proof_line::ProofLine;
 use league_core::OutOfMemory;
 use serde_json::{Category, Value};
@@ -34,6 +35,17 @@ impl From<OutOfMemory> for LineStop {
 /// The line that a text without its line feed has the form of. Spaces stand where JSON allows
 /// them.
 pub fn read_line(alloc: Global, text: &[u8]) -> Result<ProofLine, LineStop>
+    ensures line { IfOk result (λ line. line_in text.now ≡ Some line) }
+    ensures no_form { IfErr result (λ stop. stop ≡ LineStop.NoForm → line_in text.now ≡ None) }
+{
+    match plain_line(alloc, text)? {
+        Some(line) => Ok(line),
+        None => line_by_json(alloc, text),
+    }
+}
+
+// The same by the reader of JSON, whatever the form and its spaces.
+fn line_by_json(alloc: Global, text: &[u8]) -> Result<ProofLine, LineStop>
     ensures line { IfOk result (λ line. line_in text.now ≡ Some line) }
     ensures no_form { IfErr result (λ stop. stop ≡ LineStop.NoForm → line_in text.now ≡ None) }
 {

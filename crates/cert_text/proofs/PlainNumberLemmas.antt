@@ -1,0 +1,119 @@
+-- Numbers and lists of clubs at the front of a text, digit by digit and club by club.
+use Rattle.std.proofs.Common.{◌≡◌, ◌<◌, ◌+◌, ◌*◌, ◌/◌, ◌%◌, ℕ, true, List, []}
+use Rattle.std.proofs.Common.{◌∷◌, ◌++◌, map, refl, sym, ap, ◌∙◌, arith, append_assoc, decimal}
+use Rattle.std.proofs.Common.{Option, Some, None, MatchOption, IfSome}
+use Rattle.std.specs.List.{list_all, join_with_byte}
+use Rattle.std.proofs.lemmas.Bool.{and_parts, and_from}
+use Rattle.std.proofs.lemmas.Fmt.{decimal_digit, decimal_step}
+use Rattle.cert_text.specs.Lines.{number_in_text}
+use Rattle.cert_text.specs.Ranges.{is_club_number}
+use Rattle.cert_text.specs.PlainForms.{AreClubsAtEnd}
+use Rattle.cert_text.proofs.PrintedLemmas.{alone}
+
+-- what is said of what is there
+pub where_some : {A : Type 0} (found : Option A) (none : Type 0) (some : A → Type 0)
+    → MatchOption found none some → IfSome found some
+where_some None none some said = tt
+where_some (Some x) none some said = said
+
+-- one digit
+pub digits_one : (n byte : ℕ) (text rest : List ℕ) → n < 10 → byte ≡ 48 + n
+    → text ≡ byte ∷ rest → text ≡ decimal n ++ rest
+digits_one n byte text rest small shown is =
+    is ∙ ap (λ b. b ∷ rest) shown ∙ ap (λ ds. ds ++ rest) (sym (decimal_digit n small))
+
+-- one digit more
+pub digits_more : (n next byte : ℕ) (text rest : List ℕ) → 0 < n → n < 1000 → next < 10
+    → byte ≡ 48 + next → text ≡ byte ∷ rest
+    → decimal n ++ text ≡ decimal (10 * n + next) ++ rest
+digits_more n next byte text rest some few small shown is =
+    let whole : (10 * n + next) / 10 ≡ n = omega arith in
+    let last : (10 * n + next) % 10 ≡ next = omega arith in
+    ap (λ t. decimal n ++ t) (is ∙ ap (λ b. b ∷ rest) shown)
+    ∙ sym (ap (λ ds. ds ++ rest)
+    (decimal_step (10 * n + next) (omega arith) (omega arith)
+    ∙ ap (λ k. decimal k ++ (48 + (10 * n + next) % 10) ∷ []) whole
+    ∙ ap (λ d. decimal n ++ (48 + d) ∷ []) last)
+    ∙ append_assoc (decimal n) ((48 + next) ∷ []) rest)
+
+-- clubs in a list that goes on: each with a comma behind it
+abbrev pub clubs_so_far : List ℕ → List ℕ
+clubs_so_far [] = []
+clubs_so_far (club ∷ list) = decimal (number_in_text club) ++ 44 ∷ clubs_so_far list
+
+-- with one more
+pub clubs_so_far-more : (list : List ℕ) (club : ℕ) (rest : List ℕ)
+    → clubs_so_far list ++ (decimal (number_in_text club) ++ 44 ∷ rest)
+    ≡ clubs_so_far (list ++ club ∷ []) ++ rest
+clubs_so_far-more [] club rest =
+    sym (append_assoc (decimal (number_in_text club)) (44 ∷ []) rest)
+clubs_so_far-more (first ∷ list) club rest =
+    append_assoc (decimal (number_in_text first)) (44 ∷ clubs_so_far list)
+    (decimal (number_in_text club) ++ 44 ∷ rest)
+    ∙ ap (λ t. decimal (number_in_text first) ++ 44 ∷ t) (clubs_so_far-more list club rest)
+    ∙ sym (append_assoc (decimal (number_in_text first))
+    (44 ∷ clubs_so_far (list ++ club ∷ [])) rest)
+
+-- with the last one
+pub clubs_so_far-last : (list : List ℕ) (club : ℕ) (rest : List ℕ)
+    → clubs_so_far list ++ (decimal (number_in_text club) ++ rest)
+    ≡ join_with_byte 44 (map (λ club. decimal (number_in_text club)) (list ++ club ∷ [])) ++ rest
+clubs_so_far-last [] club rest = refl
+clubs_so_far-last (first ∷ []) club rest =
+    append_assoc (decimal (number_in_text first)) (44 ∷ [])
+    (decimal (number_in_text club) ++ rest)
+    ∙ sym (append_assoc (decimal (number_in_text first))
+    (44 ∷ decimal (number_in_text club)) rest)
+clubs_so_far-last (first ∷ next ∷ list) club rest =
+    append_assoc (decimal (number_in_text first)) (44 ∷ clubs_so_far (next ∷ list))
+    (decimal (number_in_text club) ++ rest)
+    ∙ ap (λ t. decimal (number_in_text first) ++ 44 ∷ t)
+    (clubs_so_far-last (next ∷ list) club rest)
+    ∙ sym (append_assoc (decimal (number_in_text first))
+    (44 ∷ join_with_byte 44
+    (map (λ club. decimal (number_in_text club)) (next ∷ (list ++ club ∷ [])))) rest)
+
+-- known clubs and one more
+pub clubs_known : (list : List ℕ) (club : ℕ) → list_all is_club_number list ≡ true
+    → is_club_number club ≡ true → list_all is_club_number (list ++ club ∷ []) ≡ true
+clubs_known [] club all known = alone (is_club_number club) known
+clubs_known (first ∷ list) club all known =
+    let parts = and_parts (is_club_number first) (list_all is_club_number list) all in
+    and_from (is_club_number first) (list_all is_club_number (list ++ club ∷ [])) parts.0
+    (clubs_known list club parts.1 known)
+
+-- one club more, and a comma
+pub clubs_go_on : (list : List ℕ) (club : ℕ) (text rest more items next : List ℕ)
+    → list_all is_club_number list ≡ true
+    → text ≡ 44 ∷ 91 ∷ (clubs_so_far list ++ rest)
+    → is_club_number club ≡ true → rest ≡ decimal (number_in_text club) ++ more
+    → more ≡ 44 ∷ next → items ≡ list ++ club ∷ []
+    → (list_all is_club_number items ≡ true)
+    × (text ≡ 44 ∷ 91 ∷ (clubs_so_far items ++ next))
+clubs_go_on list club text rest more items next all is known shown goes pushed = (
+  ap (list_all is_club_number) pushed ∙ clubs_known list club all known,
+  is
+      ∙ ap (λ t. 44 ∷ 91 ∷ (clubs_so_far list ++ t))
+      (shown ∙ ap (λ t. decimal (number_in_text club) ++ t) goes)
+      ∙ ap (λ t. 44 ∷ 91 ∷ t) (clubs_so_far-more list club next)
+      ∙ ap (λ cs. 44 ∷ 91 ∷ (clubs_so_far cs ++ next)) (sym pushed),
+)
+
+-- the last one, and the end
+pub clubs_end : (list : List ℕ) (club : ℕ) (text rest more items : List ℕ)
+    → list_all is_club_number list ≡ true
+    → text ≡ 44 ∷ 91 ∷ (clubs_so_far list ++ rest)
+    → is_club_number club ≡ true → rest ≡ decimal (number_in_text club) ++ more
+    → more ≡ 93 ∷ 93 ∷ [] → items ≡ list ++ club ∷ [] → AreClubsAtEnd text items
+clubs_end list club text rest more items all is known shown ends pushed =
+    let shown_clubs : List ℕ → List ℕ =
+    λ cs. join_with_byte 44 (map (λ club. decimal (number_in_text club)) cs) in (
+      ap (list_all is_club_number) pushed ∙ clubs_known list club all known,
+      is
+          ∙ ap (λ t. 44 ∷ 91 ∷ (clubs_so_far list ++ t))
+          (shown ∙ ap (λ t. decimal (number_in_text club) ++ t) ends)
+          ∙ ap (λ t. 44 ∷ 91 ∷ t) (clubs_so_far-last list club (93 ∷ 93 ∷ []))
+          ∙ ap (λ cs. 44 ∷ 91 ∷ (shown_clubs cs ++ 93 ∷ 93 ∷ [])) (sym pushed)
+          ∙ ap (λ t. 44 ∷ 91 ∷ t)
+          (sym (append_assoc (shown_clubs items) (93 ∷ []) (93 ∷ []))),
+    )

@@ -1,0 +1,10 @@
+use Rattle.std.proofs.Common.{rules, ◌∙◌}
+use Rattle.cert_text.proofs.PlainNumberLemmas.{digits_more}
+use Rattle.cert_text.proofs.plain_number.+more_digits.Goals as goal
+
+pub returns-in-Some-digit-clause-digits : goal.returns-in-Some-digit-clause-digits
+returns-in-Some-digit-clause-digits t c =
+    digits_more c.args.number c.in-Some-digit.next c.in-Some.byte.now c.args.text.now
+    c.in-Some.rest.now (search rules) (search rules) (search rules) (search rules)
+    (search rules)
+    ∙ c.more_digits.ensures.digits

@@ -1,0 +1,11 @@
+use Rattle.std.proofs.Common.{rules, ◌∙◌}
+use Rattle.cert_text.proofs.PlainNumberLemmas.{digits_one}
+use Rattle.cert_text.proofs.plain_number.digits.Goals as goal
+
+pub returns : goal.returns
+returns c = (
+  c.more_digits.ensures.few,
+  digits_one c.in_ok-number.number c.in_ok-byte.byte.now c.args.text.now c.in_ok-byte.rest.now
+      (search rules) (search rules) (search rules)
+      ∙ c.more_digits.ensures.digits,
+)
