@@ -24,7 +24,8 @@ use Rattle.result_log.proofs.FeedLemmas.{feed_of-first, season_after-entry}
 use Rattle.check_run.specs.Calls.{FeedState, IsEntryOf, IsStateOf, LeadsFeed, LeadsTo, ReadsFeedAs}
 use Rattle.check_run.specs.Calls.{EndsFeed, StopsFeed, feed_ended, state_unread}
 use Rattle.check_run.specs.Calls.{state_with, with_entries}
-use Rattle.check_run.proofs.ReadingLemmas.{told_behind, told_after, told_both, with_lines-both}
+use Rattle.port_core.proofs.ContentLemmas.{with_lines-append}
+use Rattle.check_run.proofs.ReadingLemmas.{told_behind, told_after, told_both}
 use Rattle.check_run.proofs.ReadingLemmas.{entry_read}
 
 -- ---- entries and their events
@@ -121,11 +122,12 @@ module _ (sheet : Sheet) (start : Contents) (before after : Option Contents)
       reads in
       let found = entry_read entry mid.0 told there.0 other there.2 in (
         leads.0 ++ found.0,
-        ap Some (mid.2 ∙ ap (with_lines leads.0) found.1 ∙ with_lines-both leads.0 found.0 there.0)
+        ap Some (mid.2 ∙ ap (with_lines leads.0) found.1
+            ∙ sym (with_lines-append leads.0 found.0 there.0))
             ∙ sym (ap (option_map (with_lines (leads.0 ++ found.0))) there.1),
         λ rest.
             ap (λ (c : Contents). feed_of sheet true c [])
-            (sym (with_lines-both leads.0 found.0 rest))
+            (with_lines-append leads.0 found.0 rest)
             ∙ leads.2 (with_lines found.0 rest)
             ∙ ap (with_entries entries)
             (by_known (with_lines found.0 rest) rest (Ok told) (found.2 rest))
@@ -207,7 +209,7 @@ module _ (sheet : Sheet) (start : Contents) (before after : Option Contents)
     leads.0 ++ reads.0,
     leads.1 ∙ ap (option_map (with_lines leads.0)) reads.1 ∙ told_both leads.0 reads.0 after,
     λ rest.
-        ap (λ (c : Contents). feed_of sheet true c []) (sym (with_lines-both leads.0 reads.0 rest))
+        ap (λ (c : Contents). feed_of sheet true c []) (with_lines-append leads.0 reads.0 rest)
         ∙ leads.2 (with_lines reads.0 rest)
         ∙ ap (with_entries entries)
         (by_reading (with_lines reads.0 rest)

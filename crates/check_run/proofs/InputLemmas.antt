@@ -38,7 +38,8 @@ use Rattle.check_run.specs.Calls.{IsShort, answer_behind_check}
 use Rattle.std.proofs.Common.{Bool, append-nil, drop}
 use Rattle.std.specs.Prelude.{if◌then◌else◌}
 use Rattle.check_run.specs.Calls.{report_told, LeavesCheck, CountsCheck, CountsFeed, CountsLines}
-use Rattle.check_run.proofs.ReadingLemmas.{told_behind, told_after, told_both, with_lines-both}
+use Rattle.port_core.proofs.ContentLemmas.{with_lines-append}
+use Rattle.check_run.proofs.ReadingLemmas.{told_behind, told_after, told_both}
 use Rattle.check_run.proofs.ReadingLemmas.{sheet_read}
 use Rattle.std.proofs.lemmas.List.{map-append}
 
@@ -56,7 +57,7 @@ checks-behind one two contents rest after front is same (Ok outcome) checks =
 checks-behind one two contents rest after front is same (Err failure.ReadFault) checks = (
   front ++ checks.0,
   ap Some is ∙ ap (option_map (with_lines front)) checks.1 ∙ told_both front checks.0 after,
-  ap one (sym (with_lines-both front checks.0 (ended (Err read_stop.ReadFault))))
+  ap one (with_lines-append front checks.0 (ended (Err read_stop.ReadFault)))
       ∙ same (with_lines checks.0 (ended (Err read_stop.ReadFault))) ∙ checks.2,
 )
 checks-behind one two contents rest after front is same (Err failure.OutOfMemory) checks = tt

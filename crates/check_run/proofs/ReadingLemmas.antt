@@ -1,9 +1,10 @@
 -- A reading is by the lines that it read: whatever follows them, it is the same.
 use Rattle.std.proofs.Common.{◌≡◌, ℕ, List, [], ◌∷◌, ◌++◌, Option, None, Some, option_map, Result}
-use Rattle.std.proofs.Common.{Ok, Err, refl, sym, ap, ◌∙◌, append_assoc}
+use Rattle.std.proofs.Common.{Ok, Err, refl, sym, ap, ◌∙◌}
 use Rattle.league_core.specs.declared.sheet.Sheet.{Sheet}
 use Rattle.port_core.specs.declared.answers.ReadStop.{ReadStop}
 use Rattle.port_core.specs.Contents.{Contents, with_lines}
+use Rattle.port_core.proofs.ContentLemmas.{with_lines-append}
 use Rattle.fixture_sheet.specs.declared.fault.SheetFault.{SheetFault}
 use Rattle.fixture_sheet.specs.declared.record.Progress.{Progress}
 use Rattle.fixture_sheet.specs.declared.record.Progress.TheVariants.{SoFar, Whole}
@@ -34,19 +35,12 @@ pub told_after : (lines : List (ℕ × List ℕ)) (known : Option Contents) (con
 told_after lines None contents is = absurd cc
 told_after lines (Some rest) contents is = (rest, refl, cc)
 
--- some lines and then others in front are all of them
-pub with_lines-both : (first second : List (ℕ × List ℕ)) (rest : Contents)
-    → with_lines first (with_lines second rest) ≡ with_lines (first ++ second) rest
-with_lines-both first second rest =
-    ap (λ (all : List (ℕ × List ℕ)). record { lines = all; ending = rest.ending })
-    (sym (append_assoc first second rest.lines))
-
--- the same where it is told
+-- some lines and then others in front are all of them, where it is told
 pub told_both : (first second : List (ℕ × List ℕ)) (known : Option Contents)
     → option_map (with_lines first) (option_map (with_lines second) known)
     ≡ option_map (with_lines (first ++ second)) known
 told_both first second None = refl
-told_both first second (Some rest) = ap Some (with_lines-both first second rest)
+told_both first second (Some rest) = ap Some (sym (with_lines-append first second rest))
 
 -- ---- a sheet
 

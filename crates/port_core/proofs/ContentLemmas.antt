@@ -1,7 +1,7 @@
--- Contents: what the line at the front of an input adds to them.
+-- Contents: lines in front of them, and what the line at the front of an input adds to them.
 use Rattle.std.proofs.Common.{◌≡◌, ℕ, ◌+◌, ◌-◌, ◌<◌, ◌≤◌, nat_eq, eqb, List, [], ◌∷◌, ◌++◌, length}
 use Rattle.std.proofs.Common.{take, drop, Option, Some, None, Ok, refl, ap, sym, ◌∙◌, subst, arith}
-use Rattle.std.proofs.Common.{append-nil, length-drop}
+use Rattle.std.proofs.Common.{append-nil, append_assoc, length-drop}
 use Rattle.std.specs.Prelude.{option_map, IfSome}
 use Rattle.std.specs.List.{starts_with, ends_with}
 use Rattle.std.specs.Io.KnownBytes.{prepend_known, IsAtEnd}
@@ -11,11 +11,19 @@ use Rattle.port_core.specs.Lines.{lines_of, text_of_line, HasNoLineFeed}
 use Rattle.port_core.specs.Buffers.{EndsAt}
 use Rattle.port_core.specs.Contents.{Position, position_behind, byte_order_mark, without_mark}
 use Rattle.port_core.specs.Contents.{without_return, number_at, content_at, line_stop, ended}
-use Rattle.port_core.specs.Contents.{with_content, contents_by, contents_from}
+use Rattle.port_core.specs.Contents.{Contents, with_content, with_lines, contents_by}
+use Rattle.port_core.specs.Contents.{contents_from}
 use Rattle.port_core.specs.Readers.{contents_behind}
 use Rattle.port_core.proofs.LineLemmas.{lines_of-open, text_of_line-ended, text_of_line-open}
 use Rattle.port_core.proofs.FirstLineLemmas.{first_line-ended}
 use Rattle.port_core.proofs.StopLemmas.{stop-none, stop-inside, length-ended}
+
+-- lines and those behind them, in front of the same contents
+pub with_lines-append : (first second : List (ℕ × List ℕ)) (rest : Contents)
+    → with_lines (first ++ second) rest ≡ with_lines first (with_lines second rest)
+with_lines-append first second rest =
+    ap (λ lines. record { lines = lines; ending = rest.ending })
+    (append_assoc first second rest.lines)
 
 pub contents-line : (position : Position) (lines rest : List (List ℕ)) (line text : List ℕ) (size :
     ℕ)
