@@ -84,7 +84,7 @@ fn step(
         7..34 => take_one(alloc, pair, held)?,
         _ => give_one(alloc, draws, pair, held)?,
     }
-    compare(alloc, pair)
+    compare(pair)
 }
 
 // A step that neither takes nor gives.
@@ -130,7 +130,7 @@ fn finish(alloc: Global, pair: &mut Pair) -> Result<(), Fail> {
             give(alloc, pair, &held, true)?;
         }
     }
-    compare(alloc, pair)
+    compare(pair)
 }
 
 // A hundred steps of two pools of a league from their beginning, and the end of one of them.

@@ -2,11 +2,9 @@
 //!
 //! `help` makes pools of leagues, and works on what is lent; `rows` has the cases. `drawn` has
 //! the lists of steps, `pairs` a pool and a plain one that make them; the plain one is in `plain`,
-//! `plain_change` and `carried`, what is given back in `held`, what can be worked on in `fit`.
+//! `plain_change`, what is given back in `held`, what can be worked on in `fit`.
 #![tactic(auto)]
 
-#[cfg(test)]
-mod carried;
 #[cfg(test)]
 mod drawn;
 #[cfg(test)]
