@@ -2,8 +2,9 @@
 
 ghost use Rattle.league_core.specs.Sheets.{IsWithinLimits};
 
+use crate::decided::{are_gone, decided_by};
 use crate::held::{Held, give_to, held_of};
-use crate::help::{pool_of_sheet, tell};
+use crate::help::{pool_in_window, tell};
 use crate::plain::{PlainPool, PlainSeat, same};
 use crate::seen::{Seen, none_seen};
 use branch_pool::{Pool, Seat, Took};
@@ -19,10 +20,10 @@ pub struct Pair {
     pub seen: Seen,
 }
 
-pub fn pair_of(alloc: Global, sheet: &Sheet) -> Result<Pair, Fail>
+pub fn pair_of(alloc: Global, sheet: &Sheet, window: (i32, i32)) -> Result<Pair, Fail>
     requires { IsWithinLimits sheet.now }
 {
-    let pool = pool_of_sheet(alloc, sheet)?;
+    let pool = pool_in_window(alloc, sheet, window)?;
     let plain = PlainPool::begin(alloc, sheet, pool.questions())?;
     let seen = none_seen();
     Ok(Pair { pool, plain, seen })
@@ -56,8 +57,11 @@ pub fn give(alloc: Global, pair: &mut Pair, held: &Held, is_worked: bool) -> Res
 }
 
 pub fn change(alloc: Global, pair: &mut Pair, event: Event) -> Result<(), Fail> {
+    let decided = decided_by(alloc, &pair.plain, &event)?;
+    pair.seen.decided = pair.seen.decided.saturating_add(decided);
     let epoch = tell(&mut pair.pool, event)?;
     pair.plain.change(alloc, pair.pool.sheet(), event)?;
+    are_gone(alloc, &pair.plain, &event)?;
     same(epoch == pair.plain.epoch, "the epoch that is answered")
 }
 
