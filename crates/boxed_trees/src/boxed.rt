@@ -1,158 +1,129 @@
 //! The tree in boxes.
 
-use league_core::{Literal, OutOfMemory, Reason, Test, TreeNode};
-use std::alloc::Global;
+ghost use Rattle.std.specs.Prelude.{◌≡◌, ◌↔◌, ◌==◌, true, nat_lt, IsTrue, IfOk};
+ghost use Rattle.league_core.specs.Trees.{open_leaf, has_open, is_refuted};
+ghost use Rattle.league_core.specs.Lending.{times_lent};
 
-/// A tree of zones, each half in a box of its own.
+use league_core::{OutOfMemory, Reason, Test};
+use std::alloc::Global;
+use std::marker::Model;
+
+/// A tree of zones. Contracts see the tree of splits and leaves, wherever its nodes stand.
+#[cycle(tree)]
 #[derive(Drop)]
-pub enum BoxedTree {
+pub struct BoxedTree {
+    pub(crate) alloc: Global,
+    pub(crate) node: Node,
+}
+
+// A lent leaf keeps the two boxes that its split will need; a split has its test, whether it is
+// new, and its halves.
+#[cycle(tree)]
+#[derive(Drop)]
+pub(crate) enum Node {
     Open,
-    Lent(u64),
+    Lent(u64, Box<BoxedTree>, Box<BoxedTree>),
     Refuted(Reason, bool),
-    /// The test, whether it is new, the half where the test is true, and the other one.
     Split(Test, bool, Box<BoxedTree>, Box<BoxedTree>),
 }
 
-/// What comes in place of a lent leaf, and is new if it is no open leaf.
-#[derive(Clone, Copy, Debug, PartialEq, Eq)]
-pub enum Given {
-    Opened,
-    Refuted(Reason),
-    Split(Test),
+impl Model for BoxedTree {
+    ghost use Rattle.league_core.specs.Trees as trees;
+    ghost use Rattle.league_core.specs.TreeLists.{coded_tree};
+
+    ghost Value = { trees.Tree };
+
+    ghost coded = { coded_tree };
+
+    ghost use Rattle.boxed_trees.specs.Boxed.{seen, SparesAreOpen, depth};
+
+    ghost view = { λ tree. seen tree.node };
+
+    ghost invariant = { λ tree. SparesAreOpen tree.node };
+
+    ghost size = { depth };
+
+    ghost use Rattle.std.proofs.Common.{arith};
+
+    ghost size_decreases = { λ a h. Prim.grind arith };
 }
 
 impl BoxedTree {
-    /// The open leaf at the end of the way is lent; false where there is none.
-    pub fn lend(&mut self, way: &[Literal], number: u64) -> bool {
-        match self {
-            BoxedTree::Open => {
-                if way.is_empty() {
-                    *self = BoxedTree::Lent(number);
-                    return true;
-                }
-                false
-            }
-            BoxedTree::Lent(_) | BoxedTree::Refuted(..) => false,
-            BoxedTree::Split(test, _, yes_half, no_half) => match way {
-                [] => false,
-                [literal, rest @ ..] => {
-                    if literal.test != *test {
-                        return false;
-                    }
-                    if literal.yes {
-                        yes_half.lend(rest, number)
-                    } else {
-                        no_half.lend(rest, number)
-                    }
-                }
-            },
-        }
+    /// One open leaf.
+    pub fn root(alloc: Global) -> Result<BoxedTree, OutOfMemory>
+        ensures { IfOk result (λ tree. tree ≡ open_leaf) }
+    {
+        Ok(BoxedTree::leaf(alloc))
     }
 
-    /// The leaf at the end of the way is lent under the number.
-    pub fn is_lent(&self, way: &[Literal], number: u64) -> bool {
-        match self {
-            BoxedTree::Open | BoxedTree::Refuted(..) => false,
-            BoxedTree::Lent(other) => way.is_empty() && *other == number,
-            BoxedTree::Split(test, _, yes_half, no_half) => match way {
-                [] => false,
-                [literal, rest @ ..] => {
-                    if literal.test != *test {
-                        return false;
-                    }
-                    if literal.yes {
-                        yes_half.is_lent(rest, number)
-                    } else {
-                        no_half.is_lent(rest, number)
-                    }
-                }
-            },
-        }
-    }
-
-    /// Each leaf that is lent under the number becomes what is given.
-    pub fn put(&mut self, alloc: Global, number: u64, given: Given) -> Result<(), OutOfMemory> {
-        match self {
-            BoxedTree::Open | BoxedTree::Refuted(..) => {}
-            BoxedTree::Lent(other) => {
-                if *other == number {
-                    *self = given_tree(alloc, given)?;
-                }
-            }
-            BoxedTree::Split(_, _, yes_half, no_half) => {
-                yes_half.put(alloc, number, given)?;
-                no_half.put(alloc, number, given)?;
-            }
-        }
-        Ok(())
-    }
-
-    /// Each lent leaf is open again.
-    pub fn open_all(&mut self) {
-        match self {
-            BoxedTree::Open | BoxedTree::Refuted(..) => {}
-            BoxedTree::Lent(_) => *self = BoxedTree::Open,
-            BoxedTree::Split(_, _, yes_half, no_half) => {
-                yes_half.open_all();
-                no_half.open_all();
-            }
+    pub(crate) fn leaf(alloc: Global) -> BoxedTree
+        ensures { result ≡ open_leaf }
+    {
+        BoxedTree {
+            alloc,
+            node: Node::Open,
         }
     }
 
     /// A leaf is open.
-    pub fn has_open(&self) -> bool {
-        match self {
-            BoxedTree::Open => true,
-            BoxedTree::Lent(_) | BoxedTree::Refuted(..) => false,
-            BoxedTree::Split(_, _, yes_half, no_half) => yes_half.has_open() || no_half.has_open(),
+    pub fn has_open(&self) -> bool
+        ensures { result ≡ has_open self.now }
+    {
+        match &self.node {
+            Node::Open => true,
+            Node::Lent(..) | Node::Refuted(..) => false,
+            Node::Split(_, _, yes_half, no_half) => yes_half.has_open() || no_half.has_open(),
+        }
+    }
+
+    /// It is one open leaf.
+    pub fn is_one_open_leaf(&self) -> bool
+        ensures { IsTrue result ↔ (self.now ≡ open_leaf) }
+    {
+        match &self.node {
+            Node::Open => true,
+            Node::Lent(..) | Node::Refuted(..) | Node::Split(..) => false,
         }
     }
 
     /// Each leaf is refuted.
-    pub fn is_refuted(&self) -> bool {
-        match self {
-            BoxedTree::Open | BoxedTree::Lent(_) => false,
-            BoxedTree::Refuted(..) => true,
-            BoxedTree::Split(_, _, yes_half, no_half) => {
-                yes_half.is_refuted() && no_half.is_refuted()
+    pub fn is_refuted(&self) -> bool
+        ensures { result ≡ is_refuted self.now }
+    {
+        match &self.node {
+            Node::Open | Node::Lent(..) => false,
+            Node::Refuted(..) => true,
+            Node::Split(_, _, yes_half, no_half) => yes_half.is_refuted() && no_half.is_refuted(),
+        }
+    }
+
+    /// A leaf is lent under the number.
+    pub fn is_lent(&self, number: u64) -> bool
+        ensures { result ≡ nat_lt 0 (times_lent number self.now) }
+    {
+        match &self.node {
+            Node::Open | Node::Refuted(..) => false,
+            Node::Lent(other, _, _) => *other == number,
+            Node::Split(_, _, yes_half, no_half) => {
+                yes_half.is_lent(number) || no_half.is_lent(number)
             }
         }
     }
 
-    /// The nodes from the root on, the half where a test is true first.
-    pub fn nodes(&self, alloc: Global) -> Result<Vec<TreeNode>, OutOfMemory> {
-        let mut found = Vec::new(alloc);
-        self.push_nodes(&mut found)?;
-        Ok(found)
-    }
-
-    fn push_nodes(&self, found: &mut Vec<TreeNode>) -> Result<(), OutOfMemory> {
-        match self {
-            BoxedTree::Open => found.push(TreeNode::Open)?,
-            BoxedTree::Lent(number) => found.push(TreeNode::Lent(*number))?,
-            BoxedTree::Refuted(reason, fresh) => found.push(TreeNode::Refuted {
-                reason: *reason,
-                fresh: *fresh,
-            })?,
-            BoxedTree::Split(test, fresh, yes_half, no_half) => {
-                let (test, fresh) = (*test, *fresh);
-                found.push(TreeNode::Split { test, fresh })?;
-                yes_half.push_nodes(found)?;
-                no_half.push_nodes(found)?;
+    /// One leaf is lent under the number, and no other.
+    pub fn is_lent_once(&self, number: u64) -> bool
+        ensures { result ≡ (times_lent number self.now == 1) }
+    {
+        match &self.node {
+            Node::Open | Node::Refuted(..) => false,
+            Node::Lent(other, _, _) => *other == number,
+            Node::Split(_, _, yes_half, no_half) => {
+                if yes_half.is_lent(number) {
+                    yes_half.is_lent_once(number) && !no_half.is_lent(number)
+                } else {
+                    no_half.is_lent_once(number)
+                }
             }
         }
-        Ok(())
     }
-}
-
-fn given_tree(alloc: Global, given: Given) -> Result<BoxedTree, OutOfMemory> {
-    Ok(match given {
-        Given::Opened => BoxedTree::Open,
-        Given::Refuted(reason) => BoxedTree::Refuted(reason, true),
-        Given::Split(test) => {
-            let yes_half = Box::new(alloc, BoxedTree::Open)?;
-            let no_half = Box::new(alloc, BoxedTree::Open)?;
-            BoxedTree::Split(test, true, yes_half, no_half)
-        }
-    })
 }

@@ -1,10 +1,18 @@
-//! Trees of zones in boxes, for tests: the plain second body beside that in an arena.
+//! Trees of zones in boxes: the plain second body of the tree of `tree_reuse`, for tests.
 //!
-//! What each call does is written out as league_core's `specs/Trees.antt` and `Lending.antt` say,
-//! by going through the whole tree.
+//! Both are seen as the tree of league_core's `specs/Trees.antt`, and `ZoneTree` is the contract
+//! that both meet. Each call goes through the whole tree, as the definitions do.
 #![tactic(auto)]
 
 mod boxed;
-mod zones;
+mod carried;
+mod lending;
+mod lists;
+mod meets_arena;
+mod meets_boxed;
+mod of_sheet;
+mod zone_tree;
 
-pub use boxed::{BoxedTree, Given};
+pub use boxed::BoxedTree;
+pub use carried::{retarget, retarget_over};
+pub use zone_tree::ZoneTree;

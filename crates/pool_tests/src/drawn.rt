@@ -2,6 +2,7 @@
 
 ghost use Rattle.league_core.specs.Sheets.{IsWithinLimits};
 
+use crate::decided::{drawn_result, split_fixtures};
 use crate::held::Held;
 use crate::pairs::{Pair, change, compare, give, open, pair_of, recall, see_answers, take};
 use crate::seen::{Seen, none_seen};
@@ -18,6 +19,23 @@ match,A,B\nmatch,C,D\nmatch,C,A\nmatch,B,D\nmatch,A,D\nmatch,B,C\nline,1\nline,2
 /// criteria.
 const MORE_UNITS: &[u8] = b"league,More,1,6,overall_first\nclub,A,1\nclub,B,1\nclub,C,2\nclub,D,2
 match,A,B\nmatch,B,C\nmatch,C,A\nmatch,B,A\nmatch,C,B\nmatch,A,C\nline,1\nline,2\nseason\n";
+
+/// Two clubs that meet six times.
+const TWO_CLUBS: &[u8] = b"league,Two,1,12\nclub,A,1\nclub,B,2\nmatch,A,B\nmatch,B,A\nmatch,A,B
+match,B,A\nmatch,A,B\nmatch,B,A\nline,1\nseason\n";
+
+/// What the lists of a test have in common.
+#[derive(Drop)]
+struct Lists {
+    text: &'static [u8],
+    count: u32,
+    /// The points that the questions ask for.
+    window: (i32, i32),
+    /// How many pieces a pool has worked on before the first event.
+    worked: u32,
+}
+
+const FULL_WINDOW: (i32, i32) = (-99, 1800);
 
 fn below(draws: &mut Draws, count: usize) -> u8 {
     if count == 0 {
@@ -84,7 +102,7 @@ fn step(
         7..34 => take_one(alloc, pair, held)?,
         _ => give_one(alloc, draws, pair, held)?,
     }
-    compare(alloc, pair)
+    compare(pair)
 }
 
 // A step that neither takes nor gives.
@@ -106,16 +124,45 @@ fn turn(alloc: Global, draws: &mut Draws, pair: &mut Pair) -> Result<(), Fail> {
     }
 }
 
+// Mostly a result of a fixture by which some tree is split, where there is one.
 fn change_drawn(alloc: Global, draws: &mut Draws, pair: &mut Pair) -> Result<(), Fail> {
+    if draws.below(4) > 0 {
+        let split = split_fixtures(alloc, &pair.plain)?;
+        if let Some(event) = drawn_result(draws, split.as_slice()) {
+            return change(alloc, pair, event);
+        }
+    }
     let event = drawn_event(draws, pair.pool.season());
     change(alloc, pair, event)
 }
 
-// A pool that has been told up to six events.
-fn begun(alloc: Global, draws: &mut Draws, sheet: &Sheet) -> Result<Pair, Fail>
+// A result of a fixture by which some tree is split.
+fn decide(alloc: Global, draws: &mut Draws, pair: &mut Pair) -> Result<(), Fail> {
+    let split = split_fixtures(alloc, &pair.plain)?;
+    let event = drawn_result(draws, split.as_slice()).ok_or("no split by a score")?;
+    change(alloc, pair, event)?;
+    compare(pair)
+}
+
+fn work_one(alloc: Global, pair: &mut Pair) -> Result<(), Fail> {
+    if let Some(held) = take(alloc, pair)? {
+        give(alloc, pair, &held, true)?;
+    }
+    Ok(())
+}
+
+// A pool that has been told up to six events; where it has worked before, one more, which decides
+// a split.
+fn begun(alloc: Global, draws: &mut Draws, sheet: &Sheet, lists: &Lists) -> Result<Pair, Fail>
     requires { IsWithinLimits sheet.now }
 {
-    let mut pair = pair_of(alloc, sheet)?;
+    let mut pair = pair_of(alloc, sheet, lists.window)?;
+    if 0 < lists.worked {
+        for _ in 0..lists.worked {
+            work_one(alloc, &mut pair)?;
+        }
+        decide(alloc, draws, &mut pair)?;
+    }
     for _ in 0..draws.below(7) {
         change_drawn(alloc, draws, &mut pair)?;
     }
@@ -126,19 +173,17 @@ fn begun(alloc: Global, draws: &mut Draws, sheet: &Sheet) -> Result<Pair, Fail>
 fn finish(alloc: Global, pair: &mut Pair) -> Result<(), Fail> {
     open(pair, false);
     for _ in 0..60 {
-        if let Some(held) = take(alloc, pair)? {
-            give(alloc, pair, &held, true)?;
-        }
+        work_one(alloc, pair)?;
     }
-    compare(alloc, pair)
+    compare(pair)
 }
 
 // A hundred steps of two pools of a league from their beginning, and the end of one of them.
-fn run(alloc: Global, draws: &mut Draws, sheet: &Sheet) -> Result<Seen, Fail>
+fn run(alloc: Global, draws: &mut Draws, sheet: &Sheet, lists: &Lists) -> Result<Seen, Fail>
     requires { IsWithinLimits sheet.now }
 {
-    let mut one = begun(alloc, draws, sheet)?;
-    let mut other = begun(alloc, draws, sheet)?;
+    let mut one = begun(alloc, draws, sheet, lists)?;
+    let mut other = begun(alloc, draws, sheet, lists)?;
     let mut held = Vec::new(alloc);
     for _ in 0..100 {
         if draws.below(4) == 0 {
@@ -154,27 +199,56 @@ fn run(alloc: Global, draws: &mut Draws, sheet: &Sheet) -> Result<Seen, Fail>
     Ok(seen)
 }
 
-// Five hundred lists.
-fn run_lists(alloc: Global, seed: u32, text: &[u8]) -> Result<Seen, Fail> {
-    let sample = sample_of(alloc, text).ok_or("no league")?;
+fn run_lists(alloc: Global, seed: u32, lists: &Lists) -> Result<Seen, Fail> {
+    let sample = sample_of(alloc, lists.text).ok_or("no league")?;
     let mut draws = Draws::new(seed);
     let mut seen = none_seen();
-    for _ in 0..500 {
-        seen.add(run(alloc, &mut draws, &sample.sheet)?);
+    for _ in 0..lists.count {
+        seen.add(run(alloc, &mut draws, &sample.sheet, lists)?);
     }
     Ok(seen)
 }
 
 #[test]
 fn drawn_steps_with_few_units(rt: HostRuntime) -> Result<(), Fail> {
-    let seen = run_lists(rt.alloc(), 21, FEW_UNITS)?;
+    let lists = Lists {
+        text: FEW_UNITS,
+        count: 350,
+        window: FULL_WINDOW,
+        worked: 0,
+    };
+    let seen = run_lists(rt.alloc(), 21, &lists)?;
     assert!(rt; seen.has_each(20), "{seen:?}");
     Ok(())
 }
 
 #[test]
 fn drawn_steps_with_more_units(rt: HostRuntime) -> Result<(), Fail> {
-    let seen = run_lists(rt.alloc(), 22, MORE_UNITS)?;
+    let lists = Lists {
+        text: MORE_UNITS,
+        count: 350,
+        window: FULL_WINDOW,
+        worked: 0,
+    };
+    let seen = run_lists(rt.alloc(), 22, &lists)?;
     assert!(rt; seen.has_each(20), "{seen:?}");
+    Ok(())
+}
+
+// Can A be first with just 8 points of six matches? What is proposed gives it 18. It can, by a win
+// and five draws, and then it is ahead of B, with 5: so no reason holds, neither at the root nor
+// where B ends behind. The root is split by B, and where B ends behind, all rivals are marked, so
+// the split is by a score: the first three pieces have one. So each of the two pools of a list
+// decides a split at least before its steps.
+#[test]
+fn drawn_results_decide_splits(rt: HostRuntime) -> Result<(), Fail> {
+    let lists = Lists {
+        text: TWO_CLUBS,
+        count: 300,
+        window: (8, 8),
+        worked: 9,
+    };
+    let seen = run_lists(rt.alloc(), 23, &lists)?;
+    assert!(rt; 2 * 300 <= seen.decided, "{seen:?}");
     Ok(())
 }

@@ -1,6 +1,6 @@
 //! Whether a piece can be worked on, and what was found there.
 
-ghost use Rattle.std.specs.Prelude.{◌≡◌, IfOk, IsTrue, length};
+ghost use Rattle.std.specs.Prelude.{◌≡◌, All, IfOk, IsTrue, length};
 ghost use Rattle.league_core.specs.declared.sheet.Sheet.{Sheet};
 ghost use Rattle.league_core.specs.Options.{has_finish};
 ghost use Rattle.league_core.specs.Questions.{IsQuestionOf};
@@ -70,11 +70,28 @@ pub fn is_season_of(sheet: &Sheet, season: &Season) -> bool
     season.scores().len() == sheet.fixtures.len() && season.deductions().len() == sheet.clubs.len()
 }
 
+/// Whether the questions name clubs and lines of the sheet.
+pub fn are_questions_of(sheet: &Sheet, questions: &[Question]) -> bool
+    ensures { IsTrue result → All (IsQuestionOf sheet.now) questions.now }
+{
+    let clubs = sheet.clubs.len();
+    questions
+        .iter()
+        .all(|question| is_question_among(question, clubs))
+}
+
+// Whether a question is one about so many clubs.
+fn is_question_among(question: &Question, clubs: usize) -> bool
+    ensures { (sheet : Sheet) → length sheet.clubs ≡ clubs → IsTrue result
+        → IsQuestionOf sheet question.now }
+{
+    (question.club as usize) < clubs && 1 <= question.line && (question.line as usize) < clubs
+}
+
 fn is_question_of(sheet: &Sheet, question: &Question) -> bool
     ensures { IsTrue result → IsQuestionOf sheet.now question.now }
 {
-    let clubs = sheet.clubs.len();
-    (question.club as usize) < clubs && 1 <= question.line && (question.line as usize) < clubs
+    is_question_among(question, sheet.clubs.len())
 }
 
 fn is_zone_for(sheet: &Sheet, question: &Question, literals: &[Literal]) -> bool

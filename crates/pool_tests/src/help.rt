@@ -5,9 +5,9 @@ ghost use Rattle.league_core.specs.Seasons.{IsEventOf};
 ghost use Rattle.league_core.specs.Sheets.{IsWithinLimits};
 ghost use Rattle.reason_core.specs.Dones.{IsFor, IsTrueDone};
 
-use crate::fit::done_of;
+use crate::fit::{are_questions_of, done_of};
 use branch_pool::{Answer, Gave, Pool, Ticket, Took};
-use league_core::{Event, OutOfMemory, Season, Sheet, TreeNode};
+use league_core::{Event, OutOfMemory, Question, Season, Sheet, TreeNode};
 use reason_core::Done;
 use sample_leagues::sample_of;
 use std::alloc::Global;
@@ -27,6 +27,35 @@ pub fn pool_of_sheet(alloc: Global, sheet: &Sheet) -> Result<Pool, Fail>
     let own = sheet.copy(alloc)?;
     let asked = questions(alloc, &own)?;
     Ok(Pool::begin(alloc, own, asked)?)
+}
+
+/// The same with another window for all that is asked.
+pub fn pool_in_window(alloc: Global, sheet: &Sheet, window: (i32, i32)) -> Result<Pool, Fail>
+    requires { IsWithinLimits sheet.now }
+{
+    let own = sheet.copy(alloc)?;
+    let asked = in_window(alloc, questions(alloc, &own)?.as_slice(), window)?;
+    if 192 < asked.len() || !are_questions_of(&own, asked.as_slice()) {
+        return Err("no questions of the sheet".into());
+    }
+    Ok(Pool::begin(alloc, own, asked)?)
+}
+
+fn in_window(
+    alloc: Global,
+    asked: &[Question],
+    window: (i32, i32),
+) -> Result<Vec<Question>, OutOfMemory> {
+    let (low, high) = window;
+    let mut found = Vec::new(alloc);
+    for question in asked {
+        found.push(Question {
+            low,
+            high,
+            ..*question
+        })?;
+    }
+    Ok(found)
 }
 
 /// Whether the season may be told the event.

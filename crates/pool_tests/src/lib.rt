@@ -1,12 +1,13 @@
 //! Worked rows of the pool, and drawn lists of steps: tests alone.
 //!
 //! `help` makes pools of leagues, and works on what is lent; `rows` has the cases. `drawn` has
-//! the lists of steps, `pairs` a pool and a plain one that make them; the plain one is in `plain`,
-//! `plain_change` and `carried`, what is given back in `held`, what can be worked on in `fit`.
+//! the lists of steps, `decided` the splits that a result decides, `pairs` a pool and a plain one
+//! that make the steps; the plain one is in `plain` and `plain_change`, what is given back in
+//! `held`, what can be worked on and asked in `fit`.
 #![tactic(auto)]
 
 #[cfg(test)]
-mod carried;
+mod decided;
 #[cfg(test)]
 mod drawn;
 #[cfg(test)]

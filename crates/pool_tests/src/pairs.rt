@@ -2,8 +2,9 @@
 
 ghost use Rattle.league_core.specs.Sheets.{IsWithinLimits};
 
+use crate::decided::{are_gone, decided_by};
 use crate::held::{Held, give_to, held_of};
-use crate::help::{pool_of_sheet, tell};
+use crate::help::{pool_in_window, tell};
 use crate::plain::{PlainPool, PlainSeat, same};
 use crate::seen::{Seen, none_seen};
 use branch_pool::{Pool, Seat, Took};
@@ -19,10 +20,10 @@ pub struct Pair {
     pub seen: Seen,
 }
 
-pub fn pair_of(alloc: Global, sheet: &Sheet) -> Result<Pair, Fail>
+pub fn pair_of(alloc: Global, sheet: &Sheet, window: (i32, i32)) -> Result<Pair, Fail>
     requires { IsWithinLimits sheet.now }
 {
-    let pool = pool_of_sheet(alloc, sheet)?;
+    let pool = pool_in_window(alloc, sheet, window)?;
     let plain = PlainPool::begin(alloc, sheet, pool.questions())?;
     let seen = none_seen();
     Ok(Pair { pool, plain, seen })
@@ -52,15 +53,15 @@ fn has_none(pair: &mut Pair, goes_on: bool) -> Result<Option<Held>, Fail> {
 pub fn give(alloc: Global, pair: &mut Pair, held: &Held, is_worked: bool) -> Result<(), Fail> {
     let (gave, found) = give_to(alloc, &mut pair.pool, held, is_worked)?;
     pair.seen.gave(gave);
-    same(
-        pair.plain.give(alloc, held, found)? == gave,
-        "kept or stale",
-    )
+    same(pair.plain.give(held, found)? == gave, "kept or stale")
 }
 
 pub fn change(alloc: Global, pair: &mut Pair, event: Event) -> Result<(), Fail> {
+    let decided = decided_by(alloc, &pair.plain, &event)?;
+    pair.seen.decided = pair.seen.decided.saturating_add(decided);
     let epoch = tell(&mut pair.pool, event)?;
     pair.plain.change(alloc, pair.pool.sheet(), event)?;
+    are_gone(alloc, &pair.plain, &event)?;
     same(epoch == pair.plain.epoch, "the epoch that is answered")
 }
 
@@ -78,10 +79,10 @@ pub fn open(pair: &mut Pair, is_open: bool) {
     pair.plain.is_open = is_open;
 }
 
-pub fn compare(alloc: Global, pair: &Pair) -> Result<(), Fail> {
+pub fn compare(pair: &Pair) -> Result<(), Fail> {
     compare_whole(&pair.pool, &pair.plain)?;
     for place in 0..pair.plain.seats.len() {
-        compare_at(alloc, pair, place)?;
+        compare_at(pair, place)?;
     }
     Ok(())
 }
@@ -92,26 +93,26 @@ fn compare_whole(pool: &Pool, plain: &PlainPool) -> Result<(), Fail> {
     same(pool.season().equals(&plain.season), "the season")
 }
 
-fn compare_at(alloc: Global, pair: &Pair, place: usize) -> Result<(), Fail> {
+fn compare_at(pair: &Pair, place: usize) -> Result<(), Fail> {
     if pair.pool.questions().len() <= place || pair.plain.seats.len() <= place {
         return Err("no question".into());
     }
     let plain = &pair.plain.seats[place];
     let answer = pair.pool.answer(place as u16);
     same(answer == plain.answer(pair.plain.budget), "the answer")?;
-    compare_seat(alloc, pair.pool.seat(place as u16), plain)
+    compare_seat(pair.pool.seat(place as u16), plain)
 }
 
-fn compare_seat(alloc: Global, seat: &Seat, plain: &PlainSeat) -> Result<(), Fail> {
+fn compare_seat(seat: &Seat, plain: &PlainSeat) -> Result<(), Fail> {
     same(seat.units == plain.units, "units")?;
     same(seat.lent == plain.lent, "what is lent of a question")?;
     same(is_same_example(seat, plain), "the example")?;
-    same(has_same_nodes(alloc, seat, plain)?, "nodes")
+    same(has_same_nodes(seat, plain)?, "nodes")
 }
 
-fn has_same_nodes(alloc: Global, seat: &Seat, plain: &PlainSeat) -> Result<bool, Fail> {
+fn has_same_nodes(seat: &Seat, plain: &PlainSeat) -> Result<bool, Fail> {
     let nodes = seat.tree.nodes()?;
-    let others = plain.tree.nodes(alloc)?;
+    let others = plain.tree.nodes()?;
     Ok(nodes.as_slice() == others.as_slice())
 }
 

@@ -2,7 +2,7 @@
 //! definition of the step says.
 
 use crate::held::{Found, Held};
-use boxed_trees::{BoxedTree, Given};
+use boxed_trees::BoxedTree;
 use branch_pool::{Answer, Gave};
 use league_core::{Listing, Literal, Question, Season};
 use std::alloc::Global;
@@ -63,34 +63,47 @@ impl PlainSeat {
 
     fn lend(&mut self, held: &Held) -> Result<(), Fail> {
         same(self.question == held.piece.question, "another question")?;
-        let way = held.piece.zone.literals.as_slice();
-        same(
-            self.tree.lend(way, held.number),
-            "no open leaf has this zone",
-        )?;
+        lend_there(&mut self.tree, held)?;
         self.lent = self.lent.saturating_add(1);
         Ok(())
     }
 
     // Puts what was found in place of the leaf under the number.
-    fn give(&mut self, alloc: Global, number: u64, found: Found) -> Result<(), Fail> {
+    fn give(&mut self, number: u64, found: Found) -> Result<(), Fail> {
         self.lent = self.lent.saturating_sub(1);
-        let given = match found {
-            Found::Refuted(reason) => Given::Refuted(reason),
-            Found::Split(test) => Given::Split(test),
+        if !self.tree.is_lent_once(number) {
+            return Err("the number is not lent once".into());
+        }
+        match found {
+            Found::Refuted(reason) => self.tree.refute(number, reason),
+            Found::Split(test) => self.tree.split(number, test),
+            Found::Won(_) | Found::Nothing => self.tree.reopen(number),
+        }
+        self.count(found);
+        Ok(())
+    }
+
+    // A reason or a split is a unit; the first example stays.
+    fn count(&mut self, found: Found) {
+        match found {
+            Found::Refuted(_) | Found::Split(_) => self.units = self.units.saturating_add(1),
             Found::Won(finish) => {
                 if self.example.is_none() {
                     self.example = Some(finish);
                 }
-                Given::Opened
             }
-            Found::Nothing => Given::Opened,
-        };
-        if given != Given::Opened {
-            self.units = self.units.saturating_add(1);
+            Found::Nothing => {}
         }
-        Ok(self.tree.put(alloc, number, given)?)
     }
+}
+
+// The open leaf of the piece's zone is lent.
+fn lend_there(tree: &mut BoxedTree, held: &Held) -> Result<(), Fail> {
+    if tree.is_lent(held.number) {
+        return Err("the number is lent".into());
+    }
+    let is_open = tree.lend_there(held.piece.zone.literals.as_slice(), held.number)?;
+    same(is_open, "no open leaf has this zone")
 }
 
 impl PlainLoan {
@@ -165,7 +178,7 @@ impl PlainPool {
     }
 
     /// Takes what was found, where the ticket is the pool's own and of the present epoch.
-    pub fn give(&mut self, alloc: Global, held: &Held, found: Found) -> Result<Gave, Fail> {
+    pub fn give(&mut self, held: &Held, found: Found) -> Result<Gave, Fail> {
         let stale = Gave::Stale { epoch: self.epoch };
         if !self.has_out(held) {
             return Ok(stale);
@@ -179,7 +192,7 @@ impl PlainPool {
         }
         let place = held.place as usize;
         if place < self.seats.len() {
-            self.seats[place].give(alloc, held.number, found)?;
+            self.seats[place].give(held.number, found)?;
         }
         Ok(Gave::Kept)
     }
@@ -204,9 +217,7 @@ impl PlainPool {
         let seat = &self.seats[place];
         seat.question == held.piece.question
             && self.season.equals(&held.piece.season)
-            && seat
-                .tree
-                .is_lent(held.piece.zone.literals.as_slice(), held.number)
+            && seat.tree.is_lent_once(held.number)
     }
 
     fn take_home(&mut self, number: u64) {

@@ -3,36 +3,34 @@
 ghost use Rattle.league_core.specs.Seasons.{IsEventOf};
 ghost use Rattle.league_core.specs.Sheets.{IsWithinLimits};
 
-use crate::carried::carried;
 use crate::fit::is_season_of;
 use crate::help::may_be;
 use crate::plain::{PlainPool, PlainSeat};
-use boxed_trees::BoxedTree;
-use league_core::{Event, Listing, Question, Season, Sheet};
+use boxed_trees::{BoxedTree, retarget_over};
+use league_core::{Event, Question, Season, Sheet};
 use score_box::Played;
 use std::alloc::Global;
 use std::test::Fail;
 
 impl PlainSeat {
-    fn new(question: Question) -> PlainSeat {
-        PlainSeat {
+    fn new(alloc: Global, question: Question) -> Result<PlainSeat, Fail> {
+        Ok(PlainSeat {
             question,
-            tree: BoxedTree::Open,
+            tree: BoxedTree::root(alloc)?,
             units: 0,
             lent: 0,
             example: None,
-        }
+        })
     }
 
     fn recall(&mut self) {
-        self.tree.open_all();
+        self.tree.reopen_all();
         self.lent = 0;
     }
 
     // Goes on in the season that was played so far.
     fn change(&mut self, alloc: Global, played: &Played) -> Result<(), Fail> {
-        let mut way = Listing::new(alloc);
-        self.tree = carried(&self.tree, alloc, played, &self.question, &mut way)?;
+        self.tree = carried(alloc, played, &self.question, &self.tree)?;
         self.units = 0;
         self.lent = 0;
         if !is_finish_of(played.sheet(), played.season(), &self.example) {
@@ -40,6 +38,19 @@ impl PlainSeat {
         }
         Ok(())
     }
+}
+
+fn carried(
+    alloc: Global,
+    played: &Played,
+    question: &Question,
+    tree: &BoxedTree,
+) -> Result<BoxedTree, Fail> {
+    let sheet = played.sheet();
+    if sheet.clubs.len() <= question.club as usize || !tree.has_tests_of(sheet) {
+        return Err("a question or a test of another sheet".into());
+    }
+    Ok(retarget_over(alloc, played, question, tree)?)
 }
 
 fn carry_seats(alloc: Global, played: &Played, seats: &mut Vec<PlainSeat>) -> Result<(), Fail> {
@@ -88,9 +99,8 @@ impl PlainPool {
     pub fn begin(alloc: Global, sheet: &Sheet, questions: &[Question]) -> Result<PlainPool, Fail> {
         let mut seats = Vec::new(alloc);
         for question in questions {
-            seats
-                .push(PlainSeat::new(*question))
-                .map_err(|_| "no memory")?;
+            let seat = PlainSeat::new(alloc, *question)?;
+            seats.push(seat).map_err(|_| "no memory")?;
         }
         Ok(PlainPool {
             budget: sheet.budget,

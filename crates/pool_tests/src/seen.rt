@@ -12,6 +12,8 @@ pub struct Seen {
     pub won: u32,
     pub refuted: u32,
     pub spent: u32,
+    /// Splits by the score of a fixture of which a result came.
+    pub decided: u32,
 }
 
 pub fn none_seen() -> Seen {
@@ -23,6 +25,7 @@ pub fn none_seen() -> Seen {
         won: 0,
         refuted: 0,
         spent: 0,
+        decided: 0,
     }
 }
 
@@ -59,9 +62,10 @@ impl Seen {
         self.won = self.won.saturating_add(other.won);
         self.refuted = self.refuted.saturating_add(other.refuted);
         self.spent = self.spent.saturating_add(other.spent);
+        self.decided = self.decided.saturating_add(other.decided);
     }
 
-    /// Each of them was met so often at the least.
+    /// Each of them but decided splits was met so often at the least.
     pub fn has_each(&self, least: u32) -> bool {
         let gave = self.kept.min(self.stale);
         let none = self.rest.min(self.over);

@@ -5,6 +5,7 @@ ghost use Rattle.league_core.specs.Trees.{node_count};
 ghost use Rattle.league_core.specs.Lending.{times_lent, lent_count};
 ghost use Rattle.tree_tests.specs.LentNodes.{is_lent_node};
 
+use boxed_trees::ZoneTree;
 use league_core::{OutOfMemory, TreeNode, Zone};
 use std::test::Fail;
 use tree_reuse::{MOST_NODES, Tree};
@@ -26,8 +27,8 @@ fn count(nodes: &[TreeNode], number: u64) -> usize
 
 /// How often the number is lent in the tree.
 #[tactic(auto, using(crate::proofs::LentNodeLemmas::counted))]
-pub fn times_lent(tree: &Tree, number: u64) -> Result<usize, OutOfMemory>
-    ensures { IfOk result (λ times. times ≡ times_lent number tree.now) }
+pub fn times_lent<T: ZoneTree>(tree: &T, number: u64) -> Result<usize, OutOfMemory>
+    ensures { IfOk result (λ times. times ≡ times_lent number (T.seen tree.now)) }
 {
     let nodes = tree.nodes()?;
     Ok(count(nodes.as_slice(), number))

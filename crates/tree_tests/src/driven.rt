@@ -1,7 +1,7 @@
 //! Both bodies of a tree, driven by one drawn list of calls.
 
 use crate::counts::{lend_next, times_lent};
-use boxed_trees::{BoxedTree, Given};
+use boxed_trees::{BoxedTree, ZoneTree};
 use league_core::{ClubSet, Reason, Test, Zone};
 use sample_leagues::Draws;
 use std::alloc::Global;
@@ -10,6 +10,14 @@ use tree_reuse::Tree;
 
 /// A tree with more nodes gives way to a new one.
 const MANY: usize = 500;
+
+/// What comes in place of a lent leaf.
+#[derive(Clone, Copy, Debug)]
+enum Given {
+    Opened,
+    Refuted(Reason),
+    Split(Test),
+}
 
 /// The tree in an arena, the same in boxes, and the numbers that are lent.
 #[derive(Drop)]
@@ -22,7 +30,7 @@ struct Pair {
 fn begin(alloc: Global) -> Result<Pair, Fail> {
     Ok(Pair {
         arena: Tree::root(alloc)?,
-        boxed: BoxedTree::Open,
+        boxed: BoxedTree::root(alloc)?,
         lent: Vec::new(alloc),
     })
 }
@@ -35,29 +43,36 @@ fn same(is_same: bool, what: &'static str) -> Result<(), Fail> {
 fn lend(pair: &mut Pair, number: u64) -> Result<(), Fail> {
     match lend_next(&mut pair.arena, number)? {
         Some(zone) => {
-            let is_open = pair.boxed.lend(zone.literals.as_slice(), number);
+            boxed_lends(&mut pair.boxed, &zone, number)?;
             pair.lent.push(number)?;
-            same(is_open, "a leaf was lent that is not open")
+            Ok(())
         }
         None => same(!pair.boxed.has_open(), "no leaf was lent, and one is open"),
     }
 }
 
-// The leaf of a number comes back to both.
-fn put(alloc: Global, pair: &mut Pair, number: u64, given: Given) -> Result<(), Fail> {
-    arena_takes(&mut pair.arena, number, given)?;
-    pair.boxed.put(alloc, number, given)?;
-    Ok(())
+fn boxed_lends(boxed: &mut BoxedTree, zone: &Zone, number: u64) -> Result<(), Fail> {
+    if boxed.is_lent(number) {
+        return Err("the number is lent".into());
+    }
+    let is_open = boxed.lend_there(zone.literals.as_slice(), number)?;
+    same(is_open, "a leaf was lent that is not open")
 }
 
-fn arena_takes(arena: &mut Tree, number: u64, given: Given) -> Result<(), Fail> {
-    if times_lent(arena, number)? != 1 {
+// The leaf of a number comes back to both.
+fn put(pair: &mut Pair, number: u64, given: Given) -> Result<(), Fail> {
+    takes(&mut pair.arena, number, given)?;
+    takes(&mut pair.boxed, number, given)
+}
+
+fn takes<T: ZoneTree>(tree: &mut T, number: u64, given: Given) -> Result<(), Fail> {
+    if times_lent(tree, number)? != 1 {
         return Err("the number is not lent once".into());
     }
     match given {
-        Given::Opened => arena.reopen(number),
-        Given::Refuted(reason) => arena.refute(number, reason),
-        Given::Split(test) => arena.split(number, test),
+        Given::Opened => tree.reopen(number),
+        Given::Refuted(reason) => tree.refute(number, reason),
+        Given::Split(test) => tree.split(number, test),
     }
     Ok(())
 }
@@ -106,12 +121,12 @@ fn drawn_number(draws: &mut Draws, lent: &mut Vec<u64>) -> Option<u64> {
 
 fn open_all(pair: &mut Pair) {
     pair.arena.reopen_all();
-    pair.boxed.open_all();
+    pair.boxed.reopen_all();
     pair.lent.clear();
 }
 
 // One call on both.
-fn call(alloc: Global, draws: &mut Draws, pair: &mut Pair, number: u64) -> Result<(), Fail> {
+fn call(draws: &mut Draws, pair: &mut Pair, number: u64) -> Result<(), Fail> {
     match draws.below(40) {
         0 => {
             open_all(pair);
@@ -121,16 +136,16 @@ fn call(alloc: Global, draws: &mut Draws, pair: &mut Pair, number: u64) -> Resul
         _ => match drawn_number(draws, &mut pair.lent) {
             Some(lent) => {
                 let given = drawn_given(draws);
-                put(alloc, pair, lent, given)
+                put(pair, lent, given)
             }
             None => lend(pair, number),
         },
     }
 }
 
-fn have_same_nodes(alloc: Global, pair: &Pair) -> Result<(), Fail> {
+fn have_same_nodes(pair: &Pair) -> Result<(), Fail> {
     let arena = pair.arena.nodes()?;
-    let boxed = pair.boxed.nodes(alloc)?;
+    let boxed = pair.boxed.nodes()?;
     same(arena.as_slice() == boxed.as_slice(), "other nodes")?;
     same(
         pair.arena.node_count() == boxed.len(),
@@ -155,9 +170,9 @@ fn are_same_zones(zones: &[Zone], others: &[Zone]) -> bool {
     true
 }
 
-fn have_same_leaves(alloc: Global, pair: &Pair) -> Result<(), Fail> {
+fn have_same_leaves(pair: &Pair) -> Result<(), Fail> {
     let arena = pair.arena.leaves()?;
-    let boxed = pair.boxed.leaves(alloc)?;
+    let boxed = pair.boxed.leaves()?;
     same(
         are_same_zones(arena.as_slice(), boxed.as_slice()),
         "other leaves",
@@ -165,17 +180,12 @@ fn have_same_leaves(alloc: Global, pair: &Pair) -> Result<(), Fail> {
 }
 
 // A hundred calls, and a look at all nodes and leaves.
-fn call_hundred(alloc: Global, draws: &mut Draws, pair: &mut Pair, from: u64) -> Result<(), Fail> {
+fn call_hundred(draws: &mut Draws, pair: &mut Pair, from: u64) -> Result<(), Fail> {
     for place in 0..100u64 {
-        call(
-            alloc,
-            draws,
-            pair,
-            from.wrapping_mul(100).wrapping_add(place),
-        )?;
+        call(draws, pair, from.wrapping_mul(100).wrapping_add(place))?;
     }
-    have_same_nodes(alloc, pair)?;
-    have_same_leaves(alloc, pair)
+    have_same_nodes(pair)?;
+    have_same_leaves(pair)
 }
 
 #[test]
@@ -184,7 +194,7 @@ fn both_bodies_do_the_same_calls(rt: HostRuntime) -> Result<(), Fail> {
     let mut pair = begin(rt.alloc())?;
     let mut most = 0;
     for hundred in 0..100u64 {
-        call_hundred(rt.alloc(), &mut draws, &mut pair, hundred)?;
+        call_hundred(&mut draws, &mut pair, hundred)?;
         let count = pair.arena.node_count();
         most = most.max(count);
         if MANY < count || pair.arena.is_refuted() {

@@ -1,10 +1,12 @@
 //! The tree in its arena beside the tree in boxes, and trees one node below the other: tests alone.
 //!
-//! `counts` tells a test what a call asks of it; `driven` has both bodies do the same calls; `rows`
-//! has trees worked by hand, and `carried` those that are carried over a result; `order` tells
-//! which leaf is lent first.
+//! `counts` tells a test what a call asks of it; `driven` has both bodies do the same calls, and
+//! `both` has trees worked by hand in both; `rows` has more of them, and `carried` those that are
+//! carried over a result; `order` tells which leaf is lent first.
 #![tactic(auto)]
 
+#[cfg(test)]
+mod both;
 #[cfg(test)]
 mod carried;
 #[cfg(test)]

@@ -8,12 +8,12 @@ use std::alloc::Global;
 use std::test::Fail;
 use tree_reuse::{MOST_NODES, Tree, TreeStop};
 
-// A test of a match of its own.
-fn test_at(fixture: u16) -> Test {
+/// A test of a match of its own.
+pub fn test_at(fixture: u16) -> Test {
     Test::HomeMost { fixture, most: 0 }
 }
 
-fn split(fixture: u16) -> TreeNode {
+pub fn split(fixture: u16) -> TreeNode {
     TreeNode::Split {
         test: test_at(fixture),
         fresh: false,

@@ -1,0 +1,48 @@
+-- Lists of nodes that are read from their end, one node after the other.
+use Rattle.std.proofs.Common.{◌≡◌, ℕ, zero, suc, ◌+◌, ◌<◌, List, [], ◌∷◌, ◌++◌, length, drop}
+use Rattle.std.proofs.Common.{get_or, reverse, Option, Some, None, refl, sym, ap, ◌∙◌, add-one}
+use Rattle.std.proofs.Common.{drop-cons, arith}
+use Rattle.league_core.specs.declared.tree.TreeNode.{TreeNode}
+use Rattle.league_core.specs.declared.tree.TreeNode.TheVariants.{Split, Open, Lent, Refuted}
+use Rattle.league_core.specs.Trees.{Tree, preorder}
+use Rattle.league_core.specs.TreeLists.{with_node, trees_of, only_tree, tree_of}
+use Rattle.league_core.proofs.TreeListLemmas.{preorder-tree_of}
+
+-- in front of what is no trees nothing is read
+with_node-none : (node : TreeNode) → with_node node None ≡ None
+with_node-none Open = refl
+with_node-none (Lent number) = refl
+with_node-none (Refuted reason fresh) = refl
+with_node-none (Split test fresh) = refl
+
+-- a list whose end is no trees is none
+trees_of-none : (at : ℕ) (nodes : List TreeNode) → trees_of (drop at nodes) ≡ None
+    → trees_of nodes ≡ None
+trees_of-none zero nodes unread = unread
+trees_of-none (suc at) [] unread = unread
+trees_of-none (suc at) (node ∷ nodes) unread =
+    ap (with_node node) (trees_of-none at nodes unread) ∙ with_node-none node
+
+-- a node that cannot stand in front of the trees behind it makes the list that of no tree
+pub unread_at : (at : ℕ) (nodes : List TreeNode) (default : TreeNode)
+    (read : Option (List Tree)) → at < length nodes → trees_of (drop (at + 1) nodes) ≡ read
+    → with_node (get_or nodes at default) read ≡ None → tree_of nodes ≡ None
+unread_at at nodes default read within behind unread =
+    ap only_tree (trees_of-none at nodes
+    (ap trees_of (drop-cons nodes at default within)
+    ∙ ap (λ n. with_node (get_or nodes at default) (trees_of (drop n nodes))) (sym (add-one at))
+    ∙ ap (with_node (get_or nodes at default)) behind ∙ unread))
+
+-- the one tree that was read has the list
+pub read_whole : (nodes : List TreeNode) (tree : Tree) → trees_of nodes ≡ Some (tree ∷ [])
+    → preorder tree ≡ nodes
+read_whole nodes tree read = preorder-tree_of nodes tree (ap only_tree read)
+
+-- so it is where one tree was taken off a stack that then was empty
+pub read_last : (nodes : List TreeNode) (trees rest : List Tree) (tree : Tree) (at : ℕ)
+    → at ≡ 0 → trees_of (drop at nodes) ≡ Some (reverse trees) → trees ≡ rest ++ tree ∷ []
+    → length rest ≡ 0 → preorder tree ≡ nodes
+read_last nodes trees [] tree at start read taken none =
+    let from_start : trees_of nodes ≡ Some (reverse trees) = rw start at read in
+    read_whole nodes tree (from_start ∙ ap (λ list. Some (reverse list)) taken)
+read_last nodes trees (other ∷ rest) tree at start read taken none = absurd (omega arith)
