@@ -5,11 +5,12 @@ ghost use Rattle.league_core.specs.declared.sheet.Sheet.{Sheet};
 ghost use Rattle.tree_reuse.specs.Calls.{IsNodeOf, AreTestsOf};
 
 use crate::rows::tree_or_fail;
+use boxed_trees::{BoxedTree, ZoneTree};
 use league_core::{Claim, OutOfMemory, Question, Sheet, Test, TreeNode};
 use sample_leagues::sample_of;
 use std::alloc::Global;
 use std::test::Fail;
-use tree_reuse::{Tree, retarget};
+use tree_reuse::Tree;
 
 /// Two clubs that meet twice, with a goal limit of 5. A won the first match by more than that.
 const WON_12_0: &[u8] = b"league,Tiny,5\nclub,A,1\nclub,B,2\nmatch,A,B\nmatch,B,A\nline,1
@@ -49,25 +50,26 @@ fn are_nodes_of(sheet: &Sheet, nodes: &[TreeNode]) -> bool
     nodes.iter().all(|node| is_node_of(node, fixtures))
 }
 
-fn are_tests_of(sheet: &Sheet, tree: &Tree) -> Result<bool, OutOfMemory>
-    ensures { IfOk result (λ are. IsTrue are → AreTestsOf sheet.now tree.now) }
+fn are_tests_of<T: ZoneTree>(sheet: &Sheet, tree: &T) -> Result<bool, OutOfMemory>
+    ensures { IfOk result (λ are. IsTrue are → AreTestsOf sheet.now (T.seen tree.now)) }
 {
     let nodes = tree.nodes()?;
     Ok(are_nodes_of(sheet, nodes.as_slice()))
 }
 
 // What the season of a text leaves of a tree that is split by the goals of its matches alone.
-fn carried(alloc: Global, text: &[u8], tree: &Tree) -> Result<Tree, Fail> {
+fn carried<T: ZoneTree>(alloc: Global, text: &[u8], tree: &T) -> Result<T, Fail> {
     let sample = sample_of(alloc, text).ok_or("no league")?;
     if !are_tests_of(&sample.sheet, tree)? || sample.sheet.clubs.is_empty() {
         return Err("a tree of another sheet".into());
     }
-    Ok(retarget(alloc, &sample.sheet, &A_FIRST, tree, &sample.season)?)
+    Ok(T::retarget(alloc, &sample.sheet, &A_FIRST, tree, &sample.season)?)
 }
 
 /// What the win by twelve goals leaves of the tree of a list.
 pub fn carried_over_12_0(alloc: Global, nodes: Vec<TreeNode>) -> Result<Tree, Fail> {
-    carried(alloc, WON_12_0, &tree_or_fail(nodes)?)
+    let tree: Tree = tree_or_fail(nodes)?;
+    carried(alloc, WON_12_0, &tree)
 }
 
 // At most so many goals of B in the second match, both halves open.
@@ -82,7 +84,7 @@ fn goals_of_b(alloc: Global, most: u8, fresh: bool) -> Result<Vec<TreeNode>, Out
 
 // At most two goals of A in the first match; below them at most 3 and at most 4 of B in the
 // second.
-fn goals_of_both(alloc: Global) -> Result<Tree, Fail> {
+fn goals_of_both<T: ZoneTree>(alloc: Global) -> Result<T, Fail> {
     let fresh = true;
     let test = Test::HomeMost {
         fixture: 0,
@@ -94,13 +96,19 @@ fn goals_of_both(alloc: Global) -> Result<Tree, Fail> {
     tree_or_fail(nodes)
 }
 
+fn is_half_of_the_score<T: ZoneTree + Drop>(alloc: Global) -> Result<bool, Fail> {
+    let tree: T = goals_of_both(alloc)?;
+    let more = carried(alloc, WON_12_0, &tree)?.nodes()?;
+    let fewer = carried(alloc, WON_2_0, &tree)?.nodes()?;
+    Ok(
+        more.as_slice() == goals_of_b(alloc, 4, false)?.as_slice()
+            && fewer.as_slice() == goals_of_b(alloc, 3, false)?.as_slice(),
+    )
+}
+
 #[test]
 fn a_split_of_a_played_match_becomes_the_half_of_its_score(rt: HostRuntime) -> Result<(), Fail> {
-    let alloc = rt.alloc();
-    let tree = goals_of_both(alloc)?;
-    let more = carried(alloc, WON_12_0, &tree)?.nodes()?;
-    assert!(rt; more.as_slice() == goals_of_b(alloc, 4, false)?.as_slice());
-    let fewer = carried(alloc, WON_2_0, &tree)?.nodes()?;
-    assert!(rt; fewer.as_slice() == goals_of_b(alloc, 3, false)?.as_slice());
+    assert!(rt; is_half_of_the_score::<Tree>(rt.alloc())?);
+    assert!(rt; is_half_of_the_score::<BoxedTree>(rt.alloc())?);
     Ok(())
 }

@@ -3,6 +3,7 @@
 ghost use Rattle.std.specs.Prelude.{◌≡◌, ◌≤◌, IfOk, length};
 
 use crate::counts::{lend_next, times_lent};
+use boxed_trees::ZoneTree;
 use league_core::{Literal, OutOfMemory, Test, TreeNode, Zone};
 use std::alloc::Global;
 use std::test::Fail;
@@ -44,17 +45,17 @@ fn chain_of_yes(alloc: Global, splits: u16) -> Result<Vec<TreeNode>, OutOfMemory
     Ok(nodes)
 }
 
-fn tree_of(nodes: Vec<TreeNode>) -> Result<Tree, TreeStop> {
+fn tree_of<T: ZoneTree>(nodes: Vec<TreeNode>) -> Result<T, TreeStop> {
     if nodes.len() > 1_000_000 {
         return Err(TreeStop::NoTree(nodes));
     }
-    Tree::of_nodes(*nodes.allocator(), nodes)
+    T::of_nodes(*nodes.allocator(), nodes)
 }
 
 // Whether the list is that of a tree, which gives the same list back.
 fn goes_through(alloc: Global, nodes: Vec<TreeNode>) -> Result<bool, Fail> {
     let copy = Vec::from_slice(alloc, nodes.as_slice())?;
-    match tree_of(nodes) {
+    match tree_of::<Tree>(nodes) {
         Ok(tree) => Ok(tree.nodes()?.as_slice() == copy.as_slice()),
         Err(_) => Ok(false),
     }
@@ -63,7 +64,7 @@ fn goes_through(alloc: Global, nodes: Vec<TreeNode>) -> Result<bool, Fail> {
 // Whether the list is refused, and comes back.
 fn comes_back(alloc: Global, nodes: Vec<TreeNode>) -> Result<bool, Fail> {
     let copy = Vec::from_slice(alloc, nodes.as_slice())?;
-    match tree_of(nodes) {
+    match tree_of::<Tree>(nodes) {
         Err(TreeStop::NoTree(back)) => Ok(back.as_slice() == copy.as_slice()),
         Ok(_) | Err(TreeStop::OutOfMemory) => Ok(false),
     }
@@ -130,15 +131,18 @@ fn are_leaves_of_chain(leaves: &[Zone], splits: usize) -> bool {
 }
 
 /// The tree of a list that is one.
-pub fn tree_or_fail(nodes: Vec<TreeNode>) -> Result<Tree, Fail> {
-    Ok(tree_of(nodes).map_err(|_| "no tree")?)
+pub fn tree_or_fail<T: ZoneTree>(nodes: Vec<TreeNode>) -> Result<T, Fail> {
+    match tree_of(nodes) {
+        Ok(tree) => Ok(tree),
+        Err(_) => Err("no tree".into()),
+    }
 }
 
 #[test]
 fn a_chain_of_2_001_nodes_has_its_leaves(rt: HostRuntime) -> Result<(), Fail> {
     let nodes = chain_of_no(rt.alloc(), 1000)?;
     assert_eq!(rt; nodes.len(), 2001);
-    let tree = tree_or_fail(nodes)?;
+    let tree: Tree = tree_or_fail(nodes)?;
     let leaves = tree.leaves()?;
     assert_eq!(rt; leaves.len(), 1001);
     assert!(rt; are_leaves_of_chain(leaves.as_slice(), 1000));
