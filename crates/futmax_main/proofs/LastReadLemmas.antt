@@ -27,7 +27,8 @@ use Rattle.futmax_main.specs.LastReads.{HasComeTo, IsOnCourse, LeadToFeed, Stand
 use Rattle.futmax_main.specs.LastReads.{StopsAs, TurnStops, fresh_reader}
 use Rattle.futmax_main.specs.Turns.{AskGives, TurnBegins}
 use Rattle.futmax_main.proofs.CourseLemmas.{course-ask, course-told}
-use Rattle.futmax_main.proofs.RoundLemmas.{asks-joined, lines-joined}
+use Rattle.port_core.proofs.ContentLemmas.{with_lines-append}
+use Rattle.futmax_main.proofs.RoundLemmas.{asks-joined}
 use Rattle.futmax_main.proofs.SheetLemmas.{known, sheet-elsewhere}
 
 -- ---- contents that are told
@@ -58,7 +59,7 @@ feed-told : (taken lines : List (ℕ × List ℕ)) (sheet : Sheet) (log log' : L
     → LeadToFeed (taken ++ lines) sheet log'
 feed-told taken lines sheet log log' leads tells = (
   leads.0,
-  λ rest. ap course_of (lines-joined taken lines rest) ∙ leads.1 (with_lines lines rest)
+  λ rest. ap course_of (with_lines-append taken lines rest) ∙ leads.1 (with_lines lines rest)
       ∙ ap (with_asks leads.0) (course-told sheet log log' lines rest tells),
 )
 
@@ -68,7 +69,7 @@ feed-asks : (taken : List (ℕ × List ℕ)) (number : ℕ) (text : List ℕ) (s
     → LeadToFeed (taken ++ (number, text) ∷ []) sheet log
 feed-asks taken number text sheet log leads is = (
   leads.0 ++ played_behind sheet log ∷ [],
-  λ rest. ap course_of (lines-joined taken ((number, text) ∷ []) rest)
+  λ rest. ap course_of (with_lines-append taken ((number, text) ∷ []) rest)
       ∙ leads.1 (with_line number text rest)
       ∙ ap (with_asks leads.0) (course-ask sheet log number text rest is)
       ∙ asks-joined leads.0 (played_behind sheet log ∷ []) (course_from sheet log rest),
@@ -84,7 +85,7 @@ events-course (Some before) (Some mid) None sheet log stands gives =
 events-course (Some before) (Some mid) (Some after) sheet log stands gives = (
   stands.0 ++ gives.0,
   stands.1 ∙ ap (with_lines stands.0) (told-front gives.0 mid after gives.3)
-      ∙ sym (lines-joined stands.0 gives.0 after),
+      ∙ sym (with_lines-append stands.0 gives.0 after),
   inr (sheet, gives.1, feed-told stands.0 gives.0 sheet log gives.1 stands.2 gives.2),
 )
 
@@ -117,9 +118,9 @@ ask-stands (Some before) (Some mid) (Some after) lines number text sheet log log
     let ask : List (ℕ × List ℕ) = (number, text) ∷ [] in (
       (stands.0 ++ lines) ++ ask,
       stands.1 ∙ ap (with_lines stands.0) (told-front (lines ++ ask) mid after is
-          ∙ lines-joined lines ask after)
-          ∙ sym (lines-joined stands.0 lines (with_lines ask after))
-          ∙ sym (lines-joined (stands.0 ++ lines) ask after),
+          ∙ with_lines-append lines ask after)
+          ∙ sym (with_lines-append stands.0 lines (with_lines ask after))
+          ∙ sym (with_lines-append (stands.0 ++ lines) ask after),
       feed-asks (stands.0 ++ lines) number text sheet log'
           (feed-told stands.0 lines sheet log log' stands.2 tells) asks,
     )

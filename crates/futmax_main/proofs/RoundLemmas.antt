@@ -12,6 +12,7 @@ use Rattle.port_core.specs.Lines.{lines_of, HasNoLineFeed}
 use Rattle.port_core.specs.Contents.{Position, start, number_at, Contents, ended, with_line}
 use Rattle.port_core.specs.Contents.{with_lines, contents_from, contents_of}
 use Rattle.port_core.specs.Readers.{contents_behind, stream_of, given_by, Passes, PassesKnown}
+use Rattle.port_core.proofs.ContentLemmas.{with_lines-append}
 use Rattle.port_core.proofs.PassingLemmas.{passes-more}
 use Rattle.result_log.specs.declared.entry.Entry.{Entry}
 use Rattle.result_log.specs.declared.entry.Entry.TheVariants.{Ask, End}
@@ -47,13 +48,6 @@ use Rattle.futmax_main.proofs.TurnLemmas.{all-contents, answers-in, turn-untold}
 
 -- ---- on from line to line
 
--- these lines and those behind them, in front of the same contents
-pub lines-joined : (first second : List (ℕ × List ℕ)) (rest : Contents)
-    → with_lines (first ++ second) rest ≡ with_lines first (with_lines second rest)
-lines-joined first second rest =
-    ap (λ lines. record { lines = lines; ending = rest.ending })
-    (append_assoc first second rest.lines)
-
 -- lines that tell events
 leads-told : (answering : Answering) (taken lines : List (ℕ × List ℕ)) (written : List ℕ)
     (sheet : Sheet) (log log' : List Event) → LeadsOn answering taken written sheet log
@@ -61,7 +55,7 @@ leads-told : (answering : Answering) (taken lines : List (ℕ × List ℕ)) (wri
 leads-told answering taken lines written sheet log log' way told = record {
   asks = way.asks;
   answers = way.answers;
-  course = λ rest. ap course_of (lines-joined taken lines rest)
+  course = λ rest. ap course_of (with_lines-append taken lines rest)
       ∙ way.course (with_lines lines rest)
       ∙ ap (with_asks way.asks) (course-told sheet log log' lines rest told);
 }
@@ -83,7 +77,7 @@ leads-asks answering taken number text written answer sheet log way is answers_i
   asks = way.asks ++ played_behind sheet log ∷ [];
   answers = answers-append answering way.asks (played_behind sheet log ∷ []) written answer
       way.answers (answers-one answering (played_behind sheet log) answer answers_it);
-  course = λ rest. ap course_of (lines-joined taken ((number, text) ∷ []) rest)
+  course = λ rest. ap course_of (with_lines-append taken ((number, text) ∷ []) rest)
       ∙ way.course (with_line number text rest)
       ∙ ap (with_asks way.asks) (course-ask sheet log number text rest is)
       ∙ asks-joined way.asks (played_behind sheet log ∷ []) (course_from sheet log rest);
@@ -145,7 +139,7 @@ onward-contents : (answering : Answering) (input after : List ℕ) (told0 told' 
     ≡ with_lines on.taken (with_lines last (contents_from to (lines_of after)))
 onward-contents answering input after told0 told' to last sheet log old now on =
     all-contents input after told0 told' to (on.taken ++ last) on.passed
-    ∙ lines-joined on.taken last (contents_from to (lines_of after))
+    ∙ with_lines-append on.taken last (contents_from to (lines_of after))
 
 -- what is reached there
 onward-reached : (answering : Answering) (input after : List ℕ) (told0 told' : Bool)
