@@ -10,6 +10,7 @@ use Rattle.league_core.specs.declared.question.Question.{Question}
 use Rattle.league_core.specs.declared.zone.Literal.{Literal}
 use Rattle.league_core.specs.declared.sheet.Sheet.{Sheet}
 use Rattle.league_core.specs.Results.{Results}
+use Rattle.league_core.specs.Seasons.{IsLeague}
 use Rattle.league_core.specs.Zones.{with_test}
 use Rattle.cert_check.specs.declared.token.Token.{Token}
 use Rattle.cert_check.specs.declared.stop.Accepted.{Accepted}
@@ -34,7 +35,7 @@ use Rattle.league_core.specs.declared.season.Score.{Score}
 use Rattle.league_core.specs.Questions.{holds_at}
 use Rattle.league_core.specs.Ranking.{are_lots}
 use Rattle.cert_text.specs.declared.proof_line.ProofLine.TheVariants as line
-use Rattle.check_bounds.specs.Ways.{Place}
+use Rattle.check_bounds.specs.Ways.{Place, root_of}
 use Rattle.cert_check.specs.Dues.{is_path_for, lots_if_drawn}
 use Rattle.cert_check.specs.Machine.{Ending, whole_at, bad_line, no_proof, short, ending_of}
 use Rattle.cert_check.specs.Machine.{part_of_ask}
@@ -48,6 +49,11 @@ basis_of sheet season epoch = record { sheet = sheet; season = season; epoch = e
 pub record Judged : Type 0 where
   pub basis : Basis
   pub tokens : List Token
+
+-- a sheet and a season of it, and the way to the whole of it, from which each tree begins
+pub record IsJudgedFrom (sheet : Sheet) (season : Results) (root : Place) : Type 0 where
+  pub league : IsLeague sheet season
+  pub whole : root ≡ root_of sheet season
 
 -- what the lines from a position on come to, where this is due first
 abbrev pub ending_from : Judged → ℕ → List Due → ℕ → Ending

@@ -2,11 +2,13 @@
 
 ghost use Rattle.std.specs.Prelude.{◌≡◌, ◌<◌, ◌≤◌, ◌+◌, ◌∷◌, length, drop, IfOk};
 ghost use Rattle.league_core.specs.Seasons.{IsLeague};
+ghost use Rattle.check_bounds.specs.Ways.{root_of};
 ghost use Rattle.cert_check.specs.Calls.{IsNextAt, FindsNext};
 
 use crate::line_list::LineList;
 use crate::stop::Halt;
 use crate::token::{Token, counts};
+use check_bounds::Way;
 use league_core::{OutOfMemory, Season, Sheet};
 use std::alloc::Global;
 use std::marker::Model;
@@ -20,6 +22,8 @@ pub struct Report<'a> {
     pub season: &'a Season,
     pub epoch: u64,
     pub lines: &'a LineList,
+    /// The way to the whole season, of which each tree takes a copy.
+    pub root: Way<'a>,
 }
 
 impl<'a> Model for Report<'a> {
@@ -28,14 +32,14 @@ impl<'a> Model for Report<'a> {
 
     ghost Value = { Judged };
 
-    ghost use Rattle.league_core.specs.Seasons.{IsLeague};
+    ghost use Rattle.cert_check.specs.Calls.{IsJudgedFrom};
 
     ghost view = { λ report. record {
       basis = basis_of report.sheet.now report.season.now report.epoch;
       tokens = tokens_of report.lines.now;
     } };
 
-    ghost invariant = { λ report. IsLeague report.sheet.now report.season.now };
+    ghost invariant = { λ report. IsJudgedFrom report.sheet.now report.season.now report.root };
 }
 
 impl<'a> Report<'a> {
@@ -44,6 +48,14 @@ impl<'a> Report<'a> {
         ensures { IsLeague self.now.basis.sheet self.now.basis.season }
     {
         let _sheet = self.sheet;
+    }
+
+    /// The way from which a tree begins: to the whole season.
+    pub fn whole_season(&self) -> Result<Way<'a>, OutOfMemory>
+        ensures { IfOk result
+            (λ way. way ≡ root_of self.now.basis.sheet self.now.basis.season) }
+    {
+        self.root.copy(self.alloc)
     }
 
     /// How many lines there are, with those that are passed over.

@@ -41,7 +41,7 @@ impl<'a> Report<'a> {
         ensures { Goes self.now from (whole_tree wanted.kind wanted.question) result }
     {
         let mut walk = Walk {
-            path: Way::new(self.alloc, self.sheet, self.season)?,
+            path: self.whole_season()?,
             tally: Tally {
                 news: 0,
                 some_open: false,

@@ -11,6 +11,7 @@ use crate::part::Item;
 use crate::report::Report;
 use crate::stop::{Accepted, CheckStop, Halt};
 use crate::token::counts;
+use check_bounds::Way;
 use league_core::{Season, Sheet};
 use std::alloc::Global;
 
@@ -34,6 +35,7 @@ pub fn check(
         season,
         epoch,
         lines,
+        root: Way::new(alloc, sheet, season)?,
     };
     match report.part(from) {
         Ok(found) => Ok(Accepted {

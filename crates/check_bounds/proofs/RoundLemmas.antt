@@ -9,7 +9,7 @@ use Rattle.league_core.specs.declared.season.Score.{Score}
 use Rattle.league_core.specs.declared.sure.Sure.{Sure}
 use Rattle.league_core.specs.declared.sure.Sure.TheVariants.{Unknown}
 use Rattle.league_core.specs.PointRanges.{Range}
-use Rattle.league_core.specs.SureOrder.{sure_then, sure_by_ranges, record_ranges, overall_ranges}
+use Rattle.league_core.specs.SureOrder.{sure_then, sure_by_ranges, record_ranges}
 use Rattle.league_core.specs.SureOrder.{by_record_ranges, by_overall_ranges, is_surely_in}
 use Rattle.league_core.specs.SureOrder.{are_all_sure, sure_within, is_level, is_apart, sure_in}
 use Rattle.league_core.specs.SureOrder.{first_sum_ranges, by_first_sum_ranges, sure_by}

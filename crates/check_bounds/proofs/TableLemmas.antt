@@ -1,12 +1,11 @@
 -- Tables of sums, match by match.
 use Rattle.std.proofs.Common.{◌≡◌, ◌≢◌, ◌⊎◌, inl, inr, ℕ, ◌+◌, ◌*◌, ◌<◌, ◌≤◌, ℤ, pos, neg_ℤ, Bool}
-use Rattle.std.proofs.Common.{true, false, ◌&&◌, ◌||◌, nat_lt, eqb, cond, List, [], ◌∷◌, length}
+use Rattle.std.proofs.Common.{true, false, ◌||◌, eqb, cond, List, [], ◌∷◌, length}
 use Rattle.std.proofs.Common.{get_or, set}
-use Rattle.std.proofs.Common.{drop, replicate, not, ◌-◌, ◌^◌, ◌+ℤ◌, refl, sym}
+use Rattle.std.proofs.Common.{drop, replicate, ◌+ℤ◌, refl, sym}
 use Rattle.std.proofs.Common.{ap, subst, ◌∙◌, arith}
-use Rattle.std.specs.List.{list_all}
-use Rattle.std.proofs.lemmas.Bool.{cases_eq, cases_lt, eq-eqb, ne_eqb, and_parts, and_from, lt-ltb}
-use Rattle.std.proofs.lemmas.Bool.{ltb-true, eqb-false, not-true, or_right}
+use Rattle.std.proofs.lemmas.Bool.{cases_eq, cases_lt, eq-eqb, ne_eqb}
+use Rattle.std.proofs.lemmas.Bool.{or_right}
 use Rattle.std.proofs.lemmas.Int.{ints}
 use Rattle.std.proofs.lemmas.List.{get_or-set_same, get_or-set_other, length-set, get_or_past}
 use Rattle.std.proofs.lemmas.List.{get_or-replicate, length-replicate}
@@ -14,8 +13,7 @@ use Rattle.league_core.specs.declared.sheet.Sheet.{Sheet}
 use Rattle.league_core.specs.declared.sheet.Fixture.{Fixture}
 use Rattle.league_core.specs.declared.season.Score.{Score}
 use Rattle.league_core.specs.Ahead.{rank_of}
-use Rattle.league_core.specs.Sheets.{is_fixture}
-use Rattle.league_core.specs.Sums.{Worth, match_points, has_club, worth_to, worth_among}
+use Rattle.league_core.specs.Sums.{Worth, match_points, has_club, worth_to}
 use Rattle.league_core.specs.ClubSets.{clubs_below}
 use Rattle.league_core.specs.PointRanges.{one_value, added, range_of, range_from}
 use Rattle.league_core.specs.PointRanges.{points_together, points_of_sides}

@@ -1,10 +1,9 @@
 -- Several tables in one walk: none yet, one match more, and all of them.
-use Rattle.std.proofs.Common.{◌≡◌, ℕ, ◌+◌, ◌<◌, ◌≤◌, Bool, ◌&&◌, ◌||◌, List, [], length}
-use Rattle.std.proofs.Common.{get_or, replicate, arith}
+use Rattle.std.proofs.Common.{◌≡◌, ℕ, ◌+◌, ◌<◌, ◌≤◌, Bool, ◌&&◌, List, [], length}
+use Rattle.std.proofs.Common.{get_or, replicate}
 use Rattle.league_core.specs.declared.sheet.Fixture.{Fixture}
 use Rattle.league_core.specs.declared.season.Score.{Score}
 use Rattle.league_core.specs.Sums.{has_club, worth_among, match_points, goal_difference, goals}
-use Rattle.check_bounds.specs.declared.span.Span.{Span}
 use Rattle.check_bounds.specs.declared.records.Records.{Records}
 use Rattle.check_bounds.specs.Spans.{no_span}
 use Rattle.check_bounds.specs.Tables.{worth_if}

@@ -27,7 +27,7 @@ use crate::sums::sums_in;
 use crate::table::sums_of;
 use crate::total::won_by;
 use crate::won::{exchange_match, points_of_club};
-use crate::zone::{all_corners, season_scopes};
+use crate::zone::{all_corners, copied_corners, season_scopes};
 use league_core::{ClubSet, OutOfMemory, Season, Sheet};
 use std::alloc::Global;
 use std::marker::Model;
@@ -75,6 +75,19 @@ impl<'a> Cells<'a> {
             corners,
             won,
             loose,
+        })
+    }
+
+    /// The same cells once more.
+    pub fn copy(&self, alloc: Global) -> Result<Cells<'a>, OutOfMemory>
+        ensures { IfOk result (λ cells. cells ≡ self.now) }
+    {
+        Ok(Cells {
+            sheet: self.sheet,
+            scopes: Vec::from_slice(alloc, self.scopes.as_slice())?,
+            corners: copied_corners(alloc, self.corners.as_slice())?,
+            won: self.won,
+            loose: self.loose,
         })
     }
 

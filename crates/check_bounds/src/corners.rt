@@ -101,6 +101,16 @@ impl Corners {
         &self.scores[..self.count]
     }
 
+    /// The same once more.
+    pub fn copied(&self) -> Corners
+        ensures { result ≡ self.now }
+    {
+        Corners {
+            scores: self.scores,
+            count: self.count,
+        }
+    }
+
     fn only(score: Score) -> Corners
         ensures { result ≡ score ∷ [] }
     {

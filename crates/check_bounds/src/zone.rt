@@ -59,6 +59,17 @@ pub fn all_corners(alloc: Global, scopes: &[Scope]) -> Result<Vec<Corners>, OutO
     Ok(corners)
 }
 
+/// The same lists of corners once more.
+pub fn copied_corners(alloc: Global, corners: &[Corners]) -> Result<Vec<Corners>, OutOfMemory>
+    ensures { IfOk result (λ copied. copied.items ≡ corners.now) }
+{
+    let mut copied = Vec::with_capacity(alloc, corners.len())?;
+    for own in corners {
+        copied.push(own.copied())?;
+    }
+    Ok(copied)
+}
+
 // The answer is as wanted.
 fn is_said(answer: bool, wanted: bool) -> bool
     ensures { result ≡ is_as_said wanted answer }

@@ -6,4 +6,4 @@ use Rattle.cert_check.proofs.report.Report.keeps_league.Goals as goal
 pub returns : goal.returns
 returns c =
     let P : Judged → Type 0 = λ it. IsLeague it.basis.sheet it.basis.season in
-    subst P c.self.view_is c.self.invariant
+    subst P c.self.view_is c.self.invariant.league

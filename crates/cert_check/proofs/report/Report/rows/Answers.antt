@@ -72,7 +72,7 @@ loop-place-preserved c =
         c.in_ok-line.ensures.few,
         c.and-found.ensures.unsettled,
         c.loop-place.invariant.1,
-        c.self.invariant.limits.most_clubs,
+        c.self.invariant.league.limits.most_clubs,
         ap (λ (it : Judged). length it.basis.sheet.clubs) c.self.view_is,
       ),
       subst B (sym c.and-found.ensures.unsettled) (subst A (sym c.and-found.ensures.next) on),
