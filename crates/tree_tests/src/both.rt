@@ -42,11 +42,14 @@ fn tells_trees<T: ZoneTree + Drop>(alloc: Global) -> Result<bool, Fail> {
     let one = vec![in alloc; split(0), TreeNode::Open]?;
     let goes_through = match T::of_nodes(alloc, two) {
         Ok(tree) => tree.leaves()?.len() == 2 && tree.has_open(),
-        Err(_) => false,
+        Err(_stop) => false,
     };
     let comes_back = match T::of_nodes(alloc, one) {
-        Err(TreeStop::NoTree(back)) => back.len() == 2,
-        Ok(_) | Err(TreeStop::OutOfMemory) => false,
+        Ok(_tree) => false,
+        Err(stop) => match stop {
+            TreeStop::NoTree(back) => back.len() == 2,
+            TreeStop::OutOfMemory => false,
+        },
     };
     Ok(goes_through && comes_back)
 }
