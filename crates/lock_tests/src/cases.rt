@@ -6,6 +6,7 @@ ghost use Rattle.league_core.specs.Sheets.{IsWithinLimits};
 ghost use Rattle.pool_lock.specs.Lends.{IsWorkAfter};
 
 use crate::found::{finding_at, found_at, lose};
+use crate::overtaken::be_overtaken;
 use branch_pool::{Gave, Ticket, Took};
 use league_core::{Event, OutOfMemory, Score, Sheet};
 use pool_lock::{Front, Job, LentOut, PoolLock, WorkBadge};
@@ -26,13 +27,15 @@ pub enum Case {
     Lost,
     /// The result comes while both tickets are out.
     Overtaken,
+    /// Nothing is asked, and the feed is shut: the first worker is told that all is over.
+    Shut,
 }
 
 /// The result that is reported: 0:0 where it overtakes the workers, or else 1:0.
 pub fn event_of(case: Case) -> Event {
     let home = match case {
         Case::Overtaken => 0,
-        Case::Worked | Case::InTurn | Case::OtherPiece | Case::Lost => 1,
+        Case::Worked | Case::InTurn | Case::OtherPiece | Case::Lost | Case::Shut => 1,
     };
     Event::Set {
         fixture: 0,
@@ -60,6 +63,10 @@ pub fn meet<J: Job, R: Wait>(
     let mut two = badges.pop().ok_or("no badge")?;
     match case {
         Case::Overtaken => be_overtaken(rt, lock, front, &mut one, &mut two, event),
+        Case::Shut => {
+            lock.shut(rt, front);
+            be_over(rt, lock, &mut one)
+        }
         Case::Worked | Case::InTurn | Case::OtherPiece | Case::Lost => {
             tell(rt, lock, front, &mut one, event)?;
             lock.rest(rt, front);
@@ -118,7 +125,7 @@ fn play<J: Job, R: Wait>(
             let gave = swap(rt, alloc, sheet, lock, one, two, first)?;
             Ok(Some(gave))
         }
-        Case::Lost | Case::Overtaken => {
+        Case::Lost | Case::Overtaken | Case::Shut => {
             lose(ticket_of(rt, lock, one)?);
             lose(ticket_of(rt, lock, two)?);
             Ok(None)
@@ -126,7 +133,8 @@ fn play<J: Job, R: Wait>(
     }
 }
 
-fn ticket_of<J: Job, R: Wait>(
+/// The ticket that a worker is lent.
+pub fn ticket_of<J: Job, R: Wait>(
     rt: &R,
     lock: &PoolLock<J>,
     badge: &mut WorkBadge<J>,
@@ -208,55 +216,18 @@ fn swap<J: Job, R: Wait>(
     }
 }
 
-// The result comes while both tickets are out, and then both are given back.
-fn be_overtaken<J: Job, R: Wait>(
+// Nothing is lent any more.
+fn be_over<J: Job, R: Wait>(
     rt: &R,
     lock: &PoolLock<J>,
-    front: &mut Front<J>,
-    one: &mut WorkBadge<J>,
-    two: &mut WorkBadge<J>,
-    event: Event,
-) -> Result<Option<(Gave, Gave)>, Fail>
-    requires may_be { IsEventOf (season_after J.sheet front.old) event }
-{
-    lock.rest(rt, front);
-    let first = ticket_of(rt, lock, one)?;
-    match ticket_of(rt, lock, two) {
-        Ok(second) => {
-            let told = lock.report(rt, front, event).is_ok();
-            let gave = give_undone(rt, lock, one, first);
-            let other = give_undone(rt, lock, two, second);
-            lock.rest(rt, front);
-            if told && next_number(rt, lock, one)? == 0 {
-                Ok(Some((gave, other)))
-            } else {
-                Err("not told, or not all at home".into())
-            }
+    badge: &mut WorkBadge<J>,
+) -> Result<Option<(Gave, Gave)>, Fail> {
+    match lock.lend(rt, badge) {
+        Ok(LentOut::Over) => Ok(None),
+        Ok(LentOut::Work(ticket)) => {
+            lose(ticket);
+            Err("not over".into())
         }
-        Err(fail) => {
-            lose(first);
-            Err(fail)
-        }
+        Err(OutOfMemory) => Err("no memory".into()),
     }
-}
-
-fn give_undone<J: Job, R: Wait>(
-    rt: &R,
-    lock: &PoolLock<J>,
-    badge: &mut WorkBadge<J>,
-    ticket: Ticket,
-) -> Gave {
-    lock.back(rt, badge, ticket, Done::Undone)
-}
-
-// The number of what is lent next; it goes back.
-fn next_number<J: Job, R: Wait>(
-    rt: &R,
-    lock: &PoolLock<J>,
-    badge: &mut WorkBadge<J>,
-) -> Result<u64, Fail> {
-    let ticket = ticket_of(rt, lock, badge)?;
-    let number = ticket.number;
-    let _ = give_undone(rt, lock, badge, ticket);
-    Ok(number)
 }

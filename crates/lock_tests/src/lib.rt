@@ -8,4 +8,6 @@ mod epochs;
 #[cfg(test)]
 mod found;
 #[cfg(test)]
+mod overtaken;
+#[cfg(test)]
 mod rounds;

@@ -2,7 +2,8 @@
 //! questions are, in order: whether A can end inside the line (an example shows it), outside
 //! (refuted), and the same of B.
 
-ghost use Rattle.std.specs.Prelude.{◌≡◌, All, IsTrue};
+ghost use Rattle.std.specs.Prelude.{◌≡◌, ◌≤◌, All, IfOk, IsTrue, length};
+ghost use Rattle.league_core.specs.Questions.{IsQuestionOf};
 ghost use Rattle.league_core.specs.Seasons.{IsEventOf, season_after};
 ghost use Rattle.league_core.specs.Sheets.{IsWithinLimits};
 ghost use Rattle.branch_pool.specs.States.{out_count};
@@ -12,7 +13,7 @@ ghost use Rattle.pool_lock.specs.Lends.{IsEyeAfter};
 use crate::cases::{Case, event_of, meet};
 use branch_pool::{Answer, Gave, Pool};
 use epoch_cancel::{EpochWord, Eye, Front, Owner};
-use league_core::{Event, Season, Sheet, TreeNode};
+use league_core::{Event, OutOfMemory, Question, Season, Sheet, TreeNode};
 use pool_lock::{Job, PoolLock};
 use sample_leagues::sample_of;
 use std::alloc::Global;
@@ -41,7 +42,7 @@ fn round_of<R: Wait>(
 ) -> Result<(Option<(Gave, Gave)>, Pool), Fail> {
     let sample = sample_of(alloc, TWO_CLUBS).ok_or("no league")?;
     let sheet = sample.sheet.copy(alloc)?;
-    let asked = questions(alloc, &sheet)?;
+    let asked = asked_in(alloc, &sheet, case)?;
     let pool = Pool::begin(alloc, sample.sheet, asked)?;
     let (word, owner, front, eyes) = EpochWord::new(alloc, pool.log(), 2)?;
     let seated = Seated {
@@ -51,6 +52,20 @@ fn round_of<R: Wait>(
         eyes,
     };
     round_as::<Brand, R>(rt, alloc, &sheet, Blank::new(1), seated, pool, case)
+}
+
+// What is asked in a case: nothing where the feed is shut at once.
+fn asked_in(alloc: Global, sheet: &Sheet, case: Case) -> Result<Vec<Question>, OutOfMemory>
+    requires limits { IsWithinLimits sheet.now }
+    ensures of_sheet { IfOk result (λ asked. All (IsQuestionOf sheet.now) asked.items) }
+    ensures few { IfOk result (λ asked. length asked.items ≤ 192) }
+{
+    match case {
+        Case::Shut => Ok(Vec::new(alloc)),
+        Case::Worked | Case::InTurn | Case::OtherPiece | Case::Lost | Case::Overtaken => {
+            questions(alloc, sheet)
+        }
+    }
 }
 
 // The two workers and the one who reports meet at the lock, and then the feed is shut.
@@ -180,5 +195,13 @@ fn what_is_out_when_a_result_comes_is_stale(rt: HostRuntime) -> Result<(), Fail>
     );
     assert_eq!(rt; pool.out(), 0);
     assert!(rt; are_all_open(&pool)?);
+    Ok(())
+}
+
+#[test]
+fn what_is_over_is_told_once_the_feed_is_shut(rt: HostRuntime) -> Result<(), Fail> {
+    let (gave, pool) = round_of(&rt, rt.alloc(), Case::Shut)?;
+    assert_eq!(rt; gave, None);
+    assert!(rt; pool.log().is_empty());
     Ok(())
 }
