@@ -55,7 +55,8 @@ impl Model for Pool {
 }
 
 impl Pool {
-    /// A pool of a sheet and questions about it: nothing is played, and events may come.
+    /// A pool of a sheet and questions about it: nothing is played, and events may come. Want of
+    /// memory lets sheet and questions go.
     pub fn begin(alloc: Global, sheet: Sheet, questions: Vec<Question>) -> Result<Pool, OutOfMemory>
         requires limits { IsWithinLimits sheet }
         requires of_sheet { All (IsQuestionOf sheet) questions.items }
@@ -102,6 +103,7 @@ impl Pool {
         &self.season
     }
 
+    /// The sheet that season and questions are of.
     pub fn sheet(&self) -> &Sheet
         ensures sheet { result.now ≡ self.now.sheet }
         ensures limits { IsWithinLimits result.now }
@@ -109,6 +111,7 @@ impl Pool {
         &self.sheet
     }
 
+    /// The questions, each at its place, from 0.
     pub fn questions(&self) -> &[Question]
         ensures questions { result.now ≡ self.now.questions }
         ensures of_sheet { All (IsQuestionOf self.now.sheet) result.now }
@@ -128,7 +131,7 @@ impl Pool {
         self.log.as_slice()
     }
 
-    /// The tree of the question at a place.
+    /// The tree of the question at a place, from 0.
     pub fn tree(&self, place: u16) -> &Tree
         requires in_range { place < length self.now.questions }
         ensures tree { tree_at self.now place ≡ Some result.now }
@@ -138,7 +141,7 @@ impl Pool {
         &seat.tree
     }
 
-    /// The example of the question at a place, if one is kept.
+    /// The example of the question at a place, from 0, if one is kept.
     pub fn example(&self, place: u16) -> Option<(&Finish, &Lots)>
         requires in_range { place < length self.now.questions }
         ensures example { example_at self.now place ≡ Some (seen_example result) }
@@ -151,7 +154,7 @@ impl Pool {
         }
     }
 
-    /// What is kept of the question at a place.
+    /// What is kept of the question at a place, from 0.
     pub fn seat(&self, place: u16) -> &Seat
         requires in_range { place < length self.now.questions }
         ensures seat { slice_get self.now.seats place ≡ Some result.now }
@@ -176,7 +179,7 @@ impl Pool {
         let _ = &self.seats;
     }
 
-    /// How far the question at a place is.
+    /// How far the question at a place, from 0, is.
     pub fn answer(&self, place: u16) -> Answer
         requires in_range { place < length self.now.questions }
         ensures answer { pool_answer self.now place ≡ Some result }

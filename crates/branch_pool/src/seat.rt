@@ -83,7 +83,7 @@ impl Seat {
     }
 
     /// Lends an open leaf under a number, and answers its zone twice: one for who works on it, one
-    /// for who waits for it.
+    /// for who waits for it. On want of memory the seat is as before.
     #[tactic(auto, using(crate::proofs::SeatLemmas::lent_once))]
     pub fn lend(&mut self, alloc: Global, number: u64) -> Result<(Zone, Zone), OutOfMemory>
         requires open_leaf { has_open self.old.tree ≡ true }
@@ -142,7 +142,8 @@ impl Seat {
         }
     }
 
-    /// Has an open leaf worked on in its place, under a number, and puts what was found there.
+    /// Has an open leaf worked on in its place, under a number, and puts what was found there. On
+    /// want of memory the seat is as before.
     pub fn work<W: Solver>(&mut self, number: u64, worker: &mut W) -> Result<(), OutOfMemory>
         requires may_lend { MayLend number self.old }
         requires good { IsGoodSeat (W.sheet worker.old) (W.season worker.old) self.old }

@@ -13,7 +13,8 @@ use reason_core::Piece;
 
 impl Pool {
     /// Lends an open leaf of the question that comes next: questions go in order, one of which
-    /// nothing is out before one of which something is. It takes the room that `give` will need.
+    /// nothing is out before one of which something is. It takes the room that `give` will need; on
+    /// want of memory the pool is as before.
     pub fn take(&mut self) -> Took
         ensures taking { Taking self.old result self.new }
         ensures fit { IsFitIfLent self.new result }
@@ -27,7 +28,7 @@ impl Pool {
 
     /// As `take`, but a ticket carries the spare season where that is the pool's season: then none
     /// is copied, and none is spare any more. Else the pool's season is copied, and the spare one
-    /// stays.
+    /// stays. On want of memory both are as before.
     pub fn take_with(&mut self, spare: &mut Option<Season>) -> Took
         ensures taking { Taking self.old result self.new }
         ensures fit { IsFitIfLent self.new result }

@@ -13,7 +13,7 @@ use reason_core::Solver;
 impl Pool {
     /// One turn of work without a ticket: what `take` would lend is solved in its place, and what
     /// was found is put where `give` would put it. The worker is one for the pool's sheet and
-    /// season.
+    /// season. On want of memory the pool is as before.
     pub fn work_next<W: Solver>(&mut self, worker: &mut W) -> Turn
         requires sheet { W.sheet worker.old ≡ self.old.sheet }
         requires season { W.season worker.old ≡ self.old.season }

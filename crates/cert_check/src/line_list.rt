@@ -80,7 +80,7 @@ impl LineList {
         self.lines[at].text.as_slice()
     }
 
-    /// What the line at a position is.
+    /// What the line at a position, from 0, is.
     pub fn token(&self, alloc: Global, at: usize) -> Result<Token, OutOfMemory>
         requires { at < length self.now }
         ensures { IfOk result (λ token.

@@ -15,8 +15,9 @@ use check_bounds::Way;
 use league_core::{Season, Sheet};
 use std::alloc::Global;
 
-/// Checks the lines from a position on as the part of a report that answers one ask, of a season
-/// and an epoch.
+/// Checks the lines from a position on, from 0, as the part of a report that answers one ask of a
+/// season; `epoch` is how many events told of it. `BadLine` and `NoProof` name the line at which
+/// the reading stops, by its number in the input; `Short` and want of memory name none.
 pub fn check(
     alloc: Global,
     sheet: &Sheet,
@@ -54,8 +55,8 @@ pub fn check(
     }
 }
 
-/// Whether nothing that counts is left from a position on; `BadLine` names the first line that
-/// does.
+/// Whether nothing that counts is left from a position on, from 0; `BadLine` names the first line
+/// that does, by its number in the input.
 pub fn check_end(alloc: Global, lines: &LineList, from: usize) -> Result<(), CheckStop>
     requires { from ≤ length lines.now }
     ensures { ChecksEnd lines.now from result }

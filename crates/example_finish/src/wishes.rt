@@ -15,6 +15,7 @@ pub struct Wishes {
 }
 
 impl Wishes {
+    /// The wishes for a question in the zone of a box.
     pub fn of(zone_box: &ZoneBox, question: &Question) -> Wishes
         requires { question.now.club < length zone_box.now.sheet.clubs }
         ensures { AreWishesOf zone_box.now.zone question.now result }
@@ -30,7 +31,7 @@ impl Wishes {
         }
     }
 
-    /// The club is wished points.
+    /// The club, by its number from 0, is wished points.
     pub fn has(self, club: u8) -> bool
         ensures { result ≡ has_wish self.near club self.claim }
     {
@@ -42,7 +43,7 @@ impl Wishes {
 }
 
 impl Wishes {
-    /// Whether the club of each number is wished points: a look, where many matches ask.
+    /// Whether the club of each number, from 0, is wished points: a look, where many matches ask.
     pub fn table(self) -> [bool; 24]
         ensures { AreWished self result }
     {

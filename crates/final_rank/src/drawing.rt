@@ -6,7 +6,8 @@ ghost use Rattle.league_core.specs.LotsFor.{others_of, first_lots, last_lots, lo
 use league_core::{Claim, Lots, OutOfMemory};
 use std::alloc::{AllocError, Global};
 
-/// The club first for `Inside`, last for `Outside`, and the others in the order of their numbers.
+/// The club, by its number from 0, first for `Inside`, last for `Outside`, and the others of all
+/// `clubs`, which is how many there are, in the order of their numbers.
 pub fn lots_for(alloc: Global, clubs: u8, club: u8, claim: Claim) -> Result<Lots, OutOfMemory>
     requires { club < clubs }
     ensures { IfOk result (λ lots. lots ≡ lots_for_claim clubs club claim) }

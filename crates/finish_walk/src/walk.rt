@@ -12,7 +12,8 @@ use final_rank::{Span, spans};
 use league_core::{OutOfMemory, Season, Sheet};
 use std::alloc::Global;
 
-/// What each club can reach over all finishes of the season, in the sheet's order.
+/// What each club can reach over all finishes of the season, in the sheet's order. They are at most
+/// `MOST_FINISHES`.
 pub fn reaches(alloc: Global, sheet: &Sheet, season: &Season) -> Result<Vec<Reach>, OutOfMemory>
     requires league { IsLeague sheet.now season.now }
     requires few { HasFewFinishes sheet.now season.now }

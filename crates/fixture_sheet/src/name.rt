@@ -7,7 +7,7 @@ ghost use Rattle.fixture_sheet.specs.Texts.{name_of, text_of};
 
 use league_core::limits::MOST_NAME_BYTES;
 
-/// The field as a name, where it is one.
+/// The field as a name, where it is one: 1 to 40 bytes of UTF-8, none below 32 and none of 127.
 pub fn name_of(text: &[u8]) -> Option<&str>
     ensures { option_map (λ name. name.now) result ≡ name_of text.now }
 {

@@ -57,7 +57,7 @@ pub struct Flow {
 }
 
 impl Net {
-    /// So many nodes and no arc yet, with room for `arcs` arcs.
+    /// So many nodes, numbered from 0, and no arc yet, with room for `arcs` arcs.
     pub fn new(alloc: Global, nodes: u16, arcs: usize) -> Result<Net, OutOfMemory>
         requires { arcs ≤ 4_294_967_295 }
         ensures { IfOk result (λ net. net
@@ -73,6 +73,7 @@ impl Net {
         })
     }
 
+    /// How many nodes the net has.
     pub fn nodes(&self) -> u16
         ensures { result ≡ self.now.nodes }
     {
@@ -93,7 +94,8 @@ impl Net {
         self.graph.arcs.len()
     }
 
-    /// Adds an arc that carries nothing yet. Takes no memory.
+    /// Adds an arc that carries nothing yet, between nodes by their numbers from 0. Its own number
+    /// is how many arcs there were; it takes one arc's room, and no memory.
     pub fn add_arc(&mut self, from: u16, to: u16, capacity: u32)
         requires room { length self.old.arcs < self.old.room }
         requires from_in_range { from < self.old.nodes }
@@ -107,7 +109,7 @@ impl Net {
         self.flow.push(0).unwrap();
     }
 
-    /// What the arc carries.
+    /// What the arc carries, by its number from 0, in the order of adding.
     pub fn flow(&self, arc: usize) -> u32
         requires { arc < length self.now.arcs }
         ensures { result ≡ slice_index self.now.flow arc }
@@ -115,8 +117,8 @@ impl Net {
         self.flow[arc]
     }
 
-    /// Holds the given flow, one number for each arc, if it is a whole flow between the two nodes.
-    /// Takes no memory.
+    /// Holds the given flow, one number for each arc, if it is a whole flow between the two nodes;
+    /// else the answer is false, and the net is as before. Takes no memory.
     pub fn start_from(&mut self, source: u16, sink: u16, flow: &[u32]) -> bool
         requires source_in_range { source < self.old.nodes }
         requires sink_in_range { sink < self.old.nodes }
@@ -140,7 +142,7 @@ impl Net {
     /// Sends as much as can be sent from the source to the sink, and finds the least cut.
     ///
     /// A flow that the net holds for the same two nodes stays as it is where it is greatest
-    /// already. The net then holds what was found.
+    /// already. The net then holds what was found; on want of memory it is as before.
     pub fn max_flow(&mut self, alloc: Global, source: u16, sink: u16) -> Result<Flow, OutOfMemory>
         requires source_in_range { source < self.old.nodes }
         requires sink_in_range { sink < self.old.nodes }

@@ -33,7 +33,7 @@ impl ClubSet {
         }
     }
 
-    /// The set of one club.
+    /// The set of one club, by its number from 0; a set names only numbers below 32.
     pub fn single(club: u8) -> ClubSet
         requires { club < 32 }
         ensures { clubs_in result ≡ club ∷ [] }
@@ -41,13 +41,14 @@ impl ClubSet {
         ClubSet { bits: 1 << club }
     }
 
+    /// The club, by its number from 0, is in the set; no number from 32 on is.
     pub fn has(self, club: u8) -> bool
         ensures { result ≡ has_club (clubs_in self) club }
     {
         club < 32 && (self.bits >> club) & 1 == 1
     }
 
-    /// The set, and where `keep` is true the club too.
+    /// The set, and where `keep` is true the club too, by its number from 0, below 32.
     pub fn with_if(self, keep: bool, club: u8) -> ClubSet
         requires { club < 32 }
         ensures { (other : ℕ) → has_club (clubs_in result) other
@@ -101,7 +102,7 @@ impl ClubSet {
         ClubSet::first(clubs).without(self)
     }
 
-    /// The first club of the set, in the order of the sheet.
+    /// The first club, in the order of the sheet, of a set that has one.
     pub fn first_club(self) -> u8
         requires { clubs_in self ≢ [] }
         ensures member { IsTrue (has_club (clubs_in self) result) }
@@ -110,6 +111,7 @@ impl ClubSet {
         self.bits.trailing_zeros() as u8
     }
 
+    /// The set has no club.
     pub fn is_empty(self) -> bool
         ensures { IsTrue result ↔ (clubs_in self ≡ []) }
     {

@@ -41,6 +41,7 @@ impl Finish {
         }
     }
 
+    /// The season that it is, as it ends.
     pub fn as_season(&self) -> &Season
         ensures season { result.now ≡ self.now }
         ensures played { IsTrue (is_played result.now) }

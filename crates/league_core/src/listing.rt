@@ -39,18 +39,21 @@ impl<T> Listing<T> {
         Listing { items }
     }
 
+    /// The items from the first to the last, which is the one that `pop` takes.
     pub fn as_slice(&self) -> &[T]
         ensures { result.now ≡ self.now }
     {
         self.items.as_slice()
     }
 
+    /// How many items it has.
     pub fn len(&self) -> usize
         ensures { result ≡ length self.now }
     {
         self.items.len()
     }
 
+    /// It has no item.
     pub fn is_empty(&self) -> bool
         ensures { IsTrue result ↔ (self.now ≡ []) }
     {
@@ -102,12 +105,14 @@ impl Model for Name {
 }
 
 impl Name {
+    /// The text as a name. Any text is taken, also one that no sheet within the limits has.
     pub fn new(text: String) -> Name
         ensures { result ≡ string_bytes text }
     {
         Name { text }
     }
 
+    /// The text of the name, whatever it is.
     pub fn as_str(&self) -> &str
         ensures { result.now ≡ self.now }
     {

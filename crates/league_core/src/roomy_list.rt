@@ -40,12 +40,14 @@ impl<T> RoomyList<T> {
         }
     }
 
+    /// The items from the first to the last, which is the one that `pop` takes.
     pub fn as_slice(&self) -> &[T]
         ensures { result.now ≡ self.now.items }
     {
         self.items.as_slice()
     }
 
+    /// How many items it has; free room does not count.
     pub fn len(&self) -> usize
         ensures { result ≡ length self.now.items }
     {
@@ -80,7 +82,7 @@ impl<T> RoomyList<T> {
         self.items.push_reserved(item);
     }
 
-    /// Takes the last item off the list; its place is room again.
+    /// Takes the last item off a list that has one; its place is room again.
     pub fn pop(&mut self) -> T
         requires some { 0 < length self.old.items }
         ensures items { self.old.items ≡ self.new.items ++ result ∷ [] }
@@ -89,7 +91,8 @@ impl<T> RoomyList<T> {
         self.items.take_last()
     }
 
-    /// Puts an item at a place, and moves those from there on up by one. It takes no memory.
+    /// Puts an item at a place, from 0 to behind the last one, and moves those from there on up by
+    /// one. It takes no memory.
     pub fn insert(&mut self, index: usize, item: T)
     where
         T: Drop,
@@ -101,7 +104,8 @@ impl<T> RoomyList<T> {
         let _put = self.items.insert(index, item);
     }
 
-    /// Takes the item off a place, and moves those behind it down by one.
+    /// Takes the item off a place, from 0, and moves those behind it down by one; the list has room
+    /// for one more.
     pub fn remove(&mut self, index: usize) -> T
         requires in_range { index < length self.old.items }
         ensures item { result ≡ slice_index_or self.old.items index result }
@@ -111,7 +115,7 @@ impl<T> RoomyList<T> {
         self.items.remove(index)
     }
 
-    /// Puts an item in place of another, which is handed back.
+    /// Puts an item at a place, from 0, instead of the one there, which is handed back.
     pub fn replace(&mut self, index: usize, item: T) -> T
         requires in_range { index < length self.old.items }
         ensures item { result ≡ slice_index_or self.old.items index result }

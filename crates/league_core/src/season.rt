@@ -80,7 +80,7 @@ impl Season {
         })
     }
 
-    /// The scores in the order of the fixtures.
+    /// The scores in the order of the fixtures, `None` where a fixture is not played.
     pub fn scores(&self) -> &[Option<Score>]
         ensures scores { result.now ≡ self.now.scores }
         ensures within { IsTrue (are_results self.now) }

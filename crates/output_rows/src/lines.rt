@@ -12,7 +12,8 @@ use cert_text::ProofLine;
 use port_core::Sink;
 use std::alloc::Global;
 
-/// Writes the row of an ask.
+/// Writes the row of an ask; `epoch` is how many events came before it. After a stop a front of the
+/// row went out, perhaps none of it.
 pub fn put_ask<K: Sink>(alloc: Global, epoch: u64, sink: &mut K) -> Result<(), OutputStop>
     ensures text { Puts (ask_row epoch) (K.holds sink.old) (K.holds sink.new) result }
     ensures counts { CountsPut (K.faults sink.old) (K.faults sink.new) result }
@@ -23,7 +24,8 @@ pub fn put_ask<K: Sink>(alloc: Global, epoch: u64, sink: &mut K) -> Result<(), O
     }
 }
 
-/// Writes proof lines, each on a row of its own.
+/// Writes proof lines, each on a row of its own. After a stop a front of these rows went out,
+/// perhaps none of it.
 pub fn put_lines<K: Sink>(
     alloc: Global,
     lines: &[ProofLine],

@@ -9,7 +9,7 @@ use cert_text::{ProofLine, write_line, write_row};
 use league_core::OutOfMemory;
 use std::alloc::Global;
 
-/// `ask,E`, alone.
+/// `ask,E`, alone; E is `epoch`, how many events came before the ask.
 pub fn ask_row(alloc: Global, epoch: u64) -> Result<Vec<u8>, OutOfMemory>
     ensures { IfOk result (λ row. row.items ≡ ask_row epoch) }
 {

@@ -80,7 +80,7 @@ impl<J: Job> PoolLock<J> {
     #[tactic(auto, using(crate::proofs::PrefixLemmas::prefix_onward))]
     /// Takes from the pool as soon as the one who reports rests and there is work, or all is over.
     /// The badge has then seen all that the pool was told, and the ticket is work in the season
-    /// after that.
+    /// after that. On want of memory there is no ticket, and the badge may have seen more.
     pub fn lend<R: Wait>(&self, rt: &R, badge: &mut WorkBadge<J>) -> Result<LentOut, OutOfMemory>
         ensures work { IfOk result (LendsWorkAfter J.sheet badge.new.list) }
         ensures begins { IsPrefix badge.old.list badge.new.list }

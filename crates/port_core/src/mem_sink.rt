@@ -41,8 +41,9 @@ impl Model for MemSink {
 }
 
 impl MemSink {
-    /// Takes room for `room` bytes at once. A call takes at most `piece` of them; those whose
-    /// numbers, from 1, are in `fail` fail.
+    /// Takes room for `room` bytes at once. A call takes at most `piece` of them, a number above 0;
+    /// the calls whose numbers, from 1, are in `fail` fail, and so does each once the room is full.
+    /// A call that fails takes no byte.
     pub fn new(
         alloc: Global,
         room: usize,

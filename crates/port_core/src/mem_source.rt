@@ -39,8 +39,8 @@ impl Model for MemSource {
 }
 
 impl MemSource {
-    /// Gives at most `piece` of the bytes a call. The calls whose numbers, from 1, are in `fail`
-    /// fail.
+    /// Gives at most `piece` of the bytes a call, a number above 0. The calls whose numbers, from
+    /// 1, are in `fail` fail, and lose no byte.
     pub fn new(bytes: Vec<u8>, piece: usize, fail: Vec<u64>) -> MemSource
         requires { 0 < piece }
         ensures { result ≡ record {

@@ -1,7 +1,7 @@
--- The two numbers of a club and a line, by Ribeiro and Urrutia, here over the full criteria. The
--- possible qualification score is the least number of points with which the club can still be
--- inside the line; the guaranteed one is the least number of points, from 0 on, with which it is
--- inside whatever else happens.
+-- The two numbers of a club and a line, as they are asked of a league that is played, here over the
+-- full criteria. The possible qualification score is the least number of points with which the club
+-- can still be inside the line; the guaranteed one is the least number of points, from 0 on, with
+-- which it is inside whatever else happens.
 use Rattle.std.specs.Prelude.{ℕ, ℤ, pos, ◌≤ℤ◌}
 use Rattle.league_core.specs.declared.sheet.Sheet.{Sheet}
 use Rattle.league_core.specs.declared.question.Claim.{Claim}

@@ -15,8 +15,9 @@ use league_core::{Claim, OutOfMemory, Season, Sheet};
 use score_answers::{Bound, Score2};
 use std::alloc::Global;
 
-/// The possible and the guaranteed qualification score of a club and a line. Each window question
-/// has the whole budget of the sheet.
+/// The possible and the guaranteed qualification score of a club, by its number from 0, and a line,
+/// which is how many first places it asks for, in points less what is taken off the club. Each
+/// window question has the whole budget of the sheet.
 pub fn scores(
     alloc: Global,
     sheet: &Sheet,

@@ -16,7 +16,8 @@ use port_core::Sink;
 use std::alloc::Global;
 
 /// Writes the row of an ask and the row of each line and club, with the spent trees of its ranges
-/// behind it, that of the possible score first.
+/// behind it, that of the possible score first. `epoch` is how many events came before the ask.
+/// After a stop a front of the text went out, perhaps none of it.
 pub fn put_scores<K: Sink>(
     alloc: Global,
     epoch: u64,

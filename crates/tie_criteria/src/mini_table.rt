@@ -59,6 +59,7 @@ impl MiniTable {
         Ok(MiniTable { rows })
     }
 
+    /// A row for each club of the group, in the order of the sheet.
     pub fn rows(&self) -> &[Row]
         ensures { result.now ≡ self.now }
     {

@@ -47,7 +47,7 @@ impl Tail {
     }
 }
 
-/// The club's sums over all matches that are played, and its rank.
+/// The sums of a club, by its number from 0, over all matches that are played, and its rank.
 pub fn tail_of(sheet: &Sheet, season: &Season, club: u8) -> Tail
     requires league { IsLeague sheet.now season.now }
     requires in_range { club < length sheet.now.clubs }

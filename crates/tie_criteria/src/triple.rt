@@ -59,7 +59,8 @@ impl Triple {
     }
 }
 
-/// The club's record in the matches of the group, from the matches that are played.
+/// The record of a club, by its number from 0, in the matches of the group that are played. A club
+/// that is not of the group has none of them: its record is all 0.
 pub fn triple_of(sheet: &Sheet, season: &Season, group: ClubSet, club: u8) -> Triple
     requires league { IsLeague sheet.now season.now }
     ensures { triple_parts result ≡ head_to_head_of sheet.now season.now (clubs_in group) club }

@@ -55,8 +55,8 @@ pub fn retarget_over(
     retarget_by(alloc, &mut way, question, tree)
 }
 
-/// What the season of this box leaves of a tree. The box is one without a literal, and so it is
-/// again: it serves any number of trees.
+/// What the season of this box leaves of a tree. The box is one without a literal, and after an
+/// `Ok` it is so again: it serves any number of trees. On want of memory nothing is said of it.
 pub fn retarget_by(
     alloc: Global,
     way: &mut ZoneBox,

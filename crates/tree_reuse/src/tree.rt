@@ -115,8 +115,8 @@ impl Tree {
     }
 
     /// Lends an open leaf under a number that is not lent, and answers its zone; `None` where no
-    /// leaf is open. It takes the room that a split of this leaf needs. The leaf is the last one
-    /// that was opened, of two halves the yes half.
+    /// leaf is open. It takes the room that a split of this leaf needs; on want of memory the tree
+    /// is as before. The leaf is the last one that was opened, of two halves the yes half.
     pub fn lend(&mut self, number: u64) -> Result<Option<Zone>, OutOfMemory>
         requires free { times_lent number self.old ≡ 0 }
         requires few { node_count self.old + lent_count self.old ≤ MOST_NODES }
@@ -243,7 +243,8 @@ impl Tree {
     }
 
     /// The tree whose nodes are this list; `NoTree` hands the list back exactly where no tree has
-    /// it. Its open leaves are lent as the list has them, the first one first.
+    /// it, and want of memory lets it go. Its open leaves are lent as the list has them, the first
+    /// one first.
     pub fn of_nodes(alloc: Global, nodes: Vec<TreeNode>) -> Result<Tree, TreeStop>
         requires few { length nodes.items ≤ MOST_NODES }
         ensures ok { IfOk result (λ tree. preorder tree ≡ nodes.items) }

@@ -37,7 +37,8 @@ fn push_line(asked: &mut Vec<Question>, clubs: u8, line: u8) -> Result<(), OutOf
     Ok(())
 }
 
-/// The question about a club and a line with the full window, from -99 to 1,800 points.
+/// The question about a club, by its number from 0, and a line, which is how many first places it
+/// asks for, with the full window, from -99 to 1,800 points.
 pub fn full_question(club: u8, line: u8, claim: Claim) -> Question
     ensures { result ≡ full_question club line claim }
 {

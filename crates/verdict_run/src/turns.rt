@@ -36,7 +36,7 @@ pub(crate) fn finish_by<W: Solver>(mut pool: Pool, worker: &mut W) -> Result<Poo
 }
 
 /// Works on each question of the pool in their order, until it is known or its budget is spent. No
-/// number is out before, and none is afterwards.
+/// number is out before, and none is afterwards. On want of memory the pool is gone.
 pub fn finish(alloc: Global, pool: Pool) -> Result<Pool, OutOfMemory>
     requires home { out_count pool.loans ≡ 0 }
     ensures work { IfOk result (λ new. WorksTo pool new) }

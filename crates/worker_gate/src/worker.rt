@@ -36,7 +36,7 @@ enum Next {
 }
 
 /// Works on tickets until the lock has nothing more to lend. The gate hears where the worker is:
-/// after each loan, after each piece of work, after each return.
+/// after each loan, after each piece of work, after each return; `worker` is its number, from 0.
 ///
 /// A ticket goes back undone where an event has come since it was lent: the worker looks for that
 /// before it works, and again before it gives back.
