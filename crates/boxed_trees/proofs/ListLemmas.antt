@@ -1,27 +1,11 @@
 -- Lists of nodes that are read from their end, one node after the other.
-use Rattle.std.proofs.Common.{◌≡◌, ℕ, zero, suc, ◌+◌, ◌<◌, List, [], ◌∷◌, ◌++◌, length, drop}
-use Rattle.std.proofs.Common.{get_or, reverse, Option, Some, None, refl, sym, ap, ◌∙◌, add-one}
-use Rattle.std.proofs.Common.{drop-cons, arith}
+use Rattle.std.proofs.Common.{◌≡◌, ℕ, ◌+◌, ◌<◌, List, [], ◌∷◌, ◌++◌, length, drop, get_or}
+use Rattle.std.proofs.Common.{reverse, Option, Some, None, sym, ap, ◌∙◌, add-one, drop-cons, arith}
 use Rattle.league_core.specs.declared.tree.TreeNode.{TreeNode}
-use Rattle.league_core.specs.declared.tree.TreeNode.TheVariants.{Split, Open, Lent, Refuted}
 use Rattle.league_core.specs.Trees.{Tree, preorder}
 use Rattle.league_core.specs.TreeLists.{with_node, trees_of, only_tree, tree_of}
 use Rattle.league_core.proofs.TreeListLemmas.{preorder-tree_of}
-
--- in front of what is no trees nothing is read
-with_node-none : (node : TreeNode) → with_node node None ≡ None
-with_node-none Open = refl
-with_node-none (Lent number) = refl
-with_node-none (Refuted reason fresh) = refl
-with_node-none (Split test fresh) = refl
-
--- a list whose end is no trees is none
-trees_of-none : (at : ℕ) (nodes : List TreeNode) → trees_of (drop at nodes) ≡ None
-    → trees_of nodes ≡ None
-trees_of-none zero nodes unread = unread
-trees_of-none (suc at) [] unread = unread
-trees_of-none (suc at) (node ∷ nodes) unread =
-    ap (with_node node) (trees_of-none at nodes unread) ∙ with_node-none node
+use Rattle.tree_reuse.proofs.ListLemmas.{trees_of-none}
 
 -- a node that cannot stand in front of the trees behind it makes the list that of no tree
 pub unread_at : (at : ℕ) (nodes : List TreeNode) (default : TreeNode)

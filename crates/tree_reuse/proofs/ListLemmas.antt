@@ -24,7 +24,7 @@ with_node-none (Refuted reason fresh) = refl
 with_node-none (Split test fresh) = refl
 
 -- a list whose end is no trees is none
-trees_of-none : (at : ℕ) (nodes : List TreeNode) → trees_of (drop at nodes) ≡ None
+pub trees_of-none : (at : ℕ) (nodes : List TreeNode) → trees_of (drop at nodes) ≡ None
     → trees_of nodes ≡ None
 trees_of-none zero nodes unread = unread
 trees_of-none (suc at) [] unread = unread
