@@ -1,11 +1,13 @@
 -- What the outcomes that a cell has left say of it.
 use Rattle.std.proofs.Common.{◌≡◌, Bool, true, false, not, ◌||◌, is_some, refl, sym, ap, ◌∙◌}
-use Rattle.std.proofs.Common.{List, ◌&&◌, Option, Some, None, subst}
+use Rattle.std.proofs.Common.{List, ◌&&◌, Option, Some, None, subst, arith}
 use Rattle.std.specs.List.{list_any}
 use Rattle.std.proofs.lemmas.Bool.{false≢true, false_from_ne_true}
 use Rattle.std.proofs.lemmas.Bool.{ltb-true, eqb-true}
 use Rattle.league_core.specs.declared.season.Score.{Score}
 use Rattle.league_core.specs.Options.{is_home_win, is_draw, is_away_win}
+use Rattle.league_core.specs.Finishes.{same_score}
+use Rattle.league_core.proofs.OptionLemmas.{same_score-true, same_score-itself}
 use Rattle.league_core.proofs.OutcomeLemmas.{outcome_cases}
 use Rattle.league_core.proofs.OptionTestLemmas.{any_shows, any_gives}
 use Rattle.score_box.specs.declared.cell.Cell.{Cell}
@@ -13,9 +15,9 @@ use Rattle.score_box.specs.declared.points.left.OutcomesLeft.{OutcomesLeft}
 use Rattle.score_box.specs.declared.points.outcomes.MatchPoints.{MatchPoints}
 use Rattle.score_box.specs.declared.cell.goals.Goals.{Goals}
 use Rattle.score_box.proofs.CellLemmas.{Says, ranges_of, keeps_home_win, keeps_draw}
-use Rattle.score_box.proofs.CellLemmas.{keeps_away_win}
+use Rattle.score_box.proofs.CellLemmas.{keeps_away_win, IsInRanges, allows_from}
 use Rattle.score_box.specs.Cells.{allows, IsAllowed, at_most_one, HasOneOutcome, IsCellOf}
-use Rattle.score_box.specs.Cells.{IsEmptyCell}
+use Rattle.score_box.specs.Cells.{IsEmptyCell, keeps_outcome}
 use Rattle.score_box.specs.Cells.{is_within, HasPassing, IsExactCell}
 use Rattle.score_box.specs.Points.{least_of_three, most_of_three, IsPointsOf}
 use Rattle.score_box.specs.Points.{AreOutcomesLeft, AreOutcomesAmong}
@@ -251,3 +253,99 @@ exact_left cell left exact home draw away =
       draw = subst Draw (sym draw) exact.draw;
       away_win = subst Away (sym away) exact.away_win;
     }
+
+-- ---- one score alone
+
+-- the cell of a score, with its outcome alone
+abbrev pub one_cell : Score → Cell
+one_cell score = record {
+  home_win = is_home_win score;
+  draw = is_draw score;
+  away_win = is_away_win score;
+  home_least = score.home;
+  home_most = score.home;
+  away_least = score.away;
+  away_most = score.away;
+}
+
+one_keeps : (score : Score) → keeps_outcome (one_cell score) score ≡ true
+one_keeps score =
+    outcome_cases {P = keeps_outcome (one_cell score) score ≡ true} score
+    (λ wins. keeps_home_win (one_cell score) score (ltb-true score.away score.home wins) ∙ wins)
+    (λ level. keeps_draw (one_cell score) score (eqb-true score.home score.away level) ∙ level)
+    (λ loses. keeps_away_win (one_cell score) score (ltb-true score.home score.away loses) ∙ loses)
+
+one_itself : (score : Score) → allows (one_cell score) score ≡ true
+one_itself score =
+    allows_from (one_cell score) score (record {
+      home_least = omega arith;
+      home_most = omega arith;
+      away_least = omega arith;
+      away_most = omega arith;
+    }) (one_keeps score)
+
+one_other : (score other : Score) → allows (one_cell score) other ≡ true → score ≡ other
+one_other score other allowed =
+    let between = (ranges_of (one_cell score) other allowed).0 in
+    let home : score.home ≡ other.home = omega
+    (arith, between.home_least, between.home_most) in
+    let away : score.away ≡ other.away = omega
+    (arith, between.away_least, between.away_most) in
+    λ i. record { home = home i; away = away i }
+
+-- two tests that follow from each other
+same_tests : (a b : Bool) → (a ≡ true → b ≡ true) → (b ≡ true → a ≡ true) → a ≡ b
+same_tests true b there back = sym (there refl)
+same_tests false true there back = back refl
+same_tests false false there back = refl
+
+-- it has that score and no other
+pub one_allows : (score other : Score) → allows (one_cell score) other ≡ same_score score other
+one_allows score other =
+    same_tests (allows (one_cell score) other) (same_score score other)
+    (λ allowed. same_score-itself score other (one_other score other allowed))
+    (λ same. ap (λ (s : Score). allows (one_cell score) s) (sym (same_score-true score other same))
+    ∙ one_itself score)
+
+-- so it has one that passes exactly where that score does
+one_passing : (score : Score) (test : Score → Bool) (has : Bool) → has ≡ test score
+    → HasPassing (one_cell score) test has
+one_passing score test true is =
+    let itself : IsAllowed (one_cell score) test score =
+    record { allowed = one_itself score; passed = sym is } in
+    record {
+      goals = Some (record {
+        home_least = score.home;
+        home_most = score.home;
+        away_least = score.away;
+        away_most = score.away;
+      });
+      says = record {
+        within = λ other one.
+            let between = (ranges_of (one_cell score) other one.allowed).0 in
+            record {
+              home_least = between.home_least;
+              home_most = between.home_most;
+              away_least = between.away_least;
+              away_most = between.away_most;
+            };
+        home_least = (score, itself, refl);
+        home_most = (score, itself, refl);
+        away_least = (score, itself, refl);
+        away_most = (score, itself, refl);
+      };
+      is = refl;
+    }
+one_passing score test false is = record {
+  goals = None;
+  says = λ other one. false≢true (is ∙ ap test (one_other score other one.allowed) ∙ one.passed);
+  is = refl;
+}
+
+-- and the outcome that it keeps is that of its score
+pub one_exact : (score : Score) → IsExactCell (one_cell score)
+one_exact score = record {
+  home_win = one_passing score is_home_win (is_home_win score) refl;
+  draw = one_passing score is_draw (is_draw score) refl;
+  away_win = one_passing score is_away_win (is_away_win score) refl;
+}

@@ -3,13 +3,31 @@
 
 ghost use Rattle.std.specs.Prelude.{◌≡◌};
 ghost use Rattle.league_core.specs.declared.season.Score.{Score};
+ghost use Rattle.league_core.specs.Finishes.{same_score};
 ghost use Rattle.score_box.specs.Cells.{allows, IsExactCell};
 ghost use Rattle.score_box.specs.Points.{AreOutcomesLeft};
 
 use super::Cell;
 use crate::points::OutcomesLeft;
+use league_core::Score;
 
 impl Cell {
+    /// This score alone, and its outcome alone.
+    pub(crate) fn played(score: Score) -> Cell
+        ensures scores { (other : Score) → allows result other ≡ same_score score other }
+        ensures exact { IsExactCell result }
+    {
+        Cell {
+            home_win: score.home > score.away,
+            draw: score.home == score.away,
+            away_win: score.home < score.away,
+            home_least: score.home,
+            home_most: score.home,
+            away_least: score.away,
+            away_most: score.away,
+        }
+    }
+
     /// The outcomes that an exact cell has left.
     pub(crate) fn left(&self) -> OutcomesLeft
         requires { IsExactCell self.now }

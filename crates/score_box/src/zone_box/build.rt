@@ -1,7 +1,7 @@
 //! The cells of a season, and the fixture that a literal is of.
 
 ghost use Rattle.std.specs.Prelude.{◌≡◌, ℕ, ◌<◌, ◌==◌, Bool, true, false, IfOk, IfSome, IfNone};
-ghost use Rattle.std.specs.Prelude.{MatchOption, List, [], length, Option, Some};
+ghost use Rattle.std.specs.Prelude.{MatchOption, List, [], length, Option, Some, None};
 ghost use Rattle.std.specs.List.{All};
 ghost use Rattle.league_core.specs.declared.season.Score.{Score};
 ghost use Rattle.league_core.specs.declared.zone.Literal.{Literal};
@@ -38,18 +38,19 @@ fn first_cell(played: Option<Score>, goal_limit: u8) -> Cell
         → allows result score ≡ may_end goal_limit played (Some score) }
     ensures exact { IsExactCell result }
 {
-    let mut cell = ending_cell(played, goal_limit);
-    cell.mend();
-    cell
+    match played {
+        Some(score) => Cell::played(score),
+        None => open_cell(goal_limit),
+    }
 }
 
-fn ending_cell(played: Option<Score>, goal_limit: u8) -> Cell
-    ensures { (score : Score) → allows result score ≡ may_end goal_limit played (Some score) }
+fn open_cell(goal_limit: u8) -> Cell
+    ensures scores { (score : Score) → allows result score ≡ may_end goal_limit None (Some score) }
+    ensures exact { IsExactCell result }
 {
-    match played {
-        Some(score) => Cell::only(score),
-        None => Cell::any(goal_limit),
-    }
+    let mut cell = Cell::any(goal_limit);
+    cell.mend();
+    cell
 }
 
 /// The fixture whose score a test looks at.
