@@ -386,6 +386,19 @@ near_together totals other result bound more sums near other_near column =
       omega (arith, ints, sum, first.1, second.1),
     )
 
+-- a row grows by a match when the row of that match alone is added
+pub grown_by : (value : Worth → ℤ) (old more new : Totals) → TotalsGrowBy value no_totals more
+    → AreTogether old more new → TotalsGrowBy value old new
+grown_by value old more new worth sums = record {
+  sums = λ column.
+      let none = zero_in column in
+      let here = worth.sums column in
+      let sum = sums column in
+      omega (arith, ints, none, here, sum);
+  near = λ bound near.
+      near_together old more new bound 255 sums near (worth.near 0 near_none);
+}
+
 -- the rows that are added against the clubs of a set are the club's row in it
 pub among-is : (sheet : Sheet) (season : Results) (clubs pairs : List Totals) (bits club : ℕ)
     (totals : Totals) → IsWithinLimits sheet → AreTables sheet.fixtures season.scores clubs pairs

@@ -1,8 +1,9 @@
 //! Tables of what was played, made in one walk over the fixtures.
 
-ghost use Rattle.std.specs.Prelude.{◌≡◌, ◌≢◌, ◌<◌, ◌≤◌, ◌+◌, ◌+ℤ◌, ℕ, pos, true, IfOk, [], ◌∷◌};
-ghost use Rattle.std.specs.Prelude.{neg_ℤ, ◌≤ℤ◌, if◌then◌else◌, length};
+ghost use Rattle.std.specs.Prelude.{◌≡◌, ◌≢◌, ◌<◌, ◌≤◌, ◌+◌, ◌+ℤ◌, ℕ, pos, true, false, IfOk, []};
+ghost use Rattle.std.specs.Prelude.{◌∷◌, neg_ℤ, ◌≤ℤ◌, if◌then◌else◌, length};
 ghost use Rattle.std.specs.List.{All};
+ghost use Rattle.league_core.specs.declared.season.Score.{Score};
 ghost use Rattle.league_core.specs.Limits.{most_fixtures};
 ghost use Rattle.league_core.specs.ClubSets.{clubs_in};
 ghost use Rattle.league_core.specs.Sums.{has_club, if_played, worth_to, worth_among};
@@ -153,24 +154,57 @@ fn add_if_played(clubs: &mut [Totals], pairs: &mut [Totals], fixture: Fixture, s
         (totals_at pairs.new (pair_place club rival)) }
 {
     if let Some(score) = score {
-        let home = fixture.home as usize;
-        let away = fixture.away as usize;
-        add(clubs, home, away, score);
-        add(pairs, 24 * home + away, 24 * away + home, score);
+        add_match(clubs, pairs, fixture, score);
     }
 }
 
-// Adds a match to two rows: what it is worth at home to the one, and away to the other.
-fn add(table: &mut [Totals], home: usize, away: usize, score: Score)
+// Adds a match with this score. What it is worth to each side is worked out once for both tables.
+fn add_match(clubs: &mut [Totals], pairs: &mut [Totals], fixture: Fixture, score: Score)
+    requires fixture { IsMatch fixture }
+    requires clubs { length clubs.old ≡ 24 }
+    requires pairs { length pairs.old ≡ 576 }
+    requires room_clubs { (place : ℕ) → place < 24
+        → AreTotalsNear 1000000 (totals_at clubs.old place) }
+    requires room_pairs { (club rival : ℕ) → club < 24 → rival < 24
+        → AreTotalsNear 1000000 (totals_at pairs.old (pair_place club rival)) }
+    ensures clubs { (club : ℕ) → club < 24
+        → TotalsGrowBy (λ worth. worth_to worth club fixture score)
+        (totals_at clubs.old club) (totals_at clubs.new club) }
+    ensures pairs { (club rival : ℕ) → club < 24 → rival < 24
+        → TotalsGrowBy (λ worth. worth_among (club ∷ rival ∷ []) worth club fixture score)
+        (totals_at pairs.old (pair_place club rival))
+        (totals_at pairs.new (pair_place club rival)) }
+{
+    let home = fixture.home as usize;
+    let away = fixture.away as usize;
+    let at_home = Totals::NONE.plus(score.home, score.away, false);
+    let on_tour = Totals::NONE.plus(score.away, score.home, true);
+    add(clubs, home, away, &at_home, &on_tour);
+    add(
+        pairs,
+        24 * home + away,
+        24 * away + home,
+        &at_home,
+        &on_tour,
+    );
+}
+
+// Adds to two rows what a match is worth: at home to the one, and away to the other.
+fn add(table: &mut [Totals], home: usize, away: usize, at_home: &Totals, on_tour: &Totals)
     requires different { home ≢ away }
     requires home { home < length table.old }
     requires away { away < length table.old }
     requires room_home { AreTotalsNear 1000000 (totals_at table.old home) }
     requires room_away { AreTotalsNear 1000000 (totals_at table.old away) }
-    ensures { AddsScore home away score table.old table.new }
+    requires near_home { AreTotalsNear 255 at_home.now }
+    requires near_away { AreTotalsNear 255 on_tour.now }
+    ensures { (score : Score)
+        → TotalsGrowBy (λ worth. worth score.home score.away false) no_totals at_home.now
+        → TotalsGrowBy (λ worth. worth score.away score.home true) no_totals on_tour.now
+        → AddsScore home away score table.old table.new }
 {
-    let at_home = table[home].plus(score.home, score.away, false);
-    let on_tour = table[away].plus(score.away, score.home, true);
-    table[home] = at_home;
-    table[away] = on_tour;
+    let home_row = table[home].with(at_home);
+    let away_row = table[away].with(on_tour);
+    table[home] = home_row;
+    table[away] = away_row;
 }

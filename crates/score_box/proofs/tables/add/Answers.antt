@@ -1,8 +1,34 @@
-use Rattle.score_box.proofs.TotalLemmas.{rows_grow}
+use Rattle.std.proofs.Common.{true, false, arith}
+use Rattle.league_core.specs.Sums.{Worth}
+use Rattle.score_box.specs.Totals.{totals_at}
+use Rattle.score_box.proofs.TotalLemmas.{near_wider, grown_by, rows_grow}
 use Rattle.score_box.proofs.tables.add.Goals as goal
 
+pub with-home_row-requires-clause-near : goal.with-home_row-requires-clause-near
+with-home_row-requires-clause-near c =
+    near_wider 1000000 100000000 (totals_at c.args.table.now c.args.home) (omega arith)
+    c.requires.room_home
+
+pub with-home_row-requires-clause-other_near : goal.with-home_row-requires-clause-other_near
+with-home_row-requires-clause-other_near c =
+    near_wider 255 100000000 c.args.at_home.now (omega arith) c.requires.near_home
+
+pub with-away_row-requires-clause-near : goal.with-away_row-requires-clause-near
+with-away_row-requires-clause-near c =
+    near_wider 1000000 100000000 (totals_at c.args.table.now c.args.away) (omega arith)
+    c.requires.room_away
+
+pub with-away_row-requires-clause-other_near : goal.with-away_row-requires-clause-other_near
+with-away_row-requires-clause-other_near c =
+    near_wider 255 100000000 c.args.on_tour.now (omega arith) c.requires.near_away
+
 pub returns : goal.returns
-returns c =
-    rows_grow c.args.table.now c.args.home c.args.away c.args.score c.plus-at_home.result
-    c.plus-on_tour.result c.requires.different c.requires.home c.requires.away
-    c.plus-at_home.ensures c.plus-on_tour.ensures
+returns c score home_worth away_worth =
+    rows_grow c.args.table.now c.args.home c.args.away score c.with-home_row.result
+    c.with-away_row.result c.requires.different c.requires.home c.requires.away
+    (grown_by (λ (worth : Worth). worth score.home score.away false)
+    (totals_at c.args.table.now c.args.home) c.args.at_home.now c.with-home_row.result home_worth
+    c.with-home_row.ensures)
+    (grown_by (λ (worth : Worth). worth score.away score.home true)
+    (totals_at c.args.table.now c.args.away) c.args.on_tour.now c.with-away_row.result away_worth
+    c.with-away_row.ensures)
