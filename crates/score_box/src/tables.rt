@@ -204,7 +204,7 @@ fn add(table: &mut [Totals], home: usize, away: usize, at_home: &Totals, on_tour
         → AddsScore home away score table.old table.new }
 {
     let home_row = table[home].with(at_home);
-    let away_row = table[away].with(on_tour);
     table[home] = home_row;
+    let away_row = table[away].with(on_tour);
     table[away] = away_row;
 }
