@@ -4,15 +4,14 @@ use Rattle.std.proofs.Common.{◌≡◌, ◌≢◌, ◌⊎◌, ℕ, zero, suc, �
 use Rattle.std.proofs.Common.{◌*◌, ◌<◌, ◌≤◌, ℤ, pos, ◌+ℤ◌, ◌-ℤ◌, ◌≤ℤ◌}
 use Rattle.std.proofs.Common.{Bool, true, false, not, eqb, cond, List}
 use Rattle.std.proofs.Common.{[], ◌∷◌, length, get_or, set, take, count_by}
-use Rattle.std.proofs.Common.{◌&&◌, ◌==◌, replicate, filter}
+use Rattle.std.proofs.Common.{◌&&◌, ◌==◌, filter}
 use Rattle.std.specs.List.{list_all}
 use Rattle.std.proofs.lemmas.List.Sums.{length-filter}
 use Rattle.std.specs.List.{All}
 use Rattle.std.proofs.lemmas.Bool.{eq-eqb, ne_eqb}
-use Rattle.std.proofs.lemmas.List.{get_or-replicate, length-replicate}
 use Rattle.league_core.specs.declared.sheet.Sheet.{Sheet}
 use Rattle.league_core.specs.Sheets.{IsWithinLimits}
-use Rattle.std.proofs.Common.{refl, sym, ap, ◌∙◌, subst, inl, inr, arith}
+use Rattle.std.proofs.Common.{refl, sym, ap, ◌∙◌, inl, inr, arith}
 use Rattle.std.proofs.lemmas.Int.{ints, clamps}
 use Rattle.std.proofs.lemmas.Bool.{false≢true, cases_lt, cases_eq, eqb-true, false_from_ne_true}
 use Rattle.std.proofs.lemmas.List.{ext_get_or, get_or-set_same, get_or-set_other, get_or_past}
@@ -23,7 +22,7 @@ use Rattle.league_core.specs.declared.sheet.Fixture.{Fixture}
 use Rattle.league_core.specs.declared.season.Score.{Score}
 use Rattle.league_core.specs.Sums.{match_points}
 use Rattle.league_core.specs.Options.{has_option, has_one_outcome}
-use Rattle.league_core.specs.PointRanges.{Range, one_value, added, range_of, range_from}
+use Rattle.league_core.specs.PointRanges.{Range, one_value, range_of, range_from}
 use Rattle.league_core.specs.PointRanges.{points_together, points_of_sides}
 use Rattle.league_core.proofs.OptionLemmas.{has_score-first}
 use Rattle.league_core.proofs.PointRangeLemmas.{range_of-same}
@@ -34,7 +33,7 @@ use Rattle.score_box.specs.declared.cell.Cell.{Cell}
 use Rattle.score_box.specs.declared.points.outcomes.MatchPoints.{MatchPoints}
 use Rattle.score_box.specs.Cells.{IsCellOf, IsEmptyCell}
 use Rattle.score_box.specs.Points.{IsPointsOf}
-use Rattle.score_box.specs.Boxes.{AreCellsOf, open_outcomes_in}
+use Rattle.score_box.specs.Boxes.{open_outcomes_in}
 use Rattle.score_box.specs.Ends.{alone_in, alone_over, empty_in, end_at, IsMatch, AreSpans}
 use Rattle.score_box.specs.Ends.{MovesSpans}
 use Rattle.score_box.specs.Cells.{HasOneOutcome}
@@ -324,106 +323,7 @@ count_more test options k true within is =
 count_more test options k false within is =
     let same = count_by_more_no test options k [] within (sym is) in omega (arith, same)
 
--- ---- the first walk over the fixtures
-
--- the options of the fixtures before a number, and none from there on
-pub record IsFront (i : ℕ) (cells : List Cell) (options : List (List Score)) : Type 0 where
-  pub many : length options ≡ length cells
-  pub before : (k : ℕ) (d : Cell) → k < i → k < length cells
-      → IsCellOf (get_or cells k d) (get_or options k [])
-  pub after : (k : ℕ) → i ≤ k → get_or options k [] ≡ []
-
--- where no fixture has an option, all come to nothing
-none_over : (club : ℕ) (fixtures : List Fixture) (options : List (List Score))
-    → ((k : ℕ) → get_or options k [] ≡ []) → alone_over fixtures options club ≡ one_value (pos 0)
-none_over club [] options none = refl
-none_over club (match ∷ fixtures) [] none = refl
-none_over club (match ∷ fixtures) (scores ∷ options) none =
-    ap (λ (r : Range). added (range_of (points_together (club ∷ []) match) scores) r)
-    (none_over club fixtures options (λ k. none (suc k)))
-    ∙ ap (λ (s : List Score). added (range_of (points_together (club ∷ []) match) s)
-    (one_value (pos 0))) (none 0)
-
-pub spans_none : (fixtures : List Fixture) (cells : List Cell) (options : List (List Score))
-    (lows highs : List ℤ) → IsFront 0 cells options → length lows ≡ 24 → length highs ≡ 24
-    → ((club : ℕ) → end_at lows club ≡ pos 0) → ((club : ℕ) → end_at highs club ≡ pos 0)
-    → AreSpans fixtures options lows highs
-spans_none fixtures cells options lows highs front many_lows many_highs low high = record {
-  many_lows = many_lows;
-  many_highs = many_highs;
-  least = λ club below.
-      low club
-      ∙ sym (ap (λ (r : Range). r.least) (none_over club fixtures options (λ k. front.after k
-      (omega arith))));
-  most = λ club below.
-      high club
-      ∙ sym (ap (λ (r : Range). r.greatest) (none_over club fixtures options (λ k. front.after k
-      (omega arith))));
-}
-
--- the front with one fixture less
-pub front_less : (i : ℕ) (cells : List Cell) (options : List (List Score)) → i < length cells
-    → IsFront (i + 1) cells options → IsFront i cells (set options i [])
-front_less i cells options within front = record {
-  many = length-set options i [] ∙ front.many;
-  before = λ k d below inside.
-      let other : k ≢ i = λ e. absurd (omega arith) in
-      let At : List Score → Type 0 = λ scores. IsCellOf (get_or cells k d) scores in
-      subst At (sym (get_or-set_other options i k [] [] other)) (front.before k d (omega arith)
-      inside);
-  after = λ k above. at k above (cases_eq k i);
-}
-  where
-    at : (k : ℕ) → i ≤ k → (k ≡ i) ⊎ (k ≢ i) → get_or (set options i []) k [] ≡ []
-    at k above (inl here) =
-        ap (λ n. get_or (set options i []) n []) here
-        ∙ get_or-set_same options i [] [] (omega (arith, front.many))
-    at k above (inr other) =
-        get_or-set_other options i k [] [] other ∙ front.after k (later k above other)
-      where
-        later : (k : ℕ) → i ≤ k → k ≢ i → i + 1 ≤ k
-        later k above other = omega arith
-
--- and that one put back
-pub front_back : (i : ℕ) (cells : List Cell) (options : List (List Score)) → i < length cells
-    → length options ≡ length cells
-    → set (set options i []) i (get_or options i []) ≡ options
-front_back i cells options within many =
-    set_is (set options i []) options i (omega (arith, length-set options i []))
-    (length-set options i []) (λ k other. sym (get_or-set_other options i k [] [] other))
-
--- all fixtures are before their number
-pub front_all : (cells : List Cell) (options : List (List Score)) → AreCellsOf cells options
-    → IsFront (length cells) cells options
-front_all cells options are = record {
-  many = sym are.many;
-  before = λ k d below inside. are.each k d inside;
-  after = λ k above. get_or_past options k [] (omega (arith, are.many));
-}
-
--- small numbers stay small, by three a fixture
-pub moved_small : (fixtures : List Fixture) (i : ℕ) (d : Fixture) (was now : Cell)
-    (after : List Score) (lows lows_new highs highs_new : List ℤ)
-    → MovesSpans (get_or fixtures i d) was now lows lows_new highs highs_new
-    → IsCellOf was [] → IsCellOf now after
-    → ((club : ℕ) → (pos 0 ≤ℤ end_at lows club) × (end_at lows club ≤ℤ pos (3 * i)))
-    → ((club : ℕ) → (pos 0 ≤ℤ end_at highs club) × (end_at highs club ≤ℤ pos (3 * i)))
-    → (club : ℕ) → ((pos 0 ≤ℤ end_at lows_new club)
-    × (end_at lows_new club ≤ℤ pos (3 * (i + 1))))
-    × ((pos 0 ≤ℤ end_at highs_new club) × (end_at highs_new club ≤ℤ pos (3 * (i + 1))))
-moved_small fixtures i d was now after lows lows_new highs highs_new moves was_is now_is low high
-    club =
-    let move = moves club [] after was_is now_is in
-    let small = one_small club (get_or fixtures i d) after in (
-      (
-        omega (arith, ints, move.0, small.0.0, (low club).0),
-        omega (arith, ints, move.0, small.0.1, (low club).1),
-      ),
-      (
-        omega (arith, ints, move.1, small.1.0, (high club).0),
-        omega (arith, ints, move.1, small.1.1, (high club).1),
-      ),
-    )
+-- ---- numbers of clubs
 
 -- a number written at a club's place
 pub one_moved : (numbers : List ℤ) (club : ℕ) (value by : ℤ) → club < length numbers
@@ -456,15 +356,6 @@ two_moved true true old middle new x x_new y y_new not_both first second =
 two_moved true false old middle new x x_new y y_new not_both first second = omega (arith, ints)
 two_moved false true old middle new x x_new y y_new not_both first second = omega (arith, ints)
 two_moved false false old middle new x x_new y y_new not_both first second = omega (arith, ints)
-
--- numbers that are nothing
-pub zero_at : (clubs club : ℕ) → end_at (replicate clubs (pos 0)) club ≡ pos 0
-zero_at clubs club =
-    elim (cases_lt club clubs) as (λ _. end_at (replicate clubs (pos 0)) club ≡ pos 0) [
-      | inl within ↦ get_or-replicate clubs club (pos 0) (pos 0) within
-      | inr past ↦ get_or_past (replicate clubs (pos 0)) club (pos 0)
-          (omega (arith, length-replicate {A = ℤ}))
-    ]
 
 -- ---- sheets
 

@@ -15,7 +15,7 @@ use Rattle.score_box.specs.declared.points.left.OutcomesLeft.{OutcomesLeft}
 use Rattle.score_box.specs.declared.points.outcomes.MatchPoints.{MatchPoints}
 use Rattle.score_box.specs.declared.cell.goals.Goals.{Goals}
 use Rattle.score_box.proofs.CellLemmas.{Says, ranges_of, keeps_home_win, keeps_draw}
-use Rattle.score_box.proofs.CellLemmas.{keeps_away_win, IsInRanges, allows_from}
+use Rattle.score_box.proofs.CellLemmas.{keeps_away_win, allows_from}
 use Rattle.score_box.specs.Cells.{allows, IsAllowed, at_most_one, HasOneOutcome, IsCellOf}
 use Rattle.score_box.specs.Cells.{IsEmptyCell, keeps_outcome}
 use Rattle.score_box.specs.Cells.{is_within, HasPassing, IsExactCell}

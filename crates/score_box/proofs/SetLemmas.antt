@@ -5,7 +5,7 @@ use Rattle.std.proofs.Common.{Bool, true, List, [], ◌∷◌, length, get_or, t
 use Rattle.std.proofs.Common.{None, Some, slice_index, refl, sym, ap, ◌∙◌, inl, inr, arith}
 use Rattle.std.specs.List.{All}
 use Rattle.std.proofs.lemmas.Int.{ints}
-use Rattle.std.proofs.lemmas.Bool.{cases_lt, ne_eqb}
+use Rattle.std.proofs.lemmas.Bool.{cases_lt, ne_eqb, eqb-true}
 use Rattle.std.proofs.lemmas.List.{get_or_past}
 use Rattle.league_core.specs.declared.sheet.Sheet.{Sheet}
 use Rattle.league_core.specs.declared.sheet.Fixture.{Fixture}
@@ -15,7 +15,8 @@ use Rattle.league_core.specs.Results.{Results}
 use Rattle.league_core.specs.Seasons.{IsLeague}
 use Rattle.league_core.specs.Sums.{has_club, match_points, worth_to, sum_over}
 use Rattle.league_core.specs.ClubSets.{clubs_below}
-use Rattle.league_core.specs.Options.{has_finish, options_in}
+use Rattle.league_core.specs.Options.{has_finish, has_option, options_in}
+use Rattle.league_core.proofs.HalfLemmas.{root_has_finish}
 use Rattle.league_core.specs.PointRanges.{Range, range_of, range_from, total_of}
 use Rattle.league_core.specs.PointRanges.{points_together, points_of_sides}
 use Rattle.league_core.specs.PointRanges.{least_points_of, most_points_of}
@@ -31,11 +32,11 @@ use Rattle.score_box.specs.declared.points.PointRange.{PointRange}
 use Rattle.score_box.specs.declared.points.outcomes.MatchPoints.{MatchPoints}
 use Rattle.score_box.specs.declared.totals.Totals.{Totals}
 use Rattle.score_box.specs.Boxes.{AreCellsOf}
-use Rattle.score_box.specs.Ends.{IsMatch}
+use Rattle.score_box.specs.Ends.{IsMatch, AreSpans, end_at, empty_in}
 use Rattle.score_box.specs.Points.{IsPointsOf, IsRangeOver, left_to}
 use Rattle.score_box.specs.Totals.{AreTables, totals_at, no_totals, points_column}
 use Rattle.score_box.specs.Unplayed.{unplayed_in}
-use Rattle.score_box.proofs.EndLemmas.{IsSmall, matches_of, range_small}
+use Rattle.score_box.proofs.EndLemmas.{IsSmall, matches_of, range_small, all_counted}
 use Rattle.score_box.proofs.SplitLemmas.{IsEnd, least_end, greatest_end, end_at_fixture}
 use Rattle.score_box.proofs.SplitLemmas.{KeepsPlayed}
 use Rattle.score_box.proofs.SplitLemmas.{keeps_played, range_split, total_take, no_match}
@@ -181,6 +182,57 @@ set_is sheet season zone cells unplayed clubs rows pairs won left league finish 
       omega (arith, ints, least, left_least, won_is),
       omega (arith, ints, most, left_most, won_is),
     )
+
+-- the numbers that begin with the points of the table, and take what is left
+pub first_spans : (sheet : Sheet) (season : Results) (rows pairs : List Totals)
+    (unplayed : List ℕ) (won lows highs : List ℤ) → IsLeague sheet season
+    → AreTables sheet.fixtures season.scores rows pairs → unplayed ≡ unplayed_in season.scores
+    → length lows ≡ 24 → length highs ≡ 24
+    → ((club : ℕ) → club < 24 → end_at won club ≡ (totals_at rows club).points)
+    → ((club : ℕ) → (end_at lows club ≡ end_at won club +ℤ total_of
+    (λ k. (left_to (club ∷ []) sheet.fixtures (options_in sheet season []) k).least) unplayed)
+    × (end_at highs club ≡ end_at won club +ℤ total_of
+    (λ k. (left_to (club ∷ []) sheet.fixtures (options_in sheet season []) k).greatest) unplayed))
+    → AreSpans sheet.fixtures (options_in sheet season []) lows highs
+first_spans sheet season rows pairs unplayed won lows highs league tables same many_lows many_highs
+    won_is sums = record {
+      many_lows = many_lows;
+      many_highs = many_highs;
+      least = λ club below.
+          let all = with_played (λ r. r.least) least_end (λ n. refl) sheet.fixtures season.scores
+          options rows pairs (club ∷ []) many many_options matches keeps tables in
+          let open_are = ap (total_of
+          (λ k. (left_to (club ∷ []) sheet.fixtures options k).least)) same in
+          omega (arith, ints, (sums club).0, won_is club below, all, open_are);
+      most = λ club below.
+          let all = with_played (λ r. r.greatest) greatest_end (λ n. refl) sheet.fixtures
+          season.scores options rows pairs (club ∷ []) many many_options matches keeps tables in
+          let open_are = ap (total_of
+          (λ k. (left_to (club ∷ []) sheet.fixtures options k).greatest)) same in
+          omega (arith, ints, (sums club).1, won_is club below, all, open_are);
+    }
+  where
+    options : List (List Score)
+    options = options_in sheet season []
+
+    many : length season.scores ≡ length sheet.fixtures
+    many = league.of_sheet.scores
+
+    many_options : length options ≡ length sheet.fixtures
+    many_options = length-options_from sheet.goal_limit [] 0 season.scores ∙ many
+
+    matches : All IsMatch sheet.fixtures
+    matches = matches_of sheet league.limits
+
+    keeps : KeepsPlayed season.scores options
+    keeps = keeps_played sheet season [] (root_has_finish sheet season)
+
+-- before any literal no fixture is without an option
+pub none_empty : (sheet : Sheet) (season : Results) → empty_in (options_in sheet season []) ≡ 0
+unfolding has_finish
+none_empty sheet season =
+    eqb-true (empty_in (options_in sheet season [])) 0
+    (all_counted has_option (options_in sheet season []) ∙ root_has_finish sheet season)
 
 -- less what is taken off, it is the points of the set
 pub least_points-is : (sheet : Sheet) (season : Results) (zone : List Literal) (clubs : List ℕ)

@@ -2,21 +2,31 @@
 //! cell of a fixture changes.
 
 ghost use Rattle.std.specs.Prelude.{◌≡◌, ◌<◌, ◌≤◌, ◌+◌, ◌==◌, ℕ, pos, ◌+ℤ◌, ◌-ℤ◌, ◌≤ℤ◌};
-ghost use Rattle.std.specs.Prelude.{List, [], length, slice_set, slice_index_or, if◌then◌else◌};
+ghost use Rattle.std.specs.Prelude.{List, [], ◌∷◌, length, slice_set, slice_index_or};
+ghost use Rattle.std.specs.Prelude.{if◌then◌else◌};
 ghost use Rattle.std.specs.List.{All};
 ghost use Rattle.league_core.specs.declared.season.Score.{Score};
 ghost use Rattle.league_core.specs.Limits.{most_fixtures};
+ghost use Rattle.league_core.specs.Options.{options_in};
+ghost use Rattle.league_core.specs.PointRanges.{total_of};
+ghost use Rattle.league_core.specs.Results.{Results};
+ghost use Rattle.league_core.specs.Seasons.{IsLeague};
+ghost use Rattle.league_core.specs.Sheets.{IsWithinLimits};
 ghost use Rattle.score_box.specs.declared.cell.Cell.{Cell};
 ghost use Rattle.score_box.specs.Cells.{IsCellOf, IsExactCell};
 ghost use Rattle.score_box.specs.Points.{AreOutcomesLeft};
 ghost use Rattle.score_box.specs.Boxes.{AreCellsOf, HasOptions, open_outcomes_in};
-ghost use Rattle.score_box.specs.Ends.{AreSpans, AreEnds, HasEndsOfCells};
+ghost use Rattle.score_box.specs.Ends.{AreEnds, HasEndsOfCells};
 ghost use Rattle.score_box.specs.Ends.{HasEndsAt, IsMatch, MovesSpans};
-ghost use Rattle.score_box.specs.Ends.{end_at, empty_in};
+ghost use Rattle.score_box.specs.Ends.{end_at};
+ghost use Rattle.score_box.specs.Points.{left_to};
+ghost use Rattle.score_box.specs.Totals.{AreTables, AreTotalsNear, totals_at};
+ghost use Rattle.score_box.specs.Unplayed.{unplayed_in};
 
 use crate::cell::Cell;
 use crate::points::OutcomesLeft;
-use league_core::Fixture;
+use crate::tables::Tables;
+use league_core::{Fixture, Sheet};
 
 /// The least and the most match points of each club, by the clubs' numbers; how many fixtures have
 /// no score left, and how many have scores of several outcomes.
@@ -29,58 +39,91 @@ pub struct Ends {
 }
 
 impl Ends {
-    /// The ends of these cells, in a walk over the fixtures.
-    pub fn of(fixtures: &[Fixture], cells: &[Cell]) -> Ends
-        requires many { length fixtures.now ≡ length cells.now }
-        requires few { length fixtures.now ≤ most_fixtures }
-        requires matches { All IsMatch fixtures.now }
+    /// The ends of these cells: what the table has of the fixtures that are played, and a walk over
+    /// the others. Before any literal no fixture is without a score.
+    pub fn of(sheet: &Sheet, cells: &[Cell], unplayed: &[u16], tables: &Tables) -> Ends
+        requires limits { IsWithinLimits sheet.now }
+        requires many { length sheet.now.fixtures ≡ length cells.now }
         requires some { HasOptions cells.now }
-        ensures { (options : List (List Score)) → AreCellsOf cells.now options
-            → AreEnds fixtures.now options result }
+        requires in_range { All (λ number. number < length sheet.now.fixtures) unplayed.now }
+        requires few { length unplayed.now ≤ most_fixtures }
+        requires clubs { length tables.now.clubs.items ≡ 24 }
+        requires near { (club : ℕ) → club < 24
+            → AreTotalsNear 153000 (totals_at tables.now.clubs.items club) }
+        ensures { (season : Results) → IsLeague sheet.now season
+            → AreCellsOf cells.now (options_in sheet.now season [])
+            → unplayed.now ≡ unplayed_in season.scores
+            → AreTables sheet.now.fixtures season.scores tables.now.clubs.items
+            tables.now.pairs.items
+            → AreEnds sheet.now.fixtures (options_in sheet.now season []) result }
     {
-        let mut lows = [0; 24];
-        let mut highs = [0; 24];
-        add_all(&mut lows, &mut highs, fixtures, cells);
+        let points = points_won(tables);
+        let mut lows = points;
+        let mut highs = points;
+        add_left(
+            &mut lows,
+            &mut highs,
+            sheet.fixtures.as_slice(),
+            cells,
+            unplayed,
+        );
         Ends {
             lows,
             highs,
-            empty: empty_cells(cells),
+            empty: 0,
             several: several_outcomes(cells),
         }
     }
 }
 
-// Adds what each fixture leaves to numbers that have nothing yet.
-fn add_all(lows: &mut [i32], highs: &mut [i32], fixtures: &[Fixture], cells: &[Cell])
+// The points of each club from its played matches.
+fn points_won(tables: &Tables) -> [i32; 24]
+    requires clubs { length tables.now.clubs.items ≡ 24 }
+    requires near { (club : ℕ) → club < 24
+        → AreTotalsNear 153000 (totals_at tables.now.clubs.items club) }
+    ensures many { length result ≡ 24 }
+    ensures value { (club : ℕ) → club < 24
+        → end_at result club ≡ (totals_at tables.now.clubs.items club).points }
+{
+    let mut points = [0; 24];
+    for club in 0..24 {
+        points[club as usize] = tables.of_club(club).points;
+    }
+    points
+}
+
+// Adds what the fixtures of these numbers leave each club.
+fn add_left(
+    lows: &mut [i32],
+    highs: &mut [i32],
+    fixtures: &[Fixture],
+    cells: &[Cell],
+    numbers: &[u16],
+)
     requires many { length fixtures.now ≡ length cells.now }
-    requires few { length fixtures.now ≤ most_fixtures }
     requires matches { All IsMatch fixtures.now }
     requires some { HasOptions cells.now }
+    requires in_range { All (λ number. number < length fixtures.now) numbers.now }
+    requires few { length numbers.now ≤ most_fixtures }
     requires lows { length lows.old ≡ 24 }
     requires highs { length highs.old ≡ 24 }
-    requires low { (club : ℕ) → end_at lows.old club ≡ pos 0 }
-    requires high { (club : ℕ) → end_at highs.old club ≡ pos 0 }
-    ensures { (options : List (List Score)) → AreCellsOf cells.now options
-        → AreSpans fixtures.now options lows.new highs.new }
+    requires low { (club : ℕ) → ((pos 0 -ℤ pos 153000) ≤ℤ end_at lows.old club)
+        × (end_at lows.old club ≤ℤ pos 153000) }
+    requires high { (club : ℕ) → ((pos 0 -ℤ pos 153000) ≤ℤ end_at highs.old club)
+        × (end_at highs.old club ≤ℤ pos 153000) }
+    ensures { (options : List (List Score)) → AreCellsOf cells.now options → (club : ℕ)
+        → (end_at lows.new club ≡ end_at lows.old club
+        +ℤ total_of (λ k. (left_to (club ∷ []) fixtures.now options k).least) numbers.now)
+        × (end_at highs.new club ≡ end_at highs.old club
+        +ℤ total_of (λ k. (left_to (club ∷ []) fixtures.now options k).greatest) numbers.now) }
 {
     let empty = Cell::none();
     let none = OutcomesLeft::of(&empty);
-    for i in 0..fixtures.len() {
-        let left = cells[i].left();
-        move_spans(lows, highs, fixtures[i], none, left);
+    for i in 0..numbers.len() {
+        let number = numbers[i] as usize;
+        let left = cells[number].left();
+        move_spans(lows, highs, fixtures[number], none, left);
     }
-}
-
-fn empty_cells(cells: &[Cell]) -> usize
-    requires { HasOptions cells.now }
-    ensures { (options : List (List Score)) → AreCellsOf cells.now options
-        → result ≡ empty_in options }
-{
-    let mut count = 0;
-    for cell in cells {
-        count += one_if(cell.left().are_none());
-    }
-    count
 }
 
 fn several_outcomes(cells: &[Cell]) -> usize
@@ -165,10 +208,10 @@ fn move_spans(
     requires fixture { IsMatch fixture }
     requires lows { length lows.old ≡ 24 }
     requires highs { length highs.old ≡ 24 }
-    requires low { (club : ℕ) → (pos 0 ≤ℤ end_at lows.old club)
-        × (end_at lows.old club ≤ℤ pos 1800) }
-    requires high { (club : ℕ) → (pos 0 ≤ℤ end_at highs.old club)
-        × (end_at highs.old club ≤ℤ pos 1800) }
+    requires low { (club : ℕ) → ((pos 0 -ℤ pos 200000) ≤ℤ end_at lows.old club)
+        × (end_at lows.old club ≤ℤ pos 200000) }
+    requires high { (club : ℕ) → ((pos 0 -ℤ pos 200000) ≤ℤ end_at highs.old club)
+        × (end_at highs.old club ≤ℤ pos 200000) }
     ensures { (was now : Cell) → AreOutcomesLeft was before → AreOutcomesLeft now after
         → MovesSpans fixture was now lows.old lows.new highs.old highs.new }
 {
@@ -184,8 +227,8 @@ fn move_spans(
 
 fn move_one(numbers: &mut [i32], club: u8, was: u8, now: u8)
     requires in_range { club < length numbers.old }
-    requires low { (other : ℕ) → (pos 0 -ℤ pos 10000) ≤ℤ end_at numbers.old other }
-    requires high { (other : ℕ) → end_at numbers.old other ≤ℤ pos 10000 }
+    requires low { (other : ℕ) → (pos 0 -ℤ pos 1000000) ≤ℤ end_at numbers.old other }
+    requires high { (other : ℕ) → end_at numbers.old other ≤ℤ pos 1000000 }
     ensures { (other : ℕ) → end_at numbers.new other ≡ (end_at numbers.old other
         +ℤ (if club == other then pos now -ℤ pos was else pos 0)) }
 {

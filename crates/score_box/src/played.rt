@@ -58,8 +58,8 @@ impl<'a> Played<'a> {
     {
         let cells = season_cells(alloc, season.scores(), sheet.goal_limit)?;
         let unplayed = unplayed_fixtures(alloc, season.scores())?;
-        let ends = Ends::of(sheet.fixtures.as_slice(), &cells);
         let tables = Tables::of(alloc, sheet.fixtures.as_slice(), season.scores())?;
+        let ends = Ends::of(sheet, &cells, &unplayed, &tables);
         Ok(Played {
             sheet,
             season,

@@ -1,6 +1,7 @@
 -- The numbers of the match's clubs and the two counts move on, each by what the two cells have.
 use Rattle.std.proofs.Common.{◌≡◌, ℕ, ◌<◌, Bool, not, ◌||◌, cond, List, [], length, get_or, sym, ap}
 use Rattle.std.proofs.Common.{◌∙◌, arith}
+use Rattle.std.proofs.lemmas.Int.{ints}
 use Rattle.league_core.specs.declared.season.Score.{Score}
 use Rattle.league_core.specs.Options.{has_option, has_one_outcome}
 use Rattle.score_box.specs.declared.cell.Cell.{Cell}
@@ -34,13 +35,17 @@ several_counted cell left options one are is same =
 
 pub move_spans-requires-clause-low : goal.move_spans-requires-clause-low
 move_spans-requires-clause-low c = λ club.
+    let small =
     (spans_small c.args.fixtures.now c.requires.ends.0 c.args.ends.now.lows c.args.ends.now.highs
-    c.requires.few c.requires.ends.2.spans club).0
+    c.requires.few c.requires.ends.2.spans club).0 in
+    (omega (arith, ints, small.0), omega (arith, ints, small.1))
 
 pub move_spans-requires-clause-high : goal.move_spans-requires-clause-high
 move_spans-requires-clause-high c = λ club.
+    let small =
     (spans_small c.args.fixtures.now c.requires.ends.0 c.args.ends.now.lows c.args.ends.now.highs
-    c.requires.few c.requires.ends.2.spans club).1
+    c.requires.few c.requires.ends.2.spans club).1 in
+    (omega (arith, ints, small.0), omega (arith, ints, small.1))
 
 pub moved_count-ends-requires-clause-counted : goal.moved_count-ends-requires-clause-counted
 moved_count-ends-requires-clause-counted c =

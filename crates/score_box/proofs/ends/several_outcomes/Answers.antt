@@ -1,5 +1,5 @@
 -- The next cell counts where it has several outcomes.
-use Rattle.std.proofs.Common.{◌≡◌, ◌<◌, true, not, cond, [], length, get_or, List}
+use Rattle.std.proofs.Common.{◌≡◌, ◌<◌, not, cond, [], length, get_or, List}
 use Rattle.std.proofs.Common.{sym, ap, ◌∙◌, arith}
 use Rattle.league_core.specs.declared.season.Score.{Score}
 use Rattle.league_core.specs.Options.{has_one_outcome}
