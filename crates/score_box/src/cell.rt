@@ -67,6 +67,7 @@ impl Cell {
         cell
     }
 
+    /// The cell has this score.
     pub fn allows(&self, score: &Score) -> bool
         ensures { result ≡ allows self.now score.now }
     {

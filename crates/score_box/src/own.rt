@@ -9,7 +9,8 @@ ghost use Rattle.score_box.specs.Settings.{HasFinish};
 use crate::zone_box::ZoneBox;
 use league_core::Question;
 
-/// The most points of the question's club, and no more than the window's.
+/// The most points of the question's club, deductions taken off, and no more than the window's:
+/// perhaps negative.
 pub fn own_most(zone_box: &ZoneBox, question: &Question) -> i32
     requires has_finish { HasFinish zone_box.now }
     requires of_sheet { question.now.club < length zone_box.now.sheet.clubs }
@@ -20,7 +21,8 @@ pub fn own_most(zone_box: &ZoneBox, question: &Question) -> i32
     question.high.min(zone_box.high(question.club))
 }
 
-/// The least points of the question's club, and no fewer than the window's.
+/// The least points of the question's club, deductions taken off, and no fewer than the window's:
+/// perhaps negative.
 pub fn own_least(zone_box: &ZoneBox, question: &Question) -> i32
     requires has_finish { HasFinish zone_box.now }
     requires of_sheet { question.now.club < length zone_box.now.sheet.clubs }

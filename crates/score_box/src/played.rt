@@ -70,6 +70,7 @@ impl<'a> Played<'a> {
         })
     }
 
+    /// The sheet that these are tables of.
     pub fn sheet(&self) -> &'a Sheet
         ensures sheet { result.now ≡ self.now.sheet }
         ensures limits { IsWithinLimits result.now }
@@ -77,6 +78,7 @@ impl<'a> Played<'a> {
         self.sheet
     }
 
+    /// The season that these are tables of.
     pub fn season(&self) -> &'a Season
         ensures season { result.now ≡ self.now.season }
         ensures of_sheet { IsSeasonOf self.now.sheet result.now }
@@ -98,7 +100,7 @@ impl<'a> Played<'a> {
         self.cells.as_slice()
     }
 
-    /// What a club's played matches add up to.
+    /// What a club's played matches add up to. Clubs count from 0; deductions do not count.
     pub fn totals(&self, club: u8) -> Totals
         requires in_range { club < length self.now.sheet.clubs }
         ensures sums { AreTotals
@@ -108,7 +110,8 @@ impl<'a> Played<'a> {
         self.tables.of_club(club)
     }
 
-    /// A club's points from its played matches, less what is taken off.
+    /// A club's points from its played matches, less what is taken off: perhaps negative. Clubs
+    /// count from 0.
     pub fn points_so_far(&self, club: u8) -> i32
         requires in_range { club < length self.now.sheet.clubs }
         ensures { result ≡ points_of self.now.sheet self.now.season club }
@@ -116,7 +119,8 @@ impl<'a> Played<'a> {
         self.totals(club).points - i32::from(self.season.deducted(club))
     }
 
-    /// What its played matches against one rival add up to.
+    /// What a club's played matches against one rival add up to, seen from the club. Clubs count
+    /// from 0.
     pub fn totals_against(&self, club: u8, rival: u8) -> Totals
         requires club { club < length self.now.sheet.clubs }
         requires rival { rival < length self.now.sheet.clubs }

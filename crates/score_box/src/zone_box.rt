@@ -144,7 +144,8 @@ impl<'a> ZoneBox<'a> {
         have_one_score(&self.cells)
     }
 
-    /// One of the scores that a fixture has left.
+    /// One of the scores that a fixture has left, where the zone has a finish. Fixtures count from
+    /// 0.
     pub fn pick(&self, fixture: u16) -> Score
         requires in_range { fixture < length self.now.season.scores }
         requires has_finish { HasFinish self.now }
@@ -174,7 +175,7 @@ impl<'a> ZoneBox<'a> {
         left.moved(won - off)
     }
 
-    /// The least points that the clubs of a set can have together.
+    /// The least points that the clubs of a set can have together, deductions taken off.
     pub fn low_points(&self, set: ClubSet) -> i32
         requires { HasFinish self.now }
         ensures least { result
@@ -184,7 +185,7 @@ impl<'a> ZoneBox<'a> {
         self.points(set).least
     }
 
-    /// The most points that the clubs of a set can have together.
+    /// The most points that the clubs of a set can have together, deductions taken off.
     pub fn high_points(&self, set: ClubSet) -> i32
         requires { HasFinish self.now }
         ensures most { result
@@ -208,6 +209,7 @@ impl<'a> ZoneBox<'a> {
         self.marks.after
     }
 
+    /// The sheet that the zone is of.
     pub fn sheet(&self) -> &Sheet
         ensures sheet { result.now ≡ self.now.sheet }
         ensures limits { IsWithinLimits result.now }
@@ -215,6 +217,7 @@ impl<'a> ZoneBox<'a> {
         self.sheet
     }
 
+    /// The season that the zone is of.
     pub fn season(&self) -> &Season
         ensures season { result.now ≡ self.now.season }
         ensures of_sheet { IsSeasonOf self.now.sheet result.now }
@@ -222,7 +225,7 @@ impl<'a> ZoneBox<'a> {
         self.season
     }
 
-    /// The scores that a fixture has left.
+    /// The scores that a fixture has left, perhaps none. Fixtures count from 0.
     pub fn cell(&self, fixture: u16) -> &Cell
         requires { fixture < length self.now.season.scores }
         ensures { IsCellOf result.now

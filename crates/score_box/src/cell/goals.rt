@@ -32,7 +32,8 @@ impl Goals {
 }
 
 impl Cell {
-    /// The goals of the home wins in the cell. The widest win is one of them.
+    /// The goals of the home wins in the cell; `None` where it has none. The widest win is one of
+    /// them.
     pub fn home_wins(&self) -> Option<Goals>
         ensures goals { MatchOption result (AllowsNone self.now is_home_win)
             (IsSpanOf self.now is_home_win) }
@@ -55,7 +56,7 @@ impl Cell {
         }
     }
 
-    /// The goals of the draws in the cell. The least of them is one.
+    /// The goals of the draws in the cell; `None` where it has none. The least of them is one.
     pub fn draws(&self) -> Option<Goals>
         ensures goals { MatchOption result (AllowsNone self.now is_draw)
             (IsSpanOf self.now is_draw) }
@@ -76,7 +77,8 @@ impl Cell {
         }
     }
 
-    /// The goals of the away wins in the cell. The widest win is one of them.
+    /// The goals of the away wins in the cell; `None` where it has none. The widest win is one of
+    /// them.
     pub fn away_wins(&self) -> Option<Goals>
         ensures goals { MatchOption result (AllowsNone self.now is_away_win)
             (IsSpanOf self.now is_away_win) }

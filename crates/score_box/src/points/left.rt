@@ -17,6 +17,7 @@ pub struct OutcomesLeft {
 }
 
 impl OutcomesLeft {
+    /// The outcomes that the cell has a score of, however it keeps them.
     pub fn of(cell: &Cell) -> OutcomesLeft
         ensures { AreOutcomesLeft cell.now result }
     {

@@ -22,7 +22,8 @@ use crate::totals::Totals;
 use league_core::{ClubSet, Literal};
 
 impl<'a> ZoneBox<'a> {
-    /// The least points of a club.
+    /// The least points of a club, deductions taken off, where the zone has a finish. Clubs count
+    /// from 0.
     pub fn low(&self, club: u8) -> i32
         requires has_finish { HasFinish self.now }
         requires in_range { club < length self.now.sheet.clubs }
@@ -34,7 +35,8 @@ impl<'a> ZoneBox<'a> {
         self.ends.lows[club as usize] - off
     }
 
-    /// The most points of a club.
+    /// The most points of a club, deductions taken off, where the zone has a finish. Clubs count
+    /// from 0.
     pub fn high(&self, club: u8) -> i32
         requires has_finish { HasFinish self.now }
         requires in_range { club < length self.now.sheet.clubs }
@@ -46,7 +48,8 @@ impl<'a> ZoneBox<'a> {
         self.ends.highs[club as usize] - off
     }
 
-    /// What a club's played matches add up to; what the zone says does not count.
+    /// What a club's played matches add up to; what the zone says does not count, nor do
+    /// deductions. Clubs count from 0.
     pub fn totals(&self, club: u8) -> Totals
         requires in_range { club < length self.now.sheet.clubs }
         ensures sums { AreTotals
@@ -56,7 +59,8 @@ impl<'a> ZoneBox<'a> {
         self.tables.of_club(club)
     }
 
-    /// A club's points from its played matches, less what is taken off.
+    /// A club's points from its played matches, less what is taken off: perhaps negative. Clubs
+    /// count from 0.
     pub fn points_so_far(&self, club: u8) -> i32
         requires in_range { club < length self.now.sheet.clubs }
         ensures { result ≡ points_of self.now.sheet self.now.season club }
@@ -64,7 +68,8 @@ impl<'a> ZoneBox<'a> {
         self.totals(club).points - i32::from(self.season.deducted(club))
     }
 
-    /// What its played matches against one rival add up to.
+    /// What a club's played matches against one rival add up to, seen from the club. Clubs count
+    /// from 0.
     pub fn totals_against(&self, club: u8, rival: u8) -> Totals
         requires club { club < length self.now.sheet.clubs }
         requires rival { rival < length self.now.sheet.clubs }
@@ -75,7 +80,8 @@ impl<'a> ZoneBox<'a> {
         self.tables.of_pair(club, rival)
     }
 
-    /// What the played matches of a club add up to within a group of which it is one.
+    /// What the played matches of a club add up to within a group of which it is one. Clubs count
+    /// from 0.
     pub fn totals_among(&self, group: ClubSet, club: u8) -> Totals
         requires group { (member : ℕ) → has_club (clubs_in group) member ≡ true
             → member < length self.now.sheet.clubs }
@@ -96,6 +102,7 @@ impl<'a> ZoneBox<'a> {
     }
 
     /// Which outcomes a fixture has left: whether its options have a home win, a draw, an away win.
+    /// Fixtures count from 0.
     pub fn outcomes_left(&self, fixture: u16) -> OutcomesLeft
         requires { fixture < length self.now.season.scores }
         ensures among { AreOutcomesAmong

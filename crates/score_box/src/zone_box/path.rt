@@ -49,7 +49,8 @@ impl<'a> ZoneBox<'a> {
         Ok(())
     }
 
-    /// Takes the last literal off the zone, and answers it. It takes no memory.
+    /// Takes the last literal off the zone, which must have one, and answers it. It takes no
+    /// memory.
     pub fn uncut(&mut self) -> Literal
         requires { self.old.zone ≢ [] }
         ensures zone { self.old.zone ≡ self.new.zone ++ result ∷ [] }
