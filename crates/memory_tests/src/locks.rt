@@ -6,7 +6,7 @@ ghost use Rattle.branch_pool.specs.States.{out_count};
 ghost use Rattle.epoch_cancel.specs.Seats.{seat_of};
 ghost use Rattle.pool_lock.specs.Lends.{IsEyeAfter};
 
-use crate::pools::{is_at, worked};
+use crate::pools::{all_nodes, is_at, is_split, stays, worked};
 use branch_pool::Pool;
 use epoch_cancel::{EpochWord, Eye, Front, Owner};
 use league_core::{Event, Score, Season, TreeNode};
@@ -131,53 +131,38 @@ fn may_be(season: &Season) -> bool
     !season.scores().is_empty()
 }
 
-// The nodes of all trees, tree by tree.
-fn all_nodes(alloc: Global, pool: &Pool) -> Result<Vec<TreeNode>, Fail> {
-    if pool.questions().len() != 6 {
-        return Err("other questions".into());
-    }
-    let mut all = Vec::new(alloc);
-    for place in 0..6u16 {
-        let nodes = pool.tree(place).nodes()?;
-        all.extend_from_slice(nodes.as_slice())?;
-    }
-    Ok(all)
+// The word told of the event from the report on where that was taken, and else not before it was
+// reported again.
+fn is_told_or_as_before(told: &Told, again: bool) -> bool {
+    let first = if told.is_taken { Some(1u64) } else { None };
+    let last = if again { Some(1) } else { first };
+    told.then == first
+        && told.at_last == last
+        && is_at(&told.pool, last.unwrap_or(0), 0, last.is_some())
 }
 
-// Whether the pool has the result where that was taken, and else is as before, and whether the
-// word tells the same. Of its six trees one is split.
-fn is_told_or_as_before<R: Wait>(
-    rt: &R,
-    alloc: Global,
-    pool: Pool,
-    again: bool,
-) -> Result<bool, Fail>
-    requires home { out_count pool.loans ≡ 0 }
-{
+// Whether the pool, whose first tree was split, has the result where that was taken, and else has
+// the nodes of before, and whether the word tells the same.
+fn reports_or_stays<R: Wait>(rt: &R, alloc: Global, again: bool) -> Result<bool, Fail> {
+    let pool = worked(alloc)?;
     let nodes = all_nodes(alloc, &pool)?;
-    if nodes.len() < 8 {
-        return Ok(false);
-    }
     let told = reported(rt, alloc, pool, again)?;
-    let is_then = told.then == if told.is_taken { Some(1) } else { None };
-    if told.is_taken || again {
-        return Ok(is_then && told.at_last == Some(1) && is_at(&told.pool, 1, 0, true));
-    }
-    let left = all_nodes(alloc, &told.pool)?;
-    let is_same = left.as_slice() == nodes.as_slice();
-    Ok(is_then && told.at_last.is_none() && is_same && is_at(&told.pool, 0, 0, false))
+    is_right(alloc, &told, nodes.as_slice(), again)
+}
+
+fn is_right(alloc: Global, told: &Told, nodes: &[TreeNode], again: bool) -> Result<bool, Fail> {
+    let is_told = is_split(&told.pool, nodes) && is_told_or_as_before(told, again);
+    Ok(is_told && (told.at_last.is_some() || stays(alloc, &told.pool, nodes)?))
 }
 
 #[test]
 fn a_report_leaves_a_pool_that_was_worked_on(rt: HostRuntime) -> Result<(), Fail> {
-    let pool = worked(rt.alloc())?;
-    assert!(rt; is_told_or_as_before(&rt, rt.alloc(), pool, false)?);
+    assert!(rt; reports_or_stays(&rt, rt.alloc(), false)?);
     Ok(())
 }
 
 #[test]
 fn a_report_that_was_refused_is_taken_again(rt: HostRuntime) -> Result<(), Fail> {
-    let pool = worked(rt.alloc())?;
-    assert!(rt; is_told_or_as_before(&rt, rt.alloc(), pool, true)?);
+    assert!(rt; reports_or_stays(&rt, rt.alloc(), true)?);
     Ok(())
 }

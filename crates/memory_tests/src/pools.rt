@@ -39,29 +39,38 @@ fn has_score(pool: &Pool) -> bool {
     pool.season().scores().iter().any(|score| score.is_some())
 }
 
-// Whether the tree at a place is one open leaf.
-fn is_open(pool: &Pool, place: u16) -> Result<bool, Fail> {
-    if pool.questions().len() <= place as usize {
+/// The nodes of all trees, tree by tree.
+pub fn all_nodes(alloc: Global, pool: &Pool) -> Result<Vec<TreeNode>, Fail> {
+    let mut all = Vec::new(alloc);
+    for place in 0..pool.questions().len() {
+        push_nodes(pool, place, &mut all)?;
+    }
+    Ok(all)
+}
+
+fn push_nodes(pool: &Pool, place: usize, all: &mut Vec<TreeNode>) -> Result<(), Fail> {
+    if pool.questions().len() <= place || 192 <= place {
         return Err("no question".into());
     }
-    let nodes = pool.tree(place).nodes()?;
-    Ok(nodes.as_slice() == [TreeNode::Open].as_slice())
+    let nodes = pool.tree(place as u16).nodes()?;
+    Ok(all.extend_from_slice(nodes.as_slice())?)
+}
+
+/// Whether the trees have these nodes, and nothing is told.
+pub fn stays(alloc: Global, pool: &Pool, nodes: &[TreeNode]) -> Result<bool, Fail> {
+    let own = all_nodes(alloc, pool)?;
+    Ok(is_at(pool, 0, 0, false) && own.as_slice() == nodes)
 }
 
 // Whether the pool is as at its beginning.
-fn is_begun(pool: &Pool) -> Result<bool, Fail> {
-    for place in 0..4u16 {
-        if !is_open(pool, place)? {
-            return Ok(false);
-        }
-    }
-    Ok(is_at(pool, 0, 0, false))
+fn is_begun(alloc: Global, pool: &Pool) -> Result<bool, Fail> {
+    stays(alloc, pool, [TreeNode::Open; 4].as_slice())
 }
 
 fn begins_or_not(alloc: Global) -> Result<bool, Fail> {
     let sample = sample_of(alloc, TWO_CLUBS).ok_or("no league")?;
     match begun(alloc, sample)? {
-        Ok(pool) => is_begun(&pool),
+        Ok(pool) => is_begun(alloc, &pool),
         Err(OutOfMemory) => Ok(true),
     }
 }
@@ -81,17 +90,20 @@ fn is_taken(pool: &mut Pool) -> bool {
 }
 
 // Whether the pool is as before, once a ticket was taken and given back.
-fn takes_or_stays(pool: &mut Pool) -> Result<bool, Fail> {
-    if is_taken(pool) {
-        return is_begun(pool);
-    }
-    Ok(is_begun(pool)? && is_taken(pool))
+fn takes_or_stays(alloc: Global, pool: &mut Pool) -> Result<bool, Fail> {
+    let took = is_taken(pool) || (is_begun(alloc, pool)? && is_taken(pool));
+    Ok(took && is_begun(alloc, pool)?)
+}
+
+// The same of a pool at its beginning.
+fn begun_takes_or_stays(alloc: Global) -> Result<bool, Fail> {
+    let mut pool = pool(alloc)?;
+    takes_or_stays(alloc, &mut pool)
 }
 
 #[test]
 fn take_leaves_the_pool(rt: HostRuntime) -> Result<(), Fail> {
-    let mut pool = pool(rt.alloc())?;
-    assert!(rt; takes_or_stays(&mut pool)?);
+    assert!(rt; begun_takes_or_stays(rt.alloc())?);
     Ok(())
 }
 
@@ -105,20 +117,25 @@ fn is_told(pool: &mut Pool) -> Result<bool, Fail> {
 }
 
 // Whether the pool has been told the result, at once or after it had stayed as it was.
-fn changes_or_stays(pool: &mut Pool) -> Result<bool, Fail> {
-    if !is_told(pool)? {
-        if !is_begun(pool)? {
-            return Ok(false);
-        }
-        is_told(pool)?;
-    }
-    Ok(is_at(pool, 1, 0, true))
+fn changes_or_stays(alloc: Global, pool: &mut Pool) -> Result<bool, Fail> {
+    let nodes = all_nodes(alloc, pool)?;
+    let told = is_told(pool)? || (stays(alloc, pool, nodes.as_slice())? && is_told(pool)?);
+    Ok(told && is_at(pool, 1, 0, true))
+}
+
+// The same of a pool at its beginning.
+fn begun_changes_or_stays(alloc: Global) -> Result<bool, Fail> {
+    let mut pool = pool(alloc)?;
+    open_changes_or_stays(alloc, &mut pool)
+}
+
+fn open_changes_or_stays(alloc: Global, pool: &mut Pool) -> Result<bool, Fail> {
+    Ok(is_begun(alloc, pool)? && changes_or_stays(alloc, pool)?)
 }
 
 #[test]
 fn change_leaves_the_pool(rt: HostRuntime) -> Result<(), Fail> {
-    let mut pool = pool(rt.alloc())?;
-    assert!(rt; changes_or_stays(&mut pool)?);
+    assert!(rt; begun_changes_or_stays(rt.alloc())?);
     Ok(())
 }
 
@@ -134,38 +151,28 @@ pub fn worked(alloc: Global) -> Result<Pool, Fail>
     Ok(finish(alloc, pool)?)
 }
 
-// The nodes of the tree of whether C can be first.
-fn nodes_of_first(pool: &Pool) -> Result<Vec<TreeNode>, Fail> {
-    if pool.questions().is_empty() {
-        return Err("no question".into());
-    }
-    Ok(pool.tree(0).nodes()?)
+/// Whether the pool has six questions, and the first of these nodes of its trees is a split.
+pub fn is_split(pool: &Pool, nodes: &[TreeNode]) -> bool {
+    let is_first_split = match nodes.first() {
+        Some(TreeNode::Split { .. }) => true,
+        _ => false,
+    };
+    pool.questions().len() == 6 && is_first_split
 }
 
-// Whether the first tree has these nodes, and nothing is told.
-fn is_as_worked(pool: &Pool, nodes: &[TreeNode]) -> Result<bool, Fail> {
-    let own = nodes_of_first(pool)?;
-    Ok(is_at(pool, 0, 0, false) && own.as_slice() == nodes)
+// The same of that pool, whose first tree is split.
+fn worked_changes_or_stays(alloc: Global) -> Result<bool, Fail> {
+    let mut pool = worked(alloc)?;
+    split_changes_or_stays(alloc, &mut pool)
 }
 
-// The same of a pool with a tree of many nodes.
-fn changes_worked_or_stays(pool: &mut Pool) -> Result<bool, Fail> {
-    let nodes = nodes_of_first(pool)?;
-    if nodes.len() < 3 {
-        return Ok(false);
-    }
-    if !is_told(pool)? {
-        if !is_as_worked(pool, nodes.as_slice())? {
-            return Ok(false);
-        }
-        is_told(pool)?;
-    }
-    Ok(is_at(pool, 1, 0, true))
+fn split_changes_or_stays(alloc: Global, pool: &mut Pool) -> Result<bool, Fail> {
+    let nodes = all_nodes(alloc, pool)?;
+    Ok(is_split(pool, nodes.as_slice()) && changes_or_stays(alloc, pool)?)
 }
 
 #[test]
 fn change_leaves_a_pool_that_was_worked_on(rt: HostRuntime) -> Result<(), Fail> {
-    let mut pool = worked(rt.alloc())?;
-    assert!(rt; changes_worked_or_stays(&mut pool)?);
+    assert!(rt; worked_changes_or_stays(rt.alloc())?);
     Ok(())
 }

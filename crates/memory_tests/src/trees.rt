@@ -7,7 +7,7 @@ ghost use Rattle.league_core.specs.Zones.{is_test_of};
 ghost use Rattle.tree_reuse.specs.Calls.{IsNodeOf, AreTestsOf};
 
 use league_core::{Claim, OutOfMemory, Question, Reason, Season, Sheet, Test, TreeNode};
-use sample_leagues::sample_of;
+use sample_leagues::{is_below, sample_of};
 use std::alloc::Global;
 use std::test::Fail;
 use tree_reuse::{Tree, TreeStop, retarget};
@@ -16,35 +16,42 @@ use tree_reuse::{Tree, TreeStop, retarget};
 const TWO_CLUBS: &[u8] = b"league,Tiny,1\nclub,A,1\nclub,B,2\nmatch,A,B\nmatch,B,A\nline,1\nseason
 result,1,1,0\n";
 
-// A leaf that counts B before A, and two leaves of the first match.
-fn three_leaves(alloc: Global) -> Result<Vec<TreeNode>, OutOfMemory> {
-    let reason = Reason::Count;
-    let fresh = true;
-    let rival = Test::Rival { club: 1 };
-    let match_won = Test::Home { fixture: 0 };
-    Ok(vec![in alloc;
-        TreeNode::Split { test: rival, fresh },
-        TreeNode::Refuted { reason, fresh },
-        TreeNode::Split {
-            test: match_won,
-            fresh
-        },
-        TreeNode::Open,
-        TreeNode::Open,
-    ]?)
+// The nodes of a text, sign by sign: `R` is a split by B's rank, `H` one by the first match, `C` a
+// leaf that is refuted by count, in small letters what is not fresh; `L` is a leaf that is lent
+// under 1, `O` an open one.
+fn nodes_of(alloc: Global, text: &[u8]) -> Result<Vec<TreeNode>, OutOfMemory> {
+    let mut nodes = Vec::new(alloc);
+    for sign in text {
+        nodes.push(node_of(*sign))?;
+    }
+    Ok(nodes)
 }
 
-// What the match that A won leaves of it.
-fn leaves_left() -> [TreeNode; 3] {
-    let reason = Reason::Count;
-    let fresh = false;
-    let test = Test::Rival { club: 1 };
-    [
-        TreeNode::Split { test, fresh },
-        TreeNode::Refuted { reason, fresh },
-        TreeNode::Open,
-    ]
+fn node_of(sign: u8) -> TreeNode {
+    let fresh = sign.is_ascii_uppercase();
+    match sign {
+        b'R' | b'r' => TreeNode::Split {
+            test: Test::Rival { club: 1 },
+            fresh,
+        },
+        b'H' => TreeNode::Split {
+            test: MATCH_WON,
+            fresh,
+        },
+        b'C' | b'c' => TreeNode::Refuted {
+            reason: Reason::Count,
+            fresh,
+        },
+        b'L' => TreeNode::Lent(1),
+        _ => TreeNode::Open,
+    }
 }
+
+/// A leaf that counts B before A, and two leaves of the first match.
+const THREE_LEAVES: &[u8] = b"RCHOO";
+
+/// What the match that A won leaves of it.
+const LEAVES_LEFT: &[u8] = b"rcO";
 
 const MATCH_WON: Test = Test::Home { fixture: 0 };
 
@@ -64,35 +71,36 @@ fn two_halves(alloc: Global) -> Result<Tree, OutOfMemory>
     }
 }
 
+// Whether a tree has the nodes of a text.
+fn has_nodes(alloc: Global, tree: &Tree, text: &[u8]) -> Result<bool, OutOfMemory> {
+    let wanted = nodes_of(alloc, text)?;
+    let own = tree.nodes()?;
+    Ok(own.as_slice() == wanted.as_slice())
+}
+
+// Whether a tree has a leaf that is lent, or stays as it was.
+fn root_lends_or_stays(alloc: Global) -> Result<bool, OutOfMemory> {
+    let mut tree = Tree::root(alloc)?;
+    let wanted = if tree.lend(1).is_ok() { b"L" } else { b"O" };
+    has_nodes(alloc, &tree, wanted)
+}
+
 #[test]
 fn lend_leaves_an_open_leaf(rt: HostRuntime) -> Result<(), Fail> {
-    let mut tree = Tree::root(rt.alloc())?;
-    let is_lent = tree.lend(1).is_ok();
-    let nodes = tree.nodes()?;
-    let node = if is_lent {
-        TreeNode::Lent(1)
-    } else {
-        TreeNode::Open
-    };
-    assert!(rt; nodes.as_slice() == [node].as_slice());
+    assert!(rt; root_lends_or_stays(rt.alloc())?);
     Ok(())
 }
 
 // The way to the leaf wants memory after the leaf was marked.
+fn halves_lend_or_stay(alloc: Global) -> Result<bool, OutOfMemory> {
+    let mut tree = two_halves(alloc)?;
+    let wanted = if tree.lend(1).is_ok() { b"HLO" } else { b"HOO" };
+    has_nodes(alloc, &tree, wanted)
+}
+
 #[test]
 fn lend_leaves_open_halves(rt: HostRuntime) -> Result<(), Fail> {
-    let mut tree = two_halves(rt.alloc())?;
-    let is_lent = tree.lend(1).is_ok();
-    let nodes = tree.nodes()?;
-    let test = MATCH_WON;
-    let fresh = true;
-    let half = if is_lent {
-        TreeNode::Lent(1)
-    } else {
-        TreeNode::Open
-    };
-    let wanted = [TreeNode::Split { test, fresh }, half, TreeNode::Open];
-    assert!(rt; nodes.as_slice() == wanted.as_slice());
+    assert!(rt; halves_lend_or_stay(rt.alloc())?);
     Ok(())
 }
 
@@ -103,13 +111,10 @@ fn tree_of(nodes: Vec<TreeNode>) -> Result<Tree, TreeStop> {
     Tree::of_nodes(*nodes.allocator(), nodes)
 }
 
-// Whether the list gives its tree; none where memory is wanting.
-fn gives_tree(list: &[TreeNode], nodes: Vec<TreeNode>) -> Result<Option<bool>, Fail> {
-    match tree_of(nodes) {
-        Ok(tree) => {
-            let own = tree.nodes()?;
-            Ok(Some(own.as_slice() == list))
-        }
+// Whether the list of a text gives its tree; none where memory is wanting.
+fn gives_tree(alloc: Global, text: &[u8]) -> Result<Option<bool>, Fail> {
+    match tree_of(nodes_of(alloc, text)?) {
+        Ok(tree) => Ok(Some(has_nodes(alloc, &tree, text)?)),
         Err(TreeStop::NoTree(_)) => Ok(Some(false)),
         Err(TreeStop::OutOfMemory) => Ok(None),
     }
@@ -117,9 +122,7 @@ fn gives_tree(list: &[TreeNode], nodes: Vec<TreeNode>) -> Result<Option<bool>, F
 
 #[test]
 fn a_list_of_a_tree_is_never_refused_as_none(rt: HostRuntime) -> Result<(), Fail> {
-    let list = three_leaves(rt.alloc())?;
-    let nodes = three_leaves(rt.alloc())?;
-    assert!(rt; gives_tree(list.as_slice(), nodes)? != Some(false));
+    assert!(rt; gives_tree(rt.alloc(), THREE_LEAVES)? != Some(false));
     Ok(())
 }
 
@@ -129,13 +132,7 @@ fn is_node_of(node: &TreeNode, fixtures: usize, clubs: usize) -> bool
 {
     match node {
         TreeNode::Open | TreeNode::Lent(_) | TreeNode::Refuted { .. } => true,
-        TreeNode::Split { test, .. } => match test {
-            Test::Home { fixture }
-            | Test::Draw { fixture }
-            | Test::HomeMost { fixture, .. }
-            | Test::AwayMost { fixture, .. } => (*fixture as usize) < fixtures,
-            Test::Rival { club } => (*club as usize) < clubs,
-        },
+        TreeNode::Split { test, .. } => is_below(test, fixtures, clubs),
     }
 }
 
@@ -171,20 +168,27 @@ fn carried(alloc: Global, tree: &Tree) -> Result<Option<Tree>, Fail> {
     Ok(retarget(alloc, &sample.sheet, &A_FIRST, tree, &sample.season).ok())
 }
 
-// Whether a tree has these nodes.
-fn has_nodes(tree: &Tree, nodes: &[TreeNode]) -> Result<bool, Fail> {
-    let own = tree.nodes()?;
-    Ok(own.as_slice() == nodes)
+// Whether the season leaves what it should of a tree, where there was memory for it.
+fn carries_or_not(alloc: Global, tree: &Tree) -> Result<bool, Fail> {
+    match carried(alloc, tree)? {
+        Some(carried) => Ok(has_nodes(alloc, &carried, LEAVES_LEFT)?),
+        None => Ok(true),
+    }
+}
+
+fn carries_and_stays(alloc: Global, tree: &Tree) -> Result<bool, Fail> {
+    let is_carried = carries_or_not(alloc, tree)?;
+    Ok(is_carried && has_nodes(alloc, tree, THREE_LEAVES)?)
+}
+
+fn three_leaves_stay(alloc: Global) -> Result<bool, Fail> {
+    let nodes = nodes_of(alloc, THREE_LEAVES)?;
+    let tree = tree_of(nodes).map_err(|_| "no tree")?;
+    carries_and_stays(alloc, &tree)
 }
 
 #[test]
 fn a_tree_that_is_carried_stays(rt: HostRuntime) -> Result<(), Fail> {
-    let list = three_leaves(rt.alloc())?;
-    let tree = tree_of(three_leaves(rt.alloc())?).map_err(|_| "no tree")?;
-    let carried = carried(rt.alloc(), &tree)?;
-    assert!(rt; has_nodes(&tree, list.as_slice())?);
-    if let Some(carried) = carried {
-        assert!(rt; has_nodes(&carried, leaves_left().as_slice())?);
-    }
+    assert!(rt; three_leaves_stay(rt.alloc())?);
     Ok(())
 }
