@@ -8,25 +8,45 @@ use std::alloc::Global;
 use std::test::Fail;
 use tree_reuse::{Tree, TreeStop};
 
-// The root is lent under 7 and split: its zone has no literal, and both leaves are open.
-fn is_split_root<T: ZoneTree + Drop>(alloc: Global) -> Result<bool, Fail> {
-    let mut tree = T::root(alloc)?;
-    let was_one_leaf = tree.is_one_open_leaf();
-    let Some(zone) = tree.lend(7)? else {
+// Whether a tree that is one open leaf lends it under 7, with no literal in its zone.
+fn lends_root<T: ZoneTree>(tree: &mut T) -> Result<bool, Fail> {
+    if !tree.is_one_open_leaf() {
         return Ok(false);
-    };
-    if times_lent(&tree, 7)? != 1 {
+    }
+    match tree.lend(7)? {
+        Some(zone) => Ok(zone.literals.is_empty()),
+        None => Ok(false),
+    }
+}
+
+// Splits what is lent under 7, where that is one leaf.
+fn splits<T: ZoneTree>(tree: &mut T) -> Result<bool, Fail> {
+    if times_lent(tree, 7)? != 1 {
         return Ok(false);
     }
     tree.split(7, test_at(0));
+    Ok(true)
+}
+
+// Whether the tree is a new split with two open leaves.
+fn is_split<T: ZoneTree>(tree: &T) -> Result<bool, Fail> {
     let test = test_at(0);
     let wanted = [
         TreeNode::Split { test, fresh: true },
         TreeNode::Open,
         TreeNode::Open,
     ];
-    let nodes = tree.nodes()?;
-    Ok(was_one_leaf && zone.literals.is_empty() && nodes.as_slice() == wanted.as_slice())
+    Ok(tree.nodes()?.as_slice() == wanted.as_slice())
+}
+
+fn lends_and_splits<T: ZoneTree>(tree: &mut T) -> Result<bool, Fail> {
+    Ok(lends_root(tree)? && splits(tree)? && is_split(tree)?)
+}
+
+// The root is lent under 7 and split: its zone has no literal, and both leaves are open.
+fn is_split_root<T: ZoneTree + Drop>(alloc: Global) -> Result<bool, Fail> {
+    let mut tree = T::root(alloc)?;
+    lends_and_splits(&mut tree)
 }
 
 #[test]
@@ -36,22 +56,30 @@ fn both_bodies_split_a_root(rt: HostRuntime) -> Result<(), Fail> {
     Ok(())
 }
 
-// A split with two leaves goes through, and one with one leaf comes back.
-fn tells_trees<T: ZoneTree + Drop>(alloc: Global) -> Result<bool, Fail> {
+fn has_two_leaves<T: ZoneTree>(tree: &T) -> Result<bool, Fail> {
+    Ok(tree.leaves()?.len() == 2 && tree.has_open())
+}
+
+// A split with two leaves goes through.
+fn two_leaves_are_a_tree<T: ZoneTree + Drop>(alloc: Global) -> Result<bool, Fail> {
     let two = vec![in alloc; split(0), TreeNode::Lent(3), TreeNode::Open]?;
+    match T::of_nodes(alloc, two) {
+        Ok(tree) => has_two_leaves(&tree),
+        Err(_stop) => Ok(false),
+    }
+}
+
+// A split with one leaf comes back.
+fn one_leaf_comes_back<T: ZoneTree + Drop>(alloc: Global) -> Result<bool, Fail> {
     let one = vec![in alloc; split(0), TreeNode::Open]?;
-    let goes_through = match T::of_nodes(alloc, two) {
-        Ok(tree) => tree.leaves()?.len() == 2 && tree.has_open(),
-        Err(_stop) => false,
-    };
-    let comes_back = match T::of_nodes(alloc, one) {
-        Ok(_tree) => false,
-        Err(stop) => match stop {
-            TreeStop::NoTree(back) => back.len() == 2,
-            TreeStop::OutOfMemory => false,
-        },
-    };
-    Ok(goes_through && comes_back)
+    match T::of_nodes(alloc, one) {
+        Err(TreeStop::NoTree(back)) => Ok(back.len() == 2),
+        Ok(_) | Err(TreeStop::OutOfMemory) => Ok(false),
+    }
+}
+
+fn tells_trees<T: ZoneTree + Drop>(alloc: Global) -> Result<bool, Fail> {
+    Ok(two_leaves_are_a_tree::<T>(alloc)? && one_leaf_comes_back::<T>(alloc)?)
 }
 
 #[test]

@@ -1,13 +1,14 @@
 //! Trees that are carried over a result.
 
 ghost use Rattle.std.specs.Prelude.{◌≡◌, All, IsTrue, IfOk, length};
+ghost use Rattle.league_core.specs.Seasons.{IsLeague};
 ghost use Rattle.league_core.specs.declared.sheet.Sheet.{Sheet};
 ghost use Rattle.tree_reuse.specs.Calls.{IsNodeOf, AreTestsOf};
 
 use crate::rows::tree_or_fail;
 use boxed_trees::{BoxedTree, ZoneTree};
 use league_core::{Claim, OutOfMemory, Question, Sheet, Test, TreeNode};
-use sample_leagues::sample_of;
+use sample_leagues::{Sample, sample_of};
 use std::alloc::Global;
 use std::test::Fail;
 use tree_reuse::Tree;
@@ -57,13 +58,20 @@ fn are_tests_of<T: ZoneTree>(sheet: &Sheet, tree: &T) -> Result<bool, OutOfMemor
     Ok(are_nodes_of(sheet, nodes.as_slice()))
 }
 
-// What the season of a text leaves of a tree that is split by the goals of its matches alone.
-fn carried<T: ZoneTree>(alloc: Global, text: &[u8], tree: &T) -> Result<T, Fail> {
-    let sample = sample_of(alloc, text).ok_or("no league")?;
+// What a season leaves of a tree that is split by the goals of its matches alone.
+fn carried_in<T: ZoneTree>(alloc: Global, sample: &Sample, tree: &T) -> Result<T, Fail>
+    requires league { IsLeague sample.now.sheet sample.now.season }
+{
     if !are_tests_of(&sample.sheet, tree)? || sample.sheet.clubs.is_empty() {
         return Err("a tree of another sheet".into());
     }
     Ok(T::retarget(alloc, &sample.sheet, &A_FIRST, tree, &sample.season)?)
+}
+
+// The same of the season of a text.
+fn carried<T: ZoneTree>(alloc: Global, text: &[u8], tree: &T) -> Result<T, Fail> {
+    let sample = sample_of(alloc, text).ok_or("no league")?;
+    carried_in(alloc, &sample, tree)
 }
 
 /// What the win by twelve goals leaves of the tree of a list.
@@ -96,14 +104,24 @@ fn goals_of_both<T: ZoneTree>(alloc: Global) -> Result<T, Fail> {
     tree_or_fail(nodes)
 }
 
+// Whether the season of a text leaves the split of the second match by so many goals.
+fn leaves_goals_of_b<T: ZoneTree + Drop>(
+    alloc: Global,
+    text: &[u8],
+    tree: &T,
+    most: u8,
+) -> Result<bool, Fail> {
+    let left = carried(alloc, text, tree)?.nodes()?;
+    Ok(left.as_slice() == goals_of_b(alloc, most, false)?.as_slice())
+}
+
+fn leaves_halves<T: ZoneTree + Drop>(alloc: Global, tree: &T) -> Result<bool, Fail> {
+    Ok(leaves_goals_of_b(alloc, WON_12_0, tree, 4)? && leaves_goals_of_b(alloc, WON_2_0, tree, 3)?)
+}
+
 fn is_half_of_the_score<T: ZoneTree + Drop>(alloc: Global) -> Result<bool, Fail> {
     let tree: T = goals_of_both(alloc)?;
-    let more = carried(alloc, WON_12_0, &tree)?.nodes()?;
-    let fewer = carried(alloc, WON_2_0, &tree)?.nodes()?;
-    Ok(
-        more.as_slice() == goals_of_b(alloc, 4, false)?.as_slice()
-            && fewer.as_slice() == goals_of_b(alloc, 3, false)?.as_slice(),
-    )
+    leaves_halves(alloc, &tree)
 }
 
 #[test]

@@ -143,19 +143,14 @@ fn call(draws: &mut Draws, pair: &mut Pair, number: u64) -> Result<(), Fail> {
     }
 }
 
-fn have_same_nodes(pair: &Pair) -> Result<(), Fail> {
+// Whether both have the same nodes, and the arena counts as many.
+fn have_same_nodes(pair: &Pair) -> Result<(bool, bool), Fail> {
     let arena = pair.arena.nodes()?;
     let boxed = pair.boxed.nodes()?;
-    same(arena.as_slice() == boxed.as_slice(), "other nodes")?;
-    same(
+    Ok((
+        arena.as_slice() == boxed.as_slice(),
         pair.arena.node_count() == boxed.len(),
-        "another number of nodes",
-    )?;
-    same(pair.arena.has_open() == pair.boxed.has_open(), "has_open")?;
-    same(
-        pair.arena.is_refuted() == pair.boxed.is_refuted(),
-        "is_refuted",
-    )
+    ))
 }
 
 fn are_same_zones(zones: &[Zone], others: &[Zone]) -> bool {
@@ -170,13 +165,23 @@ fn are_same_zones(zones: &[Zone], others: &[Zone]) -> bool {
     true
 }
 
-fn have_same_leaves(pair: &Pair) -> Result<(), Fail> {
+fn have_same_leaves(pair: &Pair) -> Result<bool, Fail> {
     let arena = pair.arena.leaves()?;
     let boxed = pair.boxed.leaves()?;
+    Ok(are_same_zones(arena.as_slice(), boxed.as_slice()))
+}
+
+// A look at all that both show.
+fn compare(pair: &Pair) -> Result<(), Fail> {
+    let (are_same, are_as_many) = have_same_nodes(pair)?;
+    same(are_same, "other nodes")?;
+    same(are_as_many, "another number of nodes")?;
+    same(pair.arena.has_open() == pair.boxed.has_open(), "has_open")?;
     same(
-        are_same_zones(arena.as_slice(), boxed.as_slice()),
-        "other leaves",
-    )
+        pair.arena.is_refuted() == pair.boxed.is_refuted(),
+        "is_refuted",
+    )?;
+    same(have_same_leaves(pair)?, "other leaves")
 }
 
 // A hundred calls, and a look at all nodes and leaves.
@@ -184,23 +189,37 @@ fn call_hundred(draws: &mut Draws, pair: &mut Pair, from: u64) -> Result<(), Fai
     for place in 0..100u64 {
         call(draws, pair, from.wrapping_mul(100).wrapping_add(place))?;
     }
-    have_same_nodes(pair)?;
-    have_same_leaves(pair)
+    compare(pair)
+}
+
+// A new root in place of trees that are large or refuted.
+fn renew(alloc: Global, pair: &mut Pair) -> Result<(), Fail> {
+    if MANY < pair.arena.node_count() || pair.arena.is_refuted() {
+        *pair = begin(alloc)?;
+    }
+    Ok(())
+}
+
+// A hundred times a hundred calls: how many nodes the greatest tree has that was looked at.
+fn call_all(alloc: Global, pair: &mut Pair) -> Result<usize, Fail> {
+    let mut draws = Draws::new(20);
+    let mut most = 0;
+    for hundred in 0..100u64 {
+        call_hundred(&mut draws, pair, hundred)?;
+        most = most.max(pair.arena.node_count());
+        renew(alloc, pair)?;
+    }
+    Ok(most)
+}
+
+fn begin_and_call(alloc: Global) -> Result<usize, Fail> {
+    let mut pair = begin(alloc)?;
+    call_all(alloc, &mut pair)
 }
 
 #[test]
 fn both_bodies_do_the_same_calls(rt: HostRuntime) -> Result<(), Fail> {
-    let mut draws = Draws::new(20);
-    let mut pair = begin(rt.alloc())?;
-    let mut most = 0;
-    for hundred in 0..100u64 {
-        call_hundred(&mut draws, &mut pair, hundred)?;
-        let count = pair.arena.node_count();
-        most = most.max(count);
-        if MANY < count || pair.arena.is_refuted() {
-            pair = begin(rt.alloc())?;
-        }
-    }
+    let most = begin_and_call(rt.alloc())?;
     assert!(rt; MANY < most, "{most}");
     Ok(())
 }

@@ -77,17 +77,30 @@ fn lends_in_turn(tree: &mut Tree, zones: &[[Literal; 2]]) -> Result<bool, Fail> 
     Ok(lend_next(tree, number)?.is_none())
 }
 
+fn listed_lends_in_turn(alloc: Global) -> Result<bool, Fail> {
+    let mut tree = tree_or_fail(four_leaves(alloc)?)?;
+    lends_in_turn(&mut tree, zones_behind().as_slice())
+}
+
 #[test]
 fn a_tree_that_was_read_back_lends_from_its_first_leaf_on(rt: HostRuntime) -> Result<(), Fail> {
-    let mut tree = tree_or_fail(four_leaves(rt.alloc())?)?;
-    assert!(rt; lends_in_turn(&mut tree, zones_behind().as_slice())?);
+    assert!(rt; listed_lends_in_turn(rt.alloc())?);
     Ok(())
+}
+
+// Whether the tree lends the first of four leaves under 7, and then the others in turn.
+fn lends_four(tree: &mut Tree) -> Result<(bool, bool), Fail> {
+    let first = lends(tree, 7, zone(true, 1, true).as_slice())?;
+    Ok((first, lends_in_turn(tree, zones_behind().as_slice())?))
+}
+
+fn carried_lends_four(alloc: Global) -> Result<(bool, bool), Fail> {
+    let mut tree = carried_over_12_0(alloc, four_leaves(alloc)?)?;
+    lends_four(&mut tree)
 }
 
 #[test]
 fn a_tree_that_was_carried_lends_from_its_first_leaf_on(rt: HostRuntime) -> Result<(), Fail> {
-    let mut tree = carried_over_12_0(rt.alloc(), four_leaves(rt.alloc())?)?;
-    assert!(rt; lends(&mut tree, 7, zone(true, 1, true).as_slice())?);
-    assert!(rt; lends_in_turn(&mut tree, zones_behind().as_slice())?);
+    assert_eq!(rt; carried_lends_four(rt.alloc())?, (true, true));
     Ok(())
 }

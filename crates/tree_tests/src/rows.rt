@@ -52,51 +52,64 @@ fn tree_of<T: ZoneTree>(nodes: Vec<TreeNode>) -> Result<T, TreeStop> {
     T::of_nodes(*nodes.allocator(), nodes)
 }
 
+// Whether the tree gives this list.
+fn gives(tree: &Tree, nodes: &[TreeNode]) -> Result<bool, Fail> {
+    Ok(tree.nodes()?.as_slice() == nodes)
+}
+
 // Whether the list is that of a tree, which gives the same list back.
-fn goes_through(alloc: Global, nodes: Vec<TreeNode>) -> Result<bool, Fail> {
-    let copy = Vec::from_slice(alloc, nodes.as_slice())?;
-    match tree_of::<Tree>(nodes) {
-        Ok(tree) => Ok(tree.nodes()?.as_slice() == copy.as_slice()),
+fn goes_through(alloc: Global, nodes: &[TreeNode]) -> Result<bool, Fail> {
+    match tree_of::<Tree>(Vec::from_slice(alloc, nodes)?) {
+        Ok(tree) => gives(&tree, nodes),
         Err(_) => Ok(false),
     }
 }
 
 // Whether the list is refused, and comes back.
-fn comes_back(alloc: Global, nodes: Vec<TreeNode>) -> Result<bool, Fail> {
-    let copy = Vec::from_slice(alloc, nodes.as_slice())?;
-    match tree_of::<Tree>(nodes) {
-        Err(TreeStop::NoTree(back)) => Ok(back.as_slice() == copy.as_slice()),
+fn comes_back(alloc: Global, nodes: &[TreeNode]) -> Result<bool, Fail> {
+    match tree_of::<Tree>(Vec::from_slice(alloc, nodes)?) {
+        Err(TreeStop::NoTree(back)) => Ok(back.as_slice() == nodes),
         Ok(_) | Err(TreeStop::OutOfMemory) => Ok(false),
     }
 }
 
+// How many nodes a chain in the no halves has, and whether it goes through.
+fn chain_of_no_goes_through(alloc: Global) -> Result<(usize, bool), Fail> {
+    let nodes = chain_of_no(alloc, 50_000)?;
+    Ok((nodes.len(), goes_through(alloc, nodes.as_slice())?))
+}
+
+// The same of one in the yes halves.
+fn chain_of_yes_goes_through(alloc: Global) -> Result<(usize, bool), Fail> {
+    let nodes = chain_of_yes(alloc, 50_000)?;
+    Ok((nodes.len(), goes_through(alloc, nodes.as_slice())?))
+}
+
 #[test]
 fn chains_of_100_001_nodes_go_through(rt: HostRuntime) -> Result<(), Fail> {
-    let alloc = rt.alloc();
-    let nodes = chain_of_no(alloc, 50_000)?;
-    assert_eq!(rt; nodes.len(), 100_001);
-    assert!(rt; goes_through(alloc, nodes)?);
-    let nodes = chain_of_yes(alloc, 50_000)?;
-    assert_eq!(rt; nodes.len(), 100_001);
-    assert!(rt; goes_through(alloc, nodes)?);
+    assert_eq!(rt; chain_of_no_goes_through(rt.alloc())?, (100_001, true));
+    assert_eq!(rt; chain_of_yes_goes_through(rt.alloc())?, (100_001, true));
     Ok(())
 }
 
-// One leaf more than its splits have room for.
+// How many nodes a list has that has one leaf more than its splits have room for, and whether it
+// comes back.
+fn longer_chain_comes_back(alloc: Global) -> Result<(usize, bool), Fail> {
+    let mut nodes = chain_of_no(alloc, 50_000)?;
+    nodes.push(TreeNode::Open)?;
+    Ok((nodes.len(), comes_back(alloc, nodes.as_slice())?))
+}
+
 #[test]
 fn a_list_of_100_002_nodes_is_refused(rt: HostRuntime) -> Result<(), Fail> {
-    let mut nodes = chain_of_no(rt.alloc(), 50_000)?;
-    nodes.push(TreeNode::Open)?;
-    assert_eq!(rt; nodes.len(), 100_002);
-    assert!(rt; comes_back(rt.alloc(), nodes)?);
+    assert_eq!(rt; longer_chain_comes_back(rt.alloc())?, (100_002, true));
     Ok(())
 }
 
 #[test]
 fn a_split_with_one_half_is_no_tree(rt: HostRuntime) -> Result<(), Fail> {
-    let nodes = vec![in rt.alloc(); split(0), TreeNode::Open]?;
-    assert!(rt; comes_back(rt.alloc(), nodes)?);
-    assert!(rt; comes_back(rt.alloc(), Vec::new(rt.alloc()))?);
+    assert!(rt; comes_back(rt.alloc(), &[split(0), TreeNode::Open])?);
+    assert!(rt; comes_back(rt.alloc(), &[])?);
     Ok(())
 }
 
@@ -138,14 +151,26 @@ pub fn tree_or_fail<T: ZoneTree>(nodes: Vec<TreeNode>) -> Result<T, Fail> {
     }
 }
 
+// How many leaves the tree has, and whether they are those of a chain of so many splits.
+fn leaves_seen(tree: &Tree, splits: usize) -> Result<(usize, bool), Fail> {
+    let leaves = tree.leaves()?;
+    Ok((leaves.len(), are_leaves_of_chain(leaves.as_slice(), splits)))
+}
+
+fn leaves_of_list(nodes: Vec<TreeNode>, splits: usize) -> Result<(usize, bool), Fail> {
+    let tree: Tree = tree_or_fail(nodes)?;
+    leaves_seen(&tree, splits)
+}
+
+// How many nodes a chain of 1,000 splits has, and what its leaves are.
+fn long_chain(alloc: Global) -> Result<(usize, (usize, bool)), Fail> {
+    let nodes = chain_of_no(alloc, 1000)?;
+    Ok((nodes.len(), leaves_of_list(nodes, 1000)?))
+}
+
 #[test]
 fn a_chain_of_2_001_nodes_has_its_leaves(rt: HostRuntime) -> Result<(), Fail> {
-    let nodes = chain_of_no(rt.alloc(), 1000)?;
-    assert_eq!(rt; nodes.len(), 2001);
-    let tree: Tree = tree_or_fail(nodes)?;
-    let leaves = tree.leaves()?;
-    assert_eq!(rt; leaves.len(), 1001);
-    assert!(rt; are_leaves_of_chain(leaves.as_slice(), 1000));
+    assert_eq!(rt; long_chain(rt.alloc())?, (2001, (1001, true)));
     Ok(())
 }
 
@@ -162,15 +187,31 @@ fn split_lent(tree: &mut Tree, number: u64) -> Result<(), Fail> {
     Ok(())
 }
 
+// What is lent before and after the split of a root, and how many leaves that leaves.
+type Lent = ([Option<usize>; 2], usize, [Option<usize>; 3]);
+
+fn lend_and_split(tree: &mut Tree) -> Result<Lent, Fail> {
+    let before = [lent_depth(tree, 7)?, lent_depth(tree, 8)?];
+    split_lent(tree, 7)?;
+    let count = tree.leaves()?.len();
+    let after = [
+        lent_depth(tree, 7)?,
+        lent_depth(tree, 8)?,
+        lent_depth(tree, 9)?,
+    ];
+    Ok((before, count, after))
+}
+
+fn lend_and_split_root(alloc: Global) -> Result<Lent, Fail> {
+    let mut tree = Tree::root(alloc)?;
+    lend_and_split(&mut tree)
+}
+
 #[test]
 fn one_leaf_is_lent_once_and_split(rt: HostRuntime) -> Result<(), Fail> {
-    let mut tree = Tree::root(rt.alloc())?;
-    assert_eq!(rt; lent_depth(&mut tree, 7)?, Some(0));
-    assert_eq!(rt; lent_depth(&mut tree, 8)?, None);
-    split_lent(&mut tree, 7)?;
-    assert_eq!(rt; tree.leaves()?.len(), 2);
-    assert_eq!(rt; lent_depth(&mut tree, 7)?, Some(1));
-    assert_eq!(rt; lent_depth(&mut tree, 8)?, Some(1));
-    assert_eq!(rt; lent_depth(&mut tree, 9)?, None);
+    let (before, count, after) = lend_and_split_root(rt.alloc())?;
+    assert_eq!(rt; before, [Some(0), None]);
+    assert_eq!(rt; count, 2);
+    assert_eq!(rt; after, [Some(1), Some(1), None]);
     Ok(())
 }
