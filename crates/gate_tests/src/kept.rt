@@ -2,10 +2,13 @@
 
 ghost use Rattle.std.specs.Prelude.{None};
 
-use crate::runs::is_answered;
+use crate::runs::{is_answered, source_of};
 use port_core::{MemSource, Put, Sink};
+use std::alloc::Global;
+use std::sync::Wait;
 use std::sync::atomic::{AtomicU64, Ordering};
 use std::test::Fail;
+use std::thread::Threads;
 use worker_gate::{Gate, Point};
 
 // Two clubs and one match that ended 0:0, and two asks.
@@ -48,24 +51,41 @@ impl Sink for Noting<'_> {
     }
 }
 
-// Each answer has a row for the ask and one for each club, and each row is a piece.
-#[test]
-fn a_round_without_events_keeps_what_was_found(rt: HostRuntime) -> Result<(), Fail> {
-    let alloc = rt.alloc();
-    let count = Count {
-        taken: AtomicU64::new(0),
-    };
-    let input = ASKED_TWICE.to_vec(alloc)?;
-    let mut source = MemSource::new(input, 8192, Vec::new(alloc));
+// What is noted of a run: whether it is answered, how many pieces it wrote, and how many tickets
+// there had been at the first and at the fourth.
+type Noted = (bool, usize, u64, u64);
+
+fn note_run<R: Threads + Wait + Sync + Alloc<A = Global>>(
+    rt: &R,
+    source: &mut MemSource,
+    count: &Count,
+) -> Result<Noted, Fail> {
     let mut sink = Noting {
-        count: &count,
+        count,
         notes: [0; 6],
         pieces: 0,
     };
-    let is_answered = is_answered(&rt, "1", &mut source, &mut sink, &count)?;
-    let (first, second) = (sink.notes[0], sink.notes[3]);
+    let is_answered = is_answered(rt, "1", source, &mut sink, count)?;
+    Ok((is_answered, sink.pieces, sink.notes[0], sink.notes[3]))
+}
+
+fn note_two_asks<R: Threads + Wait + Sync + Alloc<A = Global>>(
+    rt: &R,
+    count: &Count,
+) -> Result<Noted, Fail> {
+    let mut source = source_of(rt.alloc(), ASKED_TWICE)?;
+    note_run(rt, &mut source, count)
+}
+
+// Each answer has a row for the ask and one for each club, and each row is a piece.
+#[test]
+fn a_round_without_events_keeps_what_was_found(rt: HostRuntime) -> Result<(), Fail> {
+    let count = Count {
+        taken: AtomicU64::new(0),
+    };
+    let (is_answered, pieces, first, second) = note_two_asks(&rt, &count)?;
     assert!(rt; is_answered);
-    assert_eq!(rt; sink.pieces, 6);
+    assert_eq!(rt; pieces, 6);
     assert!(rt; first > 0);
     assert_eq!(rt; second, first);
     Ok(())

@@ -2,10 +2,12 @@
 //! given one back.
 
 use crate::gates::{await_mark, is_set, set};
-use crate::runs::{TWO_CLUBS, is_answered, sink_of};
-use port_core::MemSource;
+use crate::runs::{TWO_CLUBS, is_answered, sink_of, source_of};
+use std::alloc::Global;
+use std::sync::Wait;
 use std::sync::atomic::{AtomicU64, Ordering};
 use std::test::Fail;
+use std::thread::Threads;
 use worker_gate::{Gate, Point};
 
 // Holds the first worker that takes a ticket. Its number is kept from 1.
@@ -52,15 +54,20 @@ impl Meeting {
     }
 }
 
+// Whether a run of two workers is answered.
+fn is_run_answered<R: Threads + Wait + Sync + Alloc<A = Global>>(
+    rt: &R,
+    gate: &Meeting,
+) -> Result<bool, Fail> {
+    let mut source = source_of(rt.alloc(), TWO_CLUBS)?;
+    let mut sink = sink_of(rt.alloc())?;
+    is_answered(rt, "2", &mut source, &mut sink, gate)
+}
+
 #[test]
 fn two_workers_are_inside_at_once(rt: HostRuntime) -> Result<(), Fail> {
-    let alloc = rt.alloc();
     let gate = Meeting::new();
-    let input = TWO_CLUBS.to_vec(alloc)?;
-    let mut source = MemSource::new(input, 8192, Vec::new(alloc));
-    let mut sink = sink_of(alloc)?;
-    let is_answered = is_answered(&rt, "2", &mut source, &mut sink, &gate)?;
-    assert!(rt; is_answered);
+    assert!(rt; is_run_answered(&rt, &gate)?);
     assert!(rt; is_set(&gate.held));
     assert!(rt; is_set(&gate.given));
     assert!(rt; !is_set(&gate.missed));

@@ -1,10 +1,12 @@
 //! One worker settles a round of sixteen clubs, and a round without events keeps what it found.
 
 ghost use Rattle.std.specs.Prelude.{◌≡◌, IfOk};
+ghost use Rattle.league_core.specs.Sheets.{IsWithinLimits};
 ghost use Rattle.branch_pool.specs.States.{out_count};
 
+use crate::runs::source_of;
 use branch_pool::{Answer, Pool};
-use league_core::Sheet;
+use league_core::{OutOfMemory, Sheet};
 use port_core::{LineReader, MemSource};
 use sample_leagues::sample_of;
 use std::alloc::Global;
@@ -24,16 +26,27 @@ const SIXTEEN: &[u8] = b"league,Sixteen,20\nclub,K01,1\nclub,K02,2\nclub,K03,3\n
 // K01 wins both, so that it has six points, and no other club can have more than three.
 const TWICE_WON: &[u8] = b"result,1,1,0\nresult,2,1,0\nask\n";
 
-// A pool of the sixteen, of which nothing is out, and its sheet once more.
-fn begun(alloc: Global) -> Result<(Sheet, Pool), Fail>
-    ensures sheet { IfOk result (λ made. made.0 ≡ made.1.sheet) }
-    ensures home { IfOk result (λ made. out_count made.1.loans ≡ 0) }
+// A feed, and who reads it.
+#[derive(Drop)]
+struct Feed {
+    reader: LineReader,
+    source: MemSource,
+}
+
+fn feed_of(alloc: Global, text: &[u8]) -> Result<Feed, Fail> {
+    let reader = LineReader::new(alloc)?;
+    let source = source_of(alloc, text)?;
+    Ok(Feed { reader, source })
+}
+
+// A pool of the sixteen, of which nothing is out.
+fn begun(alloc: Global, sheet: &Sheet) -> Result<Pool, OutOfMemory>
+    requires limits { IsWithinLimits sheet.now }
+    ensures of_sheet { IfOk result (λ pool. sheet.now ≡ pool.sheet) }
+    ensures home { IfOk result (λ pool. out_count pool.loans ≡ 0) }
 {
-    let sample = sample_of(alloc, SIXTEEN).ok_or("no league")?;
-    let sheet = sample.sheet.copy(alloc)?;
-    let asked = questions(alloc, &sheet)?;
-    let pool = Pool::begin(alloc, sample.sheet, asked)?;
-    Ok((sheet, pool))
+    let asked = questions(alloc, sheet)?;
+    Pool::begin(alloc, sheet.copy(alloc)?, asked)
 }
 
 // The pool after a round with one worker that reads this feed to its ask.
@@ -42,22 +55,20 @@ fn asked<R: Threads + Wait + Sync>(
     alloc: Global,
     sheet: &Sheet,
     pool: Pool,
-    feed: &[u8],
+    feed: &mut Feed,
 ) -> Result<Pool, Fail>
     requires of_pool { sheet.now ≡ pool.sheet }
     requires home { out_count pool.loans ≡ 0 }
     ensures of_pool { IfOk result (λ new. sheet.now ≡ new.sheet) }
     ensures home { IfOk result (λ new. out_count new.loans ≡ 0) }
 {
-    let mut reader = LineReader::new(alloc)?;
-    let mut source = MemSource::new(feed.to_vec(alloc)?, 8192, Vec::new(alloc));
     let round = run_round(
         rt,
         alloc,
         sheet,
         pool,
-        &mut reader,
-        &mut source,
+        &mut feed.reader,
+        &mut feed.source,
         1,
         &OpenGate,
     )?;
@@ -88,13 +99,88 @@ fn is_settled(pool: &Pool) -> bool {
     count_of(pool, Answer::Won) == 16 && count_of(pool, Answer::Refuted) == 16
 }
 
+// Whether the pool is settled after a round.
+fn is_settled_after<R: Threads + Wait + Sync>(
+    rt: &R,
+    alloc: Global,
+    sheet: &Sheet,
+    pool: Pool,
+    feed: &mut Feed,
+) -> Result<bool, Fail>
+    requires of_pool { sheet.now ≡ pool.sheet }
+    requires home { out_count pool.loans ≡ 0 }
+{
+    let pool = asked(rt, alloc, sheet, pool, feed)?;
+    Ok(is_settled(&pool))
+}
+
+// Whether it is settled after the first and after the second of two rounds.
+fn is_settled_twice<R: Threads + Wait + Sync>(
+    rt: &R,
+    alloc: Global,
+    sheet: &Sheet,
+    pool: Pool,
+    first: &mut Feed,
+    second: &mut Feed,
+) -> Result<(bool, bool), Fail>
+    requires of_pool { sheet.now ≡ pool.sheet }
+    requires home { out_count pool.loans ≡ 0 }
+{
+    let pool = asked(rt, alloc, sheet, pool, first)?;
+    let is_first = is_settled(&pool);
+    let is_second = is_settled_after(rt, alloc, sheet, pool, second)?;
+    Ok((is_first, is_second))
+}
+
+// How many questions of the sixteen are not yet answered at first, and whether all are settled
+// after each of two rounds.
+type Settled = (u16, (bool, bool));
+
+fn two_rounds<R: Threads + Wait + Sync>(
+    rt: &R,
+    alloc: Global,
+    sheet: &Sheet,
+    first: &mut Feed,
+    second: &mut Feed,
+) -> Result<Settled, Fail>
+    requires limits { IsWithinLimits sheet.now }
+{
+    let pool = begun(alloc, sheet)?;
+    let open = count_of(&pool, Answer::NotYet);
+    let is_settled = is_settled_twice(rt, alloc, sheet, pool, first, second)?;
+    Ok((open, is_settled))
+}
+
+fn two_rounds_of_sixteen<R: Threads + Wait + Sync>(
+    rt: &R,
+    alloc: Global,
+    first: &mut Feed,
+    second: &mut Feed,
+) -> Result<Settled, Fail> {
+    let sample = sample_of(alloc, SIXTEEN).ok_or("no league")?;
+    two_rounds(rt, alloc, &sample.sheet, first, second)
+}
+
+// The first feed is given, and the second has no events.
+fn two_rounds_from<R: Threads + Wait + Sync>(
+    rt: &R,
+    alloc: Global,
+    first: &mut Feed,
+) -> Result<Settled, Fail> {
+    let mut second = feed_of(alloc, b"ask\n")?;
+    two_rounds_of_sixteen(rt, alloc, first, &mut second)
+}
+
+// K01 wins twice in the first of them.
+fn two_rounds_read<R: Threads + Wait + Sync>(rt: &R, alloc: Global) -> Result<Settled, Fail> {
+    let mut first = feed_of(alloc, TWICE_WON)?;
+    two_rounds_from(rt, alloc, &mut first)
+}
+
 #[test]
 fn one_worker_settles_the_round(rt: HostRuntime) -> Result<(), Fail> {
-    let (sheet, pool) = begun(rt.alloc())?;
-    assert_eq!(rt; count_of(&pool, Answer::NotYet), 32);
-    let pool = asked(&rt, rt.alloc(), &sheet, pool, TWICE_WON)?;
-    assert!(rt; is_settled(&pool));
-    let pool = asked(&rt, rt.alloc(), &sheet, pool, b"ask\n")?;
-    assert!(rt; is_settled(&pool));
+    let (open, is_settled) = two_rounds_read(&rt, rt.alloc())?;
+    assert_eq!(rt; open, 32);
+    assert_eq!(rt; is_settled, (true, true));
     Ok(())
 }

@@ -1,7 +1,7 @@
 //! Runs of the program in memory.
 
 use futmax_main::{Status, futmax};
-use port_core::{MemSink, Sink, Source};
+use port_core::{MemSink, MemSource, Sink, Source};
 use std::alloc::Global;
 use std::sync::Wait;
 use std::test::Fail;
@@ -17,6 +17,12 @@ pub const DRAWN: &[u8] =
 
 /// The answer to it.
 pub const DRAWN_ROWS: &[u8] = b"ask,1\nverdict,1,A,clinched\nverdict,1,B,lost\n";
+
+/// A source in memory.
+pub fn source_of(alloc: Global, text: &[u8]) -> Result<MemSource, Fail> {
+    let bytes = text.to_vec(alloc)?;
+    Ok(MemSource::new(bytes, 8192, Vec::new(alloc)))
+}
 
 /// A sink in memory, of 4,096 bytes.
 pub fn sink_of(alloc: Global) -> Result<MemSink, Fail> {
