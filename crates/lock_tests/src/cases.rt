@@ -43,14 +43,15 @@ pub fn event_of(case: Case) -> Event {
     }
 }
 
-/// Plays a case, and answers what became of the two tickets, where they were given back.
+/// Plays a case with two badges, and answers what became of the two tickets, where they were given
+/// back.
 pub fn meet<J: Job, R: Wait>(
     rt: &R,
     alloc: Global,
     sheet: &Sheet,
     lock: &PoolLock<J>,
     front: &mut Front<J>,
-    badges: Vec<WorkBadge<J>>,
+    badges: &mut [WorkBadge<J>],
     event: Event,
     case: Case,
 ) -> Result<Option<(Gave, Gave)>, Fail>
@@ -58,20 +59,20 @@ pub fn meet<J: Job, R: Wait>(
     requires limits { IsWithinLimits sheet.now }
     requires may_be { IsEventOf (season_after J.sheet front.old) event }
 {
-    let mut badges = badges;
-    let mut one = badges.pop().ok_or("no badge")?;
-    let mut two = badges.pop().ok_or("no badge")?;
-    match case {
-        Case::Overtaken => be_overtaken(rt, lock, front, &mut one, &mut two, event),
-        Case::Shut => {
-            lock.shut(rt, front);
-            be_over(rt, lock, &mut one)
-        }
-        Case::Worked | Case::InTurn | Case::OtherPiece | Case::Lost => {
-            tell(rt, lock, front, &mut one, event)?;
-            lock.rest(rt, front);
-            play(rt, alloc, sheet, lock, &mut one, &mut two, case)
-        }
+    match badges {
+        [one, two] => match case {
+            Case::Overtaken => be_overtaken(rt, lock, front, one, two, event),
+            Case::Shut => {
+                lock.shut(rt, front);
+                be_over(rt, lock, one)
+            }
+            Case::Worked | Case::InTurn | Case::OtherPiece | Case::Lost => {
+                tell(rt, lock, front, one, event)?;
+                lock.rest(rt, front);
+                play(rt, alloc, sheet, lock, one, two, case)
+            }
+        },
+        _ => Err("not two badges".into()),
     }
 }
 

@@ -5,6 +5,7 @@ ghost use Rattle.std.specs.Prelude.{◌≡◌, []};
 
 use epoch_cancel::{EpochWord, Eye, Front, Owner, cancelled, look, pack, seen, tell};
 use league_core::{Event, Score};
+use std::alloc::Global;
 use std::test::Fail;
 use std::thread;
 
@@ -24,28 +25,50 @@ fn halves(word: u64) -> (u64, u64) {
 
 #[test]
 fn words_are_those_of_the_table(rt: HostRuntime) -> Result<(), Fail> {
-    assert_eq!(rt; halves(pack(&[])), (0, 0));
-    assert_eq!(rt; halves(pack(&[WON])), (1, 101));
-    assert_eq!(rt; halves(pack(&[WON, ANNULLED])), (2, 8_000_000));
-    assert_eq!(rt; halves(pack(&[WON, ANNULLED, FINED])), (3, 9_000_002));
-    assert_eq!(rt; halves(pack(&[FINED])), (1, 9_000_002));
+    let found = [
+        halves(pack(&[])),
+        halves(pack(&[WON])),
+        halves(pack(&[WON, ANNULLED])),
+        halves(pack(&[WON, ANNULLED, FINED])),
+        halves(pack(&[FINED])),
+    ];
+    let wanted = [
+        (0, 0),
+        (1, 101),
+        (2, 8_000_000),
+        (3, 9_000_002),
+        (1, 9_000_002),
+    ];
+    assert_eq!(rt; found, wanted);
     Ok(())
 }
 
-#[test]
-fn a_worker_finds_each_epoch(rt: HostRuntime) -> Result<(), Fail> {
-    let (word, mut owner, mut front, mut eyes) = EpochWord::new(rt.alloc(), &[], 1)?;
+// The epochs before and after each of two events, as a worker finds them.
+type Epochs = (u64, u64, u64);
+
+// Whether work of epoch 1 and of epoch 2 is out of date at the end, and by which epoch.
+type Overtaken = (Option<u64>, Option<u64>);
+
+// What a worker finds, and the word at the end.
+fn find_epochs(alloc: Global) -> Result<(Epochs, Overtaken, u64), Fail> {
+    let (word, mut owner, mut front, mut eyes) = EpochWord::new(alloc, &[], 1)?;
     let mut eye = eyes.pop().ok_or("no eye")?;
     let before = look(&word, &mut eye);
     tell(&word, &mut owner, &mut front, &WON);
     let first = look(&word, &mut eye);
     tell(&word, &mut owner, &mut front, &ANNULLED);
     let second = look(&word, &mut eye);
-    assert_eq!(rt; (before, first, second), (0, 1, 2));
-    assert_eq!(rt; cancelled(&word, &mut eye, 1), Some(2));
-    assert_eq!(rt; cancelled(&word, &mut eye, 2), None);
+    let overtaken = (cancelled(&word, &mut eye, 1), cancelled(&word, &mut eye, 2));
     seen(&word, &mut owner, &mut eye);
-    assert_eq!(rt; halves(word.close(owner, front)), (2, 8_000_000));
+    Ok(((before, first, second), overtaken, word.close(owner, front)))
+}
+
+#[test]
+fn a_worker_finds_each_epoch(rt: HostRuntime) -> Result<(), Fail> {
+    let (epochs, overtaken, word) = find_epochs(rt.alloc())?;
+    assert_eq!(rt; epochs, (0, 1, 2));
+    assert_eq!(rt; overtaken, (Some(2), None));
+    assert_eq!(rt; halves(word), (2, 8_000_000));
     Ok(())
 }
 
@@ -90,8 +113,9 @@ fn one_thread_tells_while_another_looks(rt: HostRuntime) -> Result<(), Fail> {
             ensures { result.1.table ≡ shared.entry.now }
         { look_often(shared, eye) },
     );
+    let newest = look(&word, &mut eye);
+    let word = word.close(owner, front);
     assert!(rt; found <= 500, "{found}");
-    assert_eq!(rt; look(&word, &mut eye), 500);
-    assert_eq!(rt; halves(word.close(owner, front)), (500, 101));
+    assert_eq!(rt; (newest, halves(word)), (500, (500, 101)));
     Ok(())
 }

@@ -4,6 +4,8 @@
 #[cfg(test)]
 mod cases;
 #[cfg(test)]
+mod end;
+#[cfg(test)]
 mod epochs;
 #[cfg(test)]
 mod found;

@@ -2,7 +2,7 @@
 //! questions are, in order: whether A can end inside the line (an example shows it), outside
 //! (refuted), and the same of B.
 
-ghost use Rattle.std.specs.Prelude.{◌≡◌, ◌≤◌, All, IfOk, IsTrue, length};
+ghost use Rattle.std.specs.Prelude.{◌≡◌, ◌≤◌, [], All, IfOk, IsTrue, length};
 ghost use Rattle.league_core.specs.Questions.{IsQuestionOf};
 ghost use Rattle.league_core.specs.Seasons.{IsEventOf, season_after};
 ghost use Rattle.league_core.specs.Sheets.{IsWithinLimits};
@@ -11,9 +11,10 @@ ghost use Rattle.epoch_cancel.specs.Seats.{seat_of};
 ghost use Rattle.pool_lock.specs.Lends.{IsEyeAfter};
 
 use crate::cases::{Case, event_of, meet};
+use crate::end::{Round, seen};
 use branch_pool::{Answer, Gave, Pool};
 use epoch_cancel::{EpochWord, Eye, Front, Owner};
-use league_core::{Event, OutOfMemory, Question, Season, Sheet, TreeNode};
+use league_core::{Event, OutOfMemory, Question, Season, Sheet};
 use pool_lock::{Job, PoolLock};
 use sample_leagues::sample_of;
 use std::alloc::Global;
@@ -25,6 +26,8 @@ use verdict_run::questions;
 
 const TWO_CLUBS: &[u8] = b"league,Tiny,1\nclub,A,1\nclub,B,2\nmatch,A,B\nline,1\nseason\n";
 
+const BOTH_KEPT: Option<(Gave, Gave)> = Some((Gave::Kept, Gave::Kept));
+
 /// The word of a pool, with the seats of its lock.
 #[derive(Drop)]
 struct Seated {
@@ -34,24 +37,62 @@ struct Seated {
     eyes: Vec<Eye>,
 }
 
-// A round in which the workers play a case: what became of their tickets, and the pool afterwards.
-fn round_of<R: Wait>(
-    rt: &R,
-    alloc: Global,
-    case: Case,
-) -> Result<(Option<(Gave, Gave)>, Pool), Fail> {
+// A round of two clubs in which the workers play a case.
+fn see_round<R: Wait>(rt: &R, alloc: Global, case: Case) -> Result<Round, Fail> {
     let sample = sample_of(alloc, TWO_CLUBS).ok_or("no league")?;
-    let sheet = sample.sheet.copy(alloc)?;
-    let asked = asked_in(alloc, &sheet, case)?;
-    let pool = Pool::begin(alloc, sample.sheet, asked)?;
-    let (word, owner, front, eyes) = EpochWord::new(alloc, pool.log(), 2)?;
-    let seated = Seated {
+    round_of(rt, alloc, &sample.sheet, case)
+}
+
+// The same on the sheet.
+fn round_of<R: Wait>(rt: &R, alloc: Global, sheet: &Sheet, case: Case) -> Result<Round, Fail>
+    requires limits { IsWithinLimits sheet.now }
+{
+    let event = event_of(case);
+    let seated = take_seats(alloc)?;
+    let pool = pool_to_tell(alloc, sheet, case, &event)?;
+    round_as::<Brand, R>(rt, alloc, sheet, Blank::new(1), seated, pool, event, case)
+}
+
+// A word without an event, with its seats.
+fn take_seats(alloc: Global) -> Result<Seated, Fail>
+    ensures owner { IfOk result (λ made. made.owner ≡ seat_of made.word []) }
+    ensures front { IfOk result (λ made. made.front ≡ seat_of made.word []) }
+    ensures eyes { IfOk result (λ made. All (IsEyeAfter made.word []) made.eyes.items) }
+{
+    let (word, owner, front, eyes) = EpochWord::new(alloc, &[], 2)?;
+    Ok(Seated {
         word,
         owner,
         front,
         eyes,
-    };
-    round_as::<Brand, R>(rt, alloc, &sheet, Blank::new(1), seated, pool, case)
+    })
+}
+
+// A pool that may be told the event.
+fn pool_to_tell(alloc: Global, sheet: &Sheet, case: Case, event: &Event) -> Result<Pool, Fail>
+    requires limits { IsWithinLimits sheet.now }
+    ensures of_sheet { IfOk result (λ pool. pool.sheet ≡ sheet.now) }
+    ensures log { IfOk result (λ pool. pool.log ≡ []) }
+    ensures home { IfOk result (λ pool. out_count pool.loans ≡ 0) }
+    ensures may_be { IfOk result (λ pool. IsEventOf (season_after sheet.now []) event.now) }
+{
+    let pool = pool_of(alloc, sheet, case)?;
+    if may_be_told(&pool, event) {
+        Ok(pool)
+    } else {
+        Err("no event of the season".into())
+    }
+}
+
+// A pool of what is asked in a case.
+fn pool_of(alloc: Global, sheet: &Sheet, case: Case) -> Result<Pool, OutOfMemory>
+    requires limits { IsWithinLimits sheet.now }
+    ensures of_sheet { IfOk result (λ pool. pool.sheet ≡ sheet.now) }
+    ensures log { IfOk result (λ pool. pool.log ≡ []) }
+    ensures home { IfOk result (λ pool. out_count pool.loans ≡ 0) }
+{
+    let asked = asked_in(alloc, sheet, case)?;
+    Pool::begin(alloc, sheet.copy(alloc)?, asked)
 }
 
 // What is asked in a case: nothing where the feed is shut at once.
@@ -76,8 +117,9 @@ fn round_as<J: Job, R: Wait>(
     blank: Blank,
     seated: Seated,
     pool: Pool,
+    event: Event,
     case: Case,
-) -> Result<(Option<(Gave, Gave)>, Pool), Fail>
+) -> Result<Round, Fail>
     requires ledger { blank.name ≡ J.name }
     requires parts { blank.parts ≡ J.parts }
     requires one_part { blank.parts ≡ 1 }
@@ -90,24 +132,30 @@ fn round_as<J: Job, R: Wait>(
     requires sheet { pool.sheet ≡ J.sheet }
     requires questions { pool.questions ≡ J.questions }
     requires home { out_count pool.loans ≡ 0 }
+    requires may_be { IsEventOf (season_after J.sheet pool.log) event }
 {
-    let event = event_of(case);
-    if !may_be_told(&pool, &event) {
-        return Err("no event of the season".into());
-    }
     let Seated {
         word,
         owner,
         front,
         eyes,
     } = seated;
-    let (lock, mut front, badges) = PoolLock::<J>::new(
+    let (lock, mut front, mut badges) = PoolLock::<J>::new(
         alloc, blank, word, owner, front, eyes, pool,
     )?;
-    let gave = meet(rt, alloc, sheet, &lock, &mut front, badges, event, case);
+    let gave = meet(
+        rt,
+        alloc,
+        sheet,
+        &lock,
+        &mut front,
+        badges.as_mut_slice(),
+        event,
+        case,
+    );
     lock.shut(rt, &mut front);
     let pool = lock.close(front);
-    Ok((gave?, pool))
+    seen(&pool, gave, event)
 }
 
 // Whether the pool may be told the event.
@@ -130,78 +178,60 @@ fn may_be(season: &Season, event: &Event) -> bool
     }
 }
 
-fn first_two(pool: &Pool) -> Result<(Answer, Answer), Fail> {
-    if pool.questions().len() < 2 {
-        return Err("no questions".into());
-    }
-    Ok((pool.answer(0), pool.answer(1)))
-}
-
-// Whether each tree is one leaf that is open.
-fn are_all_open(pool: &Pool) -> Result<bool, Fail> {
-    if pool.questions().len() != 4 {
-        return Err("other questions".into());
-    }
-    for place in 0..4u16 {
-        let nodes = pool.tree(place).nodes()?;
-        if nodes.as_slice() != [TreeNode::Open].as_slice() {
-            return Ok(false);
-        }
-    }
-    Ok(true)
-}
-
 #[test]
 fn what_is_found_comes_to_the_pool(rt: HostRuntime) -> Result<(), Fail> {
-    let (gave, pool) = round_of(&rt, rt.alloc(), Case::Worked)?;
-    assert_eq!(rt; gave, Some((Gave::Kept, Gave::Kept)));
-    assert_eq!(rt; first_two(&pool)?, (Answer::Won, Answer::Refuted));
-    assert_eq!(rt; pool.log(), [event_of(Case::Worked)].as_slice());
+    let round = see_round(&rt, rt.alloc(), Case::Worked)?;
+    assert_eq!(rt;
+        (round.gave, round.first_two, round.is_told),
+        (BOTH_KEPT, Some((Answer::Won, Answer::Refuted)), true)
+    );
     Ok(())
 }
 
 #[test]
 fn what_is_found_comes_with_the_next_loan(rt: HostRuntime) -> Result<(), Fail> {
-    let (gave, pool) = round_of(&rt, rt.alloc(), Case::InTurn)?;
-    assert_eq!(rt; gave, Some((Gave::Kept, Gave::Kept)));
-    assert_eq!(rt; first_two(&pool)?, (Answer::Won, Answer::Refuted));
+    let round = see_round(&rt, rt.alloc(), Case::InTurn)?;
+    assert_eq!(rt;
+        (round.gave, round.first_two),
+        (BOTH_KEPT, Some((Answer::Won, Answer::Refuted)))
+    );
     Ok(())
 }
 
 #[test]
 fn what_is_of_another_piece_counts_as_nothing(rt: HostRuntime) -> Result<(), Fail> {
-    let (gave, pool) = round_of(&rt, rt.alloc(), Case::OtherPiece)?;
-    assert_eq!(rt; gave, Some((Gave::Kept, Gave::Kept)));
-    assert_eq!(rt; first_two(&pool)?, (Answer::NotYet, Answer::NotYet));
-    assert_eq!(rt; pool.out(), 0);
+    let round = see_round(&rt, rt.alloc(), Case::OtherPiece)?;
+    assert_eq!(rt;
+        (round.gave, round.first_two, round.out),
+        (BOTH_KEPT, Some((Answer::NotYet, Answer::NotYet)), 0)
+    );
     Ok(())
 }
 
 #[test]
 fn what_is_out_at_the_end_comes_home(rt: HostRuntime) -> Result<(), Fail> {
-    let (gave, pool) = round_of(&rt, rt.alloc(), Case::Lost)?;
-    assert_eq!(rt; gave, None);
-    assert_eq!(rt; first_two(&pool)?, (Answer::NotYet, Answer::NotYet));
-    assert_eq!(rt; pool.out(), 0);
+    let round = see_round(&rt, rt.alloc(), Case::Lost)?;
+    assert_eq!(rt;
+        (round.gave, round.first_two, round.out),
+        (None, Some((Answer::NotYet, Answer::NotYet)), 0)
+    );
     Ok(())
 }
 
 #[test]
 fn what_is_out_when_a_result_comes_is_stale(rt: HostRuntime) -> Result<(), Fail> {
-    let (gave, pool) = round_of(&rt, rt.alloc(), Case::Overtaken)?;
+    let round = see_round(&rt, rt.alloc(), Case::Overtaken)?;
+    let stale = Gave::Stale { epoch: 1 };
     assert_eq!(rt;
-        gave,
-        Some((Gave::Stale { epoch: 1 }, Gave::Stale { epoch: 1 }))
+        (round.gave, round.out, round.are_open),
+        (Some((stale, stale)), 0, true)
     );
-    assert_eq!(rt; pool.out(), 0);
-    assert!(rt; are_all_open(&pool)?);
     Ok(())
 }
 
 #[test]
 fn what_is_over_is_told_once_the_feed_is_shut(rt: HostRuntime) -> Result<(), Fail> {
-    let (gave, pool) = round_of(&rt, rt.alloc(), Case::Shut)?;
-    assert_eq!(rt; gave, None);
-    assert!(rt; pool.log().is_empty());
+    let round = see_round(&rt, rt.alloc(), Case::Shut)?;
+    assert_eq!(rt; (round.gave, round.logged), (None, 0));
     Ok(())
 }
