@@ -51,12 +51,11 @@ fn add(rt: &impl Abort, net: &mut Net, row: &Row) {
     net.add_arc(row.0, row.1, row.2);
 }
 
-fn made(rt: &impl Abort, alloc: Global, nodes: u16, arcs: &str) -> Result<Net, Fail> {
-    let mut net = Net::new(alloc, nodes, 40)?;
+fn add_all(rt: &impl Abort, net: &mut Net, arcs: &str) -> Result<(), Fail> {
     for arc in arcs.split_terminator(',') {
-        add(rt, &mut net, &row_of(arc)?);
+        add(rt, net, &row_of(arc)?);
     }
-    Ok(net)
+    Ok(())
 }
 
 fn found(
@@ -68,6 +67,11 @@ fn found(
 ) -> Result<Flow, Fail> {
     assert!(rt; source < net.nodes() && sink < net.nodes() && source != sink);
     Ok(net.max_flow(alloc, source, sink)?)
+}
+
+fn value_found(rt: &impl Abort, alloc: Global, net: &mut Net) -> Result<u64, Fail> {
+    let flow = found(rt, alloc, net, 0, 1)?;
+    Ok(flow.value)
 }
 
 fn started(rt: &impl Abort, net: &mut Net, flow: &[u32]) -> bool {
@@ -86,14 +90,33 @@ fn check_side(rt: &impl Abort, flow: &Flow, side: &[u8]) {
     }
 }
 
-fn check_row(rt: &impl Abort, alloc: Global, row: &str) -> Result<(), Fail> {
-    let mut parts = row.split('|');
-    let (nodes, sink) = (node(parts.next())?, node(parts.next())?);
-    let mut net = made(rt, alloc, nodes, parts.next().unwrap_or(""))?;
-    let flow = found(rt, alloc, &mut net, 0, sink)?;
-    assert_eq!(rt; flow.value, number(parts.next())?, "{row}");
-    check_side(rt, &flow, parts.next().unwrap_or("").as_bytes());
+fn part(row: &str, place: usize) -> Option<&str> {
+    row.split('|').nth(place)
+}
+
+fn check_flow(rt: &impl Abort, row: &str, flow: &Flow, wanted: u64) {
+    assert_eq!(rt; flow.value, wanted, "{row}");
+    check_side(rt, flow, part(row, 4).unwrap_or("").as_bytes());
+}
+
+fn check_net(
+    rt: &impl Abort,
+    alloc: Global,
+    row: &str,
+    net: &mut Net,
+    sink: u16,
+) -> Result<(), Fail> {
+    let wanted = number(part(row, 3))?;
+    add_all(rt, net, part(row, 2).unwrap_or(""))?;
+    let flow = found(rt, alloc, net, 0, sink)?;
+    check_flow(rt, row, &flow, wanted);
     Ok(())
+}
+
+fn check_row(rt: &impl Abort, alloc: Global, row: &str) -> Result<(), Fail> {
+    let (nodes, sink) = (node(part(row, 0))?, node(part(row, 1))?);
+    let mut net = Net::new(alloc, nodes, 40)?;
+    check_net(rt, alloc, row, &mut net, sink)
 }
 
 #[test]
@@ -105,27 +128,37 @@ fn networks_have_their_flows(rt: HostRuntime) -> Result<(), Fail> {
 }
 
 // From 0 over 2 to 1, and straight.
-#[test]
-fn only_whole_flows_are_started_from(rt: HostRuntime) -> Result<(), Fail> {
-    let mut net = made(&rt, rt.alloc(), 3, "0 2 4,2 1 3,0 1 2")?;
-    assert!(rt; !started(&rt, &mut net, &[0, 0, 3]), "above the capacity");
-    assert!(rt; !started(&rt, &mut net, &[2, 1, 0]), "a node keeps some");
-    assert_eq!(rt; carried(&rt, &net, 0), 0);
-    assert!(rt; started(&rt, &mut net, &[1, 1, 0]));
-    assert_eq!(rt; carried(&rt, &net, 0), 1);
-    assert_eq!(rt; found(&rt, rt.alloc(), &mut net, 0, 1)?.value, 5);
-    assert_eq!(rt; carried(&rt, &net, 0), 3);
+fn check_starts(rt: &impl Abort, alloc: Global, net: &mut Net) -> Result<(), Fail> {
+    add_all(rt, net, "0 2 4,2 1 3,0 1 2")?;
+    assert!(rt; !started(rt, net, &[0, 0, 3]), "above the capacity");
+    assert!(rt; !started(rt, net, &[2, 1, 0]), "a node keeps some");
+    assert_eq!(rt; carried(rt, net, 0), 0);
+    assert!(rt; started(rt, net, &[1, 1, 0]));
+    assert_eq!(rt; carried(rt, net, 0), 1);
+    assert_eq!(rt; value_found(rt, alloc, net)?, 5);
+    assert_eq!(rt; carried(rt, net, 0), 3);
     Ok(())
 }
 
+#[test]
+fn only_whole_flows_are_started_from(rt: HostRuntime) -> Result<(), Fail> {
+    let mut net = Net::new(rt.alloc(), 3, 40)?;
+    check_starts(&rt, rt.alloc(), &mut net)
+}
+
 // A flow from the sink to the source is whole too. It is taken back, and two go the right way.
+fn check_back(rt: &impl Abort, alloc: Global, net: &mut Net) -> Result<(), Fail> {
+    add_all(rt, net, "1 0 7,0 1 2")?;
+    assert!(rt; started(rt, net, &[7, 0]));
+    assert_eq!(rt; value_found(rt, alloc, net)?, 2);
+    assert_eq!(rt; carried(rt, net, 0), 0);
+    Ok(())
+}
+
 #[test]
 fn a_flow_to_the_source_is_taken_back(rt: HostRuntime) -> Result<(), Fail> {
-    let mut net = made(&rt, rt.alloc(), 2, "1 0 7,0 1 2")?;
-    assert!(rt; started(&rt, &mut net, &[7, 0]));
-    assert_eq!(rt; found(&rt, rt.alloc(), &mut net, 0, 1)?.value, 2);
-    assert_eq!(rt; carried(&rt, &net, 0), 0);
-    Ok(())
+    let mut net = Net::new(rt.alloc(), 2, 40)?;
+    check_back(&rt, rt.alloc(), &mut net)
 }
 
 // The next of the numbers of a linear congruential generator (Knuth's MMIX), below a bound.
@@ -173,29 +206,55 @@ fn least_by_trying(rows: &[Row]) -> (u64, u32) {
     (least, shared)
 }
 
-fn compare(rt: &impl Abort, alloc: Global, net: &mut Net, rows: &[Row]) -> Result<(), Fail> {
-    let flow = found(rt, alloc, net, 0, 1)?;
-    let (least, shared) = least_by_trying(rows);
-    assert_eq!(rt; flow.value, least, "{rows:?}");
+fn check_inside(rt: &impl Abort, flow: &Flow, shared: u32, rows: &[Row]) {
     for node in 0..6 {
         let inside = flow.source_side.get(usize::from(node)).copied();
         assert_eq!(rt; inside, Some(has(shared, node)), "{rows:?}");
     }
+}
+
+fn compare(rt: &impl Abort, flow: &Flow, rows: &[Row]) {
+    let (least, shared) = least_by_trying(rows);
+    assert_eq!(rt; flow.value, least, "{rows:?}");
+    check_inside(rt, flow, shared, rows);
+}
+
+fn check_cut(rt: &impl Abort, alloc: Global, net: &mut Net, rows: &[Row]) -> Result<(), Fail> {
+    let flow = found(rt, alloc, net, 0, 1)?;
+    compare(rt, &flow, rows);
     Ok(())
 }
 
+fn drawn_row(state: &mut u64) -> Row {
+    let (from, to) = (next(state, 6) as u16, next(state, 6) as u16);
+    (from, to, next(state, 5))
+}
+
 // The flow found so far is gone on from as arcs are added.
-fn check_drawn(rt: &impl Abort, alloc: Global, state: &mut u64) -> Result<(), Fail> {
-    let mut net = Net::new(alloc, 6, 12)?;
-    let mut rows = Vec::new(alloc);
+fn check_arcs(
+    rt: &impl Abort,
+    alloc: Global,
+    state: &mut u64,
+    net: &mut Net,
+    rows: &mut Vec<Row>,
+) -> Result<(), Fail> {
     for _arc in 0..12 {
-        let (from, to) = (next(state, 6) as u16, next(state, 6) as u16);
-        let row = (from, to, next(state, 5));
+        let row = drawn_row(state);
         rows.push(row)?;
-        add(rt, &mut net, &row);
-        compare(rt, alloc, &mut net, rows.as_slice())?;
+        add(rt, net, &row);
+        check_cut(rt, alloc, net, rows.as_slice())?;
     }
     Ok(())
+}
+
+fn check_empty(rt: &impl Abort, alloc: Global, state: &mut u64, net: &mut Net) -> Result<(), Fail> {
+    let mut rows = Vec::new(alloc);
+    check_arcs(rt, alloc, state, net, &mut rows)
+}
+
+fn check_drawn(rt: &impl Abort, alloc: Global, state: &mut u64) -> Result<(), Fail> {
+    let mut net = Net::new(alloc, 6, 12)?;
+    check_empty(rt, alloc, state, &mut net)
 }
 
 #[test]

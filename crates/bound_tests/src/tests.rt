@@ -1,32 +1,21 @@
 //! Boxes along drawn paths of literals: what they leave beside the plain program, beside boxes made
 //! anew, and beside the cuts.
 
-ghost use Rattle.std.specs.Prelude.{◌<◌, IfOk, length};
+ghost use Rattle.std.specs.Prelude.{◌<◌, length};
 ghost use Rattle.league_core.specs.Seasons.{IsLeague};
 
-use crate::drawn::{CLUBS, MATCHES, drawn_literal};
+use crate::drawn::{CLUBS, MATCHES, drawn_literal, drawn_sample};
 use crate::plain::{is_option, sums_of};
 use flow_bound::{high_cut, low_cut};
 use league_core::{
     Claim, ClubSet, Listing, Literal, OutOfMemory, Question, Reason, Score, Sheet, Zone,
 };
-use sample_leagues::{Draws, Sample, drawn_league, is_below, is_of_sheet, sample_of};
+use sample_leagues::{Draws, Sample, is_below, is_of_sheet};
 use score_box::{Played, ZoneBox};
 use std::alloc::Global;
 use std::process::Abort;
 use std::test::Fail;
 use tie_bound::{holds, tie_reason};
-
-// Up to three goals a side.
-fn drawn_sample(alloc: Global, draws: &mut Draws) -> Result<Sample, Fail>
-    ensures { IfOk result (λ sample. IsLeague sample.sheet sample.season) }
-{
-    let mut text = drawn_league(alloc, draws, CLUBS, MATCHES, 9)?;
-    if let Some(limit) = text.get_mut("league,Drawn,".len()) {
-        *limit = b'3';
-    }
-    Ok(sample_of(alloc, &text).ok_or("no league")?)
-}
 
 fn go_on(rt: &impl Abort, zone_box: &mut ZoneBox, literal: Literal) -> Result<(), OutOfMemory> {
     let fixtures = zone_box.sheet().fixtures.len();
@@ -136,6 +125,45 @@ fn drawn_question(draws: &mut Draws) -> Question {
     }
 }
 
+fn check_plain(rt: &impl Abort, kept: &ZoneBox, bits: u32) {
+    let path = kept.zone();
+    check_cells(rt, kept, path);
+    check_clubs(rt, kept, path);
+    check_sums(rt, kept, path, ClubSet { bits });
+}
+
+fn check_fresh(
+    rt: &impl Abort,
+    alloc: Global,
+    kept: &ZoneBox,
+    fresh: &ZoneBox,
+    draws: &mut Draws,
+) -> Result<(), Fail> {
+    assert!(rt; kept.before() == fresh.before() && kept.after() == fresh.after());
+    assert!(rt; kept.is_single() == fresh.is_single());
+    if kept.has_finish() {
+        let question = drawn_question(draws);
+        check_cuts(rt, alloc, kept, fresh, &question)?;
+        check_reasons(rt, kept, fresh, &question);
+    }
+    Ok(())
+}
+
+fn check_anew(
+    rt: &impl Abort,
+    alloc: Global,
+    sample: &Sample,
+    zone: &Zone,
+    kept: &ZoneBox,
+    draws: &mut Draws,
+) -> Result<(), Fail>
+    requires { IsLeague sample.now.sheet sample.now.season }
+{
+    assert!(rt; is_of_sheet(&sample.sheet, zone.literals.as_slice()));
+    let fresh = ZoneBox::of(alloc, &sample.sheet, &sample.season, zone)?;
+    check_fresh(rt, alloc, kept, &fresh, draws)
+}
+
 fn check(
     rt: &impl Abort,
     alloc: Global,
@@ -145,24 +173,11 @@ fn check(
 ) -> Result<(), Fail>
     requires { IsLeague sample.now.sheet sample.now.season }
 {
-    let path = kept.zone();
-    let bits = u32::from(draws.below(64));
-    check_cells(rt, kept, path);
-    check_clubs(rt, kept, path);
-    check_sums(rt, kept, path, ClubSet { bits });
+    check_plain(rt, kept, u32::from(draws.below(64)));
     let zone = Zone {
-        literals: Listing::from_vec(path.to_vec(alloc)?),
+        literals: Listing::from_vec(kept.zone().to_vec(alloc)?),
     };
-    assert!(rt; is_of_sheet(&sample.sheet, zone.literals.as_slice()));
-    let fresh = ZoneBox::of(alloc, &sample.sheet, &sample.season, &zone)?;
-    assert!(rt; kept.before() == fresh.before() && kept.after() == fresh.after());
-    assert!(rt; kept.is_single() == fresh.is_single());
-    if kept.has_finish() {
-        let question = drawn_question(draws);
-        check_cuts(rt, alloc, kept, &fresh, &question)?;
-        check_reasons(rt, kept, &fresh, &question);
-    }
-    Ok(())
+    check_anew(rt, alloc, sample, &zone, kept, draws)
 }
 
 // Goes back by one literal, so many times in eight, or else on, beside the path as a list.
@@ -193,20 +208,73 @@ fn times_back(turn: u16, has_finish: bool) -> u8 {
     }
 }
 
-fn check_league(rt: &impl Abort, alloc: Global, draws: &mut Draws, turns: u16) -> Result<(), Fail> {
-    let sample = drawn_sample(alloc, draws)?;
-    let played = Played::of(alloc, &sample.sheet, &sample.season)?;
-    let mut kept = ZoneBox::over(alloc, &played, &[])?;
+fn turn(
+    rt: &impl Abort,
+    alloc: Global,
+    draws: &mut Draws,
+    sample: &Sample,
+    kept: &mut ZoneBox,
+    path: &mut Vec<Literal>,
+    turn: u16,
+) -> Result<(), Fail>
+    requires { IsLeague sample.now.sheet sample.now.season }
+{
+    let back = times_back(turn, kept.has_finish());
+    step(rt, draws, kept, path, back)?;
+    if turn < 60 || turn % 10 == 0 {
+        check(rt, alloc, sample, kept, draws)?;
+    }
+    Ok(())
+}
+
+fn go(
+    rt: &impl Abort,
+    alloc: Global,
+    draws: &mut Draws,
+    sample: &Sample,
+    kept: &mut ZoneBox,
+    turns: u16,
+) -> Result<(), Fail>
+    requires { IsLeague sample.now.sheet sample.now.season }
+{
     let mut path = Vec::new(alloc);
-    for turn in 0..turns {
-        let back = times_back(turn, kept.has_finish());
-        step(rt, draws, &mut kept, &mut path, back)?;
-        if turn < 60 || turn % 10 == 0 {
-            check(rt, alloc, &sample, &kept, draws)?;
-        }
+    for number in 0..turns {
+        turn(rt, alloc, draws, sample, kept, &mut path, number)?;
     }
     assert!(rt; turns < 260 || kept.zone().len() >= 100);
     Ok(())
+}
+
+fn go_from(
+    rt: &impl Abort,
+    alloc: Global,
+    draws: &mut Draws,
+    sample: &Sample,
+    played: &Played,
+    turns: u16,
+) -> Result<(), Fail>
+    requires { IsLeague sample.now.sheet sample.now.season }
+{
+    let mut kept = ZoneBox::over(alloc, played, &[])?;
+    go(rt, alloc, draws, sample, &mut kept, turns)
+}
+
+fn check_sample(
+    rt: &impl Abort,
+    alloc: Global,
+    draws: &mut Draws,
+    sample: &Sample,
+    turns: u16,
+) -> Result<(), Fail>
+    requires { IsLeague sample.now.sheet sample.now.season }
+{
+    let played = Played::of(alloc, &sample.sheet, &sample.season)?;
+    go_from(rt, alloc, draws, sample, &played, turns)
+}
+
+fn check_league(rt: &impl Abort, alloc: Global, draws: &mut Draws, turns: u16) -> Result<(), Fail> {
+    let sample = drawn_sample(alloc, draws, CLUBS, MATCHES, 9, b'3')?;
+    check_sample(rt, alloc, draws, &sample, turns)
 }
 
 #[test]

@@ -1,10 +1,12 @@
 //! Leagues of six clubs, A to F, and the cuts of their zones.
 
-ghost use Rattle.std.specs.Prelude.{◌<◌};
+ghost use Rattle.std.specs.Prelude.{◌<◌, length, IfOk};
+ghost use Rattle.league_core.specs.Seasons.{IsLeague};
 
+use crate::drawn::league_in;
 use flow_bound::{high_cut, low_cut};
 use league_core::{ClubSet, Listing, Literal, Question, Zone};
-use sample_leagues::{is_of_sheet, sample_of};
+use sample_leagues::{Sample, is_of_sheet};
 use score_box::ZoneBox;
 use std::alloc::Global;
 use std::process::Abort;
@@ -19,6 +21,61 @@ pub struct Cuts {
     pub high: Option<ClubSet>,
 }
 
+fn text_of(alloc: Global, matches: &[u8]) -> Result<Vec<u8>, Fail> {
+    let mut text = Vec::from_slice(alloc, SIX)?;
+    text.extend_from_slice(matches)?;
+    Ok(text)
+}
+
+fn six_clubs(alloc: Global, matches: &[u8]) -> Result<Sample, Fail>
+    ensures { IfOk result (λ sample. IsLeague sample.sheet sample.season) }
+{
+    let text = text_of(alloc, matches)?;
+    league_in(alloc, &text)
+}
+
+fn cuts_over(alloc: Global, zone_box: &ZoneBox, question: &Question) -> Result<Option<Cuts>, Fail>
+    requires { question.now.club < length zone_box.now.sheet.clubs }
+{
+    if !zone_box.has_finish() {
+        return Ok(None);
+    }
+    Ok(Some(Cuts {
+        low: low_cut(alloc, zone_box, question)?,
+        high: high_cut(alloc, zone_box, question)?,
+    }))
+}
+
+fn cuts_in(
+    rt: &impl Abort,
+    alloc: Global,
+    sample: &Sample,
+    zone: &Zone,
+    question: &Question,
+) -> Result<Option<Cuts>, Fail>
+    requires { IsLeague sample.now.sheet sample.now.season }
+{
+    assert!(rt; is_of_sheet(&sample.sheet, zone.literals.as_slice()));
+    assert!(rt; (question.club as usize) < sample.sheet.clubs.len());
+    let zone_box = ZoneBox::of(alloc, &sample.sheet, &sample.season, zone)?;
+    cuts_over(alloc, &zone_box, question)
+}
+
+fn cuts_behind(
+    rt: &impl Abort,
+    alloc: Global,
+    sample: &Sample,
+    literals: &[Literal],
+    question: &Question,
+) -> Result<Option<Cuts>, Fail>
+    requires { IsLeague sample.now.sheet sample.now.season }
+{
+    let zone = Zone {
+        literals: Listing::from_vec(literals.to_vec(alloc)?),
+    };
+    cuts_in(rt, alloc, sample, &zone, question)
+}
+
 /// Both cuts in the zone of these literals, in the league of these matches and results; none where
 /// the zone has no finish.
 pub fn cuts_of(
@@ -28,20 +85,6 @@ pub fn cuts_of(
     literals: &[Literal],
     question: &Question,
 ) -> Result<Option<Cuts>, Fail> {
-    let mut text = Vec::from_slice(alloc, SIX)?;
-    text.extend_from_slice(matches)?;
-    let sample = sample_of(alloc, text.as_slice()).ok_or("no league")?;
-    let zone = Zone {
-        literals: Listing::from_vec(literals.to_vec(alloc)?),
-    };
-    assert!(rt; is_of_sheet(&sample.sheet, zone.literals.as_slice()));
-    assert!(rt; (question.club as usize) < sample.sheet.clubs.len());
-    let zone_box = ZoneBox::of(alloc, &sample.sheet, &sample.season, &zone)?;
-    if !zone_box.has_finish() {
-        return Ok(None);
-    }
-    Ok(Some(Cuts {
-        low: low_cut(alloc, &zone_box, question)?,
-        high: high_cut(alloc, &zone_box, question)?,
-    }))
+    let sample = six_clubs(alloc, matches)?;
+    cuts_behind(rt, alloc, &sample, literals, question)
 }

@@ -2,10 +2,14 @@
 //! 3:0. When B and C draw, both are ahead of A: after 0:0 by the difference over all matches, after
 //! 1:1 by the goals of the group.
 
-use super::leagues::{Game, are_fixtures, fixtures_of, four_clubs};
-use super::zones::{is_of_sheet, zone_of};
+ghost use Rattle.std.specs.Prelude.{◌<◌};
+ghost use Rattle.league_core.specs.Seasons.{IsLeague};
+
+use super::leagues::{Game, league_of};
+use super::zones::zone_of;
 use league_core::Order::{HeadFirst, OverallFirst};
-use league_core::{Claim, ClubSet, Order, Question, Reason, Season};
+use league_core::{Claim, ClubSet, Order, Question, Reason, Zone};
+use sample_leagues::{Sample, is_of_sheet};
 use score_box::{ZoneBox, own_least, own_most};
 use std::alloc::Global;
 use std::process::Abort;
@@ -13,8 +17,7 @@ use std::test::Fail;
 use tie_bound::{holds, tie_reason};
 
 /// The order of the criteria, the outcome of B and C and the goals of each, the marks of rivals,
-/// the
-/// line and side that is asked for A, and whether the reason holds.
+/// the line and side that is asked for A, and whether the reason holds.
 type Asked = (
     Order,
     char,
@@ -59,23 +62,20 @@ const ROWS: [Asked; 9] = [
     (HeadFirst, 'D', (0, 0), &[], 3, Claim::Outside, true),
 ];
 
-fn check(rt: &impl Abort, alloc: Global, asked: &Asked) -> Result<(), Fail> {
-    let (order, outcome, goals, marks, line, claim, wanted) = *asked;
-    let games: [Game; 6] = [
+fn games_of(asked: &Asked) -> [Game; 6] {
+    let (_, outcome, goals, _, _, _, _) = *asked;
+    [
         (0, 1, 'D', (0, 0), (0, 0)),
         (0, 2, 'D', (0, 0), (0, 0)),
         (1, 3, 'H', (3, 3), (0, 0)),
         (2, 3, 'H', (3, 3), (0, 0)),
         (0, 3, 'H', (1, 1), (0, 0)),
         (1, 2, outcome, goals, goals),
-    ];
-    let fixtures = fixtures_of(alloc, &games)?;
-    assert!(rt; are_fixtures(&fixtures) && fixtures.len() <= 600);
-    let sheet = four_clubs(alloc, order, fixtures)?;
-    let season = Season::unplayed(alloc, 4, games.len())?;
-    let zone = zone_of(alloc, &games, marks)?;
-    assert!(rt; is_of_sheet(&sheet, &zone));
-    let zone_box = ZoneBox::of(alloc, &sheet, &season, &zone)?;
+    ]
+}
+
+fn check_box(rt: &impl Abort, zone_box: &ZoneBox, asked: &Asked) {
+    let (_, outcome, _, _, line, claim, wanted) = *asked;
     let question = Question {
         club: 0,
         line,
@@ -83,13 +83,47 @@ fn check(rt: &impl Abort, alloc: Global, asked: &Asked) -> Result<(), Fail> {
         low: -99,
         high: 1800,
     };
+    assert!(rt; (question.club as usize) < zone_box.sheet().clubs.len());
     assert!(rt; zone_box.has_finish());
     assert!(rt;
-        tie_reason(&zone_box, &question) == wanted,
+        tie_reason(zone_box, &question) == wanted,
         "{outcome} {line}"
     );
-    assert_eq!(rt; holds(&zone_box, &question, &Reason::Tie), wanted);
+    assert_eq!(rt; holds(zone_box, &question, &Reason::Tie), wanted);
+}
+
+fn check_zone(
+    rt: &impl Abort,
+    alloc: Global,
+    sample: &Sample,
+    zone: &Zone,
+    asked: &Asked,
+) -> Result<(), Fail>
+    requires { IsLeague sample.now.sheet sample.now.season }
+{
+    assert!(rt; is_of_sheet(&sample.sheet, zone.literals.as_slice()));
+    let zone_box = ZoneBox::of(alloc, &sample.sheet, &sample.season, zone)?;
+    check_box(rt, &zone_box, asked);
     Ok(())
+}
+
+fn check_league(
+    rt: &impl Abort,
+    alloc: Global,
+    sample: &Sample,
+    games: &[Game],
+    asked: &Asked,
+) -> Result<(), Fail>
+    requires { IsLeague sample.now.sheet sample.now.season }
+{
+    let zone = zone_of(alloc, games, asked.3)?;
+    check_zone(rt, alloc, sample, &zone, asked)
+}
+
+fn check(rt: &impl Abort, alloc: Global, asked: &Asked) -> Result<(), Fail> {
+    let games = games_of(asked);
+    let sample = league_of(rt, alloc, asked.0, &games)?;
+    check_league(rt, alloc, &sample, &games, asked)
 }
 
 /// B, C and D are marked behind A.
@@ -113,31 +147,52 @@ const GIVEN: [Given; 9] = [
     (Reason::Tie, -99, 1800, false),
 ];
 
+// A beats B, and C and D are open.
+const TWO_GAMES: [Game; 2] = [(0, 1, 'H', (0, 9), (0, 9)), (2, 3, '-', (0, 9), (0, 9))];
+
+fn check_reason(rt: &impl Abort, zone_box: &ZoneBox, given: &Given) {
+    let (reason, low, high, wanted) = *given;
+    let question = Question {
+        club: 0,
+        line: 1,
+        claim: Claim::Outside,
+        low,
+        high,
+    };
+    assert!(rt; (question.club as usize) < zone_box.sheet().clubs.len());
+    let found = holds(zone_box, &question, &reason);
+    assert!(rt; found == wanted, "{low} {high}");
+    assert!(rt; zone_box.has_finish());
+    assert_eq!(rt; own_most(zone_box, &question), 3.min(high));
+    assert_eq!(rt; own_least(zone_box, &question), 3.max(low));
+}
+
+fn check_given(rt: &impl Abort, zone_box: &ZoneBox) {
+    for given in GIVEN.iter() {
+        check_reason(rt, zone_box, given);
+    }
+}
+
+fn check_given_in(rt: &impl Abort, alloc: Global, sample: &Sample, zone: &Zone) -> Result<(), Fail>
+    requires { IsLeague sample.now.sheet sample.now.season }
+{
+    assert!(rt; is_of_sheet(&sample.sheet, zone.literals.as_slice()));
+    let zone_box = ZoneBox::of(alloc, &sample.sheet, &sample.season, zone)?;
+    check_given(rt, &zone_box);
+    Ok(())
+}
+
+fn check_marked(rt: &impl Abort, alloc: Global, sample: &Sample) -> Result<(), Fail>
+    requires { IsLeague sample.now.sheet sample.now.season }
+{
+    let zone = zone_of(alloc, &TWO_GAMES, &MARKED)?;
+    check_given_in(rt, alloc, sample, &zone)
+}
+
 #[test]
 fn a_given_reason_holds_where_the_sums_say_so(rt: HostRuntime) -> Result<(), Fail> {
-    let games: [Game; 2] = [(0, 1, 'H', (0, 9), (0, 9)), (2, 3, '-', (0, 9), (0, 9))];
-    let fixtures = fixtures_of(rt.alloc(), &games)?;
-    assert!(rt; are_fixtures(&fixtures) && fixtures.len() <= 600);
-    let sheet = four_clubs(rt.alloc(), HeadFirst, fixtures)?;
-    let season = Season::unplayed(rt.alloc(), 4, games.len())?;
-    let zone = zone_of(rt.alloc(), &games, &MARKED)?;
-    assert!(rt; is_of_sheet(&sheet, &zone));
-    let zone_box = ZoneBox::of(rt.alloc(), &sheet, &season, &zone)?;
-    for (reason, low, high, wanted) in GIVEN.iter() {
-        let question = Question {
-            club: 0,
-            line: 1,
-            claim: Claim::Outside,
-            low: *low,
-            high: *high,
-        };
-        let found = holds(&zone_box, &question, reason);
-        assert!(rt; found == *wanted, "{low} {high}");
-        assert!(rt; zone_box.has_finish());
-        assert_eq!(rt; own_most(&zone_box, &question), 3.min(*high));
-        assert_eq!(rt; own_least(&zone_box, &question), 3.max(*low));
-    }
-    Ok(())
+    let sample = league_of(&rt, rt.alloc(), HeadFirst, &TWO_GAMES)?;
+    check_marked(&rt, rt.alloc(), &sample)
 }
 
 #[test]

@@ -2,10 +2,14 @@
 
 ghost use Rattle.std.specs.Prelude.{◌≡◌, ◌≤◌, IsTrue, IfOk, length};
 ghost use Rattle.std.specs.List.{list_all};
+ghost use Rattle.league_core.specs.Seasons.{IsLeague};
 ghost use Rattle.league_core.specs.Sheets.{IsWithinLimits, is_fixture};
 
-use league_core::{Club, Fixture, Listing, Name, Order, OutOfMemory, Sheet};
+use league_core::{Club, Fixture, Listing, Name, Order, OutOfMemory, Season, Sheet};
+use sample_leagues::Sample;
 use std::alloc::Global;
+use std::process::Abort;
+use std::test::Fail;
 
 /// Home and away club; H, D or A for the outcome, another letter for none; the least and the most
 /// goals of the home side, and those of the away side.
@@ -20,7 +24,7 @@ fn club(alloc: Global, text: &str, rank: u16) -> Result<Club, OutOfMemory>
     })
 }
 
-pub fn four_clubs(alloc: Global, order: Order, fixtures: Vec<Fixture>) -> Result<Sheet, OutOfMemory>
+fn four_clubs(alloc: Global, order: Order, fixtures: Vec<Fixture>) -> Result<Sheet, OutOfMemory>
     requires fixtures { IsTrue (list_all (is_fixture 4) fixtures.items) }
     requires few { length fixtures.items ≤ 600 }
     ensures limits { IfOk result (λ sheet. IsWithinLimits sheet) }
@@ -43,7 +47,7 @@ pub fn four_clubs(alloc: Global, order: Order, fixtures: Vec<Fixture>) -> Result
     })
 }
 
-pub fn fixtures_of(alloc: Global, games: &[Game]) -> Result<Vec<Fixture>, OutOfMemory>
+fn fixtures_of(alloc: Global, games: &[Game]) -> Result<Vec<Fixture>, OutOfMemory>
     ensures { IfOk result (λ found. length found.items ≡ length games.now) }
 {
     let mut found = Vec::new(alloc);
@@ -56,10 +60,34 @@ pub fn fixtures_of(alloc: Global, games: &[Game]) -> Result<Vec<Fixture>, OutOfM
     Ok(found)
 }
 
-pub fn are_fixtures(fixtures: &[Fixture]) -> bool
+fn are_fixtures(fixtures: &[Fixture]) -> bool
     ensures { result ≡ list_all (is_fixture 4) fixtures.now }
 {
     fixtures
         .iter()
         .all(|f| f.home < 4 && f.away < 4 && !(f.home == f.away))
+}
+
+fn sheet_of(rt: &impl Abort, alloc: Global, order: Order, games: &[Game]) -> Result<Sheet, Fail>
+    ensures limits { IfOk result (λ sheet. IsWithinLimits sheet) }
+    ensures clubs { IfOk result (λ sheet. length sheet.clubs ≡ 4) }
+    ensures matches { IfOk result (λ sheet. length sheet.fixtures ≡ length games.now) }
+{
+    let fixtures = fixtures_of(alloc, games)?;
+    assert!(rt; are_fixtures(&fixtures) && fixtures.len() <= 600);
+    Ok(four_clubs(alloc, order, fixtures)?)
+}
+
+/// The league of these matches, none of which is played.
+pub fn league_of(
+    rt: &impl Abort,
+    alloc: Global,
+    order: Order,
+    games: &[Game],
+) -> Result<Sample, Fail>
+    ensures { IfOk result (λ sample. IsLeague sample.sheet sample.season) }
+{
+    let season = Season::unplayed(alloc, 4, games.len())?;
+    let sheet = sheet_of(rt, alloc, order, games)?;
+    Ok(Sample { sheet, season })
 }

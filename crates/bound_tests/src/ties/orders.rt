@@ -1,8 +1,12 @@
 //! Zones in which the two orders of the criteria differ.
 
-use super::leagues::{Game, are_fixtures, fixtures_of, four_clubs};
-use super::zones::{is_of_sheet, zone_of};
-use league_core::{Order, Season, Sure};
+ghost use Rattle.std.specs.Prelude.{◌<◌};
+ghost use Rattle.league_core.specs.Seasons.{IsLeague};
+
+use super::leagues::{Game, league_of};
+use super::zones::zone_of;
+use league_core::{Order, Sure, Zone};
+use sample_leagues::{Sample, is_of_sheet};
 use score_box::ZoneBox;
 use std::alloc::Global;
 use std::process::Abort;
@@ -67,6 +71,41 @@ const ROWS: [Row; 4] = [
     },
 ];
 
+fn check_box(rt: &impl Abort, zone_box: &ZoneBox, row: &Row, wanted: Sure) {
+    assert!(rt; has_one_outcome(zone_box), "{}", row.name);
+    assert!(rt; 1 < zone_box.sheet().clubs.len());
+    assert!(rt; judge(zone_box, 0, 1) == wanted, "{}", row.name);
+}
+
+fn check_zone(
+    rt: &impl Abort,
+    alloc: Global,
+    sample: &Sample,
+    zone: &Zone,
+    row: &Row,
+    wanted: Sure,
+) -> Result<(), Fail>
+    requires { IsLeague sample.now.sheet sample.now.season }
+{
+    assert!(rt; is_of_sheet(&sample.sheet, zone.literals.as_slice()));
+    let zone_box = ZoneBox::of(alloc, &sample.sheet, &sample.season, zone)?;
+    check_box(rt, &zone_box, row, wanted);
+    Ok(())
+}
+
+fn check_league(
+    rt: &impl Abort,
+    alloc: Global,
+    sample: &Sample,
+    row: &Row,
+    wanted: Sure,
+) -> Result<(), Fail>
+    requires { IsLeague sample.now.sheet sample.now.season }
+{
+    let zone = zone_of(alloc, row.games, &[])?;
+    check_zone(rt, alloc, sample, &zone, row, wanted)
+}
+
 fn check(
     rt: &impl Abort,
     alloc: Global,
@@ -74,16 +113,8 @@ fn check(
     order: Order,
     wanted: Sure,
 ) -> Result<(), Fail> {
-    let fixtures = fixtures_of(alloc, row.games)?;
-    assert!(rt; are_fixtures(&fixtures) && fixtures.len() <= 600);
-    let sheet = four_clubs(alloc, order, fixtures)?;
-    let season = Season::unplayed(alloc, 4, row.games.len())?;
-    let zone = zone_of(alloc, row.games, &[])?;
-    assert!(rt; is_of_sheet(&sheet, &zone));
-    let zone_box = ZoneBox::of(alloc, &sheet, &season, &zone)?;
-    assert!(rt; has_one_outcome(&zone_box), "{}", row.name);
-    assert!(rt; judge(&zone_box, 0, 1) == wanted, "{}", row.name);
-    Ok(())
+    let sample = league_of(rt, alloc, order, row.games)?;
+    check_league(rt, alloc, &sample, row, wanted)
 }
 
 #[test]

@@ -2,7 +2,9 @@
 //! the least and the greatest that the scores of its matches allow.
 
 use crate::plain::is_option;
-use league_core::{Claim, ClubSet, Literal, Order, Question, Score, Season, Sheet, Sure, Test};
+use league_core::{
+    Claim, ClubSet, Fixture, Literal, Order, Question, Score, Season, Sheet, Sure, Test,
+};
 use std::alloc::{AllocError, Global};
 
 /// The least and the greatest value of a sum.
@@ -122,32 +124,59 @@ impl Left {
             matches: 0,
             all: ClubSet::empty(),
             ranks: Vec::new(alloc),
-            deducted: season.deductions().to_vec(alloc)?,
+            deducted: Vec::new(alloc),
             overall_first: sheet.order == Order::OverallFirst,
         };
+        left.add_all(sheet, season, zone)?;
+        Ok(left)
+    }
+
+    fn add_all(
+        &mut self,
+        sheet: &Sheet,
+        season: &Season,
+        zone: &[Literal],
+    ) -> Result<(), AllocError> {
+        self.deducted.extend_from_slice(season.deductions())?;
+        self.add_clubs(sheet)?;
+        for (fixture, played) in sheet.fixtures.as_slice().iter().zip(season.scores()) {
+            self.add_match(sheet, *fixture, *played, zone)?;
+        }
+        Ok(())
+    }
+
+    fn add_clubs(&mut self, sheet: &Sheet) -> Result<(), AllocError> {
         for number in 0..24u8 {
             let club = sheet.clubs.as_slice().get(number as usize);
-            left.all = left.all.with_if(club.is_some(), number);
-            left.ranks.push(club.map_or(0, |club| club.rank))?;
+            self.all = self.all.with_if(club.is_some(), number);
+            self.ranks.push(club.map_or(0, |club| club.rank))?;
         }
-        for (fixture, played) in sheet.fixtures.as_slice().iter().zip(season.scores()) {
-            for code in 0..9u8 {
-                let ending = Ending {
-                    number: left.matches,
-                    home: fixture.home,
-                    away: fixture.away,
-                    score: Score {
-                        home: code / 3,
-                        away: code % 3,
-                    },
-                };
-                if is_option(sheet, *played, zone, ending.number, ending.score) {
-                    left.endings.push(ending)?;
-                }
+        Ok(())
+    }
+
+    fn add_match(
+        &mut self,
+        sheet: &Sheet,
+        fixture: Fixture,
+        played: Option<Score>,
+        zone: &[Literal],
+    ) -> Result<(), AllocError> {
+        for code in 0..9u8 {
+            let ending = Ending {
+                number: self.matches,
+                home: fixture.home,
+                away: fixture.away,
+                score: Score {
+                    home: code / 3,
+                    away: code % 3,
+                },
+            };
+            if is_option(sheet, played, zone, ending.number, ending.score) {
+                self.endings.push(ending)?;
             }
-            left.matches = left.matches.wrapping_add(1);
         }
-        Ok(left)
+        self.matches = self.matches.wrapping_add(1);
+        Ok(())
     }
 
     pub fn has_finish(&self) -> bool {

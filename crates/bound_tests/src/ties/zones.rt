@@ -1,88 +1,83 @@
 //! Zones that leave each match an outcome and ranges of goals.
 
-ghost use Rattle.std.specs.Prelude.{◌≡◌, length};
-ghost use Rattle.league_core.specs.declared.sheet.Sheet.{Sheet};
-ghost use Rattle.league_core.specs.Zones.{is_zone_of, is_test_of};
-
 use super::leagues::Game;
-use league_core::{Listing, Literal, OutOfMemory, Sheet, Test, Zone};
+use league_core::{Listing, Literal, OutOfMemory, Test, Zone};
 use std::alloc::Global;
 
 /// The zone of these matches, with marks of rivals: before the club of a question, or not.
 pub fn zone_of(alloc: Global, games: &[Game], marks: &[(u8, bool)]) -> Result<Zone, OutOfMemory> {
     let mut literals = Listing::new(alloc);
-    for (i, (_, _, outcome, home, away)) in games.iter().enumerate() {
-        let fixture = u16::try_from(i).unwrap_or(0);
-        if matches!(outcome, 'H' | 'A') {
-            literals.push(literal(Test::Home { fixture }, *outcome == 'H'))?;
-        }
-        if matches!(outcome, 'D' | 'A') {
-            literals.push(literal(Test::Draw { fixture }, *outcome == 'D'))?;
-        }
-        literals.push(literal(
-            Test::HomeMost {
-                fixture,
-                most: home.1,
-            },
-            true,
-        ))?;
-        literals.push(literal(
-            Test::AwayMost {
-                fixture,
-                most: away.1,
-            },
-            true,
-        ))?;
-        if home.0 > 0 {
-            literals.push(literal(
-                Test::HomeMost {
-                    fixture,
-                    most: home.0 - 1,
-                },
-                false,
-            ))?;
-        }
-        if away.0 > 0 {
-            literals.push(literal(
-                Test::AwayMost {
-                    fixture,
-                    most: away.0 - 1,
-                },
-                false,
-            ))?;
-        }
-    }
-    for (club, yes) in marks {
-        literals.push(literal(Test::Rival { club: *club }, *yes))?;
-    }
+    add_all(&mut literals, games, marks)?;
     Ok(Zone { literals })
 }
 
-fn literal(test: Test, yes: bool) -> Literal {
-    Literal { test, yes }
-}
-
-/// Whether the zone names fixtures and clubs of the sheet alone.
-pub fn is_of_sheet(sheet: &Sheet, zone: &Zone) -> bool
-    ensures { result ≡ is_zone_of sheet.now zone.now.literals }
-{
-    let fixtures = sheet.fixtures.len();
-    let clubs = sheet.clubs.len();
-    zone.literals
-        .as_slice()
-        .iter()
-        .all(|literal| is_below(&literal.test, fixtures, clubs))
-}
-
-fn is_below(test: &Test, fixtures: usize, clubs: usize) -> bool
-    ensures { (sheet : Sheet) → length sheet.fixtures ≡ fixtures → length sheet.clubs ≡ clubs
-        → result ≡ is_test_of sheet test.now }
-{
-    match test {
-        Test::Home { fixture }
-        | Test::Draw { fixture }
-        | Test::HomeMost { fixture, .. }
-        | Test::AwayMost { fixture, .. } => (*fixture as usize) < fixtures,
-        Test::Rival { club } => (*club as usize) < clubs,
+fn add_all(
+    literals: &mut Listing<Literal>,
+    games: &[Game],
+    marks: &[(u8, bool)],
+) -> Result<(), OutOfMemory> {
+    add_games(literals, games)?;
+    for (club, yes) in marks {
+        add(literals, Test::Rival { club: *club }, *yes)?;
     }
+    Ok(())
+}
+
+fn add_games(literals: &mut Listing<Literal>, games: &[Game]) -> Result<(), OutOfMemory> {
+    let mut fixture = 0u16;
+    for (_, _, outcome, home, away) in games {
+        add_outcome(literals, fixture, *outcome)?;
+        add_home(literals, fixture, home.0, home.1)?;
+        add_away(literals, fixture, away.0, away.1)?;
+        fixture = fixture.wrapping_add(1);
+    }
+    Ok(())
+}
+
+fn add_outcome(
+    literals: &mut Listing<Literal>,
+    fixture: u16,
+    outcome: char,
+) -> Result<(), OutOfMemory> {
+    if matches!(outcome, 'H' | 'A') {
+        add(literals, Test::Home { fixture }, outcome == 'H')?;
+    }
+    if matches!(outcome, 'D' | 'A') {
+        add(literals, Test::Draw { fixture }, outcome == 'D')?;
+    }
+    Ok(())
+}
+
+// Goals of the home side from the least to the most.
+fn add_home(
+    literals: &mut Listing<Literal>,
+    fixture: u16,
+    least: u8,
+    most: u8,
+) -> Result<(), OutOfMemory> {
+    add(literals, Test::HomeMost { fixture, most }, true)?;
+    if least == 0 {
+        return Ok(());
+    }
+    let most = least - 1;
+    add(literals, Test::HomeMost { fixture, most }, false)
+}
+
+// Goals of the away side from the least to the most.
+fn add_away(
+    literals: &mut Listing<Literal>,
+    fixture: u16,
+    least: u8,
+    most: u8,
+) -> Result<(), OutOfMemory> {
+    add(literals, Test::AwayMost { fixture, most }, true)?;
+    if least == 0 {
+        return Ok(());
+    }
+    let most = least - 1;
+    add(literals, Test::AwayMost { fixture, most }, false)
+}
+
+fn add(literals: &mut Listing<Literal>, test: Test, yes: bool) -> Result<(), OutOfMemory> {
+    literals.push(Literal { test, yes })
 }
