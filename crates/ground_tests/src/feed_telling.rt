@@ -7,7 +7,7 @@
 ghost use Rattle.std.specs.Prelude.{◌<◌, ◌≤◌, IsTrue, length};
 ghost use Rattle.league_core.specs.Seasons.{IsSeasonOf};
 
-use crate::line_telling::memory;
+use crate::line_telling::{memory, tell_read_stop};
 use fixture_sheet::read_sheet;
 use league_core::{Event, Season, Sheet};
 use port_core::{LineReader, MemSource, ReadStop};
@@ -99,11 +99,8 @@ pub fn tell_event(event: &Event, out: &mut Vec<u8>) -> Result<(), Fail> {
 
 fn tell_stop(stop: FeedStop, out: &mut Vec<u8>) -> Result<(), Fail> {
     match stop {
-        FeedStop::Fault { number, fault } => write!(out, "{number},{fault}")?,
-        FeedStop::Read(ReadStop::ReadFault) => write!(out, "!")?,
-        FeedStop::Read(ReadStop::LineTooLong { number }) => write!(out, ">{number}")?,
-        FeedStop::Read(ReadStop::InputTooLong { number }) => write!(out, ">>{number}")?,
-        FeedStop::OutOfMemory => write!(out, "no memory")?,
+        FeedStop::Fault { number, fault } => Ok(write!(out, "{number},{fault}")?),
+        FeedStop::Read(stop) => tell_read_stop(stop, out),
+        FeedStop::OutOfMemory => Ok(out.extend_from_slice(b"no memory")?),
     }
-    Ok(())
 }

@@ -3,10 +3,11 @@
 
 use crate::rows::{compare, part, rows};
 use fixture_sheet::{
-    Fields, FieldsStop, Progress, SheetFault, fields_of, name_of, number_within, number_written,
-    take_content,
+    Draft, Fields, FieldsStop, Progress, RecordStop, SheetFault, fields_of, name_of, number_within,
+    number_written, take_content,
 };
 use std::alloc::Global;
+use std::process::Abort;
 use std::test::Fail;
 
 // A line, and its fields.
@@ -53,20 +54,43 @@ fn numbers_and_names_are_read(rt: HostRuntime) {
     assert!(rt; name_of(b"Astra \xc3").is_none());
 }
 
+// The sheet so far, after one content more.
+fn taken(alloc: Global, draft: Option<Draft>, content: &[u8]) -> Result<Option<Draft>, Fail> {
+    match take_content(alloc, draft, content) {
+        Ok(Progress::SoFar(next)) => Ok(next),
+        _ => Err(Fail::from("refused")),
+    }
+}
+
+fn drafted(alloc: Global) -> Result<Option<Draft>, Fail> {
+    let league = taken(alloc, None, b"league,T,1")?;
+    let first = taken(alloc, league, b"club,A,1")?;
+    let same = taken(alloc, first, b",,")?;
+    taken(alloc, same, b"club,B,2")
+}
+
+// How many clubs a whole sheet has; none where it is not whole.
+fn clubs_in(progress: &Result<Progress, RecordStop>) -> Option<usize> {
+    match progress {
+        Ok(Progress::Whole(sheet)) => Some(sheet.clubs.len()),
+        _ => None,
+    }
+}
+
+fn clubs_taken(alloc: Global) -> Result<Option<usize>, Fail> {
+    let last = take_content(alloc, drafted(alloc)?, b"season");
+    Ok(clubs_in(&last))
+}
+
 #[test]
 fn contents_are_taken_one_by_one(rt: HostRuntime) -> Result<(), Fail> {
-    let alloc = rt.alloc();
-    let mut draft = None;
-    for content in [b"league,T,1".as_slice(), b"club,A,1", b",,", b"club,B,2"] {
-        let Ok(Progress::SoFar(next)) = take_content(alloc, draft, content) else {
-            return Err(Fail::from("refused"));
-        };
-        draft = next;
-    }
-    let Ok(Progress::Whole(sheet)) = take_content(alloc, draft, b"season") else {
-        return Err(Fail::from("refused"));
-    };
-    assert_eq!(rt; sheet.clubs.len(), 2);
+    assert_eq!(rt; clubs_taken(rt.alloc())?, Some(2));
+    Ok(())
+}
+
+fn check_code(rt: &impl Abort, alloc: Global, fault: SheetFault) -> Result<(), Fail> {
+    let printed = format!(in alloc; "{fault}")?;
+    assert_eq!(rt; printed.as_str(), fault.code());
     Ok(())
 }
 
@@ -86,8 +110,7 @@ fn refusals_print_as_their_codes(rt: HostRuntime) -> Result<(), Fail> {
         SheetFault::LineTwice,
         SheetFault::NoSeason,
     ] {
-        let printed = format!(in rt.alloc(); "{fault}")?;
-        assert_eq!(rt; printed.as_str(), fault.code());
+        check_code(&rt, rt.alloc(), fault)?;
     }
     Ok(())
 }

@@ -18,27 +18,41 @@ pub fn memory(alloc: Global, input: &[u8], piece: usize, fail: &[u64]) -> Result
     Ok(MemSource::new(bytes, piece, fail))
 }
 
-// Tells an answer, and whether nothing more comes.
+/// Tells a mark and a number.
+pub fn tell_number(mark: &str, number: u64, out: &mut Vec<u8>) -> Result<(), Fail> {
+    Ok(write!(out, "{mark}{number}")?)
+}
+
+/// Tells why a source gave no line.
+pub fn tell_read_stop(stop: ReadStop, out: &mut Vec<u8>) -> Result<(), Fail> {
+    match stop {
+        ReadStop::ReadFault => Ok(out.push(b'!')?),
+        ReadStop::LineTooLong { number } => tell_number(">", number, out),
+        ReadStop::InputTooLong { number } => tell_number(">>", number, out),
+    }
+}
+
+fn tell_text(text: &[u8], number: u64, out: &mut Vec<u8>) -> Result<(), Fail> {
+    out.extend_from_slice(text)?;
+    tell_number("", number, out)?;
+    Ok(out.push(b'|')?)
+}
+
 fn tell(
     answer: Result<Line, ReadStop>,
     reader: &LineReader,
     out: &mut Vec<u8>,
-) -> Result<bool, Fail> {
+) -> Result<(), Fail> {
     match answer {
-        Ok(Line::Text { number }) => {
-            out.extend_from_slice(reader.text())?;
-            write!(out, "{number}|")?;
-            return Ok(false);
-        }
-        Err(ReadStop::ReadFault) => {
-            out.push(b'!')?;
-            return Ok(false);
-        }
-        Ok(Line::End { number }) => write!(out, ".{number}")?,
-        Err(ReadStop::LineTooLong { number }) => write!(out, ">{number}")?,
-        Err(ReadStop::InputTooLong { number }) => write!(out, ">>{number}")?,
+        Ok(Line::Text { number }) => tell_text(reader.text(), number, out),
+        Ok(Line::End { number }) => tell_number(".", number, out),
+        Err(stop) => tell_read_stop(stop, out),
     }
-    Ok(true)
+}
+
+// Nothing more comes behind the answer.
+fn ends(answer: Result<Line, ReadStop>) -> bool {
+    !matches!(answer, Ok(Line::Text { .. }) | Err(ReadStop::ReadFault))
 }
 
 /// All that a reader answers, up to and with the second answer that nothing more comes.
@@ -48,11 +62,19 @@ pub fn answers<S: Source>(alloc: Global, source: &mut S) -> Result<Vec<u8>, Fail
     let mut ended = false;
     for _ in 0..60 {
         let answer = reader.next(source);
-        let ends = tell(answer, &reader, &mut out)?;
-        if ends && ended {
+        tell(answer, &reader, &mut out)?;
+        if ends(answer) && ended {
             return Ok(out);
         }
-        ended = ended || ends;
+        ended = ended || ends(answer);
     }
     Ok(out)
+}
+
+/// The same over a device in such pieces, of which these calls fail.
+pub fn lines_told(alloc: Global, input: &[u8], piece: usize, fail: &[u64]) -> Result<Vec<u8>, Fail>
+    requires { 0 < piece }
+{
+    let mut source = memory(alloc, input, piece, fail)?;
+    answers(alloc, &mut source)
 }

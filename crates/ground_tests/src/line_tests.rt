@@ -1,8 +1,12 @@
 //! Which lines come, in which pieces, and after which faults.
 
-use crate::line_telling::{answers, memory};
+ghost use Rattle.std.specs.Prelude.{◌<◌};
+
+use crate::line_telling::{answers, lines_told, memory};
 use crate::rows::{compare, number, part, rows};
 use port_core::{LineReader, StdSource};
+use std::alloc::Global;
+use std::process::Abort;
 use std::test::Fail;
 
 // An input, and all that comes.
@@ -18,33 +22,52 @@ const INPUTS: &[u8] =
 const FAULTS: &[u8] = b"1~!ab1|d4|.5.5@2~!ab1|d4|.5.5@3~ab1|!d4|.5.5@4~ab1|!d4|.5.5@\
     5~ab1|!d4|.5.5@6~ab1|!d4|.5.5@7~ab1|d4|!.5.5@8~ab1|d4|.5!.5";
 
+fn check_piece(rt: &impl Abort, alloc: Global, row: &[u8], piece: usize) -> Result<(), Fail>
+    requires { 0 < piece }
+{
+    let out = lines_told(alloc, part(row, 0), piece, &[])?;
+    compare(rt, row, out.as_slice(), part(row, 1));
+    Ok(())
+}
+
+fn check_row(rt: &impl Abort, alloc: Global, row: &[u8]) -> Result<(), Fail> {
+    check_piece(rt, alloc, row, 1)?;
+    check_piece(rt, alloc, row, 2)?;
+    check_piece(rt, alloc, row, 7)?;
+    check_piece(rt, alloc, row, 100)
+}
+
 #[test]
 fn lines_come_in_pieces_of_any_size(rt: HostRuntime) -> Result<(), Fail> {
     for row in rows(rt.alloc(), INPUTS)? {
-        for piece in [1, 2, 7, 100] {
-            let mut source = memory(rt.alloc(), part(row, 0), piece, &[])?;
-            let out = answers(rt.alloc(), &mut source)?;
-            compare(&rt, row, out.as_slice(), part(row, 1));
-        }
+        check_row(&rt, rt.alloc(), row)?;
     }
+    Ok(())
+}
+
+fn check_fault(rt: &impl Abort, alloc: Global, row: &[u8]) -> Result<(), Fail> {
+    let call = u64::from(number(row, 0)?);
+    let out = lines_told(alloc, b"ab\r\n#c\n\nd", 2, &[call])?;
+    compare(rt, row, out.as_slice(), part(row, 1));
     Ok(())
 }
 
 #[test]
 fn a_fault_at_any_call_loses_nothing(rt: HostRuntime) -> Result<(), Fail> {
     for row in rows(rt.alloc(), FAULTS)? {
-        let call = u64::from(number(row, 0)?);
-        let mut source = memory(rt.alloc(), b"ab\r\n#c\n\nd", 2, &[call])?;
-        let out = answers(rt.alloc(), &mut source)?;
-        compare(&rt, row, out.as_slice(), part(row, 1));
+        check_fault(&rt, rt.alloc(), row)?;
     }
     Ok(())
 }
 
+fn told_from_std(alloc: Global) -> Result<Vec<u8>, Fail> {
+    let mut source = StdSource::new(b"one\ntwo".as_slice());
+    answers(alloc, &mut source)
+}
+
 #[test]
 fn lines_come_from_std(rt: HostRuntime) -> Result<(), Fail> {
-    let mut source = StdSource::new(b"one\ntwo".as_slice());
-    let out = answers(rt.alloc(), &mut source)?;
+    let out = told_from_std(rt.alloc())?;
     assert_eq!(rt; out.as_slice(), b"one1|two2|.3.3".as_slice());
     Ok(())
 }

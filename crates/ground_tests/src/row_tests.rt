@@ -3,8 +3,10 @@
 use crate::rows::{compare, number, part, rows};
 use fixture_sheet::number_written;
 use port_core::{MemSink, StdSink, WriteFault, put_line};
+use std::alloc::Global;
 use std::io;
 use std::io::Write;
+use std::process::Abort;
 use std::test::Fail;
 
 // The room and the pieces of the device, the call that fails, whether the row goes out whole, and
@@ -12,18 +14,37 @@ use std::test::Fail;
 const DEVICES: &[u8] = b"10~1~~whole~row\n@4~3~~whole~row\n@3~2~~front~row@0~2~~front~@\
     10~2~1~front~@10~2~2~front~ro@10~2~3~whole~row\n";
 
+// The calls of the row's device that fail.
+fn failing(alloc: Global, row: &[u8]) -> Result<Vec<u64>, Fail> {
+    let mut fail = Vec::new(alloc);
+    if let Some(call) = number_written(part(row, 2)) {
+        fail.push(u64::from(call))?;
+    }
+    Ok(fail)
+}
+
+fn device(alloc: Global, row: &[u8]) -> Result<MemSink, Fail> {
+    let (room, piece) = (number(row, 0)? as usize, number(row, 1)? as usize);
+    let fail = failing(alloc, row)?;
+    Ok(MemSink::new(alloc, room, piece.max(1), fail)?)
+}
+
+fn check_put(rt: &impl Abort, row: &[u8], sink: &mut MemSink) {
+    let whole = put_line(sink, b"row\n").is_ok();
+    assert_eq!(rt; whole, part(row, 3) == b"whole".as_slice(), "{row:?}");
+    compare(rt, row, sink.bytes(), part(row, 4));
+}
+
+fn check_row(rt: &impl Abort, alloc: Global, row: &[u8]) -> Result<(), Fail> {
+    let mut sink = device(alloc, row)?;
+    check_put(rt, row, &mut sink);
+    Ok(())
+}
+
 #[test]
 fn a_row_goes_out_whole_or_leaves_a_front(rt: HostRuntime) -> Result<(), Fail> {
     for row in rows(rt.alloc(), DEVICES)? {
-        let mut fail = Vec::new(rt.alloc());
-        if let Some(call) = number_written(part(row, 2)) {
-            fail.push(u64::from(call))?;
-        }
-        let (room, piece) = (number(row, 0)? as usize, number(row, 1)? as usize);
-        let mut sink = MemSink::new(rt.alloc(), room, piece.max(1), fail)?;
-        let whole = put_line(&mut sink, b"row\n").is_ok();
-        assert_eq!(rt; whole, part(row, 3) == b"whole".as_slice(), "{row:?}");
-        compare(&rt, row, sink.bytes(), part(row, 4));
+        check_row(&rt, rt.alloc(), row)?;
     }
     Ok(())
 }
@@ -53,22 +74,30 @@ impl Write for Late {
     }
 }
 
-#[test]
-fn each_row_reaches_std_at_once(rt: HostRuntime) -> Result<(), Fail> {
-    let alloc = rt.alloc();
+// A row goes out at once, and none where the flush fails.
+fn check_late(rt: &impl Abort, late: &mut Late) {
+    assert_eq!(rt; put_line(&mut StdSink::new(&mut *late), b"row\n"), Ok(()));
+    assert_eq!(rt; late.out.as_slice(), b"row\n".as_slice());
+    late.broken = true;
+    assert_eq!(rt;
+        put_line(&mut StdSink::new(&mut *late), b"more\n"),
+        Err(WriteFault)
+    );
+    assert_eq!(rt; late.out.as_slice(), b"row\n".as_slice());
+}
+
+fn check_new(rt: &impl Abort, alloc: Global) {
     let mut late = Late {
         kept: Vec::new(alloc),
         out: Vec::new(alloc),
         broken: false,
     };
-    assert_eq!(rt; put_line(&mut StdSink::new(&mut late), b"row\n"), Ok(()));
-    assert_eq!(rt; late.out.as_slice(), b"row\n".as_slice());
-    late.broken = true;
-    assert_eq!(rt;
-        put_line(&mut StdSink::new(&mut late), b"more\n"),
-        Err(WriteFault)
-    );
-    assert_eq!(rt; late.out.as_slice(), b"row\n".as_slice());
+    check_late(rt, &mut late);
+}
+
+#[test]
+fn each_row_reaches_std_at_once(rt: HostRuntime) -> Result<(), Fail> {
+    check_new(&rt, rt.alloc());
     let mut full = [0u8; 2];
     let mut room = full.as_mut_slice();
     assert_eq!(rt;

@@ -70,28 +70,44 @@ fn a_line_is_refused_by_the_first_test_that_it_fails(rt: HostRuntime) -> Result<
     check(&rt, rt.alloc(), b"", WHOLE)
 }
 
-// 24 clubs, then as many matches of the first two, then lines 1 to 4 where there are any.
-fn full(alloc: Global, matches: usize) -> Result<Vec<u8>, Fail> {
-    let mut input = Vec::from_slice(alloc, b"league,T,1\n")?;
+fn add_clubs(input: &mut Vec<u8>) -> Result<(), Fail> {
     for club in 1..25 {
         write!(input, "club,C{club},1\n")?;
     }
+    Ok(())
+}
+
+fn add_matches(input: &mut Vec<u8>, matches: usize) -> Result<(), Fail> {
     for _ in 0..matches {
         input.extend_from_slice(b"match,C1,C2\n")?;
     }
+    Ok(())
+}
+
+fn add_all(input: &mut Vec<u8>, matches: usize) -> Result<(), Fail> {
+    input.extend_from_slice(b"league,T,1\n")?;
+    add_clubs(input)?;
+    add_matches(input, matches)?;
     if 0 < matches {
         input.extend_from_slice(b"line,1\nline,2\nline,3\nline,4\n")?;
     }
+    Ok(())
+}
+
+// 24 clubs, then as many matches of the first two, then lines 1 to 4 where there are any.
+fn full(alloc: Global, matches: usize) -> Result<Vec<u8>, Fail> {
+    let mut input = Vec::new(alloc);
+    add_all(&mut input, matches)?;
     Ok(input)
+}
+
+fn check_full(rt: &impl Abort, alloc: Global, matches: usize, table: &[u8]) -> Result<(), Fail> {
+    let head = full(alloc, matches)?;
+    check(rt, alloc, head.as_slice(), table)
 }
 
 #[test]
 fn a_full_sheet_takes_no_more(rt: HostRuntime) -> Result<(), Fail> {
-    check(
-        &rt,
-        rt.alloc(),
-        full(rt.alloc(), 0)?.as_slice(),
-        FULL_OF_CLUBS,
-    )?;
-    check(&rt, rt.alloc(), full(rt.alloc(), 600)?.as_slice(), FULL)
+    check_full(&rt, rt.alloc(), 0, FULL_OF_CLUBS)?;
+    check_full(&rt, rt.alloc(), 600, FULL)
 }

@@ -4,10 +4,10 @@
 
 ghost use Rattle.std.specs.Prelude.{◌<◌};
 
-use crate::line_telling::memory;
+use crate::line_telling::{memory, tell_read_stop};
 use fixture_sheet::{SheetStop, read_sheet};
 use league_core::{Order, Sheet};
-use port_core::{Line, LineReader, ReadStop, Source};
+use port_core::{Line, LineReader, Source};
 use std::alloc::Global;
 use std::io::Write;
 use std::test::Fail;
@@ -38,21 +38,38 @@ pub fn sheet_of(alloc: Global, text: &[u8]) -> Result<Sheet, Fail> {
 }
 
 fn tell_sheet(sheet: &Sheet, out: &mut Vec<u8>) -> Result<(), Fail> {
+    tell_head(sheet, out)?;
+    tell_clubs(sheet, out)?;
+    tell_fixtures(sheet, out)?;
+    tell_lines(sheet, out)
+}
+
+fn tell_head(sheet: &Sheet, out: &mut Vec<u8>) -> Result<(), Fail> {
     let (name, goals, budget) = (sheet.name.as_str(), sheet.goal_limit, sheet.budget);
     write!(out, "{name} {goals} {budget}|")?;
     if sheet.order == Order::OverallFirst {
         write!(out, "overall|")?;
     }
+    Ok(())
+}
+
+fn tell_clubs(sheet: &Sheet, out: &mut Vec<u8>) -> Result<(), Fail> {
     for club in sheet.clubs.as_slice() {
         let (name, rank) = (club.name.as_str(), club.rank);
         write!(out, "{name} {rank};")?;
     }
-    out.push(b'|')?;
+    Ok(out.push(b'|')?)
+}
+
+fn tell_fixtures(sheet: &Sheet, out: &mut Vec<u8>) -> Result<(), Fail> {
     for fixture in sheet.fixtures.as_slice() {
         let (home, away) = (fixture.home, fixture.away);
         write!(out, "{home}-{away};")?;
     }
-    out.push(b'|')?;
+    Ok(out.push(b'|')?)
+}
+
+fn tell_lines(sheet: &Sheet, out: &mut Vec<u8>) -> Result<(), Fail> {
     for line in sheet.lines.as_slice() {
         write!(out, "{line};")?;
     }
@@ -61,13 +78,10 @@ fn tell_sheet(sheet: &Sheet, out: &mut Vec<u8>) -> Result<(), Fail> {
 
 fn tell_stop(stop: SheetStop, out: &mut Vec<u8>) -> Result<(), Fail> {
     match stop {
-        SheetStop::Fault { number, fault } => write!(out, "{number},{fault}")?,
-        SheetStop::Read(ReadStop::ReadFault) => write!(out, "!")?,
-        SheetStop::Read(ReadStop::LineTooLong { number }) => write!(out, ">{number}")?,
-        SheetStop::Read(ReadStop::InputTooLong { number }) => write!(out, ">>{number}")?,
-        SheetStop::OutOfMemory => write!(out, "no memory")?,
+        SheetStop::Fault { number, fault } => Ok(write!(out, "{number},{fault}")?),
+        SheetStop::Read(stop) => tell_read_stop(stop, out),
+        SheetStop::OutOfMemory => Ok(out.extend_from_slice(b"no memory")?),
     }
-    Ok(())
 }
 
 fn tell_next<S: Source>(

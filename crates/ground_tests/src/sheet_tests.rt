@@ -1,7 +1,11 @@
 //! Sheets that are read, in pieces of any size and with faults of the source.
 
+ghost use Rattle.std.specs.Prelude.{◌<◌};
+
 use crate::rows::{compare, number, part, rows};
 use crate::sheet_telling::told;
+use std::alloc::Global;
+use std::process::Abort;
 use std::test::Fail;
 
 // Two clubs, one match, one line, as a league's first day.
@@ -23,22 +27,40 @@ const SHEETS: &[u8] = b"league,Tiny,1\nclub,A,1\nclub,B,2\nmatch,A,B\nline,1\nse
 const FAULTS: &[u8] = b"1~! 1:league,Tiny,1@2~! 2:club,A,1@3~! 4:match,A,B@4~! 5:line,1@\
     5~Tiny 1 2000|A 1;B 2;|0-1;|1; 7:ask";
 
+fn check_piece(rt: &impl Abort, alloc: Global, row: &[u8], piece: usize) -> Result<(), Fail>
+    requires { 0 < piece }
+{
+    let out = told(alloc, part(row, 0), piece, &[])?;
+    compare(rt, row, out.as_slice(), part(row, 1));
+    Ok(())
+}
+
+fn check_row(rt: &impl Abort, alloc: Global, row: &[u8]) -> Result<(), Fail> {
+    check_piece(rt, alloc, row, 1)?;
+    check_piece(rt, alloc, row, 2)?;
+    check_piece(rt, alloc, row, 7)?;
+    check_piece(rt, alloc, row, 1000)
+}
+
 #[test]
 fn sheets_are_read_in_pieces_of_any_size(rt: HostRuntime) -> Result<(), Fail> {
     for row in rows(rt.alloc(), SHEETS)? {
-        for piece in [1, 2, 7, 1000] {
-            let out = told(rt.alloc(), part(row, 0), piece, &[])?;
-            compare(&rt, row, out.as_slice(), part(row, 1));
-        }
+        check_row(&rt, rt.alloc(), row)?;
     }
+    Ok(())
+}
+
+fn check_fault(rt: &impl Abort, alloc: Global, row: &[u8]) -> Result<(), Fail> {
+    let call = u64::from(number(row, 0)?);
+    let out = told(alloc, TINY, 16, &[call])?;
+    compare(rt, row, out.as_slice(), part(row, 1));
     Ok(())
 }
 
 #[test]
 fn a_fault_of_the_source_loses_no_line(rt: HostRuntime) -> Result<(), Fail> {
     for row in rows(rt.alloc(), FAULTS)? {
-        let out = told(rt.alloc(), TINY, 16, &[u64::from(number(row, 0)?)])?;
-        compare(&rt, row, out.as_slice(), part(row, 1));
+        check_fault(&rt, rt.alloc(), row)?;
     }
     Ok(())
 }
