@@ -1,7 +1,8 @@
 //! Leagues that can be added up on paper.
 
-use crate::cuts::league::cuts_of;
+use crate::cuts::league::{Cuts, cuts_of};
 use league_core::{Claim, ClubSet, Literal, Question, Test};
+use std::alloc::Global;
 use std::process::Abort;
 use std::test::Fail;
 
@@ -27,6 +28,46 @@ fn after(club: u8) -> Literal {
     }
 }
 
+fn found(
+    rt: &impl Abort,
+    alloc: Global,
+    matches: &[u8],
+    literals: &[Literal],
+    ask: &Question,
+) -> Result<Cuts, Fail> {
+    Ok(cuts_of(rt, alloc, matches, literals, ask)?.ok_or("no finish")?)
+}
+
+// Asserts the floor cut alone.
+fn check_low(
+    rt: &impl Abort,
+    alloc: Global,
+    matches: &[u8],
+    literals: &[Literal],
+    ask: &Question,
+    wanted: Option<ClubSet>,
+) -> Result<(), Fail> {
+    let cuts = found(rt, alloc, matches, literals, ask)?;
+    assert_eq!(rt; cuts.low, wanted);
+    Ok(())
+}
+
+// Asserts both cuts.
+fn check(
+    rt: &impl Abort,
+    alloc: Global,
+    matches: &[u8],
+    literals: &[Literal],
+    ask: &Question,
+    low: Option<ClubSet>,
+    high: Option<ClubSet>,
+) -> Result<(), Fail> {
+    let cuts = found(rt, alloc, matches, literals, ask)?;
+    assert_eq!(rt; cuts.low, low);
+    assert_eq!(rt; cuts.high, high);
+    Ok(())
+}
+
 const ALREADY_LEVEL: &[u8] = b"match,B,D\nmatch,C,D\nmatch,A,D\nmatch,B,C\nline,1\nseason\n\
     result,1,1,0\nresult,2,1,0\n";
 
@@ -34,14 +75,19 @@ const ALREADY_LEVEL: &[u8] = b"match,B,D\nmatch,C,D\nmatch,A,D\nmatch,B,C\nline,
 // at 3; together they have at least 8, and twice 3 is 6.
 #[test]
 fn two_rivals_that_play_each_other_have_too_many(rt: HostRuntime) -> Result<(), Fail> {
+    let alloc = rt.alloc();
     let ask = first_place(Claim::Inside);
-    let both = cuts_of(&rt, rt.alloc(), ALREADY_LEVEL, &[after(1), after(2)], &ask)?;
-    let cuts = both.ok_or("no finish")?;
-    assert_eq!(&rt; cuts.low, Some(ClubSet { bits: 6 }));
-    assert_eq!(&rt; cuts.high, None);
-    let one = cuts_of(&rt, rt.alloc(), ALREADY_LEVEL, &[after(2)], &ask)?;
-    assert_eq!(&rt; one.ok_or("no finish")?.low, None);
-    Ok(())
+    let both = Some(ClubSet { bits: 6 });
+    check(
+        &rt,
+        alloc,
+        ALREADY_LEVEL,
+        &[after(1), after(2)],
+        &ask,
+        both,
+        None,
+    )?;
+    check_low(&rt, alloc, ALREADY_LEVEL, &[after(2)], &ask, None)
 }
 
 const DRAWN_WITH_A: &[u8] = b"match,A,B\nmatch,A,C\nmatch,B,D\nmatch,C,D\nmatch,A,D\nmatch,B,C\n\
@@ -51,19 +97,13 @@ const DRAWN_WITH_A: &[u8] = b"match,A,B\nmatch,A,C\nmatch,B,D\nmatch,C,D\nmatch,
 // together, which is just twice 5.
 #[test]
 fn as_many_as_allowed_is_no_cut(rt: HostRuntime) -> Result<(), Fail> {
+    let alloc = rt.alloc();
     let ask = first_place(Claim::Inside);
-    let found = cuts_of(&rt, rt.alloc(), DRAWN_WITH_A, &[after(1), after(2)], &ask)?;
-    assert_eq!(&rt; found.ok_or("no finish")?.low, None);
+    let zone = [after(1), after(2)];
+    check_low(&rt, alloc, DRAWN_WITH_A, &zone, &ask, None)?;
     let window = Question { high: 4, ..ask };
-    let found = cuts_of(
-        &rt,
-        rt.alloc(),
-        DRAWN_WITH_A,
-        &[after(1), after(2)],
-        &window,
-    )?;
-    assert_eq!(&rt; found.ok_or("no finish")?.low, Some(ClubSet { bits: 6 }));
-    Ok(())
+    let both = Some(ClubSet { bits: 6 });
+    check_low(&rt, alloc, DRAWN_WITH_A, &zone, &window, both)
 }
 
 const WON_TWICE: &[u8] = b"match,A,B\nmatch,A,B\nmatch,A,B\nmatch,C,D\nmatch,E,F\nline,1\nseason\n\
@@ -73,9 +113,6 @@ const WON_TWICE: &[u8] = b"match,A,B\nmatch,A,B\nmatch,A,B\nmatch,C,D\nmatch,E,F
 #[test]
 fn a_rival_alone_that_cannot_come_up(rt: HostRuntime) -> Result<(), Fail> {
     let ask = first_place(Claim::Outside);
-    let found = cuts_of(&rt, rt.alloc(), WON_TWICE, &[BEFORE_B], &ask)?;
-    let cuts = found.ok_or("no finish")?;
-    assert_eq!(&rt; cuts.high, Some(ClubSet { bits: 2 }));
-    assert_eq!(&rt; cuts.low, None);
-    Ok(())
+    let alone = Some(ClubSet { bits: 2 });
+    check(&rt, rt.alloc(), WON_TWICE, &[BEFORE_B], &ask, None, alone)
 }
