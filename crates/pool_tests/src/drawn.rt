@@ -151,21 +151,41 @@ fn work_one(alloc: Global, pair: &mut Pair) -> Result<(), Fail> {
     Ok(())
 }
 
+// Works on as many pieces as is drawn for the lists, and decides a split then.
+fn work_first(
+    alloc: Global,
+    draws: &mut Draws,
+    lists: &Lists,
+    pair: &mut Pair,
+) -> Result<(), Fail> {
+    if lists.worked == 0 {
+        return Ok(());
+    }
+    for _ in 0..lists.worked {
+        work_one(alloc, pair)?;
+    }
+    decide(alloc, draws, pair)
+}
+
+fn change_some(alloc: Global, draws: &mut Draws, pair: &mut Pair) -> Result<(), Fail> {
+    for _ in 0..draws.below(7) {
+        change_drawn(alloc, draws, pair)?;
+    }
+    Ok(())
+}
+
+fn begin(alloc: Global, draws: &mut Draws, lists: &Lists, pair: &mut Pair) -> Result<(), Fail> {
+    work_first(alloc, draws, lists, pair)?;
+    change_some(alloc, draws, pair)
+}
+
 // A pool that has been told up to six events; where it has worked before, one more, which decides
 // a split.
 fn begun(alloc: Global, draws: &mut Draws, sheet: &Sheet, lists: &Lists) -> Result<Pair, Fail>
     requires { IsWithinLimits sheet.now }
 {
     let mut pair = pair_of(alloc, sheet, lists.window)?;
-    if 0 < lists.worked {
-        for _ in 0..lists.worked {
-            work_one(alloc, &mut pair)?;
-        }
-        decide(alloc, draws, &mut pair)?;
-    }
-    for _ in 0..draws.below(7) {
-        change_drawn(alloc, draws, &mut pair)?;
-    }
+    begin(alloc, draws, lists, &mut pair)?;
     Ok(pair)
 }
 
@@ -178,25 +198,47 @@ fn finish(alloc: Global, pair: &mut Pair) -> Result<(), Fail> {
     compare(pair)
 }
 
+// Two pools, and the tickets of both that may be given back.
+#[derive(Drop)]
+struct Pools {
+    one: Pair,
+    other: Pair,
+    held: Vec<Held>,
+}
+
+fn step_of_one(alloc: Global, draws: &mut Draws, pools: &mut Pools) -> Result<(), Fail> {
+    if draws.below(4) == 0 {
+        step(alloc, draws, &mut pools.other, &mut pools.held)
+    } else {
+        step(alloc, draws, &mut pools.one, &mut pools.held)
+    }
+}
+
+fn steps(alloc: Global, draws: &mut Draws, pools: &mut Pools) -> Result<(), Fail> {
+    for _ in 0..100 {
+        step_of_one(alloc, draws, pools)?;
+    }
+    Ok(())
+}
+
+fn seen_by(alloc: Global, draws: &mut Draws, pools: &mut Pools) -> Result<Seen, Fail> {
+    steps(alloc, draws, pools)?;
+    finish(alloc, &mut pools.one)?;
+    see_answers(&mut pools.one);
+    let mut seen = pools.one.seen;
+    seen.add(pools.other.seen);
+    Ok(seen)
+}
+
 // A hundred steps of two pools of a league from their beginning, and the end of one of them.
 fn run(alloc: Global, draws: &mut Draws, sheet: &Sheet, lists: &Lists) -> Result<Seen, Fail>
     requires { IsWithinLimits sheet.now }
 {
-    let mut one = begun(alloc, draws, sheet, lists)?;
-    let mut other = begun(alloc, draws, sheet, lists)?;
-    let mut held = Vec::new(alloc);
-    for _ in 0..100 {
-        if draws.below(4) == 0 {
-            step(alloc, draws, &mut other, &mut held)?;
-        } else {
-            step(alloc, draws, &mut one, &mut held)?;
-        }
-    }
-    finish(alloc, &mut one)?;
-    see_answers(&mut one);
-    let mut seen = one.seen;
-    seen.add(other.seen);
-    Ok(seen)
+    let one = begun(alloc, draws, sheet, lists)?;
+    let other = begun(alloc, draws, sheet, lists)?;
+    let held = Vec::new(alloc);
+    let mut pools = Pools { one, other, held };
+    seen_by(alloc, draws, &mut pools)
 }
 
 fn run_lists(alloc: Global, seed: u32, lists: &Lists) -> Result<Seen, Fail> {

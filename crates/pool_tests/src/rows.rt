@@ -49,73 +49,129 @@ fn are_all_won(pool: &Pool) -> bool {
     true
 }
 
+// How many of four pieces, worked on one after the other, are kept.
+fn four_worked(alloc: Global, pool: &mut Pool) -> Result<u32, Fail> {
+    let mut kept = 0u32;
+    for _ in 0..4 {
+        if work_next(alloc, pool)? == Gave::Kept {
+            kept = kept.saturating_add(1);
+        }
+    }
+    Ok(kept)
+}
+
+// How many of four pieces are kept where no event will come; whether nothing is left then, and
+// whether all questions are won.
+fn worked_until_over(alloc: Global, pool: &mut Pool) -> Result<(u32, bool, bool), Fail> {
+    pool.shut();
+    let kept = four_worked(alloc, pool)?;
+    Ok((kept, is_over(pool), are_all_won(pool)))
+}
+
+fn two_clubs_until_over(alloc: Global) -> Result<(u32, bool, bool), Fail> {
+    let mut pool = pool_of(alloc, TWO_CLUBS)?;
+    worked_until_over(alloc, &mut pool)
+}
+
 #[test]
 fn tickets_are_worked_until_over(rt: HostRuntime) -> Result<(), Fail> {
-    let mut pool = pool_of(rt.alloc(), TWO_CLUBS)?;
-    pool.shut();
-    for _ in 0..4 {
-        assert_eq!(rt; work_next(rt.alloc(), &mut pool)?, Gave::Kept);
-    }
-    assert!(rt; is_over(&mut pool));
-    assert!(rt; are_all_won(&pool));
+    assert!(rt; two_clubs_until_over(rt.alloc())? == (4, true, true));
     Ok(())
+}
+
+type Worked = (Gave, Option<Answer>, Option<u32>);
+
+// What became of a piece that is worked on, how far the first question is, and its units.
+fn worked_once(alloc: Global, pool: &mut Pool) -> Result<Worked, Fail> {
+    let gave = work_next(alloc, pool)?;
+    Ok((gave, answer_at(pool, 0), units_at(pool, 0)))
+}
+
+fn idle_worked_once(alloc: Global) -> Result<Worked, Fail> {
+    let mut pool = pool_of(alloc, IDLE)?;
+    worked_once(alloc, &mut pool)
 }
 
 #[test]
 fn one_unit_is_the_whole_budget(rt: HostRuntime) -> Result<(), Fail> {
-    let mut pool = pool_of(rt.alloc(), IDLE)?;
-    assert_eq!(rt; work_next(rt.alloc(), &mut pool)?, Gave::Kept);
-    assert_eq!(rt; answer_at(&pool, 0), Some(Answer::Spent));
-    assert_eq!(rt; units_at(&pool, 0), Some(1));
+    let (gave, answer, units) = idle_worked_once(rt.alloc())?;
+    assert_eq!(rt; gave, Gave::Kept);
+    assert_eq!(rt; (answer, units), (Some(Answer::Spent), Some(1)));
     Ok(())
 }
 
-// Takes two tickets, and gives them back after a recall: what became of them, and how many numbers
-// were out before it, after it and at the end.
-fn recalled(pool: &mut Pool) -> Result<([Gave; 2], [u64; 3]), Fail> {
+// What became of two tickets, three numbers, and whether all leaves are open at the end.
+type Given = ([Gave; 2], [u64; 3], bool);
+
+// Takes two tickets, and gives them back after a recall; the numbers are how many were out before
+// it, after it and at the end.
+fn recalled(pool: &mut Pool) -> Result<Given, Fail> {
     let (one, two) = two_taken(pool)?;
     let out = pool.out();
     pool.recall();
     let recalled = pool.out();
     let gave = [give_undone(pool, one), give_undone(pool, two)];
-    Ok((gave, [out, recalled, pool.out()]))
+    Ok((
+        gave,
+        [out, recalled, pool.out()],
+        all_leaves_are_open(pool)?,
+    ))
+}
+
+fn two_clubs_recalled(alloc: Global) -> Result<Given, Fail> {
+    let mut pool = pool_of(alloc, TWO_CLUBS)?;
+    recalled(&mut pool)
 }
 
 #[test]
 fn what_is_recalled_comes_back_stale(rt: HostRuntime) -> Result<(), Fail> {
-    let mut pool = pool_of(rt.alloc(), TWO_CLUBS)?;
-    let (gave, out) = recalled(&mut pool)?;
+    let (gave, out, are_open) = two_clubs_recalled(rt.alloc())?;
     assert!(rt; out == [2, 0, 0]);
     assert!(rt; gave == [Gave::Stale { epoch: 0 }, Gave::Stale { epoch: 0 }]);
-    assert!(rt; all_leaves_are_open(&pool)?);
+    assert!(rt; are_open);
     Ok(())
 }
 
-// Takes two tickets, and gives them back after a result: what became of them, and the epoch and
-// how many numbers are out at the end.
-fn overtaken(pool: &mut Pool) -> Result<([Gave; 2], [u64; 2]), Fail> {
+// Takes two tickets, and gives them back after a result; the numbers are the epoch and how many
+// numbers are out before and at the end.
+fn overtaken(pool: &mut Pool) -> Result<Given, Fail> {
     let (one, two) = two_taken(pool)?;
+    let out = pool.out();
     let told = tell(pool, result(0, 0, 0));
     let gave = [give_undone(pool, one), give_undone(pool, two)];
-    Ok((gave, [told?, pool.out()]))
+    Ok((gave, [told?, out, pool.out()], all_leaves_are_open(pool)?))
+}
+
+fn two_clubs_overtaken(alloc: Global) -> Result<Given, Fail> {
+    let mut pool = pool_of(alloc, TWO_CLUBS)?;
+    overtaken(&mut pool)
 }
 
 #[test]
 fn what_is_out_when_a_result_comes_is_stale(rt: HostRuntime) -> Result<(), Fail> {
-    let mut pool = pool_of(rt.alloc(), TWO_CLUBS)?;
-    let (gave, end) = overtaken(&mut pool)?;
-    assert!(rt; end == [1, 0]);
+    let (gave, end, are_open) = two_clubs_overtaken(rt.alloc())?;
+    assert!(rt; end == [1, 2, 0]);
     assert!(rt; gave == [Gave::Stale { epoch: 1 }, Gave::Stale { epoch: 1 }]);
-    assert!(rt; all_leaves_are_open(&pool)?);
+    assert!(rt; are_open);
     Ok(())
+}
+
+// Tells two results of 1:0.
+fn tell_two_wins(pool: &mut Pool) -> Result<(), Fail> {
+    tell(pool, result(0, 1, 0))?;
+    tell(pool, result(1, 1, 0))?;
+    Ok(())
+}
+
+fn sixteen_told(alloc: Global) -> Result<Pool, Fail> {
+    let mut pool = pool_of(alloc, SIXTEEN)?;
+    tell_two_wins(&mut pool)?;
+    Ok(pool)
 }
 
 // The pool of the sixteen after two results of 1:0, with all work done.
 fn sixteen(alloc: Global) -> Result<Pool, Fail> {
-    let mut pool = pool_of(alloc, SIXTEEN)?;
-    tell(&mut pool, result(0, 1, 0))?;
-    tell(&mut pool, result(1, 1, 0))?;
-    finished(alloc, pool)
+    finished(alloc, sixteen_told(alloc)?)
 }
 
 type Kinds = (u32, u32, u32, u32);
@@ -142,32 +198,39 @@ fn kinds(nodes: &[TreeNode]) -> Kinds {
     kinds
 }
 
+type Tree = (Kinds, Option<Answer>, Option<u32>);
+
 // The kinds of the nodes of the second tree, how far its question is, and its units.
-fn second(pool: &Pool) -> Result<(Kinds, Option<Answer>, Option<u32>), Fail> {
+fn second(pool: &Pool) -> Result<Tree, Fail> {
     let nodes = nodes_at(pool, OUTSIDE_OF_THE_FIRST)?;
     let answer = answer_at(pool, OUTSIDE_OF_THE_FIRST);
     let units = units_at(pool, OUTSIDE_OF_THE_FIRST);
     Ok((kinds(nodes.as_slice()), answer, units))
 }
 
+// The second tree before and after a corrected score of the first match.
+fn corrected(pool: &mut Pool, home: u8, away: u8) -> Result<(Tree, Tree), Fail> {
+    let before = second(pool)?;
+    tell(pool, result(0, home, away))?;
+    Ok((before, second(pool)?))
+}
+
+fn sixteen_corrected(alloc: Global, home: u8, away: u8) -> Result<(Tree, Tree), Fail> {
+    let mut pool = sixteen(alloc)?;
+    corrected(&mut pool, home, away)
+}
+
 #[test]
 fn a_corrected_score_without_new_points_keeps_the_tree(rt: HostRuntime) -> Result<(), Fail> {
-    let mut pool = sixteen(rt.alloc())?;
-    let (before, _, _) = second(&pool)?;
-    assert_eq!(rt; before, (15, 15, 1, 0));
-    tell(&mut pool, result(0, 2, 0))?;
-    let (after, answer, units) = second(&pool)?;
-    assert_eq!(rt; after, (15, 15, 1, 0));
-    assert_eq!(rt; (answer, units), (Some(Answer::Refuted), Some(0)));
+    let (before, after) = sixteen_corrected(rt.alloc(), 2, 0)?;
+    assert_eq!(rt; before.0, (15, 15, 1, 0));
+    assert_eq!(rt; after, ((15, 15, 1, 0), Some(Answer::Refuted), Some(0)));
     Ok(())
 }
 
 #[test]
 fn a_corrected_score_opens_what_no_longer_holds(rt: HostRuntime) -> Result<(), Fail> {
-    let mut pool = sixteen(rt.alloc())?;
-    tell(&mut pool, result(0, 0, 1))?;
-    let (after, answer, units) = second(&pool)?;
-    assert_eq!(rt; after, (15, 0, 1, 15));
-    assert_eq!(rt; (answer, units), (Some(Answer::NotYet), Some(0)));
+    let (_, after) = sixteen_corrected(rt.alloc(), 0, 1)?;
+    assert_eq!(rt; after, ((15, 0, 1, 15), Some(Answer::NotYet), Some(0)));
     Ok(())
 }
