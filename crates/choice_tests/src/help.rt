@@ -1,14 +1,17 @@
 //! Boxes and pieces of leagues that are read from text.
 
-ghost use Rattle.std.specs.Prelude.{◌≡◌, IsTrue, length};
+ghost use Rattle.std.specs.Prelude.{◌≡◌, ◌<◌, IfOk, OnOk, IsTrue, length};
 ghost use Rattle.league_core.specs.declared.sheet.Sheet.{Sheet};
+ghost use Rattle.league_core.specs.Options.{has_finish};
 ghost use Rattle.league_core.specs.Questions.{IsQuestionOf};
+ghost use Rattle.league_core.specs.Seasons.{IsLeague};
 ghost use Rattle.league_core.specs.Zones.{is_zone_of, is_test_of, is_of_rival, IsZoneFor};
 ghost use Rattle.league_core.specs.Zones.{marked_before, marked_after};
 
-use branch_rules::choose;
-use league_core::{Claim, Literal, OutOfMemory, Question, Sheet, Test};
-use sample_leagues::sample_of;
+use branch_rules::{choose, work};
+use league_core::{Claim, Listing, Literal, OutOfMemory, Question, Sheet, Test, Zone};
+use reason_core::{Done, Piece};
+use sample_leagues::{Sample, sample_of};
 use score_box::{Played, ZoneBox};
 use std::alloc::Global;
 use std::process::Abort;
@@ -54,6 +57,49 @@ pub fn check(
     Ok(())
 }
 
+fn choice_in(rt: &impl Abort, zone_box: &ZoneBox, question: &Question) -> Literal {
+    assert!(rt; (question.club as usize) < zone_box.sheet().clubs.len());
+    assert!(rt; zone_box.has_finish());
+    assert!(rt; !zone_box.is_single());
+    choose(zone_box, question)
+}
+
+fn chosen_behind(
+    rt: &impl Abort,
+    zone_box: &mut ZoneBox,
+    question: &Question,
+    zone: &[Literal],
+) -> Result<Literal, Fail> {
+    for literal in zone {
+        go_on(rt, zone_box, *literal)?;
+    }
+    Ok(choice_in(rt, zone_box, question))
+}
+
+fn chosen_over(
+    rt: &impl Abort,
+    alloc: Global,
+    played: &Played,
+    question: &Question,
+    zone: &[Literal],
+) -> Result<Literal, Fail> {
+    let mut zone_box = ZoneBox::over(alloc, played, &[])?;
+    chosen_behind(rt, &mut zone_box, question, zone)
+}
+
+fn chosen_in(
+    rt: &impl Abort,
+    alloc: Global,
+    sample: &Sample,
+    question: &Question,
+    zone: &[Literal],
+) -> Result<Literal, Fail>
+    requires { IsLeague sample.now.sheet sample.now.season }
+{
+    let played = Played::of(alloc, &sample.sheet, &sample.season)?;
+    chosen_over(rt, alloc, &played, question, zone)
+}
+
 fn chosen(
     rt: &impl Abort,
     alloc: Global,
@@ -62,15 +108,7 @@ fn chosen(
     zone: &[Literal],
 ) -> Result<Literal, Fail> {
     let sample = sample_of(alloc, text).ok_or("no league")?;
-    let played = Played::of(alloc, &sample.sheet, &sample.season)?;
-    let mut zone_box = ZoneBox::over(alloc, &played, &[])?;
-    for literal in zone {
-        go_on(rt, &mut zone_box, *literal)?;
-    }
-    assert!(rt; (question.club as usize) < zone_box.sheet().clubs.len());
-    assert!(rt; zone_box.has_finish());
-    assert!(rt; !zone_box.is_single());
-    Ok(choose(&zone_box, question))
+    chosen_in(rt, alloc, &sample, question, zone)
 }
 
 /// Puts a literal at the end of the box's zone.
@@ -133,8 +171,8 @@ fn marks_after(literals: &[Literal], club: u8) -> bool
         .any(|literal| is_rival(&literal.test, club) && !literal.yes)
 }
 
-/// Whether the literals are a zone for the question.
-pub fn is_zone_for(sheet: &Sheet, question: &Question, literals: &[Literal]) -> bool
+// Whether the literals are a zone for the question.
+fn is_zone_for(sheet: &Sheet, question: &Question, literals: &[Literal]) -> bool
     ensures { IsTrue result → IsZoneFor sheet.now question.now literals.now }
 {
     is_of_sheet(sheet, literals)
@@ -142,10 +180,70 @@ pub fn is_zone_for(sheet: &Sheet, question: &Question, literals: &[Literal]) -> 
         && !marks_after(literals, question.club)
 }
 
-/// Whether the question is one of the sheet.
-pub fn is_question_of(sheet: &Sheet, question: &Question) -> bool
+// Whether the question is one of the sheet.
+fn is_question_of(sheet: &Sheet, question: &Question) -> bool
     ensures { IsTrue result → IsQuestionOf sheet.now question.now }
 {
     let clubs = sheet.clubs.len();
     (question.club as usize) < clubs && 1 <= question.line && (question.line as usize) < clubs
+}
+
+fn has_finish_in(alloc: Global, sample: &Sample, zone: &Zone) -> Result<bool, Fail>
+    requires league { IsLeague sample.now.sheet sample.now.season }
+    requires zone { IsTrue (is_zone_of sample.now.sheet zone.now.literals) }
+    ensures { IfOk result (λ found.
+        found ≡ has_finish sample.now.sheet sample.now.season zone.now.literals) }
+{
+    let zone_box = ZoneBox::of(alloc, &sample.sheet, &sample.season, zone)?;
+    Ok(zone_box.has_finish())
+}
+
+fn piece_of(
+    alloc: Global,
+    sample: &Sample,
+    question: &Question,
+    literals: &[Literal],
+) -> Result<Piece, Fail>
+    ensures { IfOk result (λ piece. piece.season ≡ sample.now.season) }
+{
+    let season = sample.season.copy(alloc)?;
+    let zone = Zone {
+        literals: Listing::from_vec(literals.to_vec(alloc)?),
+    };
+    Ok(Piece {
+        season,
+        question: *question,
+        zone,
+    })
+}
+
+// Asserts that the piece is one of the league, and that its zone has a finish.
+fn check_piece(rt: &impl Abort, alloc: Global, sample: &Sample, piece: &Piece) -> Result<(), Fail>
+    requires { IsLeague sample.now.sheet sample.now.season }
+    ensures question { OnOk result (IsQuestionOf sample.now.sheet piece.now.question) }
+    ensures zone { OnOk result
+        (IsZoneFor sample.now.sheet piece.now.question piece.now.zone.literals) }
+    ensures has_finish { OnOk result (IsTrue
+        (has_finish sample.now.sheet sample.now.season piece.now.zone.literals)) }
+{
+    let literals = piece.zone.literals.as_slice();
+    assert!(rt; is_question_of(&sample.sheet, &piece.question));
+    assert!(rt; is_zone_for(&sample.sheet, &piece.question, literals));
+    assert!(rt; has_finish_in(alloc, sample, &piece.zone)?);
+    Ok(())
+}
+
+/// What `work` finds in the piece of this question and zone.
+pub fn worked(
+    rt: &impl Abort,
+    alloc: Global,
+    sample: &Sample,
+    question: &Question,
+    literals: &[Literal],
+) -> Result<Done, Fail>
+    requires { IsLeague sample.now.sheet sample.now.season }
+{
+    let piece = piece_of(alloc, sample, question, literals)?;
+    check_piece(rt, alloc, sample, &piece)?;
+    Ok(work(alloc, &sample.sheet, piece)?)
 }

@@ -1,12 +1,12 @@
 //! Pieces of three leagues that are worked on paper: C, the first club, is asked about the first
 //! place.
 
-use crate::help::{ahead, asked, behind, is_question_of, is_zone_for};
-use branch_rules::work;
-use league_core::{Claim, ClubSet, Finish, Listing, Literal, Question, Reason, Score, Test, Zone};
-use reason_core::{Done, Piece};
-use sample_leagues::sample_of;
-use score_box::ZoneBox;
+ghost use Rattle.league_core.specs.Seasons.{IsLeague};
+
+use crate::help::{ahead, asked, behind, worked};
+use league_core::{Claim, ClubSet, Finish, Literal, Question, Reason, Score, Test};
+use reason_core::Done;
+use sample_leagues::{Sample, sample_of};
 use std::alloc::Global;
 use std::process::Abort;
 use std::test::Fail;
@@ -33,33 +33,37 @@ enum Found {
     Undone,
 }
 
+fn found_in(done: &Done) -> Found {
+    match done {
+        Done::Won(_, finish, _) => Found::Won(last_score(finish)),
+        Done::Refuted(_, reason) => Found::Refuted(*reason),
+        Done::Split(_, literal) => Found::Split(literal.test),
+        Done::Undone => Found::Undone,
+    }
+}
+
+fn found_with(
+    rt: &impl Abort,
+    alloc: Global,
+    sample: &Sample,
+    question: &Question,
+    literals: &[Literal],
+) -> Result<Found, Fail>
+    requires { IsLeague sample.now.sheet sample.now.season }
+{
+    let done = worked(rt, alloc, sample, question, literals)?;
+    Ok(found_in(&done))
+}
+
 fn work_in(
     rt: &impl Abort,
     alloc: Global,
     text: &[u8],
-    question: Question,
+    question: &Question,
     literals: &[Literal],
 ) -> Result<Found, Fail> {
     let sample = sample_of(alloc, text).ok_or("no league")?;
-    let sheet = &sample.sheet;
-    let zone = Zone {
-        literals: Listing::from_vec(literals.to_vec(alloc)?),
-    };
-    assert!(rt; is_question_of(sheet, &question));
-    assert!(rt; is_zone_for(sheet, &question, zone.literals.as_slice()));
-    let zone_box = ZoneBox::of(alloc, sheet, &sample.season, &zone)?;
-    assert!(rt; zone_box.has_finish());
-    let piece = Piece {
-        season: sample.season.copy(alloc)?,
-        question,
-        zone,
-    };
-    Ok(match work(alloc, sheet, piece)? {
-        Done::Won(_, finish, _) => Found::Won(last_score(&finish)),
-        Done::Refuted(_, reason) => Found::Refuted(reason),
-        Done::Split(_, literal) => Found::Split(literal.test),
-        Done::Undone => Found::Undone,
-    })
+    found_with(rt, alloc, &sample, question, literals)
 }
 
 fn last_score(finish: &Finish) -> Option<Score> {
@@ -78,7 +82,7 @@ fn inside(
     wanted: Found,
 ) -> Result<(), Fail> {
     let question = asked(Claim::Inside, -99, 1800);
-    assert_eq!(rt; work_in(rt, alloc, text, question, zone)?, wanted);
+    assert_eq!(rt; work_in(rt, alloc, text, &question, zone)?, wanted);
     Ok(())
 }
 
@@ -91,7 +95,7 @@ fn outside(
     wanted: Found,
 ) -> Result<(), Fail> {
     let question = asked(Claim::Outside, -99, 1800);
-    assert_eq!(rt; work_in(rt, alloc, text, question, zone)?, wanted);
+    assert_eq!(rt; work_in(rt, alloc, text, &question, zone)?, wanted);
     Ok(())
 }
 
