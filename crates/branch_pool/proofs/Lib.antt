@@ -7,5 +7,6 @@ pub mod StepLemmas
 pub mod GoodLemmas
 pub mod CallLemmas
 pub mod NextLemmas
+pub mod FromLemmas
 pub mod RunLemmas
 pub mod WorkLemmas

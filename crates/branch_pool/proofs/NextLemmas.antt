@@ -1,10 +1,10 @@
 -- Which question comes next, found in one walk: none that is untouched stands before the first
 -- that has work.
-use Rattle.std.proofs.Common.{◌≡◌, ℕ, ◌+◌, ◌-◌, ◌<◌, ◌≤◌, Bool, true, false, ◌&&◌, ◌==◌, nat_lt}
-use Rattle.std.proofs.Common.{List, [], ◌∷◌, length, drop, Option, Some, None, refl, sym, ap}
+use Rattle.std.proofs.Common.{◌≡◌, ℕ, zero, suc, ◌+◌, ◌-◌, ◌<◌, ◌≤◌, Bool, true, false, ◌&&◌, ◌==◌, nat_lt}
+use Rattle.std.proofs.Common.{List, [], ◌∷◌, length, drop, Some, None, refl, sym, ap}
 use Rattle.std.proofs.Common.{◌∙◌, ◌⊎◌, inl, inr, arith, get_or}
 use Rattle.std.specs.Prelude.{position}
-use Rattle.std.specs.List.{position_or_len}
+use Rattle.std.specs.List.{position_or_len, slice_get}
 use Rattle.std.specs.Option.{option_or, option_map}
 use Rattle.std.proofs.lemmas.Bool.{both_ways, cases_lt, cond-true, cond-false, lt-ltb, le-ltb}
 use Rattle.std.proofs.lemmas.List.{length-drop, get_or-drop}
@@ -12,7 +12,7 @@ use Rattle.std.proofs.lemmas.List.Folds.{list_any_at}
 use Rattle.std.proofs.lemmas.List.Quantifiers.{position-Some}
 use Rattle.std.proofs.lemmas.List.Sums.{fails_before_first, passes_at_first}
 use Rattle.std.proofs.lemmas.List.Sums.{position_or_len_is, prefix_len-le-length}
-use Rattle.std.proofs.lemmas.Option.{none-some}
+use Rattle.std.proofs.lemmas.Option.{none-some, slice_get-get_or, get_or_from_slice_get}
 use Rattle.league_core.specs.declared.sheet.Sheet.{Sheet}
 use Rattle.branch_pool.specs.declared.seat.Seat.{Seat}
 use Rattle.branch_pool.specs.States.{PoolState, is_workable}
@@ -32,23 +32,22 @@ position-missing q xs past =
     cond-false (nat_lt (position_or_len q xs) (length xs)) (Some (position_or_len q xs)) None
     (le-ltb (position_or_len q xs) (length xs) past)
 
--- where the first place that passes is known, a narrower test passes from there on alone
-narrower_at : {X : Type 0} (p q : X → Bool) (x : X) (xs : List X) (k : ℕ)
-    → ((y : X) → p y ≡ false → q y ≡ false) → position p (x ∷ xs) ≡ Some k
+-- where no place before some place passes, the first that passes is looked for from there on
+skipped_at : {X : Type 0} (q : X → Bool) (x : X) (xs : List X) (k : ℕ) → k ≤ length (x ∷ xs)
+    → ((j : ℕ) → j < k → q (get_or (x ∷ xs) j x) ≡ false)
     → position_or_len q (x ∷ xs) ≡ k + position_or_len q (drop k (x ∷ xs))
-narrower_at p q x xs k narrower at =
-    let facts = position-Some p (x ∷ xs) k x at in
+skipped_at q x xs k inside none =
     let long = length-drop k (x ∷ xs) in
     let bound : position_or_len q (drop k (x ∷ xs)) ≤ length (drop k (x ∷ xs)) =
     prefix_len-le-length _ (drop k (x ∷ xs)) in
     position_or_len_is q (x ∷ xs) (k + position_or_len q (drop k (x ∷ xs))) x
-    (omega (arith, facts.0, long, bound))
+    (omega (arith, inside, long, bound))
     (λ j before. elim (cases_lt j k) [
-      | inl early ↦ narrower (get_or (x ∷ xs) j x) (facts.2 j early)
+      | inl early ↦ none j early
       | inr late ↦ behind j late before
     ])
     (λ within. ap q (sym (get_or-drop k (x ∷ xs) (position_or_len q (drop k (x ∷ xs))) x))
-    ∙ passes_at_first q (drop k (x ∷ xs)) x (omega (arith, long, within, facts.0)))
+    ∙ passes_at_first q (drop k (x ∷ xs)) x (omega (arith, long, within, inside)))
   where
     behind : (j : ℕ) → k ≤ j → j < k + position_or_len q (drop k (x ∷ xs))
         → q (get_or (x ∷ xs) j x) ≡ false
@@ -58,32 +57,41 @@ narrower_at p q x xs k narrower at =
         ∙ (ap q (sym (get_or-drop k (x ∷ xs) (j - k) x))
         ∙ fails_before_first q (drop k (x ∷ xs)) (j - k) x (omega (arith, late, before)))
 
+pub skipped_from : {X : Type 0} (q : X → Bool) (xs : List X) (k : ℕ) → k ≤ length xs
+    → ((j : ℕ) (x : X) → j < k → slice_get xs j ≡ Some x → q x ≡ false)
+    → position q xs ≡ option_map (λ more. k + more) (position q (drop k xs))
+skipped_from q [] zero inside none = refl
+skipped_from q [] (suc k) inside none = absurd (omega (arith, inside))
+skipped_from q (x ∷ xs) k inside none =
+    by_case (cases_lt (position_or_len q (drop k (x ∷ xs))) (length (drop k (x ∷ xs))))
+  where
+    is : position_or_len q (x ∷ xs) ≡ k + position_or_len q (drop k (x ∷ xs))
+    is = skipped_at q x xs k inside (λ j early. none j (get_or (x ∷ xs) j x) early
+        (slice_get-get_or (x ∷ xs) j x (omega (arith, early, inside))))
+
+    long : length (drop k (x ∷ xs)) ≡ length (x ∷ xs) - k
+    long = length-drop k (x ∷ xs)
+
+    by_case : (position_or_len q (drop k (x ∷ xs)) < length (drop k (x ∷ xs)))
+        ⊎ (length (drop k (x ∷ xs)) ≤ position_or_len q (drop k (x ∷ xs)))
+        → position q (x ∷ xs) ≡ option_map (λ more. k + more) (position q (drop k (x ∷ xs)))
+    by_case (inl here) =
+        position-found q (x ∷ xs) (omega (arith, is, long, inside, here))
+        ∙ (ap Some is
+        ∙ sym (ap (option_map (λ more. k + more)) (position-found q (drop k (x ∷ xs)) here)))
+    by_case (inr past) =
+        position-missing q (x ∷ xs) (omega (arith, is, long, inside, past))
+        ∙ sym (ap (option_map (λ more. k + more)) (position-missing q (drop k (x ∷ xs)) past))
+
+-- where the first place that passes is known, a narrower test passes from there on alone
 narrower_from : {X : Type 0} (p q : X → Bool) (xs : List X) (k : ℕ)
     → ((y : X) → p y ≡ false → q y ≡ false) → position p xs ≡ Some k
     → position q xs ≡ option_map (λ more. k + more) (position q (drop k xs))
 narrower_from p q [] k narrower at = absurd (none-some k at)
 narrower_from p q (x ∷ xs) k narrower at =
-    by_case (cases_lt (position_or_len q (drop k (x ∷ xs))) (length (drop k (x ∷ xs))))
-  where
-    is : position_or_len q (x ∷ xs) ≡ k + position_or_len q (drop k (x ∷ xs))
-    is = narrower_at p q x xs k narrower at
-
-    long : length (drop k (x ∷ xs)) ≡ length (x ∷ xs) - k
-    long = length-drop k (x ∷ xs)
-
-    within : k < length (x ∷ xs)
-    within = (position-Some p (x ∷ xs) k x at).0
-
-    by_case : (position_or_len q (drop k (x ∷ xs)) < length (drop k (x ∷ xs)))
-        ⊎ (length (drop k (x ∷ xs)) ≤ position_or_len q (drop k (x ∷ xs)))
-        → position q (x ∷ xs) ≡ option_map (λ more. k + more) (position q (drop k (x ∷ xs)))
-    by_case (inl inside) =
-        position-found q (x ∷ xs) (omega (arith, is, long, within, inside))
-        ∙ (ap Some is
-        ∙ sym (ap (option_map (λ more. k + more)) (position-found q (drop k (x ∷ xs)) inside)))
-    by_case (inr past) =
-        position-missing q (x ∷ xs) (omega (arith, is, long, within, past))
-        ∙ sym (ap (option_map (λ more. k + more)) (position-missing q (drop k (x ∷ xs)) past))
+    let facts = position-Some p (x ∷ xs) k x at in
+    skipped_from q (x ∷ xs) k (omega (arith, facts.0)) (λ j y early found. narrower y
+    (ap p (sym (get_or_from_slice_get (x ∷ xs) j y x found)) ∙ facts.2 j early))
 
 -- an untouched question has work
 untouched_is_workable : (sheet : Sheet) (seat : Seat) → is_workable sheet seat ≡ false

@@ -1,6 +1,10 @@
 -- How the fields of a pool are seen.
+use Rattle.std.specs.Prelude.{◌≡◌, ◌<◌, ◌≤◌, ℕ, false, List, length, Some}
+use Rattle.std.specs.List.{slice_get}
+use Rattle.league_core.specs.declared.sheet.Sheet.{Sheet}
 use Rattle.branch_pool.specs.declared.pool.Pool.TheInside.{Inside}
-use Rattle.branch_pool.specs.States.{PoolState}
+use Rattle.branch_pool.specs.declared.seat.Seat.{Seat}
+use Rattle.branch_pool.specs.States.{PoolState, is_workable}
 use Rattle.branch_pool.specs.Goodness.{IsSoundPool}
 
 -- the pool's fields as its state
@@ -15,6 +19,14 @@ state_of pool = record {
   is_open = pool.is_open;
 }
 
--- what the fields of every pool keep
+-- no question before this place has work
+pub record HasWorkFrom (sheet : Sheet) (seats : List Seat) (place : ℕ) : Type 0 where
+  pub within : place ≤ length seats
+  pub none : (earlier : ℕ) (seat : Seat) → earlier < place → slice_get seats earlier ≡ Some seat
+      → is_workable sheet seat ≡ false
+
+-- what the fields of every pool keep: the pool is sound, and no question before the kept place has
+-- work
 abbrev pub IsPoolKept : Inside → Type 0
-IsPoolKept pool = IsSoundPool (state_of pool)
+IsPoolKept pool =
+    IsSoundPool (state_of pool) × HasWorkFrom pool.sheet pool.seats.items pool.work_from

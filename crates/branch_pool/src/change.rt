@@ -80,6 +80,7 @@ impl Pool {
         self.log.push(event)?;
         self.season.apply(&event);
         change_uncut(&self.sheet, &self.season, &mut self.seats);
+        self.work_from = 0;
         Ok(())
     }
 
@@ -95,6 +96,7 @@ impl Pool {
         let mut trees = trees_for(self.alloc, &self.sheet, &season, self.seats.as_slice())?;
         self.log.push(event)?;
         change_seats(&self.sheet, &season, &mut trees, &mut self.seats);
+        self.work_from = 0;
         self.season = season;
         Ok(())
     }

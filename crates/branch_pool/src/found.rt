@@ -10,6 +10,7 @@ ghost use Rattle.branch_pool.specs.Calls.{IsTold, LeavesFound, IsExampleLeft, ex
 ghost use Rattle.branch_pool.specs.declared.ticket.Gave.TheVariants.{Kept};
 
 use crate::leftover::{Leftover, example_of, keep_first};
+use crate::next::earlier_of;
 use crate::pool::Pool;
 use crate::seat::{Example, Loan, Seat};
 use crate::ticket::{Gave, Ticket};
@@ -79,6 +80,7 @@ impl Pool {
     {
         let seat = &mut self.seats[ticket.place as usize];
         let left = seat.give_found(ticket.number, finding);
+        self.work_from = earlier_of(self.work_from, ticket.place);
         let home = self.loans.replace(ticket.number as usize, None);
         (left, home)
     }

@@ -10,6 +10,7 @@ ghost use Rattle.branch_pool.specs.declared.ticket.Gave.TheVariants.{Kept};
 
 use crate::leftover::{Leftover, parts_of};
 use crate::loans::is_loan_of;
+use crate::next::earlier_of;
 use crate::pool::Pool;
 use crate::seat::{Example, Loan};
 use crate::ticket::{Gave, Ticket};
@@ -143,6 +144,7 @@ impl Pool {
     {
         let seat = &mut self.seats[ticket.place as usize];
         let left = seat.give(ticket.number, done);
+        self.work_from = earlier_of(self.work_from, ticket.place);
         let home = self.loans.replace(ticket.number as usize, None);
         (left.0, left.1, home)
     }

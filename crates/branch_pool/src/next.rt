@@ -11,15 +11,19 @@ use league_core::Sheet;
 
 impl Pool {
     // The question that comes next. Each is looked at once at most: one that is untouched has work,
-    // so none stands before the first that has.
-    pub(crate) fn next_place(&self) -> Option<u16>
-        ensures next { result ≡ next_place self.now }
-        ensures none { IfNone result (has_work self.now ≡ false) }
+    // so none stands before the first that has; and those before which none had work at the last
+    // look are not looked at again.
+    pub(crate) fn next_place(&mut self) -> Option<u16>
+        ensures same { self.new ≡ self.old }
+        ensures next { result ≡ next_place self.old }
+        ensures none { IfNone result (has_work self.old ≡ false) }
     {
         let Some(first) = self.first_workable() else {
+            self.work_from = self.seats.len();
             return None;
         };
-        match self.untouched_from(first) {
+        self.work_from = first;
+        match untouched_among(&self.sheet, &self.seats[first..]) {
             Some(more) => Some((first + more) as u16),
             None => Some(first as u16),
         }
@@ -30,18 +34,18 @@ impl Pool {
         ensures within { IfSome result (λ place. place < MOST_QUESTIONS) }
         ensures in_range { IfSome result (λ place. place < length self.now.seats) }
     {
-        let sheet = &self.sheet;
-        self.seats.iter().position(|seat| seat.is_workable(sheet))
+        match workable_among(&self.sheet, &self.seats[self.work_from..]) {
+            Some(more) => Some(self.work_from + more),
+            None => None,
+        }
     }
+}
 
-    // How far behind a place the first untouched question stands.
-    fn untouched_from(&self, place: usize) -> Option<usize>
-        requires in_range { place ≤ length self.now.seats }
-        ensures more { result ≡ position (is_untouched self.now.sheet) (drop place self.now.seats) }
-        ensures within { IfSome result (λ more. place + more < MOST_QUESTIONS) }
-    {
-        untouched_among(&self.sheet, &self.seats[place..])
-    }
+fn workable_among(sheet: &Sheet, seats: &[Seat]) -> Option<usize>
+    ensures place { result ≡ position (is_workable sheet.now) seats.now }
+    ensures in_range { IfSome result (λ place. place < length seats.now) }
+{
+    seats.iter().position(|seat| seat.is_workable(sheet))
 }
 
 fn untouched_among(sheet: &Sheet, seats: &[Seat]) -> Option<usize>
@@ -49,4 +53,16 @@ fn untouched_among(sheet: &Sheet, seats: &[Seat]) -> Option<usize>
     ensures in_range { IfSome result (λ place. place < length seats.now) }
 {
     seats.iter().position(|seat| seat.is_untouched(sheet))
+}
+
+/// The one place or the other, whichever is earlier.
+pub fn earlier_of(place: usize, other: u16) -> usize
+    ensures one { result ≤ place }
+    ensures other { result ≤ other }
+{
+    if place < other as usize {
+        place
+    } else {
+        other as usize
+    }
 }

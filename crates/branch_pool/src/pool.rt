@@ -33,6 +33,8 @@ pub struct Pool {
     pub(crate) season: Season,
     pub(crate) log: Vec<Event>,
     pub(crate) seats: Vec<Seat>,
+    // no question before this place has work
+    pub(crate) work_from: usize,
     pub(crate) loans: RoomyList<Option<Loan>>,
     pub(crate) is_open: bool,
 }
@@ -72,6 +74,7 @@ impl Pool {
             season,
             log: Vec::new(alloc),
             seats,
+            work_from: 0,
             loans: RoomyList::new(alloc),
             is_open: true,
         })
@@ -208,6 +211,7 @@ impl Pool {
         ensures { self.new ≡ pool_recalled self.old }
     {
         recall_seats(&mut self.seats);
+        self.work_from = 0;
         self.loans = RoomyList::new(self.alloc);
     }
 }

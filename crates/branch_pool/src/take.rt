@@ -5,6 +5,7 @@ ghost use Rattle.branch_pool.specs.Calls.{Taking, IsFit, IsFitIfLent, LendsNext,
 ghost use Rattle.branch_pool.specs.Calls.{IsSpareUsed, LeavesSpare, next_place};
 
 use crate::loans::{free_number, put_loan};
+use crate::next::earlier_of;
 use crate::pool::Pool;
 use crate::seat::Loan;
 use crate::ticket::{Ticket, Took};
@@ -105,6 +106,7 @@ impl Pool {
             zone: kept,
         };
         put_loan(&mut self.loans, number, loan);
+        self.work_from = earlier_of(self.work_from, place);
         let Some(season) = season.take() else {
             unreachable!()
         };

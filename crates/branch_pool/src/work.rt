@@ -5,6 +5,7 @@ ghost use Rattle.branch_pool.specs.Calls.{next_place};
 ghost use Rattle.branch_pool.specs.Runs.{IsSameButSeats, TakesTurn, WorksNext};
 
 use crate::loans::{free_number, keep_slot};
+use crate::next::earlier_of;
 use crate::pool::Pool;
 use crate::ticket::Turn;
 use league_core::OutOfMemory;
@@ -46,6 +47,7 @@ impl Pool {
         let seat = &mut self.seats[place as usize];
         seat.work(number as u64, worker)?;
         keep_slot(&mut self.loans, number);
+        self.work_from = earlier_of(self.work_from, place);
         Ok(())
     }
 }

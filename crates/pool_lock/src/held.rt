@@ -27,10 +27,12 @@ use std::sync::ledger::{Blank, Book};
 // one who reports is busy. Contracts see it as the pool with that.
 #[derive(Drop)]
 pub struct Held<J: Job> {
-    pool: Pool,
-    owner: Owner,
+    pub(crate) pool: Pool,
+    pub(crate) owner: Owner,
     changes: Book<J>,
     is_busy: bool,
+    // no event will come
+    pub(crate) is_shut: bool,
     // a worker may wait for something to change
     is_awaited: bool,
 }
@@ -82,6 +84,7 @@ impl<J: Job> Held<J> {
             owner,
             changes,
             is_busy: true,
+            is_shut: false,
             is_awaited: false,
         };
         (
@@ -230,6 +233,7 @@ impl<J: Job> Held<J> {
     {
         self.pool.shut();
         self.is_busy = false;
+        self.is_shut = true;
     }
 
     // The pool, with all that was out at home again. Its log is what the front reported.

@@ -7,6 +7,7 @@
 
 mod front;
 mod held;
+mod in_place;
 mod job;
 mod lent_out;
 mod lock;

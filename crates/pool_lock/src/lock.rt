@@ -34,7 +34,7 @@ const TRIES: u32 = 1000;
 /// that is reported until it rests.
 #[derive(Drop)]
 pub struct PoolLock<J: Job> {
-    word: EpochWord,
+    pub(crate) word: EpochWord,
     held: Mutex<Held<J>>,
     // something has changed that a worker may wait for
     moved: Condvar,
@@ -153,7 +153,7 @@ impl<J: Job> PoolLock<J> {
     }
 
     // Wakes those who wait, where somebody may.
-    fn wake(&self, is_awaited: bool) {
+    pub(crate) fn wake(&self, is_awaited: bool) {
         if is_awaited {
             self.moved.notify_all();
         }
@@ -161,7 +161,7 @@ impl<J: Job> PoolLock<J> {
 
     // The held value. A worker that sleeps wakes late, and others then sleep behind it; so the lock
     // is tried for a while before.
-    fn hold<R: Wait>(&self, rt: &R) -> MutexGuard<'_, Held<J>> {
+    pub(crate) fn hold<R: Wait>(&self, rt: &R) -> MutexGuard<'_, Held<J>> {
         for _ in 0..TRIES {
             if let Some(held) = self.held.try_lock() {
                 return held;

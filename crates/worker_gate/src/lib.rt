@@ -5,6 +5,7 @@
 //! What a round passes and tells stands in `specs/Rounds.antt`; read it first.
 #![tactic(auto)]
 
+mod alone;
 mod desk;
 mod feeder;
 mod gate;

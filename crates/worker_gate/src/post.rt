@@ -5,18 +5,18 @@ ghost use Rattle.std.specs.Thread.{IsSync};
 ghost use Rattle.league_core.specs.Sheets.{IsWithinLimits};
 
 use crate::gate::Gate;
-use crate::worker::run_worker;
+use crate::worker::{Role, run_as};
 use league_core::{OutOfMemory, Sheet};
 use pool_lock::{Job, PoolLock, WorkBadge};
 use std::alloc::Global;
 use std::sync::Wait;
 use std::thread::{Threads, join};
 
-/// A badge, and the number of its worker, from 0.
+/// A badge, and the role of its worker.
 #[derive(Drop)]
 pub struct Post<J: Job> {
     badge: WorkBadge<J>,
-    number: u8,
+    role: Role,
 }
 
 /// A post for each badge, in their order.
@@ -24,10 +24,12 @@ pub fn posts_of<J: Job>(
     alloc: Global,
     badges: Vec<WorkBadge<J>>,
 ) -> Result<Vec<Post<J>>, OutOfMemory> {
+    let is_alone = badges.len() == 1;
     let mut posts = Vec::new(alloc);
     let mut number = 0;
     for badge in badges {
-        posts.push(Post { badge, number })?;
+        let role = Role { number, is_alone };
+        posts.push(Post { badge, role })?;
         number = number.wrapping_add(1);
     }
     Ok(posts)
@@ -48,7 +50,7 @@ pub fn run_all<J: Job + Send + Sync, R: Threads + Wait + Sync, G: Gate + Sync>(
 {
     if posts.len() < 2 {
         if let Some(post) = posts.first_mut() {
-            run_worker(rt, alloc, sheet, lock, &mut post.badge, post.number, gate);
+            run_as(rt, alloc, sheet, lock, &mut post.badge, post.role, gate);
         }
         return;
     }

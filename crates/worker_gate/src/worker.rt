@@ -8,6 +8,7 @@ ghost use Rattle.reason_core.specs.Dones.{IsTrueOf};
 ghost use Rattle.pool_lock.specs.Lends.{IsWorkAfter};
 ghost use Rattle.worker_gate.specs.Workers.{IsNextAfter};
 
+use crate::alone::go_on_alone;
 use crate::gate::{Gate, Point};
 use crate::piece::{find_at, give_undone};
 use branch_pool::{Ticket, Took};
@@ -28,8 +29,15 @@ pub enum WorkerEnd {
     Memory,
 }
 
+/// Which worker it is, from 0, and whether it has no company.
+#[derive(Clone, Copy)]
+pub struct Role {
+    pub number: u8,
+    pub is_alone: bool,
+}
+
 /// What a worker goes on with.
-enum Next {
+pub enum Next {
     Work(Ticket),
     Over,
     Memory,
@@ -53,11 +61,33 @@ pub fn run_worker<J: Job, R: Wait, G: Gate>(
     requires limits { IsWithinLimits sheet.now }
     ensures { IsPrefix badge.old.list badge.new.list }
 {
-    let mut next = take_next(rt, lock, badge, worker, gate);
+    let role = Role {
+        number: worker,
+        is_alone: false,
+    };
+    run_as(rt, alloc, sheet, lock, badge, role, gate)
+}
+
+/// The same in a role. A worker that is alone works in the pool itself once no event will come, and
+/// then the gate hears of its work alone.
+pub fn run_as<J: Job, R: Wait, G: Gate>(
+    rt: &R,
+    alloc: Global,
+    sheet: &Sheet,
+    lock: &PoolLock<J>,
+    badge: &mut WorkBadge<J>,
+    role: Role,
+    gate: &G,
+) -> WorkerEnd
+    requires of_job { sheet.now ≡ J.sheet }
+    requires limits { IsWithinLimits sheet.now }
+    ensures { IsPrefix badge.old.list badge.new.list }
+{
+    let mut next = take_next(rt, lock, badge, role, gate);
     for _ in rt.forever() {
         match next {
             Next::Work(ticket) => {
-                next = work_epoch(rt, alloc, sheet, lock, badge, worker, gate, ticket);
+                next = work_epoch(rt, alloc, sheet, lock, badge, role, gate, ticket);
             }
             Next::Over => return WorkerEnd::Over,
             Next::Memory => return WorkerEnd::Memory,
@@ -66,11 +96,11 @@ pub fn run_worker<J: Job, R: Wait, G: Gate>(
     unreachable!()
 }
 
-fn take_next<J: Job, R: Wait, G: Gate>(
+pub fn take_next<J: Job, R: Wait, G: Gate>(
     rt: &R,
     lock: &PoolLock<J>,
     badge: &mut WorkBadge<J>,
-    worker: u8,
+    role: Role,
     gate: &G,
 ) -> Next
     ensures next { IsNextAfter J.sheet badge.new.list result }
@@ -78,7 +108,7 @@ fn take_next<J: Job, R: Wait, G: Gate>(
 {
     match lock.lend(rt, badge) {
         Ok(LentOut::Work(ticket)) => {
-            gate.at(Point::Taken, worker);
+            gate.at(Point::Taken, role.number);
             Next::Work(ticket)
         }
         Ok(LentOut::Over) => Next::Over,
@@ -92,7 +122,7 @@ fn hand_over<J: Job, R: Wait, G: Gate>(
     rt: &R,
     lock: &PoolLock<J>,
     badge: &mut WorkBadge<J>,
-    worker: u8,
+    role: Role,
     gate: &G,
     ticket: Ticket,
     found: Finding,
@@ -102,13 +132,13 @@ fn hand_over<J: Job, R: Wait, G: Gate>(
     ensures begins { IsPrefix badge.old.list badge.new.list }
 {
     let (_, took) = lock.swap(rt, badge, ticket, found);
-    gate.at(Point::Given, worker);
+    gate.at(Point::Given, role.number);
     match took {
         Took::Lent(next) => {
-            gate.at(Point::Taken, worker);
+            gate.at(Point::Taken, role.number);
             Next::Work(next)
         }
-        Took::Rest => take_next(rt, lock, badge, worker, gate),
+        Took::Rest => take_next(rt, lock, badge, role, gate),
         Took::Over => Next::Over,
         Took::OutOfMemory => Next::Memory,
     }
@@ -121,7 +151,7 @@ fn work_epoch<J: Job, R: Wait, G: Gate>(
     sheet: &Sheet,
     lock: &PoolLock<J>,
     badge: &mut WorkBadge<J>,
-    worker: u8,
+    role: Role,
     gate: &G,
     ticket: Ticket,
 ) -> Next
@@ -132,8 +162,8 @@ fn work_epoch<J: Job, R: Wait, G: Gate>(
     ensures begins { IsPrefix badge.old.list badge.new.list }
 {
     match ticket.piece.season.copy(alloc) {
-        Ok(season) => work_season(rt, alloc, sheet, &season, lock, badge, worker, gate, ticket),
-        Err(OutOfMemory) => give_up(rt, lock, badge, worker, gate, ticket),
+        Ok(season) => work_season(rt, alloc, sheet, &season, lock, badge, role, gate, ticket),
+        Err(OutOfMemory) => give_up(rt, lock, badge, role, gate, ticket),
     }
 }
 
@@ -144,7 +174,7 @@ fn work_season<J: Job, R: Wait, G: Gate>(
     season: &Season,
     lock: &PoolLock<J>,
     badge: &mut WorkBadge<J>,
-    worker: u8,
+    role: Role,
     gate: &G,
     ticket: Ticket,
 ) -> Next
@@ -156,11 +186,11 @@ fn work_season<J: Job, R: Wait, G: Gate>(
     ensures begins { IsPrefix badge.old.list badge.new.list }
 {
     let Ok(played) = Played::of(alloc, sheet, season) else {
-        return give_up(rt, lock, badge, worker, gate, ticket);
+        return give_up(rt, lock, badge, role, gate, ticket);
     };
     match Worker::new(alloc, &played) {
-        Ok(mut solver) => work_on(rt, lock, badge, worker, gate, &mut solver, ticket),
-        Err(OutOfMemory) => give_up(rt, lock, badge, worker, gate, ticket),
+        Ok(mut solver) => work_on(rt, lock, badge, role, gate, &mut solver, ticket),
+        Err(OutOfMemory) => give_up(rt, lock, badge, role, gate, ticket),
     }
 }
 
@@ -169,7 +199,7 @@ fn work_on<J: Job, R: Wait, G: Gate, W: Solver>(
     rt: &R,
     lock: &PoolLock<J>,
     badge: &mut WorkBadge<J>,
-    worker: u8,
+    role: Role,
     gate: &G,
     solver: &mut W,
     ticket: Ticket,
@@ -183,7 +213,7 @@ fn work_on<J: Job, R: Wait, G: Gate, W: Solver>(
     let epoch = ticket.epoch;
     let mut ticket = ticket;
     for _ in rt.forever() {
-        match take_turn(rt, lock, badge, worker, gate, solver, ticket) {
+        match take_turn(rt, lock, badge, role, gate, solver, ticket) {
             Next::Work(next) => {
                 if next.epoch != epoch {
                     return Next::Work(next);
@@ -202,7 +232,7 @@ fn take_turn<J: Job, R: Wait, G: Gate, W: Solver>(
     rt: &R,
     lock: &PoolLock<J>,
     badge: &mut WorkBadge<J>,
-    worker: u8,
+    role: Role,
     gate: &G,
     solver: &mut W,
     ticket: Ticket,
@@ -215,13 +245,16 @@ fn take_turn<J: Job, R: Wait, G: Gate, W: Solver>(
     ensures same_sheet { W.sheet solver.new ≡ W.sheet solver.old }
     ensures same_season { W.season solver.new ≡ W.season solver.old }
 {
-    match find_at(lock, badge, worker, gate, solver, &ticket) {
-        Ok(Some(found)) => hand_over(rt, lock, badge, worker, gate, ticket, found),
-        Ok(None) => {
-            give_undone(rt, lock, badge, worker, gate, ticket);
-            take_next(rt, lock, badge, worker, gate)
+    match find_at(lock, badge, role.number, gate, solver, &ticket) {
+        Ok(Some(found)) if role.is_alone => {
+            go_on_alone(rt, lock, badge, role, gate, solver, ticket, found)
         }
-        Err(OutOfMemory) => give_up(rt, lock, badge, worker, gate, ticket),
+        Ok(Some(found)) => hand_over(rt, lock, badge, role, gate, ticket, found),
+        Ok(None) => {
+            give_undone(rt, lock, badge, role.number, gate, ticket);
+            take_next(rt, lock, badge, role, gate)
+        }
+        Err(OutOfMemory) => give_up(rt, lock, badge, role, gate, ticket),
     }
 }
 
@@ -230,13 +263,13 @@ fn give_up<J: Job, R: Wait, G: Gate>(
     rt: &R,
     lock: &PoolLock<J>,
     badge: &mut WorkBadge<J>,
-    worker: u8,
+    role: Role,
     gate: &G,
     in_hand: Ticket,
 ) -> Next
     ensures next { result ≡ Next.Memory }
     ensures begins { IsPrefix badge.old.list badge.new.list }
 {
-    give_undone(rt, lock, badge, worker, gate, in_hand);
+    give_undone(rt, lock, badge, role.number, gate, in_hand);
     Next::Memory
 }

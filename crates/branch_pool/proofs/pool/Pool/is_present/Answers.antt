@@ -15,10 +15,10 @@ returns-then-is_same_question c =
     (sym c.self.view_is) c.requires.out in
     let epoch = subst (λ (p : PoolState). ticket.epoch ≡ present_epoch p) (sym c.self.view_is)
     c.requires.epoch in
-    let found = found_at pool.seats ticket.place seat (out_is_good pool ticket c.self.invariant
+    let found = found_at pool.seats ticket.place seat (out_is_good pool ticket c.self.invariant.0
     out).1
     c.index-seat.ensures in (
-      λ h. rw (← c.self.view_is) (present_is pool ticket seat c.self.invariant out epoch found
+      λ h. rw (← c.self.view_is) (present_is pool ticket seat c.self.invariant.0 out epoch found
           (c.is_same_question.ensures.0 c.if-is_same_question.true) (c.equals.ensures.0 h)),
       λ present. c.equals.ensures.1 (sym (subst (λ (p : PoolState). IsPresent p ticket) (sym
           c.self.view_is) present).season),
@@ -33,7 +33,7 @@ returns-else-is_same_question c =
     (sym c.self.view_is) c.requires.out in
     let epoch = subst (λ (p : PoolState). ticket.epoch ≡ present_epoch p) (sym c.self.view_is)
     c.requires.epoch in
-    let found = found_at pool.seats ticket.place seat (out_is_good pool ticket c.self.invariant
+    let found = found_at pool.seats ticket.place seat (out_is_good pool ticket c.self.invariant.0
     out).1
     c.index-seat.ensures in (
       λ h. absurd (both_ways _ c.if-is_same_question.false h),

@@ -8,6 +8,7 @@ use Rattle.branch_pool.specs.declared.seat.Seat.{Seat}
 use Rattle.branch_pool.specs.Views.{state_of}
 use Rattle.branch_pool.proofs.CallLemmas.{found_at, kept_after, may_take_back}
 use Rattle.branch_pool.proofs.CallLemmas.{out_is_good}
+use Rattle.branch_pool.proofs.FromLemmas.{work_from_set}
 use Rattle.branch_pool.proofs.StepLemmas.{kept_sound}
 use Rattle.branch_pool.proofs.pool.Pool.keep.Goals as goal
 
@@ -18,8 +19,8 @@ give-left-requires-clause-out c =
     let own = subst (λ (p : PoolState). IsOwnTicket p ticket) (sym c.self.view_is) c.requires.own in
     let epoch = subst (λ (p : PoolState). ticket.epoch ≡ present_epoch p) (sym c.self.view_is)
     c.requires.epoch in
-    let within = (out_is_good pool ticket c.self.invariant own.out).1 in
-    (may_take_back pool ticket c.index_mut-seat.result.now c.self.invariant own epoch
+    let within = (out_is_good pool ticket c.self.invariant.0 own.out).1 in
+    (may_take_back pool ticket c.index_mut-seat.result.now c.self.invariant.0 own epoch
     (found_at pool.seats ticket.place c.index_mut-seat.result.now within
     c.index_mut-seat.ensures.value)).out
 
@@ -30,8 +31,8 @@ give-left-requires-clause-some c =
     let own = subst (λ (p : PoolState). IsOwnTicket p ticket) (sym c.self.view_is) c.requires.own in
     let epoch = subst (λ (p : PoolState). ticket.epoch ≡ present_epoch p) (sym c.self.view_is)
     c.requires.epoch in
-    let within = (out_is_good pool ticket c.self.invariant own.out).1 in
-    (may_take_back pool ticket c.index_mut-seat.result.now c.self.invariant own epoch
+    let within = (out_is_good pool ticket c.self.invariant.0 own.out).1 in
+    (may_take_back pool ticket c.index_mut-seat.result.now c.self.invariant.0 own epoch
     (found_at pool.seats ticket.place c.index_mut-seat.result.now within
     c.index_mut-seat.ensures.value)).some
 
@@ -44,11 +45,14 @@ invariant_of-self c =
     c.requires.epoch in
     let given = subst (λ (p : PoolState). MayBeGiven p ticket c.args.done) (sym c.self.view_is)
     c.requires.given in
-    let within = (out_is_good pool ticket c.self.invariant own.out).1 in
-    kept_sound pool ticket c.args.done _ c.self.invariant given
-    (kept_after pool ticket c.args.done c.index_mut-seat.result.now _ _ own epoch
-    (found_at pool.seats ticket.place c.index_mut-seat.result.now within
-    c.index_mut-seat.ensures.value) c.give-left.ensures.seat c.replace-home.ensures.items)
+    let within = (out_is_good pool ticket c.self.invariant.0 own.out).1 in (
+      kept_sound pool ticket c.args.done _ c.self.invariant.0 given
+          (kept_after pool ticket c.args.done c.index_mut-seat.result.now _ _ own epoch
+          (found_at pool.seats ticket.place c.index_mut-seat.result.now within
+          c.index_mut-seat.ensures.value) c.give-left.ensures.seat c.replace-home.ensures.items),
+      work_from_set pool.sheet pool.seats c.self.inside.work_from ticket.place _ _ c.self.invariant.1
+          c.earlier_of-self-inside.ensures.one c.earlier_of-self-inside.ensures.other,
+    )
 
 pub returns-clause-keeps : goal.returns-clause-keeps
 returns-clause-keeps c =
@@ -57,7 +61,7 @@ returns-clause-keeps c =
     let own = subst (λ (p : PoolState). IsOwnTicket p ticket) (sym c.self.view_is) c.requires.own in
     let epoch = subst (λ (p : PoolState). ticket.epoch ≡ present_epoch p) (sym c.self.view_is)
     c.requires.epoch in
-    let within = (out_is_good pool ticket c.self.invariant own.out).1 in
+    let within = (out_is_good pool ticket c.self.invariant.0 own.out).1 in
     rw (← c.self.view_is) (kept_after pool ticket c.args.done c.index_mut-seat.result.now _ _ own
     epoch
     (found_at pool.seats ticket.place c.index_mut-seat.result.now within
@@ -68,7 +72,7 @@ returns-clause-example c =
     let pool : PoolState = state_of c.self.inside in
     let ticket = c.args.ticket.now in
     let own = subst (λ (p : PoolState). IsOwnTicket p ticket) (sym c.self.view_is) c.requires.own in
-    let within = (out_is_good pool ticket c.self.invariant own.out).1 in
+    let within = (out_is_good pool ticket c.self.invariant.0 own.out).1 in
     let found = found_at pool.seats ticket.place c.index_mut-seat.result.now within
     c.index_mut-seat.ensures.value in
     λ seat is. c.give-left.ensures.example

@@ -9,6 +9,7 @@ use Rattle.branch_pool.specs.declared.seat.Seat.{Seat}
 use Rattle.branch_pool.specs.Views.{state_of}
 use Rattle.branch_pool.proofs.CallLemmas.{found_at, kept_after, may_take_back}
 use Rattle.branch_pool.proofs.CallLemmas.{out_is_good}
+use Rattle.branch_pool.proofs.FromLemmas.{work_from_set}
 use Rattle.branch_pool.proofs.StepLemmas.{kept_sound}
 use Rattle.branch_pool.proofs.WorkLemmas.{done_is_for, done_is_true}
 use Rattle.branch_pool.proofs.pool.Pool.keep_found.Goals as goal
@@ -20,8 +21,8 @@ give_found-left-requires-clause-out c =
     let own = subst (λ (p : PoolState). IsOwnTicket p ticket) (sym c.self.view_is) c.requires.own in
     let epoch = subst (λ (p : PoolState). ticket.epoch ≡ present_epoch p) (sym c.self.view_is)
     c.requires.epoch in
-    let within = (out_is_good pool ticket c.self.invariant own.out).1 in
-    (may_take_back pool ticket c.index_mut-seat.result.now c.self.invariant own epoch
+    let within = (out_is_good pool ticket c.self.invariant.0 own.out).1 in
+    (may_take_back pool ticket c.index_mut-seat.result.now c.self.invariant.0 own epoch
     (found_at pool.seats ticket.place c.index_mut-seat.result.now within
     c.index_mut-seat.ensures.value)).out
 
@@ -32,8 +33,8 @@ give_found-left-requires-clause-some c =
     let own = subst (λ (p : PoolState). IsOwnTicket p ticket) (sym c.self.view_is) c.requires.own in
     let epoch = subst (λ (p : PoolState). ticket.epoch ≡ present_epoch p) (sym c.self.view_is)
     c.requires.epoch in
-    let within = (out_is_good pool ticket c.self.invariant own.out).1 in
-    (may_take_back pool ticket c.index_mut-seat.result.now c.self.invariant own epoch
+    let within = (out_is_good pool ticket c.self.invariant.0 own.out).1 in
+    (may_take_back pool ticket c.index_mut-seat.result.now c.self.invariant.0 own epoch
     (found_at pool.seats ticket.place c.index_mut-seat.result.now within
     c.index_mut-seat.ensures.value)).some
 
@@ -50,13 +51,16 @@ invariant_of-self c =
       is_for = done_is_for ticket.piece c.args.finding;
       sound = done_is_true pool.sheet ticket.piece c.args.finding sound;
     } in
-    let within = (out_is_good pool ticket c.self.invariant own.out).1 in
-    kept_sound pool ticket (done_of ticket.piece c.args.finding) _ c.self.invariant given
-    (kept_after pool ticket (done_of ticket.piece c.args.finding) c.index_mut-seat.result.now _ _
-    own epoch
-    (found_at pool.seats ticket.place c.index_mut-seat.result.now within
-    c.index_mut-seat.ensures.value) (c.give_found-left.ensures.seat ticket.piece)
-    c.replace-home.ensures.items)
+    let within = (out_is_good pool ticket c.self.invariant.0 own.out).1 in (
+      kept_sound pool ticket (done_of ticket.piece c.args.finding) _ c.self.invariant.0 given
+          (kept_after pool ticket (done_of ticket.piece c.args.finding) c.index_mut-seat.result.now _ _
+          own epoch
+          (found_at pool.seats ticket.place c.index_mut-seat.result.now within
+          c.index_mut-seat.ensures.value) (c.give_found-left.ensures.seat ticket.piece)
+          c.replace-home.ensures.items),
+      work_from_set pool.sheet pool.seats c.self.inside.work_from ticket.place _ _ c.self.invariant.1
+          c.earlier_of-self-inside.ensures.one c.earlier_of-self-inside.ensures.other,
+    )
 
 pub returns-clause-keeps : goal.returns-clause-keeps
 returns-clause-keeps c =
@@ -65,7 +69,7 @@ returns-clause-keeps c =
     let own = subst (λ (p : PoolState). IsOwnTicket p ticket) (sym c.self.view_is) c.requires.own in
     let epoch = subst (λ (p : PoolState). ticket.epoch ≡ present_epoch p) (sym c.self.view_is)
     c.requires.epoch in
-    let within = (out_is_good pool ticket c.self.invariant own.out).1 in
+    let within = (out_is_good pool ticket c.self.invariant.0 own.out).1 in
     rw (← c.self.view_is) (kept_after pool ticket (done_of ticket.piece c.args.finding)
     c.index_mut-seat.result.now _ _ own epoch
     (found_at pool.seats ticket.place c.index_mut-seat.result.now within
@@ -77,7 +81,7 @@ returns-clause-example c =
     let pool : PoolState = state_of c.self.inside in
     let ticket = c.args.ticket.now in
     let own = subst (λ (p : PoolState). IsOwnTicket p ticket) (sym c.self.view_is) c.requires.own in
-    let within = (out_is_good pool ticket c.self.invariant own.out).1 in
+    let within = (out_is_good pool ticket c.self.invariant.0 own.out).1 in
     let found = found_at pool.seats ticket.place c.index_mut-seat.result.now within
     c.index_mut-seat.ensures.value in
     λ seat is. c.give_found-left.ensures.example ticket.piece

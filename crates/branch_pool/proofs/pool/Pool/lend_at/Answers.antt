@@ -5,6 +5,7 @@ use Rattle.branch_pool.specs.States.{PoolState, free_number, with_loan}
 use Rattle.branch_pool.specs.Calls.{next_place}
 use Rattle.branch_pool.specs.Views.{state_of}
 use Rattle.branch_pool.proofs.SlotLemmas.{free_number-le}
+use Rattle.branch_pool.proofs.FromLemmas.{work_from_set}
 use Rattle.branch_pool.proofs.CallLemmas.{found_at, lent_after, may_lend, next_within, same_after}
 use Rattle.branch_pool.proofs.CallLemmas.{set_again}
 use Rattle.branch_pool.proofs.GoodLemmas.{taken_is_fit}
@@ -19,7 +20,7 @@ lend-requires-clause-open_leaf c =
     let seat = c.index_mut-seat.result.now in
     let found = found_at pool.seats c.args.place seat (next_within pool c.args.place next)
     c.index_mut-seat.ensures.value in
-    (may_lend pool c.args.place seat c.self.invariant next found).some
+    (may_lend pool c.args.place seat c.self.invariant.0 next found).some
 
 pub lend-requires-clause-free : goal.lend-requires-clause-free
 lend-requires-clause-free c =
@@ -30,13 +31,16 @@ lend-requires-clause-free c =
     let found = found_at pool.seats c.args.place seat (next_within pool c.args.place next)
     c.index_mut-seat.ensures.value in
     rw (c.free_number-number.ensures, c.as_slice.ensures)
-    (may_lend pool c.args.place seat c.self.invariant next found).free
+    (may_lend pool c.args.place seat c.self.invariant.0 next found).free
 
 pub invariant_of-self-in_err-zone : goal.invariant_of-self-in_err-zone
-invariant_of-self-in_err-zone c =
-    same_after (state_of c.self.inside) _ _ c.self.invariant
-    (set_again c.self.inside.seats.items c.args.place c.index_mut-seat.result.now c.lend.new.self
-    c.index_mut-seat.ensures.value c.in_err-zone.ensures.err) c.in_ok-reserve.ensures.items
+invariant_of-self-in_err-zone c = (
+  same_after (state_of c.self.inside) _ _ c.self.invariant.0
+      (set_again c.self.inside.seats.items c.args.place c.index_mut-seat.result.now c.lend.new.self
+      c.index_mut-seat.ensures.value c.in_err-zone.ensures.err) c.in_ok-reserve.ensures.items,
+  rw (set_again c.self.inside.seats.items c.args.place c.index_mut-seat.result.now c.lend.new.self
+      c.index_mut-seat.ensures.value c.in_err-zone.ensures.err) c.self.invariant.1,
+)
 
 pub put_loan-requires-clause-in_range : goal.put_loan-requires-clause-in_range
 put_loan-requires-clause-in_range c =
@@ -71,8 +75,11 @@ invariant_of-self-2 c =
     c.in_ok-zone.ensures.ok epoch season refl
     (c.put_loan.ensures ∙ ap (λ loans. with_loan loans c.free_number-number.result
     (record { epoch = c.len-epoch.result; place = c.args.place; zone = c.in_ok-zone.kept }))
-    c.in_ok-reserve.ensures.items) in
-    taken_sound pool ticket _ c.self.invariant lends.takes
+    c.in_ok-reserve.ensures.items) in (
+      taken_sound pool ticket _ c.self.invariant.0 lends.takes,
+      work_from_set pool.sheet pool.seats c.self.inside.work_from c.args.place _ _ c.self.invariant.1
+          c.earlier_of-self-inside.ensures.one c.earlier_of-self-inside.ensures.other,
+    )
 
 pub returns-clause-ok : goal.returns-clause-ok
 returns-clause-ok c =
@@ -134,4 +141,4 @@ returns-clause-fit c =
     (c.put_loan.ensures ∙ ap (λ loans. with_loan loans c.free_number-number.result
     (record { epoch = c.len-epoch.result; place = c.args.place; zone = c.in_ok-zone.kept }))
     c.in_ok-reserve.ensures.items) in
-    taken_is_fit pool ticket _ c.self.invariant lends.takes
+    taken_is_fit pool ticket _ c.self.invariant.0 lends.takes

@@ -3,6 +3,7 @@ use Rattle.league_core.specs.Limits.{most_events}
 use Rattle.league_core.specs.Seasons.{IsEventOf}
 use Rattle.branch_pool.specs.States.{PoolState}
 use Rattle.branch_pool.specs.Views.{state_of}
+use Rattle.branch_pool.proofs.FromLemmas.{work_from_start}
 use Rattle.branch_pool.proofs.StepLemmas.{changed_sound}
 use Rattle.branch_pool.proofs.pool.Pool.note.Goals as goal
 
@@ -12,6 +13,8 @@ invariant_of-self-2 c =
     let room = subst (λ (p : PoolState). length p.log < most_events) (sym c.self.view_is)
     c.requires.room in
     let may_be = subst (λ (p : PoolState). IsEventOf p.season c.args.event) (sym c.self.view_is)
-    c.requires.may_be in
-    rw (c.change_uncut.ensures, c.in_ok-push.ensures.items, c.apply.ensures)
-    (changed_sound pool c.args.event c.self.invariant room may_be)
+    c.requires.may_be in (
+      rw (c.change_uncut.ensures, c.in_ok-push.ensures.items, c.apply.ensures)
+          (changed_sound pool c.args.event c.self.invariant.0 room may_be),
+      work_from_start _ _,
+    )

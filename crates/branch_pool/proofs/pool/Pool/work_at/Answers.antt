@@ -3,6 +3,7 @@ use Rattle.branch_pool.specs.States.{PoolState, free_number, out_count}
 use Rattle.branch_pool.specs.Seats.{MayLend, WorksSeat, with_slot}
 use Rattle.branch_pool.specs.Calls.{next_place}
 use Rattle.branch_pool.specs.Views.{state_of}
+use Rattle.branch_pool.proofs.FromLemmas.{work_from_set}
 use Rattle.branch_pool.proofs.CallLemmas.{found_at, may_lend, next_within}
 use Rattle.branch_pool.proofs.GoodLemmas.{seat_question}
 use Rattle.branch_pool.proofs.RunLemmas.{turn_sound}
@@ -19,7 +20,7 @@ work-requires-clause-may_lend g c =
     c.index_mut-seat.ensures.value in
     subst (λ n. MayLend n seat)
     (sym (c.free_number-number.ensures ∙ ap free_number c.as_slice.ensures))
-    (may_lend pool c.args.place seat c.self.invariant next found)
+    (may_lend pool c.args.place seat c.self.invariant.0 next found)
 
 pub work-requires-clause-question : goal.work-requires-clause-question
 work-requires-clause-question g c =
@@ -31,7 +32,7 @@ work-requires-clause-question g c =
     c.index_mut-seat.ensures.value in
     let same_sheet : g.W.Solver.sheet c.args.worker.now ≡ pool.sheet
     = c.requires.sheet ∙ ap (λ (p : PoolState). p.sheet) (sym c.self.view_is) in
-    rw same_sheet (seat_question pool c.args.place seat c.self.invariant found)
+    rw same_sheet (seat_question pool c.args.place seat c.self.invariant.0 found)
 
 pub invariant_of-self-2 : goal.invariant_of-self-2
 invariant_of-self-2 g c =
@@ -56,8 +57,11 @@ invariant_of-self-2 g c =
     ∙ ap (λ ls. with_slot ls c.free_number-number.result) c.in_ok-reserve.ensures.items
     ∙ ap (with_slot pool.loans) number in
     let turn = worked_after pool c.args.place seat c.work.new.self c.keep_slot.new.loans.items
-    c.self.invariant next found worked loans in
-    turn_sound pool _ c.self.invariant turn
+    c.self.invariant.0 next found worked loans in (
+      turn_sound pool _ c.self.invariant.0 turn,
+      work_from_set pool.sheet pool.seats c.self.inside.work_from c.args.place _ _ c.self.invariant.1
+          c.earlier_of-self-inside.ensures.one c.earlier_of-self-inside.ensures.other,
+    )
 
 pub returns-clause-ok : goal.returns-clause-ok
 returns-clause-ok g c =
@@ -82,7 +86,7 @@ returns-clause-ok g c =
     ∙ ap (λ ls. with_slot ls c.free_number-number.result) c.in_ok-reserve.ensures.items
     ∙ ap (with_slot pool.loans) number in
     let turn = worked_after pool c.args.place seat c.work.new.self c.keep_slot.new.loans.items
-    c.self.invariant next found worked loans in
+    c.self.invariant.0 next found worked loans in
     rw (← c.self.view_is) turn
 
 pub returns-clause-rest : goal.returns-clause-rest

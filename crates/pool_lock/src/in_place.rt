@@ -1,0 +1,128 @@
+//! Work in the pool itself, in one hold of the lock, without a ticket.
+
+ghost use Rattle.std.specs.Prelude.{◌≡◌, IfNone, IfSome, length};
+ghost use mathlib.Core.List.{IsPrefix};
+ghost use Rattle.league_core.specs.Seasons.{season_after};
+ghost use Rattle.reason_core.specs.Dones.{IsTrueOf, done_of};
+ghost use Rattle.branch_pool.specs.Runs.{TakesTurn};
+ghost use Rattle.branch_pool.specs.Steps.{Gives};
+ghost use Rattle.pool_lock.specs.Lends.{IsToldAfter};
+
+use crate::held::Held;
+use crate::job::Job;
+use crate::lock::PoolLock;
+use crate::work_badge::{Scraps, WorkBadge};
+use branch_pool::{Gave, Ticket, Turn};
+use epoch_cancel::{EpochWord, seen};
+use reason_core::{Finding, Solver};
+use std::sync::Wait;
+
+impl<J: Job> Held<J> {
+    // Gives back what was found at a ticket's piece, and shows the worker all that the pool has been
+    // told. What is left of the ticket is handed out, but for its season.
+    fn give_found(
+        &mut self,
+        word: &EpochWord,
+        badge: &mut WorkBadge<J>,
+        ticket: Ticket,
+        finding: Finding,
+    ) -> (Gave, Scraps)
+        requires word { word.now ≡ J.table }
+        requires sound { IsTrueOf J.sheet ticket.piece finding }
+        ensures gives { Gives self.old.pool ticket (done_of ticket.piece finding) result.0
+            self.new.pool }
+        ensures busy { self.new.is_busy ≡ self.old.is_busy }
+        ensures told { IsToldAfter badge.new.list ticket result.0 }
+        ensures begins { IsPrefix badge.old.list badge.new.list }
+        ensures seen { badge.new ≡ record badge.old { list = self.new.pool.log } }
+    {
+        let (gave, left) = self.pool.give_found(ticket, finding);
+        let scraps = badge.keep(left);
+        seen(word, &mut self.owner, &mut badge.eye);
+        (gave, scraps)
+    }
+
+    // One turn of work in the pool, by a solver for the season that the badge has seen, after so
+    // many events; the badge is shown all that the pool has been told. Nothing where an event may
+    // come, or has come since.
+    pub fn work<W: Solver>(
+        &mut self,
+        word: &EpochWord,
+        badge: &mut WorkBadge<J>,
+        epoch: u64,
+        solver: &mut W,
+    ) -> Option<Turn>
+        requires word { word.now ≡ J.table }
+        requires epoch { epoch ≡ length badge.old.list }
+        requires sheet { W.sheet solver.old ≡ J.sheet }
+        requires season { W.season solver.old ≡ season_after J.sheet badge.old.list }
+        ensures turn { IfSome result (λ turn. TakesTurn self.old.pool turn self.new.pool) }
+        ensures none { IfNone result (self.new ≡ self.old) }
+        ensures still { IfSome result (λ turn. badge.new ≡ badge.old) }
+        ensures begins { IsPrefix badge.old.list badge.new.list }
+        ensures seen { badge.new ≡ record badge.old { list = self.new.pool.log } }
+        ensures busy { self.new.is_busy ≡ self.old.is_busy }
+        ensures same_sheet { W.sheet solver.new ≡ W.sheet solver.old }
+        ensures same_season { W.season solver.new ≡ W.season solver.old }
+    {
+        seen(word, &mut self.owner, &mut badge.eye);
+        if !self.is_shut || self.pool.epoch() != epoch {
+            return None;
+        }
+        self.pool.is_sound();
+        Some(self.pool.work_next(solver))
+    }
+}
+
+impl<J: Job> PoolLock<J> {
+    /// Gives a ticket back with what was found at its piece, as `swap` does, and takes none.
+    pub fn give<R: Wait>(
+        &self,
+        rt: &R,
+        badge: &mut WorkBadge<J>,
+        ticket: Ticket,
+        finding: Finding,
+    ) -> Gave
+        requires sound { IsTrueOf J.sheet ticket.piece finding }
+        ensures told { IsToldAfter badge.new.list ticket result }
+        ensures begins { IsPrefix badge.old.list badge.new.list }
+        ensures seen { badge.new ≡ record badge.old { list = badge.new.list } }
+    {
+        let (gave, _scraps, is_awaited) = {
+            let mut held = self.hold(rt);
+            let (gave, scraps) = held.give_found(&self.word, badge, ticket, finding);
+            (gave, scraps, held.wakes())
+        };
+        self.wake(is_awaited);
+        gave
+    }
+
+    /// One turn of work in the pool itself, by a solver for the season that the badge has seen,
+    /// which is that after so many events. All others wait for the lock meanwhile, so it is for a
+    /// worker that has no company. `None` where the feed is not shut, or where a newer event has
+    /// come: then nothing is worked on.
+    pub fn work<R: Wait, W: Solver>(
+        &self,
+        rt: &R,
+        badge: &mut WorkBadge<J>,
+        epoch: u64,
+        solver: &mut W,
+    ) -> Option<Turn>
+        requires epoch { epoch ≡ length badge.old.list }
+        requires sheet { W.sheet solver.old ≡ J.sheet }
+        requires season { W.season solver.old ≡ season_after J.sheet badge.old.list }
+        ensures still { IfSome result (λ turn. badge.new ≡ badge.old) }
+        ensures begins { IsPrefix badge.old.list badge.new.list }
+        ensures seen { badge.new ≡ record badge.old { list = badge.new.list } }
+        ensures same_sheet { W.sheet solver.new ≡ W.sheet solver.old }
+        ensures same_season { W.season solver.new ≡ W.season solver.old }
+    {
+        let (turn, is_awaited) = {
+            let mut held = self.hold(rt);
+            let turn = held.work(&self.word, badge, epoch, solver);
+            (turn, held.wakes())
+        };
+        self.wake(is_awaited);
+        turn
+    }
+}
