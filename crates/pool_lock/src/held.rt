@@ -5,21 +5,18 @@ ghost use Rattle.std.specs.Prelude.{true};
 ghost use mathlib.Core.List.{IsPrefix};
 ghost use Rattle.league_core.specs.Limits.{most_events};
 ghost use Rattle.league_core.specs.Seasons.{IsEventOf, season_after};
-ghost use Rattle.reason_core.specs.Dones.{IsFor, IsTrueDone, IsTrueOf, done_of};
 ghost use Rattle.branch_pool.specs.declared.ticket.Took.TheVariants as took;
-ghost use Rattle.branch_pool.specs.Calls.{IsFitIfLent, LeavesOver, Taking};
-ghost use Rattle.branch_pool.specs.Steps.{Gives, Changes, pool_opened, pool_shut, pool_recalled};
+ghost use Rattle.branch_pool.specs.Calls.{IsFitIfLent, Taking};
+ghost use Rattle.branch_pool.specs.Steps.{Changes, pool_opened, pool_shut, pool_recalled};
 ghost use Rattle.epoch_cancel.specs.Seats.{seat_of};
-ghost use Rattle.pool_lock.specs.Lends.{TakesWorkAfter, IsToldAfter};
-ghost use Rattle.pool_lock.specs.States.{Swaps};
+ghost use Rattle.pool_lock.specs.Lends.{TakesWorkAfter};
 
 use crate::front::Front;
 use crate::job::Job;
-use crate::work_badge::{Scraps, WorkBadge};
-use branch_pool::{ChangeStop, Gave, Leftover, Pool, Ticket, Took};
+use crate::work_badge::WorkBadge;
+use branch_pool::{ChangeStop, Pool, Took};
 use epoch_cancel::{EpochWord, Owner, seen, tell};
 use league_core::{Event, Season};
-use reason_core::{Done, Finding};
 use std::marker::Model;
 use std::sync::ledger::{Blank, Book};
 
@@ -113,7 +110,7 @@ impl<J: Job> Held<J> {
         took
     }
 
-    fn take_next(&mut self, spare: &mut Option<Season>) -> Took
+    pub fn take_next(&mut self, spare: &mut Option<Season>) -> Took
         ensures taking { self.old.is_busy ≡ false → Taking self.old.pool result self.new.pool }
         ensures rest { self.old.is_busy ≡ true → (result ≡ took.Rest) × (self.new ≡ self.old) }
         ensures busy { self.new.is_busy ≡ self.old.is_busy }
@@ -124,56 +121,6 @@ impl<J: Job> Held<J> {
             return Took::Rest;
         }
         self.pool.take_with(spare)
-    }
-
-    // Gives back to the pool, and shows the worker all that the pool has been told. What the pool
-    // has no use for is handed out, so that it is let go behind the lock.
-    pub fn give(
-        &mut self,
-        word: &EpochWord,
-        badge: &mut WorkBadge<J>,
-        ticket: Ticket,
-        done: Done,
-    ) -> (Gave, Leftover)
-        requires word { word.now ≡ J.table }
-        requires is_for { IsFor done ticket.piece }
-        requires sound { IsTrueDone J.sheet done }
-        ensures gives { Gives self.old.pool ticket done result.0 self.new.pool }
-        ensures busy { self.new.is_busy ≡ self.old.is_busy }
-        ensures leaves { LeavesOver self.old.pool ticket done result.0 result.1 }
-        ensures told { IsToldAfter badge.new.list ticket result.0 }
-        ensures begins { IsPrefix badge.old.list badge.new.list }
-        ensures seen { badge.new ≡ record badge.old { list = self.new.pool.log } }
-    {
-        let (gave, left) = self.pool.give_leaving(ticket, done);
-        seen(word, &mut self.owner, &mut badge.eye);
-        (gave, left)
-    }
-
-    // Gives back what was found at a ticket's piece, takes from the pool, and shows the worker all
-    // that the pool has been told. What is left of the ticket is handed out, but for its season.
-    pub fn swap(
-        &mut self,
-        word: &EpochWord,
-        badge: &mut WorkBadge<J>,
-        ticket: Ticket,
-        finding: Finding,
-    ) -> (Gave, Took, Scraps)
-        requires word { word.now ≡ J.table }
-        requires sound { IsTrueOf J.sheet ticket.piece finding }
-        ensures swaps { Swaps self.old ticket (done_of ticket.piece finding) result.0 result.1
-            self.new }
-        ensures told { IsToldAfter badge.new.list ticket result.0 }
-        ensures work { TakesWorkAfter J.sheet badge.new.list result.1 }
-        ensures begins { IsPrefix badge.old.list badge.new.list }
-        ensures seen { badge.new ≡ record badge.old { list = self.new.pool.log } }
-    {
-        let (gave, left) = self.pool.give_found(ticket, finding);
-        let scraps = badge.keep(left);
-        let took = self.take_next(&mut badge.spare);
-        self.pool.is_sound();
-        seen(word, &mut self.owner, &mut badge.eye);
-        (gave, took, scraps)
     }
 
     // A worker waits for something to change.

@@ -3,45 +3,20 @@
 ghost use Rattle.std.specs.Prelude.{◌≡◌, IfNone, IfSome, length};
 ghost use mathlib.Core.List.{IsPrefix};
 ghost use Rattle.league_core.specs.Seasons.{season_after};
-ghost use Rattle.reason_core.specs.Dones.{IsTrueOf, done_of};
+ghost use Rattle.reason_core.specs.Dones.{IsTrueOf};
 ghost use Rattle.branch_pool.specs.Runs.{TakesTurn};
-ghost use Rattle.branch_pool.specs.Steps.{Gives};
 ghost use Rattle.pool_lock.specs.Lends.{IsToldAfter};
 
 use crate::held::Held;
 use crate::job::Job;
 use crate::lock::PoolLock;
-use crate::work_badge::{Scraps, WorkBadge};
+use crate::work_badge::WorkBadge;
 use branch_pool::{Gave, Ticket, Turn};
 use epoch_cancel::{EpochWord, seen};
 use reason_core::{Finding, Solver};
 use std::sync::Wait;
 
 impl<J: Job> Held<J> {
-    // Gives back what was found at a ticket's piece, and shows the worker all that the pool has been
-    // told. What is left of the ticket is handed out, but for its season.
-    fn give_found(
-        &mut self,
-        word: &EpochWord,
-        badge: &mut WorkBadge<J>,
-        ticket: Ticket,
-        finding: Finding,
-    ) -> (Gave, Scraps)
-        requires word { word.now ≡ J.table }
-        requires sound { IsTrueOf J.sheet ticket.piece finding }
-        ensures gives { Gives self.old.pool ticket (done_of ticket.piece finding) result.0
-            self.new.pool }
-        ensures busy { self.new.is_busy ≡ self.old.is_busy }
-        ensures told { IsToldAfter badge.new.list ticket result.0 }
-        ensures begins { IsPrefix badge.old.list badge.new.list }
-        ensures seen { badge.new ≡ record badge.old { list = self.new.pool.log } }
-    {
-        let (gave, left) = self.pool.give_found(ticket, finding);
-        let scraps = badge.keep(left);
-        seen(word, &mut self.owner, &mut badge.eye);
-        (gave, scraps)
-    }
-
     // One turn of work in the pool, by a solver for the season that the badge has seen, after so
     // many events; the badge is shown all that the pool has been told. Nothing where an event may
     // come, or has come since.

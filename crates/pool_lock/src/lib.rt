@@ -11,6 +11,7 @@ mod in_place;
 mod job;
 mod lent_out;
 mod lock;
+mod returns;
 mod work_badge;
 
 pub use front::Front;

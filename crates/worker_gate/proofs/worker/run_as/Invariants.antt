@@ -1,6 +1,6 @@
 use mathlib.Core.List.{IsPrefix}
 use Rattle.worker_gate.specs.Workers.{IsNextAfter}
-use Rattle.worker_gate.proofs.worker.run_worker.Given as goal
+use Rattle.worker_gate.proofs.worker.run_as.Given as goal
 
 -- what comes next is work after what was seen
 abbrev pub invariant-loop : goal.invariant-loop
