@@ -14,6 +14,7 @@ pub mod ProperLemmas
 pub mod LotRangeLemmas
 pub mod ExampleRangeLemmas
 pub mod LineLemmas
+pub mod ScoreLineLemmas
 pub mod PrintedLemmas
 pub mod ReadBackLemmas
 pub mod PlainNumberLemmas

@@ -237,6 +237,11 @@ line_in-parts parts plain small narrow =
     (json_of-utf8 text (IsUtf8-are_ascii text (ascii_printed text (parts_printed parts small)))
     ∙ read-parts parts plain narrow)
 
+-- the text of a line as JSON is the array of its parts
+pub read-written : (x : ProofLine) → is_in_range x ≡ true
+    → read (text_of_proof_line x) ≡ Some (parts_value (parts_of x))
+read-written x within = read-parts (parts_of x) (plain_line x) (narrow_line x within)
+
 -- the text of a line is read as the line
 pub line_in-written : (x : ProofLine) → is_in_range x ≡ true → is_line_kept x ≡ true
     → line_in (text_of_proof_line x) ≡ Some x

@@ -18,6 +18,7 @@ mod proof_line;
 mod range;
 mod reader;
 mod row;
+mod score_line;
 mod values;
 
 pub use laws::lines_are_in_range;
