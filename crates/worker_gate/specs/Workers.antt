@@ -3,8 +3,8 @@ use Rattle.std.specs.Prelude.{List}
 use Rattle.league_core.specs.declared.sheet.Sheet.{Sheet}
 use Rattle.league_core.specs.declared.season.Event.{Event}
 use Rattle.pool_lock.specs.Lends.{IsWorkAfter}
-use Rattle.worker_gate.specs.declared.worker.Next.{Next}
-use Rattle.worker_gate.specs.declared.worker.Next.TheVariants.{Work, Over, Memory}
+use Rattle.worker_gate.specs.declared.next.Next.{Next}
+use Rattle.worker_gate.specs.declared.next.Next.TheVariants.{Work, Over, Memory}
 
 -- what comes next, if it is a ticket, is work after these events
 abbrev pub IsNextAfter : Sheet → List Event → Next → Type 0

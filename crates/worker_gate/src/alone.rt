@@ -8,7 +8,7 @@ ghost use Rattle.pool_lock.specs.Lends.{IsWorkAfter};
 ghost use Rattle.worker_gate.specs.Workers.{IsNextAfter};
 
 use crate::gate::{Gate, Point};
-use crate::worker::{Next, Role, take_next};
+use crate::next::{Next, Role, take_next};
 use branch_pool::{Gave, Ticket, Turn};
 use league_core::OutOfMemory;
 use pool_lock::{Job, PoolLock, WorkBadge};

@@ -1,13 +1,13 @@
 //! Where a worker is heard of.
 
-/// What a worker has just done with a ticket.
+/// What a worker has just done.
 #[derive(Clone, Copy, Debug, PartialEq, Eq)]
 pub enum Point {
-    /// It holds the ticket.
+    /// It holds a ticket.
     Taken,
-    /// It has worked on the ticket's piece.
+    /// It has worked on a piece: its ticket's, or, without company, one in the pool itself.
     Worked,
-    /// The ticket is given back.
+    /// It has given its ticket back.
     Given,
 }
 

@@ -10,6 +10,7 @@ mod desk;
 mod feeder;
 mod gate;
 mod laws;
+mod next;
 mod piece;
 mod plain;
 mod post;

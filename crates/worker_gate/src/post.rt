@@ -5,7 +5,8 @@ ghost use Rattle.std.specs.Thread.{IsSync};
 ghost use Rattle.league_core.specs.Sheets.{IsWithinLimits};
 
 use crate::gate::Gate;
-use crate::worker::{Role, run_as};
+use crate::next::Role;
+use crate::worker::run_as;
 use league_core::{OutOfMemory, Sheet};
 use pool_lock::{Job, PoolLock, WorkBadge};
 use std::alloc::Global;

@@ -4,18 +4,18 @@ ghost use Rattle.std.specs.Prelude.{◌≡◌};
 ghost use mathlib.Core.List.{IsPrefix};
 ghost use Rattle.league_core.specs.Sheets.{IsWithinLimits};
 ghost use Rattle.league_core.specs.Seasons.{IsLeague};
-ghost use Rattle.reason_core.specs.Dones.{IsTrueOf};
 ghost use Rattle.pool_lock.specs.Lends.{IsWorkAfter};
 ghost use Rattle.worker_gate.specs.Workers.{IsNextAfter};
 
 use crate::alone::go_on_alone;
-use crate::gate::{Gate, Point};
+use crate::gate::Gate;
+use crate::next::{Next, Role, give_up, hand_over, take_next};
 use crate::piece::{find_at, give_undone};
-use branch_pool::{Ticket, Took};
+use branch_pool::Ticket;
 use branch_rules::Worker;
 use league_core::{OutOfMemory, Season, Sheet};
-use pool_lock::{Job, LentOut, PoolLock, WorkBadge};
-use reason_core::{Finding, Solver};
+use pool_lock::{Job, PoolLock, WorkBadge};
+use reason_core::Solver;
 use score_box::Played;
 use std::alloc::Global;
 use std::sync::Wait;
@@ -26,20 +26,6 @@ pub enum WorkerEnd {
     /// The lock has nothing more to lend: nothing is out, and no event will come.
     Over,
     /// Memory was wanting. What the worker had in hand is given back undone.
-    Memory,
-}
-
-/// Which worker it is, from 0, and whether it has no company.
-#[derive(Clone, Copy)]
-pub struct Role {
-    pub number: u8,
-    pub is_alone: bool,
-}
-
-/// What a worker goes on with.
-pub enum Next {
-    Work(Ticket),
-    Over,
     Memory,
 }
 
@@ -68,8 +54,8 @@ pub fn run_worker<J: Job, R: Wait, G: Gate>(
     run_as(rt, alloc, sheet, lock, badge, role, gate)
 }
 
-/// The same in a role. A worker that is alone works in the pool itself once no event will come, and
-/// then the gate hears of its work alone.
+/// As `run_worker`, in a role. A worker that is alone works in the pool itself once no event will
+/// come: then there are no tickets, and the gate hears of its work only.
 pub fn run_as<J: Job, R: Wait, G: Gate>(
     rt: &R,
     alloc: Global,
@@ -94,54 +80,6 @@ pub fn run_as<J: Job, R: Wait, G: Gate>(
         }
     }
     unreachable!()
-}
-
-pub fn take_next<J: Job, R: Wait, G: Gate>(
-    rt: &R,
-    lock: &PoolLock<J>,
-    badge: &mut WorkBadge<J>,
-    role: Role,
-    gate: &G,
-) -> Next
-    ensures next { IsNextAfter J.sheet badge.new.list result }
-    ensures begins { IsPrefix badge.old.list badge.new.list }
-{
-    match lock.lend(rt, badge) {
-        Ok(LentOut::Work(ticket)) => {
-            gate.at(Point::Taken, role.number);
-            Next::Work(ticket)
-        }
-        Ok(LentOut::Over) => Next::Over,
-        Err(OutOfMemory) => Next::Memory,
-    }
-}
-
-// Gives the ticket back with what was found there, and takes the next one at once, where there is
-// one; the gate hears of both afterwards. Where there is none the worker waits for the next one.
-fn hand_over<J: Job, R: Wait, G: Gate>(
-    rt: &R,
-    lock: &PoolLock<J>,
-    badge: &mut WorkBadge<J>,
-    role: Role,
-    gate: &G,
-    ticket: Ticket,
-    found: Finding,
-) -> Next
-    requires sound { IsTrueOf J.sheet ticket.piece found }
-    ensures next { IsNextAfter J.sheet badge.new.list result }
-    ensures begins { IsPrefix badge.old.list badge.new.list }
-{
-    let (_, took) = lock.swap(rt, badge, ticket, found);
-    gate.at(Point::Given, role.number);
-    match took {
-        Took::Lent(next) => {
-            gate.at(Point::Taken, role.number);
-            Next::Work(next)
-        }
-        Took::Rest => take_next(rt, lock, badge, role, gate),
-        Took::Over => Next::Over,
-        Took::OutOfMemory => Next::Memory,
-    }
 }
 
 // Works on the ticket, and on those that follow it in its season.
@@ -256,20 +194,4 @@ fn take_turn<J: Job, R: Wait, G: Gate, W: Solver>(
         }
         Err(OutOfMemory) => give_up(rt, lock, badge, role, gate, ticket),
     }
-}
-
-// Gives back undone what the worker has in hand, for want of memory.
-fn give_up<J: Job, R: Wait, G: Gate>(
-    rt: &R,
-    lock: &PoolLock<J>,
-    badge: &mut WorkBadge<J>,
-    role: Role,
-    gate: &G,
-    in_hand: Ticket,
-) -> Next
-    ensures next { result ≡ Next.Memory }
-    ensures begins { IsPrefix badge.old.list badge.new.list }
-{
-    give_undone(rt, lock, badge, role.number, gate, in_hand);
-    Next::Memory
 }
