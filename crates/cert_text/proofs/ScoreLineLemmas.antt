@@ -18,8 +18,8 @@ in_a_row front one two three =
     ∙ ap (λ rest. one ++ 44 ∷ rest) (append_assoc two (44 ∷ []) end))
 
 pub score_text : (fixture : ℕ) (score : Score)
-    → ((codes "[\"score\"," ++ (decimal (fixture + 1) ++ 44 ∷ [])) ++ (decimal score.home ++ 44 ∷ []))
-    ++ (decimal score.away ++ 93 ∷ [])
+    → ((codes "[\"score\"," ++ (decimal (fixture + 1) ++ 44 ∷ []))
+    ++ (decimal score.home ++ 44 ∷ [])) ++ (decimal score.away ++ 93 ∷ [])
     ≡ text_of_proof_line (line.Score fixture score)
 score_text fixture score =
     in_a_row (codes "[\"score\",") (decimal (fixture + 1)) (decimal score.home) (decimal score.away)

@@ -40,8 +40,8 @@ impl<J: Job> Held<J> {
         (gave, left)
     }
 
-    // Gives back what was found at a ticket's piece, and shows the worker all that the pool has been
-    // told. What is left of the ticket is handed out, but for its season.
+    // Gives back what was found at a ticket's piece, and shows the worker all that the pool has
+    // been told. What is left of the ticket is handed out, but for its season.
     pub fn give_found(
         &mut self,
         word: &EpochWord,

@@ -10,9 +10,10 @@ pub invariant_of-self : goal.invariant_of-self
 invariant_of-self c =
     let pool : PoolState = state_of c.self.inside in
     let ticket = c.args.ticket.now in
-    let own = subst (λ (p : PoolState). IsOwnTicket p ticket) (sym c.self.view_is) c.requires.own in (
-      home_sound pool ticket _ c.self.invariant.0
-          (home_after pool ticket _ c.self.invariant.0 own
+    let own = subst (λ (p : PoolState). IsOwnTicket p ticket) (sym c.self.view_is) c.requires.own in
+    let kept = c.self.invariant in (
+      home_sound pool ticket _ kept.0
+          (home_after pool ticket _ kept.0 own
           (λ e. c.requires.earlier (rw (← c.self.view_is) e)) c.replace-home.ensures.items),
-      c.self.invariant.1,
+      kept.1,
     )

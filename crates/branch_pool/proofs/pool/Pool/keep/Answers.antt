@@ -45,12 +45,13 @@ invariant_of-self c =
     c.requires.epoch in
     let given = subst (λ (p : PoolState). MayBeGiven p ticket c.args.done) (sym c.self.view_is)
     c.requires.given in
-    let within = (out_is_good pool ticket c.self.invariant.0 own.out).1 in (
+    let within = (out_is_good pool ticket c.self.invariant.0 own.out).1 in
+    let before = c.self.inside.work_from in (
       kept_sound pool ticket c.args.done _ c.self.invariant.0 given
           (kept_after pool ticket c.args.done c.index_mut-seat.result.now _ _ own epoch
           (found_at pool.seats ticket.place c.index_mut-seat.result.now within
           c.index_mut-seat.ensures.value) c.give-left.ensures.seat c.replace-home.ensures.items),
-      work_from_set pool.sheet pool.seats c.self.inside.work_from ticket.place _ _ c.self.invariant.1
+      work_from_set pool.sheet pool.seats before ticket.place _ _ c.self.invariant.1
           c.earlier_of-self-inside.ensures.one c.earlier_of-self-inside.ensures.other,
     )
 

@@ -51,14 +51,15 @@ invariant_of-self c =
       is_for = done_is_for ticket.piece c.args.finding;
       sound = done_is_true pool.sheet ticket.piece c.args.finding sound;
     } in
-    let within = (out_is_good pool ticket c.self.invariant.0 own.out).1 in (
-      kept_sound pool ticket (done_of ticket.piece c.args.finding) _ c.self.invariant.0 given
-          (kept_after pool ticket (done_of ticket.piece c.args.finding) c.index_mut-seat.result.now _ _
-          own epoch
+    let within = (out_is_good pool ticket c.self.invariant.0 own.out).1 in
+    let before = c.self.inside.work_from in
+    let done = done_of ticket.piece c.args.finding in (
+      kept_sound pool ticket done _ c.self.invariant.0 given
+          (kept_after pool ticket done c.index_mut-seat.result.now _ _ own epoch
           (found_at pool.seats ticket.place c.index_mut-seat.result.now within
           c.index_mut-seat.ensures.value) (c.give_found-left.ensures.seat ticket.piece)
           c.replace-home.ensures.items),
-      work_from_set pool.sheet pool.seats c.self.inside.work_from ticket.place _ _ c.self.invariant.1
+      work_from_set pool.sheet pool.seats before ticket.place _ _ c.self.invariant.1
           c.earlier_of-self-inside.ensures.one c.earlier_of-self-inside.ensures.other,
     )
 

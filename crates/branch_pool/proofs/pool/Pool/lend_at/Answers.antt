@@ -75,9 +75,10 @@ invariant_of-self-2 c =
     c.in_ok-zone.ensures.ok epoch season refl
     (c.put_loan.ensures ∙ ap (λ loans. with_loan loans c.free_number-number.result
     (record { epoch = c.len-epoch.result; place = c.args.place; zone = c.in_ok-zone.kept }))
-    c.in_ok-reserve.ensures.items) in (
+    c.in_ok-reserve.ensures.items) in
+    let before = c.self.inside.work_from in (
       taken_sound pool ticket _ c.self.invariant.0 lends.takes,
-      work_from_set pool.sheet pool.seats c.self.inside.work_from c.args.place _ _ c.self.invariant.1
+      work_from_set pool.sheet pool.seats before c.args.place _ _ c.self.invariant.1
           c.earlier_of-self-inside.ensures.one c.earlier_of-self-inside.ensures.other,
     )
 

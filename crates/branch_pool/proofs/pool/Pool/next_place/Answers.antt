@@ -22,9 +22,10 @@ invariant_of-self c =
 pub invariant_of-self-2 : goal.invariant_of-self-2
 invariant_of-self-2 c =
     let pool : PoolState = state_of c.self.inside in
-    let at = subst (λ (p : PoolState). position (is_workable p.sheet) p.seats ≡ Some c.in-Some.first)
+    let first = c.in-Some.first in
+    let at = subst (λ (p : PoolState). position (is_workable p.sheet) p.seats ≡ Some first)
     (sym c.self.view_is) (sym c.in-Some.ensures.place) in
-    (c.self.invariant.0, work_from_first pool.sheet pool.seats c.in-Some.first at)
+    (c.self.invariant.0, work_from_first pool.sheet pool.seats first at)
 
 pub returns-in_default-clause-next : goal.returns-in_default-clause-next
 returns-in_default-clause-next c = sym (next_none c.args.self.now (sym c.in_default.ensures.place))

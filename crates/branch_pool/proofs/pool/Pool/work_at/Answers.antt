@@ -57,9 +57,10 @@ invariant_of-self-2 g c =
     ∙ ap (λ ls. with_slot ls c.free_number-number.result) c.in_ok-reserve.ensures.items
     ∙ ap (with_slot pool.loans) number in
     let turn = worked_after pool c.args.place seat c.work.new.self c.keep_slot.new.loans.items
-    c.self.invariant.0 next found worked loans in (
+    c.self.invariant.0 next found worked loans in
+    let before = c.self.inside.work_from in (
       turn_sound pool _ c.self.invariant.0 turn,
-      work_from_set pool.sheet pool.seats c.self.inside.work_from c.args.place _ _ c.self.invariant.1
+      work_from_set pool.sheet pool.seats before c.args.place _ _ c.self.invariant.1
           c.earlier_of-self-inside.ensures.one c.earlier_of-self-inside.ensures.other,
     )
 
