@@ -5,6 +5,7 @@ ghost use Rattle.league_core.specs.Seasons.{IsEventOf, season_after};
 ghost use Rattle.league_core.specs.Sheets.{IsWithinLimits};
 ghost use Rattle.pool_lock.specs.Lends.{IsWorkAfter};
 
+use crate::alone::meet_alone;
 use crate::found::{finding_at, found_at, lose};
 use crate::overtaken::be_overtaken;
 use branch_pool::{Gave, Ticket, Took};
@@ -29,13 +30,19 @@ pub enum Case {
     Overtaken,
     /// Nothing is asked, and the feed is shut: the first worker is told that all is over.
     Shut,
+    /// The feed is shut, and one worker works in the pool itself.
+    Alone,
+    /// One worker would do so while the feed is open.
+    Early,
+    /// And one in the season before the result.
+    Late,
 }
 
 /// The result that is reported: 0:0 where it overtakes the workers, or else 1:0.
 pub fn event_of(case: Case) -> Event {
     let home = match case {
         Case::Overtaken => 0,
-        Case::Worked | Case::InTurn | Case::OtherPiece | Case::Lost | Case::Shut => 1,
+        _ => 1,
     };
     Event::Set {
         fixture: 0,
@@ -66,6 +73,9 @@ pub fn meet<J: Job, R: Wait>(
                 lock.shut(rt, front);
                 be_over(rt, lock, one)
             }
+            Case::Alone | Case::Early | Case::Late => {
+                meet_alone(rt, alloc, sheet, lock, front, one, event, case)
+            }
             Case::Worked | Case::InTurn | Case::OtherPiece | Case::Lost => {
                 tell(rt, lock, front, one, event)?;
                 lock.rest(rt, front);
@@ -76,9 +86,9 @@ pub fn meet<J: Job, R: Wait>(
     }
 }
 
-// Reports the first event. Where memory is wanting the word is as before, and so are pool and
-// front: the event can be reported again, and is the first one.
-fn tell<J: Job, R: Wait>(
+/// Reports the first event. Where memory is wanting the word is as before, and so are pool and
+/// front: the event can be reported again, and is the first one.
+pub fn tell<J: Job, R: Wait>(
     rt: &R,
     lock: &PoolLock<J>,
     front: &mut Front<J>,
@@ -126,11 +136,12 @@ fn play<J: Job, R: Wait>(
             let gave = swap(rt, alloc, sheet, lock, one, two, first)?;
             Ok(Some(gave))
         }
-        Case::Lost | Case::Overtaken | Case::Shut => {
+        Case::Lost => {
             lose(ticket_of(rt, lock, one)?);
             lose(ticket_of(rt, lock, two)?);
             Ok(None)
         }
+        _ => Err("another play".into()),
     }
 }
 

@@ -26,7 +26,7 @@ use verdict_run::questions;
 
 const TWO_CLUBS: &[u8] = b"league,Tiny,1\nclub,A,1\nclub,B,2\nmatch,A,B\nline,1\nseason\n";
 
-const BOTH_KEPT: Option<(Gave, Gave)> = Some((Gave::Kept, Gave::Kept));
+pub const BOTH_KEPT: Option<(Gave, Gave)> = Some((Gave::Kept, Gave::Kept));
 
 /// The word of a pool, with the seats of its lock.
 #[derive(Drop)]
@@ -37,8 +37,8 @@ struct Seated {
     eyes: Vec<Eye>,
 }
 
-// A round of two clubs in which the workers play a case.
-fn see_round<R: Wait>(rt: &R, alloc: Global, case: Case) -> Result<Round, Fail> {
+/// A round of two clubs in which the workers play a case.
+pub fn see_round<R: Wait>(rt: &R, alloc: Global, case: Case) -> Result<Round, Fail> {
     let sample = sample_of(alloc, TWO_CLUBS).ok_or("no league")?;
     round_of(rt, alloc, &sample.sheet, case)
 }
@@ -103,9 +103,7 @@ fn asked_in(alloc: Global, sheet: &Sheet, case: Case) -> Result<Vec<Question>, O
 {
     match case {
         Case::Shut => Ok(Vec::new(alloc)),
-        Case::Worked | Case::InTurn | Case::OtherPiece | Case::Lost | Case::Overtaken => {
-            questions(alloc, sheet)
-        }
+        _ => questions(alloc, sheet),
     }
 }
 
