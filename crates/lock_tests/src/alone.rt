@@ -1,4 +1,4 @@
-//! A worker alone: it works in the pool itself once the feed is shut, but in no season that is over.
+//! A worker alone works in the pool itself once the feed is shut, but in no season that is over.
 
 ghost use Rattle.std.specs.Prelude.{◌≡◌, length};
 ghost use Rattle.league_core.specs.Seasons.{IsEventOf, season_after};
