@@ -1,87 +1,59 @@
-//! A worker alone works in the pool itself once the feed is shut, but in no season that is over.
+//! Work in the pool itself by a worker that has a ticket, which it then gives back with what it
+//! found, without a next one.
 
 ghost use Rattle.std.specs.Prelude.{◌≡◌, length};
 ghost use Rattle.league_core.specs.Seasons.{IsEventOf, season_after};
 ghost use Rattle.league_core.specs.Sheets.{IsWithinLimits};
 ghost use Rattle.pool_lock.specs.Lends.{IsWorkAfter};
 
-use crate::cases::{Case, tell, ticket_of};
-use crate::found::lose;
-use crate::rounds::{BOTH_KEPT, see_round};
+use crate::cases::{Case, ticket_of};
+use crate::found::{finding_at, lose};
+use crate::rounds::see_round;
 use branch_pool::{Answer, Gave, Ticket, Turn};
 use branch_rules::Worker;
-use league_core::{Event, OutOfMemory, Season, Sheet};
+use league_core::{Event, OutOfMemory, Sheet};
 use pool_lock::{Front, Job, PoolLock, WorkBadge};
-use reason_core::{Done, Solver};
+use reason_core::Solver;
 use score_box::Played;
 use std::alloc::Global;
 use std::sync::Wait;
 use std::test::Fail;
 
-/// What became of a ticket, and how many turns were made in the pool.
-type Worked = (Gave, u16);
-
-/// Plays a case of one worker alone, and answers what became of its ticket, twice, where so many
-/// turns were made in the pool as there should be.
-pub fn meet_alone<J: Job, R: Wait>(
+/// The worker asks for work in the pool, in one case before the feed is shut, in the other after.
+///
+/// The match is played, so there is one finish: a question either holds there, which is its
+/// example, or is refuted, and there is nothing to split. So each takes one turn, and the ticket
+/// has the first of the four: three turns are left, once work is not refused.
+pub fn be_alone<J: Job, R: Wait>(
     rt: &R,
     alloc: Global,
     sheet: &Sheet,
     lock: &PoolLock<J>,
     front: &mut Front<J>,
     badge: &mut WorkBadge<J>,
-    event: Event,
     case: Case,
 ) -> Result<Option<(Gave, Gave)>, Fail>
     requires of_job { sheet.now ≡ J.sheet }
     requires limits { IsWithinLimits sheet.now }
-    requires may_be { IsEventOf (season_after J.sheet front.old) event }
-{
-    let (gave, turns) = if matches!(case, Case::Late) {
-        work_too_late(rt, alloc, sheet, lock, front, badge, event)?
-    } else {
-        tell(rt, lock, front, badge, event)?;
-        lock.rest(rt, front);
-        work_alone(
-            rt,
-            alloc,
-            sheet,
-            lock,
-            front,
-            badge,
-            matches!(case, Case::Alone),
-        )?
-    };
-    // with no match open one turn settles each of the three other questions
-    let wanted = if matches!(case, Case::Alone) { 3 } else { 0 };
-    if turns != wanted {
-        return Ok(None);
-    }
-    Ok(Some((gave, gave)))
-}
-
-// The worker takes a ticket, and then the feed is shut where that is wanted.
-fn work_alone<J: Job, R: Wait>(
-    rt: &R,
-    alloc: Global,
-    sheet: &Sheet,
-    lock: &PoolLock<J>,
-    front: &mut Front<J>,
-    badge: &mut WorkBadge<J>,
-    is_shut: bool,
-) -> Result<Worked, Fail>
-    requires of_job { sheet.now ≡ J.sheet }
-    requires limits { IsWithinLimits sheet.now }
 {
     let ticket = ticket_of(rt, lock, badge)?;
-    if is_shut {
-        lock.shut(rt, front);
+    let turns = match case {
+        Case::Alone => {
+            lock.shut(rt, front);
+            Some(3)
+        }
+        _ => None,
+    };
+    if ask(rt, alloc, sheet, lock, badge, ticket)? == (turns, Gave::Kept) {
+        Ok(None)
+    } else {
+        Err("not so many turns, or not kept".into())
     }
-    with_season(rt, alloc, sheet, lock, badge, ticket, is_shut)
 }
 
-// The result comes, and the feed is shut, while the worker has a ticket in hand.
-fn work_too_late<J: Job, R: Wait>(
+/// The result comes after the ticket, and the feed is shut: work is refused, and what was found is
+/// of no use.
+pub fn be_late<J: Job, R: Wait>(
     rt: &R,
     alloc: Global,
     sheet: &Sheet,
@@ -89,162 +61,135 @@ fn work_too_late<J: Job, R: Wait>(
     front: &mut Front<J>,
     badge: &mut WorkBadge<J>,
     event: Event,
-) -> Result<Worked, Fail>
+) -> Result<Option<(Gave, Gave)>, Fail>
     requires of_job { sheet.now ≡ J.sheet }
     requires limits { IsWithinLimits sheet.now }
     requires may_be { IsEventOf (season_after J.sheet front.old) event }
 {
     lock.rest(rt, front);
     let ticket = ticket_of(rt, lock, badge)?;
-    if lock.report(rt, front, event).is_err() {
-        lose(ticket);
-        return Err("not told".into());
-    }
+    let told = lock.report(rt, front, event).is_ok();
     lock.shut(rt, front);
-    with_season(rt, alloc, sheet, lock, badge, ticket, false)
-}
-
-fn with_season<J: Job, R: Wait>(
-    rt: &R,
-    alloc: Global,
-    sheet: &Sheet,
-    lock: &PoolLock<J>,
-    badge: &mut WorkBadge<J>,
-    ticket: Ticket,
-    may_work: bool,
-) -> Result<Worked, Fail>
-    requires of_job { sheet.now ≡ J.sheet }
-    requires limits { IsWithinLimits sheet.now }
-    requires work { IsWorkAfter J.sheet badge.old.list ticket }
-{
-    match ticket.piece.season.copy(alloc) {
-        Ok(season) => with_solver(rt, alloc, sheet, &season, lock, badge, ticket, may_work),
-        Err(OutOfMemory) => give_up(ticket),
+    let asked = ask(rt, alloc, sheet, lock, badge, ticket)?;
+    if told && asked == (None, Gave::Stale { epoch: 1 }) {
+        Ok(None)
+    } else {
+        Err("not told, or worked, or not stale".into())
     }
 }
 
-fn with_solver<J: Job, R: Wait>(
+// How many turns of work there are in the pool, and what becomes of the ticket, which then goes
+// back with what was found at its piece.
+fn ask<J: Job, R: Wait>(
     rt: &R,
     alloc: Global,
     sheet: &Sheet,
-    season: &Season,
     lock: &PoolLock<J>,
     badge: &mut WorkBadge<J>,
     ticket: Ticket,
-    may_work: bool,
-) -> Result<Worked, Fail>
+) -> Result<(Option<u32>, Gave), Fail>
     requires of_job { sheet.now ≡ J.sheet }
     requires limits { IsWithinLimits sheet.now }
-    requires season { season.now ≡ ticket.piece.season }
     requires work { IsWorkAfter J.sheet badge.old.list ticket }
 {
-    let Ok(played) = Played::of(alloc, sheet, season) else {
-        return give_up(ticket);
-    };
-    match Worker::new(alloc, &played) {
-        Ok(mut solver) => {
-            if may_work {
-                work_on(rt, lock, badge, &mut solver, ticket)
-            } else {
-                work_not(rt, lock, badge, &mut solver, ticket)
-            }
+    match finding_at(alloc, sheet, badge, &ticket) {
+        Ok(finding) => {
+            let turns = turns_at(rt, alloc, sheet, lock, badge, &ticket);
+            let gave = lock.give(rt, badge, ticket, finding);
+            Ok((turns?, gave))
         }
-        Err(OutOfMemory) => give_up(ticket),
+        Err(OutOfMemory) => {
+            lose(ticket);
+            Err("no memory".into())
+        }
     }
 }
 
-fn give_up(ticket: Ticket) -> Result<Worked, Fail> {
-    lose(ticket);
-    Err("no memory".into())
-}
-
-// No turn is made in the pool, and the ticket goes back undone.
-fn work_not<J: Job, R: Wait, W: Solver>(
+// The turns of work by a solver for the season of a ticket.
+fn turns_at<J: Job, R: Wait>(
     rt: &R,
+    alloc: Global,
+    sheet: &Sheet,
     lock: &PoolLock<J>,
     badge: &mut WorkBadge<J>,
-    solver: &mut W,
-    ticket: Ticket,
-) -> Result<Worked, Fail>
-    requires sheet { W.sheet solver.old ≡ J.sheet }
-    requires season { W.season solver.old ≡ ticket.piece.season }
-    requires work { IsWorkAfter J.sheet badge.old.list ticket }
+    ticket: &Ticket,
+) -> Result<Option<u32>, Fail>
+    requires of_job { sheet.now ≡ J.sheet }
+    requires limits { IsWithinLimits sheet.now }
+    requires work { IsWorkAfter J.sheet badge.old.list ticket.now }
 {
-    let turn = lock.work(rt, badge, ticket.epoch, solver);
-    let gave = lock.back(rt, badge, ticket, Done::Undone);
-    match turn {
-        None => Ok((gave, 0)),
-        Some(_) => Err("a turn was made".into()),
-    }
+    let played = Played::of(alloc, sheet, &ticket.piece.season)?;
+    let mut solver = Worker::new(alloc, &played)?;
+    turns_by(rt, lock, badge, ticket.epoch, &mut solver)
 }
 
-// What is found at the ticket goes back, and then turns are made as long as there is work.
-fn work_on<J: Job, R: Wait, W: Solver>(
-    rt: &R,
-    lock: &PoolLock<J>,
-    badge: &mut WorkBadge<J>,
-    solver: &mut W,
-    ticket: Ticket,
-) -> Result<Worked, Fail>
-    requires sheet { W.sheet solver.old ≡ J.sheet }
-    requires season { W.season solver.old ≡ ticket.piece.season }
-    requires work { IsWorkAfter J.sheet badge.old.list ticket }
-{
-    let epoch = ticket.epoch;
-    let Ok(found) = solver.solve(
-        &ticket.piece.question,
-        ticket.piece.zone.literals.as_slice(),
-    ) else {
-        return give_up(ticket);
-    };
-    match lock.give(rt, badge, ticket, found) {
-        Gave::Kept => Ok((Gave::Kept, turns(rt, lock, badge, epoch, solver)?)),
-        Gave::Stale { .. } => Err("stale".into()),
-    }
-}
-
-fn turns<J: Job, R: Wait, W: Solver>(
+// How often the solver works in the pool before there is nothing to work on; nothing where it is
+// refused.
+fn turns_by<J: Job, R: Wait, W: Solver>(
     rt: &R,
     lock: &PoolLock<J>,
     badge: &mut WorkBadge<J>,
     epoch: u64,
     solver: &mut W,
-) -> Result<u16, Fail>
+) -> Result<Option<u32>, Fail>
     requires epoch { epoch ≡ length badge.old.list }
     requires sheet { W.sheet solver.old ≡ J.sheet }
     requires season { W.season solver.old ≡ season_after J.sheet badge.old.list }
 {
-    for turns in 0..100u16 {
+    for turns in 0..9 {
         match lock.work(rt, badge, epoch, solver) {
             Some(Turn::Worked) => {}
-            Some(Turn::Nothing) => return Ok(turns),
-            Some(Turn::OutOfMemory) | None => return Err("no turn".into()),
+            Some(Turn::Nothing) => return Ok(Some(turns)),
+            Some(Turn::OutOfMemory) => return Err("no memory".into()),
+            None => return Ok(None),
         }
     }
     Err("no end".into())
 }
 
 #[test]
-fn one_alone_works_in_the_pool_once_the_feed_is_shut(rt: HostRuntime) -> Result<(), Fail> {
-    let round = see_round(&rt, rt.alloc(), Case::Alone)?;
+fn work_in_the_pool_waits_until_the_feed_is_shut(rt: HostRuntime) -> Result<(), Fail> {
+    let round = see_round(&rt, rt.alloc(), Case::Early)?;
     assert_eq!(rt;
-        (round.gave, round.first_two, round.out),
-        (BOTH_KEPT, Some((Answer::Won, Answer::Refuted)), 0)
+        (round.first_two, round.last_two),
+        (
+            Some((Answer::Won, Answer::NotYet)),
+            Some((Answer::NotYet, Answer::NotYet))
+        )
     );
     Ok(())
 }
 
 #[test]
-fn nobody_works_in_the_pool_while_events_may_come(rt: HostRuntime) -> Result<(), Fail> {
-    let round = see_round(&rt, rt.alloc(), Case::Early)?;
-    assert_eq!(rt; (round.gave, round.are_open), (BOTH_KEPT, true));
+fn all_is_worked_out_in_the_pool_once_the_feed_is_shut(rt: HostRuntime) -> Result<(), Fail> {
+    let round = see_round(&rt, rt.alloc(), Case::Alone)?;
+    assert_eq!(rt;
+        (round.first_two, round.last_two, round.out),
+        (
+            Some((Answer::Won, Answer::Refuted)),
+            Some((Answer::Refuted, Answer::Won)),
+            0
+        )
+    );
     Ok(())
 }
 
 #[test]
-fn nobody_works_in_the_pool_in_a_season_that_is_over(rt: HostRuntime) -> Result<(), Fail> {
+fn no_work_is_done_in_the_pool_by_who_missed_a_result(rt: HostRuntime) -> Result<(), Fail> {
     let round = see_round(&rt, rt.alloc(), Case::Late)?;
-    let stale = Gave::Stale { epoch: 1 };
-    assert_eq!(rt; (round.gave, round.are_open), (Some((stale, stale)), true));
+    assert_eq!(rt;
+        (
+            round.first_two,
+            round.last_two,
+            round.is_told,
+            round.are_open
+        ),
+        (
+            Some((Answer::NotYet, Answer::NotYet)),
+            Some((Answer::NotYet, Answer::NotYet)),
+            true,
+            true
+        )
+    );
     Ok(())
 }

@@ -5,7 +5,7 @@ ghost use Rattle.league_core.specs.Seasons.{IsEventOf, season_after};
 ghost use Rattle.league_core.specs.Sheets.{IsWithinLimits};
 ghost use Rattle.pool_lock.specs.Lends.{IsWorkAfter};
 
-use crate::alone::meet_alone;
+use crate::alone::{be_alone, be_late};
 use crate::found::{finding_at, found_at, lose};
 use crate::overtaken::be_overtaken;
 use branch_pool::{Gave, Ticket, Took};
@@ -30,11 +30,11 @@ pub enum Case {
     Overtaken,
     /// Nothing is asked, and the feed is shut: the first worker is told that all is over.
     Shut,
-    /// The feed is shut, and one worker works in the pool itself.
-    Alone,
-    /// One worker would do so while the feed is open.
+    /// One that has a ticket asks for work in the pool while the feed is not shut.
     Early,
-    /// And one in the season before the result.
+    /// The same once the feed is shut.
+    Alone,
+    /// The same, where the result has come since it was lent its ticket.
     Late,
 }
 
@@ -73,8 +73,11 @@ pub fn meet<J: Job, R: Wait>(
                 lock.shut(rt, front);
                 be_over(rt, lock, one)
             }
-            Case::Alone | Case::Early | Case::Late => {
-                meet_alone(rt, alloc, sheet, lock, front, one, event, case)
+            Case::Late => be_late(rt, alloc, sheet, lock, front, one, event),
+            Case::Early | Case::Alone => {
+                tell(rt, lock, front, one, event)?;
+                lock.rest(rt, front);
+                be_alone(rt, alloc, sheet, lock, front, one, case)
             }
             Case::Worked | Case::InTurn | Case::OtherPiece | Case::Lost => {
                 tell(rt, lock, front, one, event)?;
@@ -86,9 +89,9 @@ pub fn meet<J: Job, R: Wait>(
     }
 }
 
-/// Reports the first event. Where memory is wanting the word is as before, and so are pool and
-/// front: the event can be reported again, and is the first one.
-pub fn tell<J: Job, R: Wait>(
+// Reports the first event. Where memory is wanting the word is as before, and so are pool and
+// front: the event can be reported again, and is the first one.
+fn tell<J: Job, R: Wait>(
     rt: &R,
     lock: &PoolLock<J>,
     front: &mut Front<J>,
@@ -136,12 +139,11 @@ fn play<J: Job, R: Wait>(
             let gave = swap(rt, alloc, sheet, lock, one, two, first)?;
             Ok(Some(gave))
         }
-        Case::Lost => {
+        _ => {
             lose(ticket_of(rt, lock, one)?);
             lose(ticket_of(rt, lock, two)?);
             Ok(None)
         }
-        _ => Err("another play".into()),
     }
 }
 

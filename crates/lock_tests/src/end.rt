@@ -11,6 +11,8 @@ pub struct Round {
     pub gave: Option<(Gave, Gave)>,
     /// How far the first two questions are, where two are asked.
     pub first_two: Option<(Answer, Answer)>,
+    /// How far the two after them are, where four are asked.
+    pub last_two: Option<(Answer, Answer)>,
     /// How many numbers are out.
     pub out: u64,
     /// How many events the log has.
@@ -30,6 +32,7 @@ pub fn seen(
     Ok(Round {
         gave: gave?,
         first_two: first_two(pool),
+        last_two: last_two(pool),
         out: pool.out(),
         logged: pool.log().len(),
         is_told: pool.log() == [event].as_slice(),
@@ -42,6 +45,13 @@ fn first_two(pool: &Pool) -> Option<(Answer, Answer)> {
         return None;
     }
     Some((pool.answer(0), pool.answer(1)))
+}
+
+fn last_two(pool: &Pool) -> Option<(Answer, Answer)> {
+    if pool.questions().len() != 4 {
+        return None;
+    }
+    Some((pool.answer(2), pool.answer(3)))
 }
 
 fn are_all_open(pool: &Pool) -> Result<bool, Fail> {

@@ -26,7 +26,7 @@ use verdict_run::questions;
 
 const TWO_CLUBS: &[u8] = b"league,Tiny,1\nclub,A,1\nclub,B,2\nmatch,A,B\nline,1\nseason\n";
 
-pub const BOTH_KEPT: Option<(Gave, Gave)> = Some((Gave::Kept, Gave::Kept));
+const BOTH_KEPT: Option<(Gave, Gave)> = Some((Gave::Kept, Gave::Kept));
 
 /// The word of a pool, with the seats of its lock.
 #[derive(Drop)]

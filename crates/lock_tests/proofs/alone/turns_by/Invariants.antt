@@ -1,6 +1,6 @@
 use Rattle.std.proofs.Common.{◌≡◌, length}
 use Rattle.league_core.specs.Seasons.{season_after}
-use Rattle.lock_tests.proofs.alone.turns.Given as goal
+use Rattle.lock_tests.proofs.alone.turns_by.Given as goal
 
 -- the solver is one for the season after what was seen, which is so many events
 abbrev pub invariant-loop-turns : goal.invariant-loop-turns
