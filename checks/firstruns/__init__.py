@@ -1,0 +1,1 @@
+"""What `checks/first_run` looks at: small clones, with a command in place of the kit."""
