@@ -63,7 +63,8 @@ class SmallClone:
         path = f"{self.root / 'kit'}:{self.plain}" if kit else self.plain
 
         def alone():
-            signal.signal(signal.SIGINT, signal.SIG_DFL)
+            for it in (signal.SIGINT, signal.SIGTERM, signal.SIGHUP):
+                signal.signal(it, signal.SIG_DFL)
             if only is not None:
                 os.sched_setaffinity(0, {only})
 
