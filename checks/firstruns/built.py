@@ -17,7 +17,7 @@ TABLE = """
 | short | 4.0 | 0.0 |
 | futmax | 1.0 | 0.0 |
 """
-LONG = 40
+LONG = 200
 
 
 def one_processor():
@@ -30,7 +30,7 @@ class Built(Case):
     def test_two_first_runs_at_once_build_once_and_a_later_run_nothing(self):
         self.clone.write("kit/pause", "all=0.3")
         begun = [self.clone.begin("futmax", "a") for _ in range(2)]
-        said = [it.communicate(timeout=60)[0] for it in begun]
+        said = [it.communicate(timeout=200)[0] for it in begun]
         self.assertEqual(said, ["one a\n"] * 2)
         self.assertEqual(self.clone.made(), BUILT_ONCE)
         self.answers("one")
@@ -41,8 +41,9 @@ class Built(Case):
         for name in ("src/lib.rt", "specs/Lib.antt", "proofs/Lib.antt"):
             self.clone.write(f"crates/low/{name}", "two")
             self.builds("two")
-        self.clone.write("crates/right/src/lib.rt", "two")
-        self.builds("two", "right", "futmax")
+        for name in ("left", "right"):
+            self.clone.write(f"crates/{name}/src/lib.rt", "two")
+            self.builds("two", name, "futmax")
 
     def test_a_build_is_of_the_text_that_it_began_with_and_the_next_of_what_changed(self):
         self.clone.write("kit/pause", "all=0.5")
@@ -50,7 +51,7 @@ class Built(Case):
         self.clone.wait_for_calls(2)
         self.clone.write("crates/low/src/lib.rt", "two")
         self.clone.write("kit/pause", "")
-        self.assertEqual(begun.communicate(timeout=60)[0], "one a\n")
+        self.assertEqual(begun.communicate(timeout=200)[0], "one a\n")
         self.builds("two")
 
     def test_crates_over_one_base_are_built_side_by_side(self):
@@ -60,7 +61,7 @@ class Built(Case):
             self.skipTest("one processor, or little memory")
         self.clone.wait_for_calls(3)
         os.killpg(begun.pid, signal.SIGTERM)
-        begun.communicate(timeout=60)
+        begun.communicate(timeout=200)
         self.assertEqual(self.clone.made(), {"low": 1, "left": 1, "right": 1})
 
     def test_nothing_is_left_beside_what_was_made(self):
@@ -83,7 +84,7 @@ class Built(Case):
         begun = self.clone.begin("futmax", "a", only=one_processor())
         self.assertIn("4 of 4 crates takes about 10 min, 1 at a time", begun.stderr.readline())
         os.killpg(begun.pid, signal.SIGTERM)
-        begun.communicate(timeout=60)
+        begun.communicate(timeout=200)
 
     def test_the_longest_chain_comes_first_and_the_time_left_is_told(self):
         clone = SmallClone("short:\nlow:\nhigh: low\nfutmax: short high\n")
@@ -140,7 +141,7 @@ class Stays(Case):
             begun = self.clone.begin("futmax", "a", only=one_processor())
             self.clone.wait_for(last)
             os.killpg(begun.pid, number)
-            said, beside = begun.communicate(timeout=20)
+            said, beside = begun.communicate(timeout=200)
             self.assertEqual(said, "")
             self.assertNotEqual(begun.returncode, 0)
             self.assertIn("stopped", beside)

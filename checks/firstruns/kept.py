@@ -18,7 +18,7 @@ class Kept(Case):
     def test_two_first_runs_at_once_answer_alike(self):
         self.clone.keep()
         begun = [self.clone.begin("futmax", "a", kit=False) for _ in range(6)]
-        said = [it.communicate(timeout=60) for it in begun]
+        said = [it.communicate(timeout=200) for it in begun]
         self.assertEqual(said, [("one a\n", "")] * 6)
         left = sorted(os.listdir(self.clone.root / "crates/futmax/out"))
         self.assertEqual(left, ["futmax", "taken"])
@@ -80,7 +80,7 @@ class Kept(Case):
         self.clone.keep()
         begun = self.clone.begin("commands/setarch", "i686", str(self.clone.root / "tools/prebuilt"),
                                  "take")
-        self.assertEqual(begun.communicate(timeout=60), ("", ""))
+        self.assertEqual(begun.communicate(timeout=200), ("", ""))
         self.assertEqual(begun.returncode, 1)
 
 

@@ -76,7 +76,7 @@ class SmallClone:
     def run(self, *words, **how):
         """Status, output and what is said beside it."""
         begun = self.begin(*words, **how)
-        said, beside = begun.communicate(timeout=60)
+        said, beside = begun.communicate(timeout=200)
         return begun.returncode, said, beside
 
     def answer(self, word="a", **how):
@@ -119,7 +119,7 @@ class SmallClone:
         self.wait(lambda: crate in self.order())
 
     def wait(self, has_come):
-        until = time.monotonic() + 30
+        until = time.monotonic() + 150
         while not has_come():
             if time.monotonic() > until:
                 raise AssertionError(f"the stand-in was called for {self.order()} alone")
