@@ -23,6 +23,15 @@ class Kept(Case):
         left = sorted(os.listdir(self.clone.root / "crates/futmax/out"))
         self.assertEqual(left, ["futmax", "taken"])
 
+    def test_what_stands_there_is_replaced_in_one_step(self):
+        self.clone.keep()
+        self.clone.write("crates/futmax/out/futmax", "an older program\n")
+        self.clone.program().chmod(0o755)
+        os.utime(self.clone.program(), (0, 0))
+        with open(self.clone.program(), encoding="utf-8") as older:
+            self.answers("one", kit=False)
+            self.assertEqual(older.read(), "an older program\n")
+
     def test_an_altered_byte_of_the_kept_program_is_noticed(self):
         self.clone.keep()
         kept = self.clone.root / "dist/futmax-x86_64-linux"
