@@ -131,6 +131,16 @@ class Stays(Case):
         self.clone.write("kit/fails", "")
         self.builds("two", "futmax")
 
+    def test_the_libraries_of_an_earlier_text_stay_where_one_is_not_proved(self):
+        self.clone.write("kit/fails", "low")
+        self.clone.answer()
+        self.clone.write("kit/fails", "")
+        self.clone.write("crates/low/src/lib.rt", "one")
+        self.clone.write("kit/calls", "")
+        status, said, _ = self.clone.answer()
+        self.assertEqual((status, said), (0, "one a\n"))
+        self.assertEqual(self.clone.made(), {"futmax": 1})
+
     def test_it_stays_after_a_signal_and_so_does_what_was_proved(self):
         for number, pause, last in ((signal.SIGINT, f"low={LONG}", "low"),
                                     (signal.SIGINT, f"left={LONG}", "left"),

@@ -10,6 +10,7 @@ a crate takes (`all=1 low=2`), the crates that are not proved, and gets the call
 import fcntl
 import hashlib
 import os
+import shutil
 import sys
 import time
 from pathlib import Path
@@ -62,9 +63,9 @@ class Kit:
     def library(self, crate):
         stamp = self.crates / crate / "out/rlib/stamp"
         if not stamp.exists() or stamp.read_text(encoding="utf-8") != self.stamp(crate):
+            shutil.rmtree(stamp.parent, ignore_errors=True)
+            (stamp.parent / f"{crate}.rlib").mkdir(parents=True)
             self.prove(crate)
-            (stamp.parent / f"{crate}.rlib").mkdir(parents=True, exist_ok=True)
-            stamp.unlink(missing_ok=True)
             stamp.write_text(self.stamp(crate), encoding="utf-8")
 
     def program(self, crate):

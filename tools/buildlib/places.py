@@ -67,7 +67,9 @@ def give_back(crate, place):
     with alone_in(crate) as is_alone:
         if is_alone:
             put(f"{here}/incremental", f"{there}/incremental", os.rename)
-            put_links(f"{here}/rlib", f"{there}/rlib")
+            # the kit writes the stamp last, so one without it is not whole
+            if os.path.exists(f"{here}/rlib/stamp"):
+                put_links(f"{here}/rlib", f"{there}/rlib")
 
 
 def date(stamp, moment):
