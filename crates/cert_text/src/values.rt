@@ -4,14 +4,15 @@ ghost use Rattle.std.specs.Prelude.{◌≡◌, ◌∷◌, [], codes, IfOk, IsTru
 ghost use Rattle.serde_json.specs.View.{view};
 ghost use Rattle.league_core.specs.ClubSets.{clubs_in};
 ghost use Rattle.cert_text.specs.Lines as lines;
-ghost use Rattle.cert_text.specs.Lines.{word, parts_of, test_parts, reason_parts};
+ghost use Rattle.cert_text.specs.Lines.{word, whole, points, parts_of, test_parts, reason_parts};
+ghost use Rattle.cert_text.specs.Lines.{number_in_text};
 ghost use Rattle.cert_text.specs.Values as values;
 ghost use Rattle.cert_text.specs.Values.{parts_value};
 ghost use Rattle.cert_text.specs.Widths.{is_set_kept, is_reason_kept, is_line_kept};
 
 use crate::proof_line::ProofLine;
 use league_core::limits::SET_WIDTH;
-use league_core::{Claim, ClubSet, Reason, Test};
+use league_core::{Claim, ClubSet, Reason, Score, Test};
 use serde_json::{Value, json};
 use std::alloc::{AllocError, Global};
 
@@ -21,20 +22,16 @@ pub fn line_value(alloc: Global, line: &ProofLine) -> Result<Value, AllocError>
     ensures kept { IsTrue (is_line_kept line.now) }
 {
     match line {
-        ProofLine::Tree(claim) => json!(in alloc; ["tree", claim_word(*claim)]),
-        ProofLine::Spent(claim) => json!(in alloc; ["spent", claim_word(*claim)]),
-        ProofLine::SpentWindow { claim, low, high } => {
-            json!(in alloc; ["spent", claim_word(*claim), *low, *high])
-        }
+        ProofLine::Tree(claim) => words_value(alloc, "tree", claim_word(*claim)),
+        ProofLine::Spent(claim) => words_value(alloc, "spent", claim_word(*claim)),
+        ProofLine::SpentWindow { claim, low, high } => window_value(alloc, *claim, *low, *high),
         ProofLine::Split(test) => test_value(alloc, "split", *test),
         ProofLine::NewSplit(test) => test_value(alloc, "new_split", *test),
         ProofLine::Leaf(reason) => reason_value(alloc, "leaf", *reason),
         ProofLine::NewLeaf(reason) => reason_value(alloc, "new_leaf", *reason),
         ProofLine::OpenLeaf => json!(in alloc; ["open"]),
-        ProofLine::Finish(claim) => json!(in alloc; ["finish", claim_word(*claim)]),
-        ProofLine::Score { fixture, score } => {
-            json!(in alloc; ["score", u64::from(*fixture) + 1, score.home, score.away])
-        }
+        ProofLine::Finish(claim) => words_value(alloc, "finish", claim_word(*claim)),
+        ProofLine::Score { fixture, score } => score_value(alloc, *fixture, *score),
         ProofLine::Lots(lots) => lots_value(alloc, lots.list.as_slice()),
     }
 }
@@ -48,21 +45,60 @@ fn claim_word(claim: Claim) -> &'static str
     }
 }
 
+fn words_value(alloc: Global, first: &str, second: &str) -> Result<Value, AllocError>
+    ensures { IfOk result
+        (λ value. view value ≡ parts_value (word first.now ∷ word second.now ∷ [])) }
+{
+    json!(in alloc; [first, second])
+}
+
+fn window_value(alloc: Global, claim: Claim, low: i32, high: i32) -> Result<Value, AllocError>
+    ensures { IfOk result (λ value. view value ≡ parts_value (word (codes "spent")
+        ∷ word (lines.claim_word claim) ∷ points low ∷ points high ∷ [])) }
+{
+    json!(in alloc; ["spent", claim_word(claim), low, high])
+}
+
+fn score_value(alloc: Global, fixture: u16, score: Score) -> Result<Value, AllocError>
+    ensures { IfOk result (λ value. view value ≡ parts_value (word (codes "score")
+        ∷ whole (number_in_text fixture) ∷ whole score.home ∷ whole score.away ∷ [])) }
+{
+    json!(in alloc; ["score", u64::from(fixture) + 1, score.home, score.away])
+}
+
 fn test_value(alloc: Global, name: &str, test: Test) -> Result<Value, AllocError>
     ensures { IfOk result
         (λ value. view value ≡ parts_value (word name.now ∷ test_parts test)) }
 {
     match test {
-        Test::Home { fixture } => json!(in alloc; [name, "home", u64::from(fixture) + 1]),
-        Test::Draw { fixture } => json!(in alloc; [name, "draw", u64::from(fixture) + 1]),
-        Test::HomeMost { fixture, most } => {
-            json!(in alloc; [name, "hg", u64::from(fixture) + 1, most])
-        }
-        Test::AwayMost { fixture, most } => {
-            json!(in alloc; [name, "ag", u64::from(fixture) + 1, most])
-        }
-        Test::Rival { club } => json!(in alloc; [name, "rival", u64::from(club) + 1]),
+        Test::Home { fixture } => numbered_value(alloc, name, "home", fixture),
+        Test::Draw { fixture } => numbered_value(alloc, name, "draw", fixture),
+        Test::HomeMost { fixture, most } => bounded_value(alloc, name, "hg", fixture, most),
+        Test::AwayMost { fixture, most } => bounded_value(alloc, name, "ag", fixture, most),
+        Test::Rival { club } => numbered_value(alloc, name, "rival", u16::from(club)),
     }
+}
+
+// A kind of test with the fixture or the club that it is of.
+fn numbered_value(alloc: Global, name: &str, kind: &str, number: u16) -> Result<Value, AllocError>
+    ensures { IfOk result (λ value. view value ≡ parts_value
+        (word name.now ∷ word kind.now ∷ whole (number_in_text number) ∷ [])) }
+{
+    json!(in alloc; [name, kind, u64::from(number) + 1])
+}
+
+// A kind of test with its fixture and a bound on goals.
+fn bounded_value(
+    alloc: Global,
+    name: &str,
+    kind: &str,
+    fixture: u16,
+    most: u8,
+) -> Result<Value, AllocError>
+    ensures { IfOk result (λ value. view value ≡ parts_value
+        (word name.now ∷ word kind.now ∷ whole (number_in_text fixture) ∷ whole most ∷ [])) }
+{
+    json!(in alloc; [name, kind, u64::from(fixture) + 1, most])
 }
 
 fn reason_value(alloc: Global, name: &str, reason: Reason) -> Result<Value, AllocError>
@@ -71,11 +107,11 @@ fn reason_value(alloc: Global, name: &str, reason: Reason) -> Result<Value, Allo
     ensures kept { IsTrue (is_reason_kept reason) }
 {
     match reason {
-        Reason::Count => json!(in alloc; [name, "count"]),
-        Reason::Window => json!(in alloc; [name, "window"]),
+        Reason::Count => words_value(alloc, name, "count"),
+        Reason::Window => words_value(alloc, name, "window"),
         Reason::Low(set) => cut_value(alloc, name, "low", set),
         Reason::High(set) => cut_value(alloc, name, "high", set),
-        Reason::Tie => json!(in alloc; [name, "tie"]),
+        Reason::Tie => words_value(alloc, name, "tie"),
     }
 }
 
