@@ -5,13 +5,13 @@ use Rattle.std.proofs.Common.{sym, ap, subst, ◌∙◌, arith}
 use Rattle.std.specs.List.{list_all, list_any}
 use Rattle.std.proofs.lemmas.Bool.{and_parts, and_from, or_from, or_parts, not-true, not_from_false}
 use Rattle.std.proofs.lemmas.Bool.{ltb-false}
-use Rattle.std.proofs.lemmas.List.{length_push, map-append}
+use Rattle.std.proofs.lemmas.List.{length_push}
 use Rattle.std.proofs.lemmas.List.Folds.{list_all-append, list_any-append}
 use Rattle.league_core.specs.declared.sheet.Sheet.{Sheet}
 use Rattle.league_core.specs.declared.sheet.Club.{Club}
 use Rattle.league_core.specs.Limits.{most_clubs, most_lines}
 use Rattle.league_core.specs.Sheets.{is_club, is_line, are_different, same_name}
-use Rattle.fixture_sheet.specs.Drafts.{IsDraft, names_of}
+use Rattle.fixture_sheet.specs.Drafts.{IsDraft}
 use Rattle.fixture_sheet.specs.Records.{has_name, is_past_clubs, line_added}
 use Rattle.fixture_sheet.proofs.NameLemmas.{bytes_eq-swap}
 
@@ -107,27 +107,17 @@ line-more sheet line draft is fresh room =
       most_budget = draft.most_budget;
     }
 
--- a club is added, and its name to the names
+-- a club is added
 pub club-keeps : (self sheet : Sheet) (clubs : List Club) (club : Club)
-    (names more_names : List (List ℕ)) (name : List ℕ)
-    → sheet ≡ self → IsDraft sheet × (names ≡ names_of sheet) → is_club club ≡ true
+    → sheet ≡ self → IsDraft sheet → is_club club ≡ true
     → has_name self club.name ≡ false → length self.clubs < most_clubs → is_past_clubs self ≡ false
-    → clubs ≡ sheet.clubs ++ club ∷ [] → name ≡ club.name → more_names ≡ names ++ name ∷ []
+    → clubs ≡ sheet.clubs ++ club ∷ []
     → IsDraft (record sheet { clubs = clubs })
-    × (more_names ≡ names_of (record sheet { clubs = clubs }))
-club-keeps self sheet clubs club names more_names name view kept is fresh room first added named
-    more =
+club-keeps self sheet clubs club view draft is fresh room first added =
     let P : List Club → Type 0 = λ cs. IsDraft (record sheet { clubs = cs }) in
-    let draft : P clubs =
     subst P (sym added)
-    (club-more sheet club kept.0 is (ap (λ s. has_name s club.name) view ∙ fresh)
-    (omega (arith, ap (λ s. length s.clubs) view, room)) (ap is_past_clubs view ∙ first)) in (
-      draft,
-      more ∙ ap (λ front. front ++ name ∷ []) kept.1
-          ∙ ap (λ last. names_of sheet ++ last ∷ []) named
-          ∙ sym (map-append (λ (other : Club). other.name) sheet.clubs (club ∷ []))
-          ∙ ap (map (λ (other : Club). other.name)) (sym added),
-    )
+    (club-more sheet club draft is (ap (λ s. has_name s club.name) view ∙ fresh)
+    (omega (arith, ap (λ s. length s.clubs) view, room)) (ap is_past_clubs view ∙ first))
 
 -- a line is added
 pub line-keeps : (self sheet : Sheet) (lines : List ℕ) (line : ℕ)

@@ -1,11 +1,10 @@
 -- Lemmas on names that are kept as texts.
-use Rattle.std.proofs.Common.{◌≡◌, ℕ, ◌+◌, Bool, false, cond, not, nat_lt, List, [], ◌∷◌, ◌++◌}
+use Rattle.std.proofs.Common.{◌≡◌, ℕ, ◌+◌, Bool, cond, not, nat_lt, List, [], ◌∷◌}
 use Rattle.std.proofs.Common.{length, map, Some, None, position, bytes_eq, refl, sym, ap, ◌∙◌}
 use Rattle.std.specs.List.{list_any, prefix_len}
 use Rattle.std.proofs.lemmas.Bool.Decides.{same_from_decides}
-use Rattle.std.proofs.lemmas.List.{length-map, map-append}
+use Rattle.std.proofs.lemmas.List.{length-map}
 use Rattle.std.proofs.lemmas.Slice.Eq.{bytes_eq-Decides}
-use Rattle.indexmap.specs.IndexSet.{insert_key}
 
 -- a test of a list's images
 pub list_any-map : {A B : Type 0} (f : A → B) (p : B → Bool) (xs : List A)
@@ -28,15 +27,6 @@ position-map f p xs =
     ∙ ap (λ n. cond (nat_lt (prefix_len (λ x. not (p (f x))) xs) n)
     (Some (prefix_len (λ x. not (p (f x))) xs)) None)
     (length-map xs f)
-
--- the texts of keys after one more, which is not among them
-pub map-insert_key : {A : Type 0} (f : A → List ℕ) (keys : List A) (key : A)
-    → list_any (bytes_eq (f key)) (map f keys) ≡ false
-    → map f (insert_key (λ a b. bytes_eq (f a) (f b)) keys key) ≡ map f keys ++ f key ∷ []
-map-insert_key f keys key fresh =
-    let none : list_any (λ other. bytes_eq (f key) (f other)) keys ≡ false =
-    sym (list_any-map f (bytes_eq (f key)) keys) ∙ fresh in
-    rw none (map-append f keys (key ∷ []))
 
 -- two texts are the same whichever is asked first
 pub bytes_eq-swap : (first second : List ℕ) → bytes_eq first second ≡ bytes_eq second first

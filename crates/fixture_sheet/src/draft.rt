@@ -1,4 +1,4 @@
-//! The sheet so far, with its names ready to be found.
+//! The sheet so far.
 
 ghost use Rattle.std.specs.Prelude.{◌≡◌, ◌≤◌, ◌<◌, ◌==◌, ◌∷◌, ◌++◌, [], false, IfOk, IfSome};
 ghost use Rattle.std.specs.Prelude.{IsTrue, length};
@@ -11,9 +11,8 @@ ghost use Rattle.fixture_sheet.specs.Records.{club_added, club_named, fixture_ad
 ghost use Rattle.fixture_sheet.specs.Records.{has_few_clubs, is_past_clubs, line_added};
 ghost use Rattle.fixture_sheet.specs.Records.{sheet_begun};
 
+use crate::club_number::{club_named, has_name};
 use crate::fault::{RecordStop, SheetFault};
-use crate::name::text_of;
-use crate::name_index::NameIndex;
 use league_core::limits::{MOST_CLUBS, MOST_FIXTURES, MOST_LINES};
 use league_core::{Club, Fixture, Listing, Name, Order, OutOfMemory, Sheet};
 use std::alloc::Global;
@@ -24,19 +23,17 @@ use std::marker::Model;
 #[derive(Drop)]
 pub struct Draft {
     sheet: Sheet,
-    names: NameIndex,
 }
 
 impl Model for Draft {
-    ghost use Rattle.std.specs.Prelude.{◌≡◌};
     ghost use Rattle.league_core.specs.declared.sheet.Sheet.{Sheet};
-    ghost use Rattle.fixture_sheet.specs.Drafts.{IsDraft, names_of};
+    ghost use Rattle.fixture_sheet.specs.Drafts.{IsDraft};
 
     ghost Value = { Sheet };
 
     ghost view = { λ draft. draft.sheet };
 
-    ghost invariant = { λ draft. IsDraft draft.sheet × (draft.names ≡ names_of draft.sheet) };
+    ghost invariant = { λ draft. IsDraft draft.sheet };
 }
 
 impl Draft {
@@ -62,8 +59,7 @@ impl Draft {
             budget,
             order,
         };
-        let names = NameIndex::new(alloc);
-        Ok(Draft { sheet, names })
+        Ok(Draft { sheet })
     }
 
     /// Whether there are not two clubs yet.
@@ -85,8 +81,7 @@ impl Draft {
         ensures place { result ≡ club_named self.now name.now }
         ensures within { IfSome result (λ club. club < length self.now.clubs) }
     {
-        let club = self.names.number(text_of(name)?)?;
-        Some(club as u8)
+        club_named(&self.sheet, name)
     }
 
     /// Adds a club.
@@ -95,7 +90,7 @@ impl Draft {
         requires first { is_past_clubs self ≡ false }
         ensures { Answers (club_added self (record { name = name.now; rank = rank })) result }
     {
-        if self.names.has(name) {
+        if has_name(&self.sheet, name) {
             return Err(RecordStop::Fault(SheetFault::ClubTwice));
         }
         if usize::from(MOST_CLUBS) <= self.sheet.clubs.len() {
@@ -112,14 +107,10 @@ impl Draft {
         ensures { IfOk result (λ draft. draft
             ≡ record self { clubs = self.clubs ++ record { name = name.now; rank = rank } ∷ [] }) }
     {
-        let Draft {
-            mut sheet,
-            mut names,
-        } = self;
-        names.add(String::from_str(alloc, name)?)?;
+        let Draft { mut sheet } = self;
         let name = Name::new(String::from_str(alloc, name)?);
         sheet.clubs.push(Club { name, rank })?;
-        Ok(Draft { sheet, names })
+        Ok(Draft { sheet })
     }
 
     /// Adds a fixture.
@@ -143,9 +134,9 @@ impl Draft {
         ensures { IfOk result (λ draft. draft
             ≡ record self { fixtures = self.fixtures ++ fixture ∷ [] }) }
     {
-        let Draft { mut sheet, names } = self;
+        let Draft { mut sheet } = self;
         sheet.fixtures.push(fixture)?;
-        Ok(Draft { sheet, names })
+        Ok(Draft { sheet })
     }
 
     /// Adds a line.
@@ -171,9 +162,9 @@ impl Draft {
         requires room { length self.lines < most_lines }
         ensures { IfOk result (λ draft. draft ≡ record self { lines = self.lines ++ line ∷ [] }) }
     {
-        let Draft { mut sheet, names } = self;
+        let Draft { mut sheet } = self;
         sheet.lines.push(line)?;
-        Ok(Draft { sheet, names })
+        Ok(Draft { sheet })
     }
 
     /// The sheet, which is whole now.
@@ -182,7 +173,7 @@ impl Draft {
         ensures value { result ≡ self }
         ensures limits { IsWithinLimits result }
     {
-        let Draft { sheet, names: _ } = self;
+        let Draft { sheet } = self;
         sheet
     }
 }

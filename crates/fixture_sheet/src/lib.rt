@@ -12,7 +12,6 @@ mod fault;
 mod fields;
 mod laws;
 mod name;
-mod name_index;
 mod number;
 mod plain_line;
 mod reader;

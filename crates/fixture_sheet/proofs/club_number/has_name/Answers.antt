@@ -1,0 +1,12 @@
+use Rattle.std.proofs.Common.{◌∙◌, ap, sym, bytes_eq}
+use Rattle.std.specs.List.{list_any}
+use Rattle.league_core.specs.declared.sheet.Club.{Club}
+use Rattle.fixture_sheet.proofs.NameLemmas.{list_any-map}
+use Rattle.fixture_sheet.proofs.club_number.has_name.Goals as goal
+
+pub returns : goal.returns
+returns c =
+    let name = c.args.name.now in
+    c.is_among.ensures
+    ∙ ap (list_any (λ (club : Club). bytes_eq name club.name)) c.as_slice.ensures
+    ∙ sym (list_any-map (λ (club : Club). club.name) (bytes_eq name) c.args.sheet.now.clubs)
