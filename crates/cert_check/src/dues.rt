@@ -1,7 +1,7 @@
 //! What a report's parts are told apart by.
 
 /// The word of a verdict row.
-#[derive(Clone, Copy, Debug, PartialEq, Eq)]
+#[derive(Clone, Copy)]
 pub enum RowWord {
     Clinched,
     Lost,
@@ -10,7 +10,7 @@ pub enum RowWord {
 }
 
 /// What a tree in a report stands for.
-#[derive(Clone, Copy, Debug, PartialEq, Eq)]
+#[derive(Clone, Copy)]
 pub enum TreeKind {
     /// Each leaf is refuted; no node is marked new.
     Refutation,
@@ -19,7 +19,7 @@ pub enum TreeKind {
 }
 
 /// What was counted in a tree so far.
-#[derive(Clone, Copy, Debug, PartialEq, Eq)]
+#[derive(Clone, Copy)]
 pub struct Tally {
     /// How many nodes are new.
     pub news: usize,
@@ -28,7 +28,7 @@ pub struct Tally {
 }
 
 /// Which head a proof line is.
-#[derive(Clone, Copy, Debug, PartialEq, Eq)]
+#[derive(Clone, Copy)]
 pub enum Head {
     /// A refutation follows.
     RefutedTree,

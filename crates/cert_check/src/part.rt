@@ -20,7 +20,7 @@ use league_core::limits::{MOST_DEDUCTION, MOST_POINTS};
 use league_core::{Claim, Question};
 
 /// An item that was read.
-#[derive(Clone, Copy, Debug, PartialEq, Eq)]
+#[derive(Clone, Copy)]
 pub struct Item {
     /// The position behind its last line.
     pub next: usize,

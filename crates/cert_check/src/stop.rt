@@ -38,7 +38,7 @@ impl From<OutOfMemory> for CheckStop {
 }
 
 // The same by positions of lines, from 0.
-#[derive(Clone, Copy, Debug, PartialEq, Eq)]
+#[derive(Clone, Copy)]
 pub enum Halt {
     BadLine(usize),
     NoProof(usize),

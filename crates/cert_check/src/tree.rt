@@ -20,7 +20,7 @@ use check_bounds::Way;
 use league_core::{Literal, Question, Reason, Test, TreeNode};
 
 // What kind of tree, for which question.
-#[derive(Clone, Copy, Debug, PartialEq, Eq)]
+#[derive(Clone, Copy)]
 pub struct Wanted {
     pub kind: TreeKind,
     pub question: Question,

@@ -20,7 +20,7 @@ use score_box::{ZoneBox, own_least, own_most};
 use std::alloc::Global;
 
 /// The two kinds of cut.
-#[derive(Clone, Copy, Debug, PartialEq, Eq)]
+#[derive(Clone, Copy)]
 pub enum Cut {
     /// Rivals that cannot all stay within the most points of the club.
     Floor,

@@ -11,7 +11,7 @@ pub struct Arc {
 }
 
 /// Along an arc a search adds flow, against it takes flow back.
-#[derive(Clone, Copy, Debug, PartialEq, Eq)]
+#[derive(Clone, Copy)]
 pub enum Way {
     Along,
     Against,

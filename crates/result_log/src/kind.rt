@@ -7,7 +7,7 @@ ghost use Rattle.result_log.specs.Records.{kind_of, width_of};
 use fixture_sheet::Fields;
 
 /// What a record is for.
-#[derive(Clone, Copy, PartialEq, Eq, Debug)]
+#[derive(Clone, Copy)]
 pub enum Kind {
     /// `result,F,H,A`: fixture F, which had no score, ended H:A.
     Result,

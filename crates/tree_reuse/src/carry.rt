@@ -25,7 +25,7 @@ use std::alloc::Global;
 use tie_bound::holds;
 
 /// A part of the tree that is still to come, next on the list of nodes.
-#[derive(Clone, Copy, Debug, PartialEq, Eq)]
+#[derive(Clone, Copy)]
 pub enum Part {
     /// Goes with its split.
     Dropped,

@@ -4,7 +4,7 @@
 pub const MOST_KEPT: u32 = 100_001;
 
 /// Both halves, or one in place of the split.
-#[derive(Clone, Copy, Debug, PartialEq, Eq)]
+#[derive(Clone, Copy)]
 pub enum Halves {
     Both,
     YesAlone,

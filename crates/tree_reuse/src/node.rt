@@ -7,7 +7,7 @@ pub const MOST_NUMBERS: u32 = 4_100_000_000;
 
 /// What stands in a node. The halves of a split stand behind it one after the other, the first of
 /// them so many places behind the next node.
-#[derive(Clone, Copy, Debug, PartialEq, Eq)]
+#[derive(Clone, Copy)]
 pub enum Kind {
     Open,
     Lent(u64),
@@ -16,7 +16,7 @@ pub enum Kind {
 }
 
 /// A node, the number of its parent, and whether it is the half where the parent's test is true.
-#[derive(Clone, Copy, Debug, PartialEq, Eq)]
+#[derive(Clone, Copy)]
 pub struct Node {
     pub kind: Kind,
     pub parent: u32,

@@ -13,7 +13,7 @@ use std::alloc::Global;
 
 /// A part of the tree that is still to come: in the zone of so many literals of the way and one
 /// more, if there is one.
-#[derive(Clone, Copy, Debug, PartialEq, Eq)]
+#[derive(Clone, Copy)]
 pub struct Step {
     pub depth: usize,
     pub literal: Option<Literal>,
