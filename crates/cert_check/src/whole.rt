@@ -5,6 +5,7 @@ ghost use Rattle.league_core.specs.Seasons.{IsLeague};
 ghost use Rattle.league_core.specs.Sheets.{clubs_of, is_line, IsWithinLimits};
 ghost use Rattle.cert_check.specs.Machine.{rows_on_line, rows_of, part_of_ask};
 ghost use Rattle.cert_check.specs.Calls.{GoesOverAll, basis_of, ChecksPart, ChecksEnd};
+ghost use Rattle.cert_check.specs.LineLists.{tokens_of};
 
 use crate::line_list::LineList;
 use crate::part::Item;
@@ -30,15 +31,7 @@ pub fn check(
     requires room { from ≤ length lines.now }
     ensures { ChecksPart (basis_of sheet.now season.now epoch) lines.now from result }
 {
-    let report = Report {
-        alloc,
-        sheet,
-        season,
-        epoch,
-        lines,
-        root: Way::new(alloc, sheet, season)?,
-    };
-    match report.part(from) {
+    match part_from(alloc, sheet, season, epoch, lines, from) {
         Ok(found) => Ok(Accepted {
             next: found.next,
             rows: row_count(sheet),
@@ -53,6 +46,33 @@ pub fn check(
         Err(Halt::Short) => Err(CheckStop::Short),
         Err(Halt::OutOfMemory) => Err(CheckStop::OutOfMemory),
     }
+}
+
+// Goes over the part; the report is let go behind it.
+fn part_from(
+    alloc: Global,
+    sheet: &Sheet,
+    season: &Season,
+    epoch: u64,
+    lines: &LineList,
+    from: usize,
+) -> Result<Item, Halt>
+    requires league { IsLeague sheet.now season.now }
+    requires room { from ≤ length lines.now }
+    ensures { GoesOverAll (record {
+      basis = basis_of sheet.now season.now epoch;
+      tokens = tokens_of lines.now;
+    }) from (part_of_ask sheet.now) result }
+{
+    let report = Report {
+        alloc,
+        sheet,
+        season,
+        epoch,
+        lines,
+        root: Way::new(alloc, sheet, season)?,
+    };
+    report.part(from)
 }
 
 /// Whether nothing that counts is left from a position on, from 0; `BadLine` names the first line
