@@ -1,4 +1,5 @@
 use Rattle.std.proofs.Common.{arith}
+use Rattle.std.proofs.lemmas.Grind.{common_steps}
 use Rattle.std.proofs.lemmas.Int.{ints}
 use Rattle.check_bounds.proofs.SpanLemmas.{near_widened}
 use Rattle.check_bounds.proofs.span.+span_of.Goals as goal
@@ -9,3 +10,6 @@ returns-clause-near n c =
     let high = c.seen_in-value.ensures.near.1 in
     near_widened _ c.span_of.result c.widened.result c.widened.ensures
     (omega (arith, ints, low, high)) (omega (arith, ints, low, high)) c.span_of.ensures.near
+
+pub returns-clause-range : goal.returns-clause-range
+returns-clause-range n c = grind (arith, common_steps)
