@@ -1,4 +1,5 @@
 use Rattle.std.proofs.Common.{arith}
+use Rattle.std.proofs.lemmas.Grind.{common_steps}
 use Rattle.league_core.specs.declared.season.Event.TheVariants.{Set}
 use Rattle.result_log.specs.declared.entry.Entry.{Entry}
 use Rattle.result_log.specs.declared.entry.Entry.TheVariants.{Change}
@@ -22,3 +23,9 @@ loop-entry-preserved c =
       rows = omega (arith, counts.rows, c.loop-entry.invariant.rows);
       unsettled = omega (arith, counts.unsettled, c.loop-entry.invariant.unsettled);
     }
+
+pub returns-in-Some : goal.returns-in-Some
+returns-in-Some c = grind (arith, common_steps)
+
+pub returns : goal.returns
+returns c = grind (arith, common_steps)
