@@ -1,14 +1,15 @@
 //! What lies under the lock.
 
 ghost use Rattle.std.specs.Prelude.{◌≡◌, ◌↔◌, ◌++◌, ◌∷◌, [], length, Err, IfOk, OnOk, OnErr, false};
-ghost use Rattle.std.specs.Prelude.{true};
+ghost use Rattle.std.specs.Prelude.{true, ◌+◌, ◌<◌, IsTrue};
 ghost use mathlib.Core.List.{IsPrefix};
+ghost use Rattle.league_core.specs.Codes.{has_code};
 ghost use Rattle.league_core.specs.Limits.{most_events};
 ghost use Rattle.league_core.specs.Seasons.{IsEventOf, season_after};
 ghost use Rattle.branch_pool.specs.declared.ticket.Took.TheVariants as took;
 ghost use Rattle.branch_pool.specs.Calls.{IsFitIfLent, Taking};
 ghost use Rattle.branch_pool.specs.Steps.{Changes, pool_opened, pool_shut, pool_recalled};
-ghost use Rattle.epoch_cancel.specs.Seats.{seat_of};
+ghost use Rattle.epoch_cancel.specs.Seats.{seat_of, seat_told};
 ghost use Rattle.pool_lock.specs.Lends.{TakesWorkAfter};
 
 use crate::front::Front;
@@ -161,8 +162,7 @@ impl<J: Job> Held<J> {
         self.changes.audit(&mut front.share);
         self.pool.is_sound();
         let epoch = self.pool.change(event)?;
-        tell(word, &mut self.owner, &mut front.inner, &event);
-        self.changes.add(&mut front.share, 1);
+        announce(word, &mut self.owner, &mut self.changes, front, &event);
         self.is_busy = true;
         Ok(epoch)
     }
@@ -198,4 +198,25 @@ impl<J: Job> Held<J> {
         held.pool.recall();
         held.pool
     }
+}
+
+// Announces an event to the one who reports it, and counts it.
+fn announce<J: Job>(
+    word: &EpochWord,
+    owner: &mut Owner,
+    changes: &mut Book<J>,
+    front: &mut Front<J>,
+    event: &Event,
+)
+    requires seats { (word.now ≡ J.table) × (owner.old.table ≡ J.table) }
+    requires level { length front.old ≡ length owner.old.list }
+    requires room { length owner.old.list < most_events }
+    requires code { IsTrue (has_code event.now) }
+    ensures equal { front.old ≡ owner.old.list }
+    ensures owner { owner.new ≡ seat_told owner.old event.now }
+    ensures front { front.new ≡ front.old ++ event.now ∷ [] }
+    ensures counted { changes.new.total ≡ changes.old.total + 1 }
+{
+    tell(word, owner, &mut front.inner, event);
+    changes.add(&mut front.share, 1);
 }

@@ -9,7 +9,7 @@ use Rattle.league_core.specs.FinishList.{ways_to_finish}
 use Rattle.league_core.specs.Trees.{is_refuted}
 use Rattle.branch_pool.specs.declared.seat.Seat.{Seat}
 use Rattle.branch_pool.specs.declared.ticket.Answer.TheVariants.{NotYet}
-use Rattle.branch_pool.specs.States.{PoolState}
+use Rattle.branch_pool.specs.States.{PoolState, out_count}
 use Rattle.branch_pool.specs.Calls.{pool_answer}
 use Rattle.branch_pool.specs.Runs.{WorksNext}
 use Rattle.verdict_run.specs.NewTrees.{is_all_new}
@@ -54,3 +54,12 @@ AreAllNew pool = All (λ (seat : Seat). IsTrue (is_all_new seat.tree)) pool.seat
 abbrev pub IsEnough : Sheet → Results → Type 0
 IsEnough sheet season =
     2 ^ length sheet.clubs * ways_to_finish sheet.goal_limit season.scores ≤ sheet.budget
+
+-- the work on a pool of which no number was out is finished: turns alone were made, until there was
+-- nothing left to work on
+pub record FinishesWork (old new : PoolState) : Type 0 where
+  pub work : WorksTo old new
+  pub same : IsSameLeague old new
+  pub home : out_count new.loans ≡ 0
+  pub settled : AreSettled new
+  pub enough : IsEnough new.sheet new.season → AreDecided new

@@ -1,39 +1,17 @@
 //! The work of one thread on a pool, to its end.
 
-ghost use Rattle.std.specs.Prelude.{◌≡◌, IfOk};
+ghost use Rattle.std.specs.Prelude.{◌≡◌, IfOk, OnOk};
+ghost use Rattle.league_core.specs.Seasons.{IsLeague};
 ghost use Rattle.branch_pool.specs.States.{out_count};
 ghost use Rattle.verdict_run.specs.Working.{WorksTo, IsSameLeague, AreSettled, AreDecided};
-ghost use Rattle.verdict_run.specs.Working.{IsEnough};
+ghost use Rattle.verdict_run.specs.Working.{IsEnough, FinishesWork};
 
 use branch_pool::{Pool, Turn};
 use branch_rules::Worker;
-use league_core::OutOfMemory;
+use league_core::{OutOfMemory, Season, Sheet};
 use reason_core::Solver;
 use score_box::Played;
 use std::alloc::Global;
-
-/// Works until there is nothing left to work on.
-pub(crate) fn finish_by<W: Solver>(mut pool: Pool, worker: &mut W) -> Result<Pool, OutOfMemory>
-    requires home { out_count pool.loans ≡ 0 }
-    requires sheet { W.sheet worker.old ≡ pool.sheet }
-    requires season { W.season worker.old ≡ pool.season }
-    ensures work { IfOk result (λ new. WorksTo pool new) }
-    ensures same { IfOk result (λ new. IsSameLeague pool new) }
-    ensures home { IfOk result (λ new. out_count new.loans ≡ 0) }
-    ensures settled { IfOk result AreSettled }
-    ensures enough { IfOk result (λ new. IsEnough new.sheet new.season → AreDecided new) }
-{
-    loop {
-        match pool.work_next(worker) {
-            Turn::Worked => {}
-            Turn::Nothing => {
-                pool.is_sound();
-                return Ok(pool);
-            }
-            Turn::OutOfMemory => return Err(OutOfMemory),
-        }
-    }
-}
 
 /// Works on each question of the pool in their order, until it is known or its budget is spent. No
 /// number is out before, and none is afterwards. On want of memory the pool is gone.
@@ -45,9 +23,64 @@ pub fn finish(alloc: Global, pool: Pool) -> Result<Pool, OutOfMemory>
     ensures settled { IfOk result AreSettled }
     ensures enough { IfOk result (λ new. IsEnough new.sheet new.season → AreDecided new) }
 {
+    let mut pool = pool;
+    finish_in_place(alloc, &mut pool)?;
+    Ok(pool)
+}
+
+// The same, by a copy of the pool's sheet and season.
+fn finish_in_place(alloc: Global, pool: &mut Pool) -> Result<(), OutOfMemory>
+    requires { out_count pool.old.loans ≡ 0 }
+    ensures { OnOk result (FinishesWork pool.old pool.new) }
+{
     let sheet = pool.sheet().copy(alloc)?;
     let season = pool.season().copy(alloc)?;
-    let played = Played::of(alloc, &sheet, &season)?;
-    let mut worker = Worker::new(alloc, &played)?;
+    finish_season(alloc, &sheet, &season, pool)
+}
+
+// The same, where the sheet and the season are the pool's.
+fn finish_season(
+    alloc: Global,
+    sheet: &Sheet,
+    season: &Season,
+    pool: &mut Pool,
+) -> Result<(), OutOfMemory>
+    requires sheet { sheet.now ≡ pool.old.sheet }
+    requires season { season.now ≡ pool.old.season }
+    requires league { IsLeague sheet.now season.now }
+    requires home { out_count pool.old.loans ≡ 0 }
+    ensures { OnOk result (FinishesWork pool.old pool.new) }
+{
+    let played = Played::of(alloc, sheet, season)?;
+    finish_over(alloc, &played, pool)
+}
+
+// The same, where the tables are of the pool's sheet and season.
+fn finish_over(alloc: Global, played: &Played, pool: &mut Pool) -> Result<(), OutOfMemory>
+    requires sheet { played.now.sheet ≡ pool.old.sheet }
+    requires season { played.now.season ≡ pool.old.season }
+    requires home { out_count pool.old.loans ≡ 0 }
+    ensures { OnOk result (FinishesWork pool.old pool.new) }
+{
+    let mut worker = Worker::new(alloc, played)?;
     finish_by(pool, &mut worker)
+}
+
+// Works until there is nothing left to work on.
+fn finish_by<W: Solver>(pool: &mut Pool, worker: &mut W) -> Result<(), OutOfMemory>
+    requires home { out_count pool.old.loans ≡ 0 }
+    requires sheet { W.sheet worker.old ≡ pool.old.sheet }
+    requires season { W.season worker.old ≡ pool.old.season }
+    ensures { OnOk result (FinishesWork pool.old pool.new) }
+{
+    loop {
+        match pool.work_next(worker) {
+            Turn::Worked => {}
+            Turn::Nothing => {
+                pool.is_sound();
+                return Ok(());
+            }
+            Turn::OutOfMemory => return Err(OutOfMemory),
+        }
+    }
 }

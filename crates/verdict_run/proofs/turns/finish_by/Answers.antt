@@ -7,7 +7,7 @@ use Rattle.verdict_run.proofs.turns.finish_by.Goals as goal
 
 pub loop-pool-init : goal.loop-pool-init
 loop-pool-init g c = record {
-  work = no_turn c.args.pool;
+  work = no_turn c.args.pool.now;
   sheet = c.requires.sheet;
   season = c.requires.season;
 }
@@ -21,7 +21,7 @@ loop-pool-preserved g c =
     let turn = c.in-Worked.ensures.turn in
     let same = turn_same c.loop-pool.pool c.work_next.new.self turn in
     record {
-      work = one_turn_more c.args.pool c.loop-pool.pool c.work_next.new.self before.work turn;
+      work = one_turn_more c.args.pool.now c.loop-pool.pool c.work_next.new.self before.work turn;
       sheet = c.in-Worked.ensures.same_sheet ∙ before.sheet ∙ sym same.sheet;
       season = c.in-Worked.ensures.same_season ∙ before.season ∙ sym same.season;
     }
@@ -30,13 +30,13 @@ pub returns-in-Nothing : goal.returns-in-Nothing
 returns-in-Nothing g c =
     let work = c.loop-pool.invariant.work in
     let step = c.in-Nothing.ensures.turn in
-    let end = turns_end c.args.pool c.loop-pool.pool c.work_next.new.self work step.1
+    let end = turns_end c.args.pool.now c.loop-pool.pool c.work_next.new.self work step.1
     c.requires.home step.0 c.is_sound.ensures.sound in
-    let P : PoolState → Type 0 = λ pool. WorksTo c.args.pool pool in
+    let P : PoolState → Type 0 = λ pool. WorksTo c.args.pool.now pool in
     let whole = subst P (sym step.1) work in
     record {
       work = whole;
-      same = works_same c.args.pool c.work_next.new.self whole;
+      same = works_same c.args.pool.now c.work_next.new.self whole;
       home = end.home;
       settled = end.settled;
       enough = end.enough;

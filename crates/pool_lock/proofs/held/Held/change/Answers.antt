@@ -9,8 +9,8 @@ change-requires g c = record {
 }
 
 -- so it has a code
-pub tell-requires-clause-code : goal.tell-requires-clause-code
-tell-requires-clause-code g c =
+pub announce-requires-clause-code : goal.announce-requires-clause-code
+announce-requires-clause-code g c =
     has_code-pool c.self.inside.pool c.args.event c.is_sound.ensures.sound
     (IsEventOf-pool c.self.inside.pool g.J.Job.sheet c.args.front.now c.args.event
     c.is_sound.ensures.sound c.self.invariant.3 c.requires.may_be)
