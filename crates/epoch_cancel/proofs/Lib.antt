@@ -1,4 +1,4 @@
-mod PrefixLemmas
+pub mod PrefixLemmas
 mod PackLemmas
 mod ViewLemmas
 mod MoveLemmas

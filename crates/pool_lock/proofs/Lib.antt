@@ -1,2 +1,2 @@
-mod PrefixLemmas
+pub mod PrefixLemmas
 mod ToldLemmas

@@ -8,16 +8,42 @@ ghost use Rattle.pool_lock.specs.Lends.{IsWorkAfter};
 ghost use Rattle.worker_gate.specs.Workers.{IsNextAfter};
 
 use crate::gate::{Gate, Point};
-use crate::next::{Next, Role, take_next};
+use crate::next::{Next, Role, hand_over, take_next};
 use branch_pool::{Gave, Ticket, Turn};
 use league_core::OutOfMemory;
 use pool_lock::{Job, PoolLock, WorkBadge};
 use reason_core::{Finding, Solver};
 use std::sync::Wait;
 
-/// Gives the ticket back with what was found there, works on in the pool where no event will come,
-/// and takes the next one.
-pub fn go_on_alone<J: Job, R: Wait, G: Gate, W: Solver>(
+/// Gives the ticket back with what was found there, and takes the next one. A worker without
+/// company works in the pool in between, where no event will come.
+pub fn go_on<J: Job, R: Wait, G: Gate, W: Solver>(
+    rt: &R,
+    lock: &PoolLock<J>,
+    badge: &mut WorkBadge<J>,
+    role: Role,
+    gate: &G,
+    solver: &mut W,
+    ticket: Ticket,
+    found: Finding,
+) -> Next
+    requires sheet { W.sheet solver.old ≡ J.sheet }
+    requires season { W.season solver.old ≡ ticket.piece.season }
+    requires work { IsWorkAfter J.sheet badge.old.list ticket }
+    requires sound { IsTrueOf J.sheet ticket.piece found }
+    ensures next { IsNextAfter J.sheet badge.new.list result }
+    ensures begins { IsPrefix badge.old.list badge.new.list }
+    ensures same_sheet { W.sheet solver.new ≡ W.sheet solver.old }
+    ensures same_season { W.season solver.new ≡ W.season solver.old }
+{
+    if role.is_alone {
+        go_on_alone(rt, lock, badge, role, gate, solver, ticket, found)
+    } else {
+        hand_over(rt, lock, badge, role, gate, ticket, found)
+    }
+}
+
+fn go_on_alone<J: Job, R: Wait, G: Gate, W: Solver>(
     rt: &R,
     lock: &PoolLock<J>,
     badge: &mut WorkBadge<J>,
@@ -40,11 +66,32 @@ pub fn go_on_alone<J: Job, R: Wait, G: Gate, W: Solver>(
     let gave = lock.give(rt, badge, ticket, found);
     gate.at(Point::Given, role.number);
     match gave {
-        Gave::Kept => match work_in_place(rt, lock, badge, role, gate, epoch, solver) {
-            Ok(()) => take_next(rt, lock, badge, role, gate),
-            Err(OutOfMemory) => Next::Memory,
-        },
+        Gave::Kept => work_and_take(rt, lock, badge, role, gate, epoch, solver),
         Gave::Stale { .. } => take_next(rt, lock, badge, role, gate),
+    }
+}
+
+// Works in the pool where no event will come, and takes the next ticket.
+fn work_and_take<J: Job, R: Wait, G: Gate, W: Solver>(
+    rt: &R,
+    lock: &PoolLock<J>,
+    badge: &mut WorkBadge<J>,
+    role: Role,
+    gate: &G,
+    epoch: u64,
+    solver: &mut W,
+) -> Next
+    requires epoch { epoch ≡ length badge.old.list }
+    requires sheet { W.sheet solver.old ≡ J.sheet }
+    requires season { W.season solver.old ≡ season_after J.sheet badge.old.list }
+    ensures next { IsNextAfter J.sheet badge.new.list result }
+    ensures begins { IsPrefix badge.old.list badge.new.list }
+    ensures same_sheet { W.sheet solver.new ≡ W.sheet solver.old }
+    ensures same_season { W.season solver.new ≡ W.season solver.old }
+{
+    match work_in_place(rt, lock, badge, role, gate, epoch, solver) {
+        Ok(()) => take_next(rt, lock, badge, role, gate),
+        Err(OutOfMemory) => Next::Memory,
     }
 }
 

@@ -76,6 +76,22 @@ pub fn hand_over<J: Job, R: Wait, G: Gate>(
     }
 }
 
+/// Gives the ticket back undone, and takes the next one.
+pub fn pass_on<J: Job, R: Wait, G: Gate>(
+    rt: &R,
+    lock: &PoolLock<J>,
+    badge: &mut WorkBadge<J>,
+    role: Role,
+    gate: &G,
+    ticket: Ticket,
+) -> Next
+    ensures next { IsNextAfter J.sheet badge.new.list result }
+    ensures begins { IsPrefix badge.old.list badge.new.list }
+{
+    give_undone(rt, lock, badge, role.number, gate, ticket);
+    take_next(rt, lock, badge, role, gate)
+}
+
 /// Gives back undone what the worker has in hand, for want of memory.
 pub fn give_up<J: Job, R: Wait, G: Gate>(
     rt: &R,

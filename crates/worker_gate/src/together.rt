@@ -97,6 +97,38 @@ pub fn round_as<J: Job + Send + Sync, R: Threads + Wait + Sync, S: Source + Send
     ensures err_last { OnErr result (ReadsOnWay S.left S.reads (GivesEvents pool.sheet pool.log)
         reader.old reader.new source.old source.new) }
 {
+    let (lock, desk, posts) = begin::<J>(alloc, blank, seated, pool)?;
+    let mut desk = desk;
+    let end = read_beside(
+        rt, alloc, sheet, &lock, &mut desk, posts, reader, source, gate,
+    )?;
+    let pool = desk.close(lock);
+    let _log = pool.log();
+    Ok(Round { pool, end })
+}
+
+// The lock round the pool, the desk of the one who reports, and the posts of the workers.
+fn begin<J: Job>(
+    alloc: Global,
+    blank: Blank,
+    seated: Seated,
+    pool: Pool,
+) -> Result<(PoolLock<J>, Desk<J>, Vec<Post<J>>), OutOfMemory>
+    requires ledger { blank.name ≡ J.name }
+    requires parts { blank.parts ≡ J.parts }
+    requires one_part { blank.parts ≡ 1 }
+    requires word { seated.word ≡ J.table }
+    requires owner { seated.owner ≡ seat_of seated.word pool.log }
+    requires front { seated.front ≡ seat_of seated.word pool.log }
+    requires eyes { All (IsEyeAfter seated.word pool.log) seated.eyes.items }
+    requires sheet { pool.sheet ≡ J.sheet }
+    requires questions { pool.questions ≡ J.questions }
+    requires home { out_count pool.loans ≡ 0 }
+    ensures front { IfOk result (λ begun. begun.1.front ≡ pool.log) }
+    ensures told { IfOk result (λ begun.
+        IsSeasonTold J.sheet begun.1.front begun.1.season begun.1.events) }
+    ensures limits { IfOk result (λ begun. IsWithinLimits pool.sheet) }
+{
     let season = pool.season().copy(alloc)?;
     let events = pool.log().len() as u64;
     let Seated {
@@ -107,18 +139,13 @@ pub fn round_as<J: Job + Send + Sync, R: Threads + Wait + Sync, S: Source + Send
     } = seated;
     let (lock, front, badges) = PoolLock::<J>::new(alloc, blank, word, owner, front, eyes, pool)?;
     let posts = posts_of(alloc, badges)?;
-    let mut desk = Desk {
+    let desk = Desk {
         front,
         season,
         events,
         is_shut: false,
     };
-    let end = read_beside(
-        rt, alloc, sheet, &lock, &mut desk, posts, reader, source, gate,
-    )?;
-    let pool = desk.close(lock);
-    let _log = pool.log();
-    Ok(Round { pool, end })
+    Ok((lock, desk, posts))
 }
 
 // The feeder reads beside the workers, and before them where no thread can be made: they wait for
@@ -165,7 +192,7 @@ fn read_beside<J: Job + Send + Sync, R: Threads + Wait + Sync, S: Source + Send,
                 run_all(rt, alloc, sheet, lock, posts.as_mut_slice(), gate);
             }
         },
-        &mut ||
+        &mut move ||
             requires { (sheet.now ≡ J.sheet) × IsWithinLimits sheet.now
                 × IsSeasonTold J.sheet desk.now.front desk.now.season desk.now.events
                 × IsSync R.row }

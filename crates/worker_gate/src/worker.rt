@@ -1,16 +1,16 @@
 //! A worker: takes what the lock lends, works on it, and gives it back.
 
-ghost use Rattle.std.specs.Prelude.{◌≡◌};
+ghost use Rattle.std.specs.Prelude.{◌≡◌, IfErr, IfOk};
 ghost use mathlib.Core.List.{IsPrefix};
 ghost use Rattle.league_core.specs.Sheets.{IsWithinLimits};
 ghost use Rattle.league_core.specs.Seasons.{IsLeague};
 ghost use Rattle.pool_lock.specs.Lends.{IsWorkAfter};
 ghost use Rattle.worker_gate.specs.Workers.{IsNextAfter};
 
-use crate::alone::go_on_alone;
+use crate::alone::go_on;
 use crate::gate::Gate;
-use crate::next::{Next, Role, give_up, hand_over, take_next};
-use crate::piece::{find_at, give_undone};
+use crate::next::{Next, Role, give_up, pass_on, take_next};
+use crate::piece::find_at;
 use branch_pool::Ticket;
 use branch_rules::Worker;
 use league_core::{OutOfMemory, Season, Sheet};
@@ -123,10 +123,30 @@ fn work_season<J: Job, R: Wait, G: Gate>(
     ensures next { IsNextAfter J.sheet badge.new.list result }
     ensures begins { IsPrefix badge.old.list badge.new.list }
 {
-    let Ok(played) = Played::of(alloc, sheet, season) else {
-        return give_up(rt, lock, badge, role, gate, ticket);
-    };
-    match Worker::new(alloc, &played) {
+    match Played::of(alloc, sheet, season) {
+        Ok(played) => work_over(rt, alloc, &played, lock, badge, role, gate, ticket),
+        Err(OutOfMemory) => give_up(rt, lock, badge, role, gate, ticket),
+    }
+}
+
+// The same, over the tables of that season.
+fn work_over<J: Job, R: Wait, G: Gate>(
+    rt: &R,
+    alloc: Global,
+    played: &Played,
+    lock: &PoolLock<J>,
+    badge: &mut WorkBadge<J>,
+    role: Role,
+    gate: &G,
+    ticket: Ticket,
+) -> Next
+    requires of_job { played.now.sheet ≡ J.sheet }
+    requires season { played.now.season ≡ ticket.piece.season }
+    requires work { IsWorkAfter J.sheet badge.old.list ticket }
+    ensures next { IsNextAfter J.sheet badge.new.list result }
+    ensures begins { IsPrefix badge.old.list badge.new.list }
+{
+    match Worker::new(alloc, played) {
         Ok(mut solver) => work_on(rt, lock, badge, role, gate, &mut solver, ticket),
         Err(OutOfMemory) => give_up(rt, lock, badge, role, gate, ticket),
     }
@@ -151,18 +171,24 @@ fn work_on<J: Job, R: Wait, G: Gate, W: Solver>(
     let epoch = ticket.epoch;
     let mut ticket = ticket;
     for _ in rt.forever() {
-        match take_turn(rt, lock, badge, role, gate, solver, ticket) {
-            Next::Work(next) => {
-                if next.epoch != epoch {
-                    return Next::Work(next);
-                }
-                ticket = next;
-            }
-            Next::Over => return Next::Over,
-            Next::Memory => return Next::Memory,
+        match of_epoch(take_turn(rt, lock, badge, role, gate, solver, ticket), epoch) {
+            Ok(next) => ticket = next,
+            Err(next) => return next,
         }
     }
     unreachable!()
+}
+
+// The ticket that comes next, where it is of that epoch.
+fn of_epoch(next: Next, epoch: u64) -> Result<Ticket, Next>
+    ensures ok { IfOk result (λ ticket. next ≡ Next.Work ticket) }
+    ensures epoch { IfOk result (λ ticket. ticket.epoch ≡ epoch) }
+    ensures err { IfErr result (λ other. other ≡ next) }
+{
+    match next {
+        Next::Work(ticket) if ticket.epoch == epoch => Ok(ticket),
+        other => Err(other),
+    }
 }
 
 // Works on the ticket, gives it back, and takes the next one.
@@ -184,14 +210,8 @@ fn take_turn<J: Job, R: Wait, G: Gate, W: Solver>(
     ensures same_season { W.season solver.new ≡ W.season solver.old }
 {
     match find_at(lock, badge, role.number, gate, solver, &ticket) {
-        Ok(Some(found)) if role.is_alone => {
-            go_on_alone(rt, lock, badge, role, gate, solver, ticket, found)
-        }
-        Ok(Some(found)) => hand_over(rt, lock, badge, role, gate, ticket, found),
-        Ok(None) => {
-            give_undone(rt, lock, badge, role.number, gate, ticket);
-            take_next(rt, lock, badge, role, gate)
-        }
+        Ok(Some(found)) => go_on(rt, lock, badge, role, gate, solver, ticket, found),
+        Ok(None) => pass_on(rt, lock, badge, role, gate, ticket),
         Err(OutOfMemory) => give_up(rt, lock, badge, role, gate, ticket),
     }
 }

@@ -4,28 +4,10 @@ use Rattle.worker_gate.proofs.RoundLemmas.{goes-nowhere}
 use Rattle.worker_gate.proofs.together.round_as.Goals as goal
 use Rattle.league_core.proofs.PlainLemmas.{err-holds}
 
-pub returns-in_err-season-clause-err : goal.returns-in_err-season-clause-err
-returns-in_err-season-clause-err g c =
+pub returns-in_err-lock-clause-err : goal.returns-in_err-lock-clause-err
+returns-in_err-lock-clause-err g c =
     err-holds c.from_residual.result _
     (c.args.pool.log, goes-nowhere c.args.pool.sheet c.args.pool.log _)
 
-pub returns-in_err-lock-clause-err : goal.returns-in_err-lock-clause-err
-returns-in_err-lock-clause-err g c =
-    err-holds c.from_residual-in_err-lock.result _
-    (c.args.pool.log, goes-nowhere c.args.pool.sheet c.args.pool.log _)
-
-pub returns-in_err-posts-clause-err : goal.returns-in_err-posts-clause-err
-returns-in_err-posts-clause-err g c =
-    err-holds c.from_residual-in_err-posts.result _
-    (c.args.pool.log, goes-nowhere c.args.pool.sheet c.args.pool.log _)
-
-pub returns-in_err-season-clause-err_last : goal.returns-in_err-season-clause-err_last
-returns-in_err-season-clause-err_last g c = err-holds c.from_residual.result _ (inl (refl, refl))
-
 pub returns-in_err-lock-clause-err_last : goal.returns-in_err-lock-clause-err_last
-returns-in_err-lock-clause-err_last g c =
-    err-holds c.from_residual-in_err-lock.result _ (inl (refl, refl))
-
-pub returns-in_err-posts-clause-err_last : goal.returns-in_err-posts-clause-err_last
-returns-in_err-posts-clause-err_last g c =
-    err-holds c.from_residual-in_err-posts.result _ (inl (refl, refl))
+returns-in_err-lock-clause-err_last g c = err-holds c.from_residual.result _ (inl (refl, refl))
