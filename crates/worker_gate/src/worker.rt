@@ -171,7 +171,10 @@ fn work_on<J: Job, R: Wait, G: Gate, W: Solver>(
     let epoch = ticket.epoch;
     let mut ticket = ticket;
     for _ in rt.forever() {
-        match of_epoch(take_turn(rt, lock, badge, role, gate, solver, ticket), epoch) {
+        match of_epoch(
+            take_turn(rt, lock, badge, role, gate, solver, ticket),
+            epoch,
+        ) {
             Ok(next) => ticket = next,
             Err(next) => return next,
         }

@@ -1,5 +1,5 @@
 -- The next ticket of the same epoch is of the same season.
-use Rattle.std.proofs.Common.{◌≡◌, List, length, ap, sym, ◌∙◌, subst, arith}
+use Rattle.std.proofs.Common.{◌≡◌, List, sym, ◌∙◌, subst, arith}
 use Rattle.league_core.specs.declared.season.Event.{Event}
 use Rattle.league_core.specs.Seasons.{season_after}
 use Rattle.epoch_cancel.proofs.PrefixLemmas.{prefix_whole}
