@@ -1,11 +1,24 @@
-//! Whole runs of the program over devices of their own: tests alone.
+//! Whole runs of the program over devices of their own, and workers beside a feed, held by gates:
+//! tests alone.
 //!
 //! What an input and devices in memory can show, the cases of the program `futmax_rows` show.
 #![tactic(auto)]
 
 #[cfg(test)]
+mod gates;
+#[cfg(test)]
+mod kept;
+#[cfg(test)]
+mod late;
+#[cfg(test)]
 mod limits;
 #[cfg(test)]
+mod meeting;
+#[cfg(test)]
 mod order;
+#[cfg(test)]
+mod rounds;
+#[cfg(test)]
+mod runs;
 #[cfg(test)]
 mod words;

@@ -1,5 +1,6 @@
 //! Runs of the program in memory.
 
+use crate::words::words_of;
 use futmax_main::{Status, futmax};
 use port_core::{MemSink, MemSource, Sink, Source};
 use std::alloc::Global;
@@ -39,12 +40,4 @@ pub fn is_answered<
     let words = words_of(rt.alloc(), &["futmax", "verdicts", "--workers", workers])?;
     let status = futmax(rt, rt.alloc(), words, source, sink, gate);
     Ok(status == Status::Done)
-}
-
-fn words_of(alloc: Global, words: &[&str]) -> Result<Vec<String>, Fail> {
-    let mut list = Vec::new(alloc);
-    for word in words {
-        list.push(String::from_str(alloc, word)?)?;
-    }
-    Ok(list)
 }
