@@ -9,6 +9,7 @@ pub mod AnswerLemmas
 pub mod TurnLemmas
 pub mod RoundLemmas
 pub mod LastReadLemmas
+pub mod CloseLemmas
 pub mod EarnedLemmas
 pub mod CheckLemmas
 pub mod CheckedLemmas

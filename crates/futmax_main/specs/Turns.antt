@@ -8,19 +8,27 @@ use Rattle.league_core.specs.Sheets.{IsWithinLimits}
 use Rattle.league_core.specs.Seasons.{season_after}
 use Rattle.port_core.specs.Ports.{AppendsFront, Rose}
 use Rattle.port_core.specs.Contents.{Position, input_limit}
+use Rattle.port_core.specs.declared.answers.ReadStop.TheVariants as read_stop
 use Rattle.branch_pool.specs.States.{PoolState, out_count}
+use Rattle.result_log.specs.declared.fault.FeedStop.{FeedStop}
+use Rattle.result_log.specs.declared.fault.FeedStop.TheVariants as feed_stop
+use Rattle.worker_gate.specs.declared.round.RoundEnd.{RoundEnd}
+use Rattle.worker_gate.specs.declared.round.RoundEnd.TheVariants as round_end
 use Rattle.verdict_run.specs.AskedQuestions.{questions_of}
+use Rattle.verdict_run.specs.Working.{AreSettled}
 use Rattle.output_rows.specs.declared.output.OutputStop.{OutputStop}
 use Rattle.output_rows.specs.declared.output.OutputStop.TheVariants as output
 use Rattle.futmax_main.specs.declared.status.Status.{Status}
-use Rattle.futmax_main.specs.declared.status.Status.TheVariants.{BadWords, ReadFault}
+use Rattle.futmax_main.specs.declared.status.Status.TheVariants.{Done, BadWords, ReadFault}
 use Rattle.futmax_main.specs.declared.status.Status.TheVariants.{WriteFault, OutOfMemory, NotProved}
 use Rattle.futmax_main.specs.declared.session.Answering.{Answering}
 use Rattle.futmax_main.specs.declared.session.Answering.TheVariants.{Verdicts, Table, Scores}
+use Rattle.futmax_main.specs.declared.session.Cause.TheVariants as cause
 use Rattle.futmax_main.specs.declared.session.Fault.{Fault}
 use Rattle.futmax_main.specs.declared.turn.Turn.{Turn}
 use Rattle.futmax_main.specs.declared.turn.Turn.TheVariants.{GoesOn, Ends}
 use Rattle.futmax_main.specs.Plays.{Played, played_behind}
+use Rattle.futmax_main.specs.Courses.{input_fault, line_fault}
 use Rattle.futmax_main.specs.Rows.{fault_row}
 use Rattle.futmax_main.specs.Answers.{IsAnswerTo}
 use Rattle.futmax_main.specs.Texts.{status_of_cause}
@@ -53,9 +61,26 @@ IsToldSame pool next = (next.sheet ≡ pool.sheet) × (next.log ≡ pool.log)
 
 -- ---- an answer
 
+-- the work is done that an answer needs: only verdicts need some
+abbrev pub IsWorkedOut : Answering → PoolState → Type 0
+IsWorkedOut (Verdicts proofs) pool = AreSettled pool
+IsWorkedOut Table pool = Unit {0}
+IsWorkedOut Scores pool = Unit {0}
+
 -- a front of some answer was written
 abbrev pub PutsFront : (List ℕ → Type 0) → Option (List ℕ) → Option (List ℕ) → Type 0
 PutsFront IsAnswer old now = (answer : List ℕ) × IsAnswer answer × AppendsFront old now answer
+
+-- an answer was written; or a front of one, or, where memory was wanting, nothing
+abbrev pub PutsAnswer : {A : Type 0} → Answering → PoolState → Option (List ℕ) → Option (List ℕ)
+    → Result A OutputStop → Type 0
+PutsAnswer answering pool old now (Ok done) =
+    (answer : List ℕ) × IsAnswerTo answering (told_to pool) answer
+    × (now ≡ append_known old answer)
+PutsAnswer answering pool old now (Err output.WriteFault) =
+    PutsFront (IsAnswerTo answering (told_to pool)) old now
+PutsAnswer answering pool old now (Err output.OutOfMemory) =
+    (now ≡ old) ⊎ PutsFront (IsAnswerTo answering (told_to pool)) old now
 
 -- an ask was answered, and the pool was told no more; or a front of an answer was written, or,
 -- where memory was wanting, nothing
@@ -80,6 +105,17 @@ FaultEnds fault old now WriteFault = AppendsFront old now (fault_row fault)
 FaultEnds fault old now status =
     (status_of_cause fault.cause ≡ status) × (now ≡ append_known old (fault_row fault))
 
+-- how a stop of the feed ends it
+abbrev pub StopEnds : FeedStop → Option (List ℕ) → Option (List ℕ) → Status → Type 0
+StopEnds (feed_stop.Fault number fault) old now status =
+    FaultEnds (record { number = number; cause = cause.Feed fault }) old now status
+StopEnds (feed_stop.Read read_stop.ReadFault) old now status = (status ≡ ReadFault) × (now ≡ old)
+StopEnds (feed_stop.Read (read_stop.LineTooLong number)) old now status =
+    FaultEnds (line_fault number) old now status
+StopEnds (feed_stop.Read (read_stop.InputTooLong number)) old now status =
+    FaultEnds (input_fault number) old now status
+StopEnds feed_stop.OutOfMemory old now status = (status ≡ OutOfMemory) × (now ≡ old)
+
 -- how an ask ends it, where it does
 abbrev pub AskEnds : Answering → Played → Option (List ℕ) → Option (List ℕ) → Status → Type 0
 AskEnds answering asked old now OutOfMemory =
@@ -94,6 +130,19 @@ AskGives answering pool old now (GoesOn next) =
     × ((answer : List ℕ) × IsAnswerTo answering (told_to pool) answer
     × (now ≡ append_known old answer))
 AskGives answering pool old now (Ends status) = AskEnds answering (told_to pool) old now status
+
+-- the run ends, with such a status
+abbrev pub EndsAs : (Status → Type 0) → Turn → Type 0
+EndsAs Is (GoesOn next) = ⊥
+EndsAs Is (Ends status) = Is status
+
+-- a turn behind a round that is over: its ask is answered, or the run ends
+abbrev pub CloseGives : Answering → PoolState → RoundEnd → Option (List ℕ) → Option (List ℕ) → Turn
+    → Type 0
+CloseGives answering pool round_end.Ask old now turn = AskGives answering pool old now turn
+CloseGives answering pool round_end.End old now turn =
+    EndsAs (λ status. (status ≡ Done) × (now ≡ old)) turn
+CloseGives answering pool (round_end.Stop stop) old now turn = EndsAs (StopEnds stop old now) turn
 
 -- ---- a turn
 
@@ -145,6 +194,20 @@ CountsEnd writes writes' status = writes' ≡ writes
 abbrev pub CountsTurn : ℕ → ℕ → Turn → Type 0
 CountsTurn writes writes' (GoesOn next) = writes' ≡ writes
 CountsTurn writes writes' (Ends status) = CountsEnd writes writes' status
+
+-- the same of a stop of the feed: it fails by the source where the source failed
+abbrev pub CountsStop : FeedStop → ℕ → ℕ → Status → Type 0
+CountsStop (feed_stop.Read read_stop.ReadFault) writes writes' status =
+    (status ≡ ReadFault) × (writes' ≡ writes)
+CountsStop stop writes writes' status = CountsEnd writes writes' status
+
+-- the same of a turn behind a round that is over
+abbrev pub CountsClose : RoundEnd → ℕ → ℕ → Turn → Type 0
+CountsClose round_end.Ask writes writes' turn = CountsTurn writes writes' turn
+CountsClose round_end.End writes writes' turn =
+    EndsAs (λ status. (status ≡ Done) × (writes' ≡ writes)) turn
+CountsClose (round_end.Stop stop) writes writes' turn =
+    EndsAs (CountsStop stop writes writes') turn
 
 -- the same where the words fit no mode
 abbrev pub CountsWords : ℕ → ℕ → Status → Type 0

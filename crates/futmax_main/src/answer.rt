@@ -3,9 +3,11 @@
 ghost use Rattle.std.specs.Prelude.{◌≡◌, ◌≤◌, [], All, IfOk, length};
 ghost use Rattle.league_core.specs.Questions.{IsQuestionOf};
 ghost use Rattle.league_core.specs.Sheets.{IsWithinLimits};
+ghost use Rattle.verdict_run.specs.Working.{AreSettled};
 ghost use Rattle.output_rows.specs.Outputs.{CountsPut};
 ghost use Rattle.futmax_main.specs.declared.session.Answering.TheVariants.{Verdicts, Table, Scores};
-ghost use Rattle.futmax_main.specs.Turns.{AnswersAsk, IsLive, asked_by};
+ghost use Rattle.futmax_main.specs.Turns.{AnswersAsk, IsLive, IsToldSame, IsWorkedOut, PutsAnswer};
+ghost use Rattle.futmax_main.specs.Turns.{asked_by};
 
 use crate::session::Answering;
 use ask_answers::{put_verdicts, table_rows};
@@ -57,71 +59,89 @@ pub fn put_answer<K: Sink>(
     ensures live { IfOk result (IsLive answering) }
     ensures counts { CountsPut (K.faults sink.old) (K.faults sink.new) result }
 {
-    match answering {
-        Answering::Verdicts { proofs } => answer_verdicts(alloc, proofs, pool, sink),
-        Answering::Table => answer_table(alloc, pool, sink),
-        Answering::Scores => answer_scores(alloc, pool, sink),
+    let Ok(pool) = work_out(alloc, answering, pool) else {
+        return Err(OutputStop::OutOfMemory);
+    };
+    match put_worked(alloc, answering, &pool, sink) {
+        Ok(()) => Ok(pool),
+        Err(stop) => Err(stop),
     }
 }
 
-// What is open is worked on first, as far as the budget goes.
-fn answer_verdicts<K: Sink>(
+// What is open is worked on before verdicts, as far as the budget goes.
+fn work_out(alloc: Global, answering: Answering, pool: Pool) -> Result<Pool, OutOfMemory>
+    requires { IsLive answering pool }
+    ensures same { IfOk result (IsToldSame pool) }
+    ensures live { IfOk result (IsLive answering) }
+    ensures worked { IfOk result (IsWorkedOut answering) }
+{
+    match answering {
+        Answering::Verdicts { proofs: _ } => finish(alloc, pool),
+        Answering::Table | Answering::Scores => Ok(pool),
+    }
+}
+
+fn put_worked<K: Sink>(
     alloc: Global,
-    proofs: bool,
-    pool: Pool,
+    answering: Answering,
+    pool: &Pool,
     sink: &mut K,
-) -> Result<Pool, OutputStop>
-    requires { IsLive (Verdicts proofs) pool }
-    ensures answer { AnswersAsk (Verdicts proofs) pool (K.holds sink.old) (K.holds sink.new)
-        result }
-    ensures live { IfOk result (IsLive (Verdicts proofs)) }
+) -> Result<(), OutputStop>
+    requires live { IsLive answering pool.now }
+    requires worked { IsWorkedOut answering pool.now }
+    ensures answer { PutsAnswer answering pool.now (K.holds sink.old) (K.holds sink.new) result }
     ensures counts { CountsPut (K.faults sink.old) (K.faults sink.new) result }
 {
-    let Ok(pool) = finish(alloc, pool) else {
+    match answering {
+        Answering::Verdicts { proofs } => put_found(alloc, proofs, pool, sink),
+        Answering::Table => put_table(alloc, pool, sink),
+        Answering::Scores => put_numbers(alloc, pool, sink),
+    }
+}
+
+fn put_found<K: Sink>(
+    alloc: Global,
+    proofs: bool,
+    pool: &Pool,
+    sink: &mut K,
+) -> Result<(), OutputStop>
+    requires live { IsLive (Verdicts proofs) pool.now }
+    requires settled { AreSettled pool.now }
+    ensures answer { PutsAnswer (Verdicts proofs) pool.now (K.holds sink.old) (K.holds sink.new)
+        result }
+    ensures counts { CountsPut (K.faults sink.old) (K.faults sink.new) result }
+{
+    let Ok(found) = verdicts(alloc, pool) else {
         return Err(OutputStop::OutOfMemory);
     };
-    let Ok(found) = verdicts(alloc, &pool) else {
-        return Err(OutputStop::OutOfMemory);
-    };
-    match put_verdicts(
+    put_verdicts(
         alloc,
         proofs,
         pool.sheet(),
         pool.epoch(),
         found.as_slice(),
         sink,
-    ) {
-        Ok(()) => Ok(pool),
-        Err(stop) => Err(stop),
-    }
+    )
 }
 
-fn answer_table<K: Sink>(alloc: Global, pool: Pool, sink: &mut K) -> Result<Pool, OutputStop>
-    requires { IsLive Table pool }
-    ensures answer { AnswersAsk Table pool (K.holds sink.old) (K.holds sink.new) result }
-    ensures live { IfOk result (IsLive Table) }
+fn put_table<K: Sink>(alloc: Global, pool: &Pool, sink: &mut K) -> Result<(), OutputStop>
+    requires { IsLive Table pool.now }
+    ensures answer { PutsAnswer Table pool.now (K.holds sink.old) (K.holds sink.new) result }
     ensures counts { CountsPut (K.faults sink.old) (K.faults sink.new) result }
 {
     let Ok(rows) = table_rows(alloc, pool.sheet(), pool.season(), pool.epoch()) else {
         return Err(OutputStop::OutOfMemory);
     };
-    match put_text(sink, rows.as_slice()) {
-        Ok(()) => Ok(pool),
-        Err(stop) => Err(stop),
-    }
+    put_text(sink, rows.as_slice())
 }
 
-fn answer_scores<K: Sink>(alloc: Global, pool: Pool, sink: &mut K) -> Result<Pool, OutputStop>
-    requires { IsLive Scores pool }
-    ensures answer { AnswersAsk Scores pool (K.holds sink.old) (K.holds sink.new) result }
-    ensures live { IfOk result (IsLive Scores) }
+fn put_numbers<K: Sink>(alloc: Global, pool: &Pool, sink: &mut K) -> Result<(), OutputStop>
+    requires { IsLive Scores pool.now }
+    ensures answer { PutsAnswer Scores pool.now (K.holds sink.old) (K.holds sink.new) result }
     ensures counts { CountsPut (K.faults sink.old) (K.faults sink.new) result }
 {
     let Ok(found) = all_scores(alloc, pool.sheet(), pool.season()) else {
         return Err(OutputStop::OutOfMemory);
     };
-    match put_scores(alloc, pool.epoch(), pool.sheet(), found.as_slice(), sink) {
-        Ok(()) => Ok(pool),
-        Err(stop) => Err(stop),
-    }
+    put_scores(alloc, pool.epoch(), pool.sheet(), found.as_slice(), sink)
 }

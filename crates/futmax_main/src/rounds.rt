@@ -52,10 +52,42 @@ pub fn run_rounds<R: Threads + Wait + Sync, S: Source + Send, K: Sink, G: Gate +
     let Ok(sheet) = pool.sheet().copy(alloc) else {
         return Status::OutOfMemory;
     };
+    take_rounds(
+        rt, alloc, answering, workers, &sheet, pool, reader, source, sink, gate,
+    )
+}
+
+fn take_rounds<R: Threads + Wait + Sync, S: Source + Send, K: Sink, G: Gate + Sync>(
+    rt: &R,
+    alloc: Global,
+    answering: Answering,
+    workers: u8,
+    sheet: &Sheet,
+    pool: Pool,
+    reader: &mut LineReader,
+    source: &mut S,
+    sink: &mut K,
+    gate: &G,
+) -> Status
+    requires live { IsLive answering pool }
+    requires of_pool { sheet.now ≡ pool.sheet }
+    requires some { 0 < workers }
+    requires few { workers ≤ 8 }
+    ensures serves { (input : Option (List ℕ)) (ended : Bool) (old : Option (List ℕ))
+        → Path answering input ended (stream_of reader.old (S.left source.old))
+        (S.ended source.old) reader.old.position pool.sheet pool.log old (K.holds sink.old)
+        → Serves (Some answering) input (S.left source.new) (S.ended source.new) old
+        (K.holds sink.new) result }
+    ensures last { RoundsStop S.left S.reads pool.sheet pool.log reader.old source.old source.new
+        result }
+    ensures counts { Counts (S.faults source.old) (S.faults source.new)
+        (K.faults sink.old) (K.faults sink.new) result }
+    ensures status { MayEndSession result }
+{
     let mut live = pool;
     'rounds: loop {
         match take_round(
-            rt, alloc, answering, workers, &sheet, live, reader, source, sink, gate,
+            rt, alloc, answering, workers, sheet, live, reader, source, sink, gate,
         ) {
             Turn::GoesOn(next) => live = next,
             Turn::Ends(status) => return status,

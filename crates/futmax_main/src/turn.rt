@@ -6,20 +6,20 @@ ghost use Rattle.port_core.specs.Contents.{start};
 ghost use Rattle.port_core.specs.Readers.{stream_of};
 ghost use Rattle.futmax_main.specs.Way.{Path};
 ghost use Rattle.futmax_main.specs.LastReads.{RoundStops, TurnStops};
-ghost use Rattle.futmax_main.specs.Turns.{AskGives, CountsTurn, IsLive, TurnCounts, TurnGives};
+ghost use Rattle.futmax_main.specs.Turns.{AskGives, CloseGives, CountsClose, CountsTurn, IsLive};
+ghost use Rattle.futmax_main.specs.Turns.{TurnCounts, TurnGives};
 ghost use Rattle.futmax_main.specs.Turns.{TurnBegins, TurnIsLive, TurnKeepsSheet, TurnMovesOn};
 
 use crate::answer::{begin_pool, put_answer};
 use crate::rounds::next_round;
 use crate::session::{Answering, Cause, Fault};
 use crate::status::Status;
-use crate::stop::{refuse, refuse_input, refuse_line};
+use crate::stop::{end_at_stop, refuse, refuse_input, refuse_line};
 use branch_pool::Pool;
 use fixture_sheet::{SheetStop, read_sheet};
 use league_core::Sheet;
 use output_rows::OutputStop;
 use port_core::{LineReader, ReadStop, Sink, Source};
-use result_log::FeedStop;
 use std::alloc::Global;
 use std::sync::Wait;
 use std::thread::Threads;
@@ -109,26 +109,31 @@ pub fn take_round<R: Threads + Wait + Sync, S: Source + Send, K: Sink, G: Gate +
     ensures counts { TurnCounts (S.faults source.old) (S.faults source.new)
         (K.faults sink.old) (K.faults sink.new) result }
 {
-    let Ok(Round { pool, end }) = next_round(
+    match next_round(
         rt, alloc, answering, workers, sheet, pool, reader, source, gate,
-    ) else {
-        return Turn::Ends(Status::OutOfMemory);
-    };
+    ) {
+        Ok(Round { pool, end }) => close_round(alloc, answering, pool, end, sink),
+        Err(_) => Turn::Ends(Status::OutOfMemory),
+    }
+}
+
+// An ask is answered, the end or a stop ends the run.
+fn close_round<K: Sink>(
+    alloc: Global,
+    answering: Answering,
+    pool: Pool,
+    end: RoundEnd,
+    sink: &mut K,
+) -> Turn
+    requires { IsLive answering pool }
+    ensures gives { CloseGives answering pool end (K.holds sink.old) (K.holds sink.new) result }
+    ensures live { TurnIsLive answering result }
+    ensures counts { CountsClose end (K.faults sink.old) (K.faults sink.new) result }
+{
     match end {
         RoundEnd::Ask => take_ask(alloc, answering, pool, sink),
         RoundEnd::End => Turn::Ends(Status::Done),
-        RoundEnd::Stop(FeedStop::Fault { number, fault }) => {
-            let cause = Cause::Feed(fault);
-            Turn::Ends(refuse(alloc, &Fault { number, cause }, sink))
-        }
-        RoundEnd::Stop(FeedStop::Read(ReadStop::ReadFault)) => Turn::Ends(Status::ReadFault),
-        RoundEnd::Stop(FeedStop::Read(ReadStop::LineTooLong { number })) => {
-            Turn::Ends(refuse_line(alloc, number, sink))
-        }
-        RoundEnd::Stop(FeedStop::Read(ReadStop::InputTooLong { number })) => {
-            Turn::Ends(refuse_input(alloc, number, sink))
-        }
-        RoundEnd::Stop(FeedStop::OutOfMemory) => Turn::Ends(Status::OutOfMemory),
+        RoundEnd::Stop(stop) => Turn::Ends(end_at_stop(alloc, stop, sink)),
     }
 }
 

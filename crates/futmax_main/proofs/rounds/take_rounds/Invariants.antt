@@ -4,7 +4,7 @@ use Rattle.port_core.specs.Readers.{stream_of}
 use Rattle.futmax_main.specs.Way.{Path}
 use Rattle.futmax_main.specs.LastReads.{ComesOn}
 use Rattle.futmax_main.specs.Turns.{IsLive}
-use Rattle.futmax_main.proofs.rounds.run_rounds.Given as goal
+use Rattle.futmax_main.proofs.rounds.take_rounds.Given as goal
 
 -- the pool is live and of the sheet, the way and the reads led here from wherever they led to the
 -- first round, and the counts of faults are as they were

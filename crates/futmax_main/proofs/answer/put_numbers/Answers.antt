@@ -1,0 +1,13 @@
+use Rattle.score_answers.specs.ScoreTexts.{text_of_scores}
+use Rattle.futmax_main.specs.declared.session.Answering.TheVariants.{Scores}
+use Rattle.futmax_main.proofs.AnswerLemmas.{puts-answer, scores-answer}
+use Rattle.futmax_main.proofs.answer.put_numbers.Goals as goal
+
+pub returns-clause-answer : goal.returns-clause-answer
+returns-clause-answer g c =
+    let found = c.in-Ok.found.items in
+    puts-answer Scores c.args.pool.now _ _
+    (text_of_scores c.sheet-2.result.now c.epoch.result found) c.put_scores.result
+    (scores-answer c.args.pool.now found _ _ _ _ c.requires c.sheet-2.ensures.sheet
+    c.sheet.ensures.sheet c.season.ensures.season c.epoch.ensures c.in-Ok.ensures.right)
+    (rw c.as_slice.ensures.value at c.put_scores.ensures.text)
