@@ -9,7 +9,7 @@ use Rattle.league_core.specs.declared.season.Event.{Event}
 use Rattle.port_core.specs.declared.answers.ReadStop.{ReadStop}
 use Rattle.port_core.specs.declared.answers.ReadStop.TheVariants as stop
 use Rattle.port_core.specs.Lines.{lines_of, HasNoLineFeed}
-use Rattle.port_core.specs.Contents.{Position, start, number_at, Contents, ended, with_line}
+use Rattle.port_core.specs.Contents.{Position, start, number_at, ended, with_line}
 use Rattle.port_core.specs.Contents.{with_lines, contents_from, contents_of}
 use Rattle.port_core.specs.Readers.{contents_behind, stream_of, given_by, Passes, PassesKnown}
 use Rattle.port_core.proofs.ContentLemmas.{with_lines-append}

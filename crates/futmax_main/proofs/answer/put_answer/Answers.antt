@@ -3,7 +3,7 @@ use Rattle.futmax_main.proofs.answer.put_answer.Goals as goal
 
 pub returns-in-Ok-put_worked-clause-answer : goal.returns-in-Ok-put_worked-clause-answer
 returns-in-Ok-put_worked-clause-answer g c =
-    answers-worked c.args.answering c.args.pool c.in-Ok.pool _ _ tt c.in-Ok.ensures.same
+    answers-worked c.args.answering c.args.pool c.in-Ok.pool _ _ c.in-Ok.ensures.same
     c.in-Ok-put_worked.ensures.answer
 
 pub returns-in-Err-clause-answer : goal.returns-in-Err-clause-answer

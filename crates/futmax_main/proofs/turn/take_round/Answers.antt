@@ -46,12 +46,12 @@ returns-in-Ok-clause-counts g c =
     close-counts _ _ _ _ c.in-Ok.field-0.end c.close_round.result c.in-Ok.ensures.ends.cause
     c.close_round.ensures.counts
 
-pub returns-clause-way : goal.returns-clause-way
-returns-clause-way g c = λ input ended old path.
+pub returns-in-Err-clause-way : goal.returns-in-Err-clause-way
+returns-in-Err-clause-way g c = λ input ended old path.
     turn-starved c.args.answering input ended _ _ _ c.args.pool.sheet c.args.pool.log _ _ old _ path
 
-pub returns-clause-last : goal.returns-clause-last
-returns-clause-last g c = λ first come.
+pub returns-in-Err-clause-last : goal.returns-in-Err-clause-last
+returns-in-Err-clause-last g c = λ first come.
     round-stops g.S.Source.left g.S.Source.reads first c.args.reader.now
     c.next_round.new.reader c.args.source.now c.next_round.new.source c.args.pool.sheet
     c.args.pool.log come c.in-Err.ensures.err_last OutOfMemory
