@@ -1,4 +1,4 @@
 //! Worked leagues.
 
-mod league;
+pub mod league;
 mod worked;

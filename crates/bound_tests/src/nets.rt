@@ -130,13 +130,22 @@ fn networks_have_their_flows(rt: HostRuntime) -> Result<(), Fail> {
 // From 0 over 2 to 1, and straight.
 fn check_starts(rt: &impl Abort, alloc: Global, net: &mut Net) -> Result<(), Fail> {
     add_all(rt, net, "0 2 4,2 1 3,0 1 2")?;
-    assert!(rt; !started(rt, net, &[0, 0, 3]), "above the capacity");
-    assert!(rt; !started(rt, net, &[2, 1, 0]), "a node keeps some");
-    assert_eq!(rt; carried(rt, net, 0), 0);
-    assert!(rt; started(rt, net, &[1, 1, 0]));
-    assert_eq!(rt; carried(rt, net, 0), 1);
-    assert_eq!(rt; value_found(rt, alloc, net)?, 5);
-    assert_eq!(rt; carried(rt, net, 0), 3);
+    check_refused(rt, net);
+    check_started(rt, alloc, net)
+}
+
+// Above the capacity, and where a node keeps some.
+fn check_refused(rt: &impl Abort, net: &mut Net) {
+    let above = started(rt, net, &[0, 0, 3]);
+    let kept = started(rt, net, &[2, 1, 0]);
+    assert!(rt; (above, kept, carried(rt, net, 0)) == (false, false, 0));
+}
+
+fn check_started(rt: &impl Abort, alloc: Global, net: &mut Net) -> Result<(), Fail> {
+    let is_started = started(rt, net, &[1, 1, 0]);
+    assert!(rt; (is_started, carried(rt, net, 0)) == (true, 1));
+    let value = value_found(rt, alloc, net)?;
+    assert!(rt; (value, carried(rt, net, 0)) == (5, 3));
     Ok(())
 }
 
@@ -150,8 +159,8 @@ fn only_whole_flows_are_started_from(rt: HostRuntime) -> Result<(), Fail> {
 fn check_back(rt: &impl Abort, alloc: Global, net: &mut Net) -> Result<(), Fail> {
     add_all(rt, net, "1 0 7,0 1 2")?;
     assert!(rt; started(rt, net, &[7, 0]));
-    assert_eq!(rt; value_found(rt, alloc, net)?, 2);
-    assert_eq!(rt; carried(rt, net, 0), 0);
+    let value = value_found(rt, alloc, net)?;
+    assert!(rt; (value, carried(rt, net, 0)) == (2, 0));
     Ok(())
 }
 

@@ -4,9 +4,9 @@
 ghost use Rattle.std.specs.Prelude.{◌<◌, length};
 ghost use Rattle.league_core.specs.Seasons.{IsLeague};
 
+use crate::cuts::league::cuts_over;
 use crate::drawn::{CLUBS, MATCHES, drawn_literal, drawn_sample};
 use crate::plain::{is_option, sums_of};
-use flow_bound::{high_cut, low_cut};
 use league_core::{
     Claim, ClubSet, Listing, Literal, OutOfMemory, Question, Reason, Score, Sheet, Zone,
 };
@@ -48,11 +48,11 @@ fn check_cells(rt: &impl Abort, zone_box: &ZoneBox, zone: &[Literal]) {
 
 fn check_sums(rt: &impl Abort, zone_box: &ZoneBox, zone: &[Literal], set: ClubSet) {
     let wanted = sums_of(zone_box.sheet(), zone_box.season(), zone, set);
-    assert_eq!(rt; zone_box.has_finish(), wanted.has_finish);
-    assert_eq!(rt; zone_box.open_outcomes(), wanted.open_outcomes);
+    assert!(rt; zone_box.has_finish() == wanted.has_finish);
+    assert!(rt; zone_box.open_outcomes() == wanted.open_outcomes);
     if zone_box.has_finish() {
-        assert_eq!(rt; zone_box.low_points(set), wanted.least);
-        assert_eq!(rt; zone_box.high_points(set), wanted.most);
+        let points = (zone_box.low_points(set), zone_box.high_points(set));
+        assert!(rt; points == (wanted.least, wanted.most));
     }
 }
 
@@ -90,13 +90,11 @@ fn check_cuts(
     fresh: &ZoneBox,
     question: &Question,
 ) -> Result<(), Fail> {
-    assert!(rt; (question.club as usize) < kept.sheet().clubs.len() && kept.has_finish());
-    assert!(rt; (question.club as usize) < fresh.sheet().clubs.len() && fresh.has_finish());
-    let low = low_cut(alloc, kept, question)?;
-    let high = high_cut(alloc, kept, question)?;
+    assert!(rt; (question.club as usize) < kept.sheet().clubs.len());
+    assert!(rt; (question.club as usize) < fresh.sheet().clubs.len());
+    let (low, high) = cuts_over(alloc, kept, question)?.ok_or("no finish")?;
     assert!(rt; (low.is_some(), high.is_some()) == some_cuts(fresh, question));
-    assert!(rt; low == low_cut(alloc, fresh, question)?);
-    assert!(rt; high == high_cut(alloc, fresh, question)?);
+    assert!(rt; cuts_over(alloc, fresh, question)? == Some((low, high)));
     Ok(())
 }
 

@@ -6,10 +6,6 @@
 #![tactic(auto)]
 
 #[cfg(test)]
-mod feed_limits;
-#[cfg(test)]
-mod feed_refusals;
-#[cfg(test)]
 mod feed_telling;
 #[cfg(test)]
 mod feed_tests;
@@ -29,8 +25,6 @@ mod row_tests;
 mod rows;
 #[cfg(test)]
 mod season_tests;
-#[cfg(test)]
-mod sheet_refusals;
 #[cfg(test)]
 mod sheet_telling;
 #[cfg(test)]

@@ -14,12 +14,8 @@ use std::test::Fail;
 
 const SIX: &[u8] = b"league,Six,3\nclub,A,1\nclub,B,2\nclub,C,3\nclub,D,4\nclub,E,5\nclub,F,6\n";
 
-/// What both calls answer.
-#[derive(Clone, Copy)]
-pub struct Cuts {
-    pub low: Option<ClubSet>,
-    pub high: Option<ClubSet>,
-}
+/// What both calls answer, the floor cut first.
+pub type Cuts = (Option<ClubSet>, Option<ClubSet>);
 
 fn text_of(alloc: Global, matches: &[u8]) -> Result<Vec<u8>, Fail> {
     let mut text = Vec::from_slice(alloc, SIX)?;
@@ -34,16 +30,19 @@ fn six_clubs(alloc: Global, matches: &[u8]) -> Result<Sample, Fail>
     league_in(alloc, &text)
 }
 
-fn cuts_over(alloc: Global, zone_box: &ZoneBox, question: &Question) -> Result<Option<Cuts>, Fail>
+/// Both cuts over a box; none where its zone has no finish.
+pub fn cuts_over(
+    alloc: Global,
+    zone_box: &ZoneBox,
+    question: &Question,
+) -> Result<Option<Cuts>, Fail>
     requires { question.now.club < length zone_box.now.sheet.clubs }
 {
     if !zone_box.has_finish() {
         return Ok(None);
     }
-    Ok(Some(Cuts {
-        low: low_cut(alloc, zone_box, question)?,
-        high: high_cut(alloc, zone_box, question)?,
-    }))
+    let low = low_cut(alloc, zone_box, question)?;
+    Ok(Some((low, high_cut(alloc, zone_box, question)?)))
 }
 
 fn cuts_in(

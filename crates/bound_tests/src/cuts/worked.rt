@@ -48,7 +48,7 @@ fn check_low(
     wanted: Option<ClubSet>,
 ) -> Result<(), Fail> {
     let cuts = found(rt, alloc, matches, literals, ask)?;
-    assert_eq!(rt; cuts.low, wanted);
+    assert!(rt; cuts.0 == wanted);
     Ok(())
 }
 
@@ -63,8 +63,7 @@ fn check(
     high: Option<ClubSet>,
 ) -> Result<(), Fail> {
     let cuts = found(rt, alloc, matches, literals, ask)?;
-    assert_eq!(rt; cuts.low, low);
-    assert_eq!(rt; cuts.high, high);
+    assert!(rt; cuts == (low, high));
     Ok(())
 }
 

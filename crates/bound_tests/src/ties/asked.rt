@@ -122,7 +122,7 @@ fn check_league(
 
 fn check(rt: &impl Abort, alloc: Global, asked: &Asked) -> Result<(), Fail> {
     let games = games_of(asked);
-    let sample = league_of(rt, alloc, asked.0, &games)?;
+    let sample = league_of(alloc, asked.0, &games)?;
     check_league(rt, alloc, &sample, &games, asked)
 }
 
@@ -191,7 +191,7 @@ fn check_marked(rt: &impl Abort, alloc: Global, sample: &Sample) -> Result<(), F
 
 #[test]
 fn a_given_reason_holds_where_the_sums_say_so(rt: HostRuntime) -> Result<(), Fail> {
-    let sample = league_of(&rt, rt.alloc(), HeadFirst, &TWO_GAMES)?;
+    let sample = league_of(rt.alloc(), HeadFirst, &TWO_GAMES)?;
     check_marked(&rt, rt.alloc(), &sample)
 }
 

@@ -113,7 +113,7 @@ fn check(
     order: Order,
     wanted: Sure,
 ) -> Result<(), Fail> {
-    let sample = league_of(rt, alloc, order, row.games)?;
+    let sample = league_of(alloc, order, row.games)?;
     check_league(rt, alloc, &sample, row, wanted)
 }
 

@@ -1,0 +1,32 @@
+//! The ranking beside a plain slow program, and what the search takes in a zone, worked by hand and
+//! along drawn ways: tests alone.
+//!
+//! `plain` says the rules of the game in its own words, over lists of matches, with `totals`;
+//! `ranking`, `finishes` and `groups` compare it with what the crates below answer, over drawn
+//! leagues in both orders of the criteria. `help` has boxes and pieces; `hand` the worked zones of a full window, `windows` those
+//! of a narrow one; `drawn` goes down drawn ways; `pieces` has the findings in pieces that are
+//! worked by hand, and `cells` the option of each cell.
+#![tactic(auto)]
+
+#[cfg(test)]
+mod cells;
+#[cfg(test)]
+mod drawn;
+#[cfg(test)]
+mod finishes;
+#[cfg(test)]
+mod groups;
+#[cfg(test)]
+mod hand;
+#[cfg(test)]
+mod help;
+#[cfg(test)]
+mod pieces;
+#[cfg(test)]
+mod plain;
+#[cfg(test)]
+mod ranking;
+#[cfg(test)]
+mod totals;
+#[cfg(test)]
+mod windows;

@@ -1,0 +1,13 @@
+use Rattle.shared_tests.proofs.rounds.round_of.Given as goal
+
+-- the ledger is that of its blank
+abbrev pub ghosts-round_as-J-Ledger : goal.ghosts-round_as-J-Ledger
+ghosts-round_as-J-Ledger g a = record { name = a.blank.name; parts = a.blank.parts }
+
+-- its word, sheet and questions are those at hand
+abbrev pub ghosts-round_as-J-Job : goal.ghosts-round_as-J-Job
+ghosts-round_as-J-Job g a = record {
+  table = a.seated.word;
+  sheet = a.pool.sheet;
+  questions = a.pool.questions;
+}

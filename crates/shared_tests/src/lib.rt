@@ -1,0 +1,28 @@
+//! Worked rows of what threads share, and want of memory in trees, pools and reports: tests alone.
+//!
+//! `trees` has the calls on a tree while memory is wanting, `pools` those on a pool, `reports` a
+//! report to the lock round one: they are made to be run with each allocation failing in turn, as
+//! `checks/memory` does; `rt try --test --fail-alloc N` does it for the Nth. One of them in which
+//! memory is wanting beside its call has nothing to say, and ends in the error that tells of it.
+#![tactic(auto)]
+
+#[cfg(test)]
+mod alone;
+#[cfg(test)]
+mod cases;
+#[cfg(test)]
+mod end;
+#[cfg(test)]
+mod epochs;
+#[cfg(test)]
+mod found;
+#[cfg(test)]
+mod overtaken;
+#[cfg(test)]
+mod pools;
+#[cfg(test)]
+mod reports;
+#[cfg(test)]
+mod rounds;
+#[cfg(test)]
+mod trees;
