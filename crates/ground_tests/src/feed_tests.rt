@@ -1,9 +1,6 @@
 //! Feeds behind a sheet of two clubs: with faults of the source, and behind as many events as can
 //! be counted. What a feed is read as without a fault stands in rows of the program.
 
-ghost use Rattle.std.specs.Prelude.{◌<◌, ◌≤◌, IsTrue, length};
-ghost use Rattle.league_core.specs.Seasons.{IsSeasonOf};
-
 use crate::feed_telling::{is_of, told};
 use crate::rows::{compare, number, part, rows};
 use crate::sheet_telling::sheet_of;
@@ -11,6 +8,7 @@ use fixture_sheet::{Fields, fields_of};
 use league_core::{Event, Score, Season, Sheet};
 use result_log::{FeedFault, read_event};
 use std::alloc::Global;
+use std::process::Abort;
 use std::test::Fail;
 
 // Six lines of 56 bytes, so that a feed begins at line 7.
@@ -30,13 +28,23 @@ fn behind(alloc: Global, call: u64) -> Result<Vec<u8>, Fail> {
     told(alloc, input.as_slice(), &[call])
 }
 
+fn check_call(rt: &impl Abort, alloc: Global, row: &[u8], call: u32) -> Result<(), Fail> {
+    let out = behind(alloc, u64::from(call))?;
+    compare(rt, row, out.as_slice(), part(row, 2));
+    Ok(())
+}
+
+fn check_row(rt: &impl Abort, alloc: Global, row: &[u8]) -> Result<(), Fail> {
+    for call in number(row, 0)?..number(row, 1)? {
+        check_call(rt, alloc, row, call)?;
+    }
+    Ok(())
+}
+
 #[test]
 fn a_fault_at_any_call_loses_no_entry(rt: HostRuntime) -> Result<(), Fail> {
     for row in rows(rt.alloc(), FAULTS)? {
-        for call in number(row, 0)?..number(row, 1)? {
-            let out = behind(rt.alloc(), u64::from(call))?;
-            compare(&rt, row, out.as_slice(), part(row, 2));
-        }
+        check_row(&rt, rt.alloc(), row)?;
     }
     Ok(())
 }

@@ -101,12 +101,17 @@ fn sheets_are_read_or_refused_in_pieces_of_any_size(rt: HostRuntime) -> Result<(
     check_rows(&rt, rt.alloc(), HEAD, BEHIND_HEAD)
 }
 
+fn check_fault(rt: &impl Abort, alloc: Global, row: &[u8]) -> Result<(), Fail> {
+    let call = u64::from(number(row, 0)?);
+    let out = told(alloc, TINY, 16, &[call])?;
+    compare(rt, row, out.as_slice(), part(row, 1));
+    Ok(())
+}
+
 #[test]
 fn a_fault_of_the_source_loses_no_line(rt: HostRuntime) -> Result<(), Fail> {
     for row in rows(rt.alloc(), FAULTS)? {
-        let call = u64::from(number(row, 0)?);
-        let out = told(rt.alloc(), TINY, 16, &[call])?;
-        compare(&rt, row, out.as_slice(), part(row, 1));
+        check_fault(&rt, rt.alloc(), row)?;
     }
     Ok(())
 }

@@ -89,6 +89,14 @@ pub fn give_to(
 ) -> Result<(Gave, Found), OutOfMemory> {
     let done = done_if(alloc, pool.sheet(), &held.piece, is_worked)?;
     let found = found_in(alloc, &done)?;
+    let gave = give_done(alloc, pool, held, done)?;
+    Ok((gave, found))
+}
+
+fn give_done(alloc: Global, pool: &mut Pool, held: &Held, done: Done) -> Result<Gave, OutOfMemory>
+    requires is_for { IsFor done held.now.piece }
+    requires sound { IsTrueDone pool.old.sheet done }
+{
     let ticket = ticket_of(alloc, held)?;
-    Ok((pool.give(ticket, done), found))
+    Ok(pool.give(ticket, done))
 }

@@ -1,6 +1,7 @@
 //! Pools of leagues, and workers that take and give.
 
-ghost use Rattle.std.specs.Prelude.{◌≡◌, IsTrue};
+ghost use Rattle.std.specs.Prelude.{◌≡◌, ◌≤◌, All, IfOk, IsTrue, length};
+ghost use Rattle.league_core.specs.Questions.{IsQuestionOf};
 ghost use Rattle.league_core.specs.Seasons.{IsEventOf};
 ghost use Rattle.league_core.specs.Sheets.{IsWithinLimits};
 ghost use Rattle.reason_core.specs.Dones.{IsFor, IsTrueDone};
@@ -24,21 +25,29 @@ pub fn pool_of(alloc: Global, text: &[u8]) -> Result<Pool, Fail> {
 pub fn pool_of_sheet(alloc: Global, sheet: &Sheet) -> Result<Pool, Fail>
     requires { IsWithinLimits sheet.now }
 {
-    let own = sheet.copy(alloc)?;
-    let asked = questions(alloc, &own)?;
-    Ok(Pool::begin(alloc, own, asked)?)
+    let asked = questions(alloc, sheet)?;
+    Ok(Pool::begin(alloc, sheet.copy(alloc)?, asked)?)
 }
 
 /// The same with another window for all that is asked.
 pub fn pool_in_window(alloc: Global, sheet: &Sheet, window: (i32, i32)) -> Result<Pool, Fail>
     requires { IsWithinLimits sheet.now }
 {
-    let own = sheet.copy(alloc)?;
-    let asked = in_window(alloc, questions(alloc, &own)?.as_slice(), window)?;
-    if 192 < asked.len() || !are_questions_of(&own, asked.as_slice()) {
-        return Err("no questions of the sheet".into());
+    let asked = asked_in(alloc, sheet, window)?;
+    Ok(Pool::begin(alloc, sheet.copy(alloc)?, asked)?)
+}
+
+fn asked_in(alloc: Global, sheet: &Sheet, window: (i32, i32)) -> Result<Vec<Question>, Fail>
+    requires limits { IsWithinLimits sheet.now }
+    ensures of_sheet { IfOk result (λ asked. All (IsQuestionOf sheet.now) asked.items) }
+    ensures few { IfOk result (λ asked. length asked.items ≤ 192) }
+{
+    let asked = in_window(alloc, questions(alloc, sheet)?.as_slice(), window)?;
+    if asked.len() <= 192 && are_questions_of(sheet, asked.as_slice()) {
+        Ok(asked)
+    } else {
+        Err("no questions of the sheet".into())
     }
-    Ok(Pool::begin(alloc, own, asked)?)
 }
 
 fn in_window(

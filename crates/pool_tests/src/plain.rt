@@ -179,17 +179,24 @@ impl PlainPool {
 
     /// Takes what was found, where the ticket is the pool's own and of the present epoch.
     pub fn give(&mut self, held: &Held, found: Found) -> Result<Gave, Fail> {
-        let stale = Gave::Stale { epoch: self.epoch };
-        if !self.has_out(held) {
-            return Ok(stale);
+        if self.takes(held) {
+            self.keep(held, found)
+        } else {
+            Ok(Gave::Stale { epoch: self.epoch })
         }
-        if held.epoch == self.epoch && !self.is_present(held) {
-            return Ok(stale);
+    }
+
+    // Takes the number of a ticket of its own home; whether what was found counts.
+    fn takes(&mut self, held: &Held) -> bool {
+        let is_of_epoch = held.epoch == self.epoch;
+        if !self.has_out(held) || is_of_epoch && !self.is_present(held) {
+            return false;
         }
         self.take_home(held.number);
-        if held.epoch != self.epoch {
-            return Ok(stale);
-        }
+        is_of_epoch
+    }
+
+    fn keep(&mut self, held: &Held, found: Found) -> Result<Gave, Fail> {
         let place = held.place as usize;
         if place < self.seats.len() {
             self.seats[place].give(held.number, found)?;

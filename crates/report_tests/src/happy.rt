@@ -1,72 +1,84 @@
-//! Each call of the checker once, on a report that is worked by hand: the one match is drawn 0:0,
-//! so the fixed rank decides, and the reason of both leaves holds.
+//! Calls of the checker, worked by hand: the one match is drawn 0:0, so the fixed rank decides, and
+//! the reason holds by which it does. A whole input is a row of the program.
 
 ghost use Rattle.std.specs.Prelude.{IsTrue};
 ghost use Rattle.league_core.specs.Questions.{IsQuestionOf};
+ghost use Rattle.league_core.specs.Seasons.{IsLeague};
 
 use cert_check::{Accepted, LineList, check};
 use check_bounds::holds_in;
-use check_run::{CheckOutcome, check_input};
 use league_core::{Claim, Question, Reason, Sheet};
-use port_core::{LineReader, MemSource};
-use sample_leagues::sample_of;
+use sample_leagues::{Sample, sample_of};
 use std::alloc::Global;
 use std::test::Fail;
 
 const LEAGUE: &[u8] =
     b"league,Tiny,1\nclub,A,1\nclub,B,2\nmatch,A,B\nline,1\nseason\nresult,1,0,0\n";
 
-const INPUT: &[u8] = b"league,Tiny,1\nclub,A,1\nclub,B,2\nmatch,A,B\nline,1\nseason\n\
-    result,1,0,0\nask\nproofs\nask,1\nverdict,1,A,clinched\n[\"tree\",\"outside\"]\n\
-    [\"leaf\",\"tie\"]\nverdict,1,B,lost\n[\"tree\",\"inside\"]\n[\"leaf\",\"tie\"]\n";
+// One row alone is checked, and it has no verdict.
+fn one_row_is_accepted(alloc: Global, sample: &Sample, lines: &LineList) -> bool
+    requires { IsLeague sample.now.sheet sample.now.season }
+{
+    let found = check(alloc, &sample.sheet, &sample.season, 0, lines, 0);
+    let (next, rows, unsettled) = (1, 0, 0);
+    found
+        == Ok(Accepted {
+            next,
+            rows,
+            unsettled,
+        })
+}
 
-#[test]
-fn a_whole_input_is_accepted(rt: HostRuntime) -> Result<(), Fail> {
-    let bytes = Vec::from_slice(rt.alloc(), INPUT)?;
-    let mut source = MemSource::new(bytes, 8192, Vec::new(rt.alloc()));
-    let mut reader = LineReader::new(rt.alloc()).ok().ok_or("room")?;
-    let found = check_input(rt.alloc(), &mut reader, &mut source);
-    let rows = 2;
-    let unsettled = 0;
-    assert_eq!(rt; found, Ok(CheckOutcome::Accepted { rows, unsettled }));
-    Ok(())
+fn add_row(lines: &mut LineList) -> Result<(), Fail> {
+    Ok(lines.add(1, b"ask,0").ok().ok_or("room")?)
+}
+
+fn lines_are_accepted(alloc: Global, sample: &Sample, lines: &mut LineList) -> Result<bool, Fail>
+    requires { IsLeague sample.now.sheet sample.now.season }
+{
+    add_row(lines)?;
+    Ok(one_row_is_accepted(alloc, sample, lines))
+}
+
+fn row_is_accepted(alloc: Global, sample: &Sample) -> Result<bool, Fail>
+    requires { IsLeague sample.now.sheet sample.now.season }
+{
+    let mut lines = LineList::new(alloc).ok().ok_or("room")?;
+    lines_are_accepted(alloc, sample, &mut lines)
+}
+
+fn part_is_accepted(alloc: Global) -> Result<bool, Fail> {
+    let text = b"league,Tiny,1\nclub,A,1\nclub,B,2\nseason\n";
+    let sample = sample_of(alloc, text).ok_or("league")?;
+    row_is_accepted(alloc, &sample)
 }
 
 // A sheet without lines has a report of one row for each ask.
 #[test]
 fn a_part_is_accepted(rt: HostRuntime) -> Result<(), Fail> {
-    let text = b"league,Tiny,1\nclub,A,1\nclub,B,2\nseason\n";
-    let sample = sample_of(rt.alloc(), text).ok_or("league")?;
-    let lines = one_line(rt.alloc(), b"ask,0")?;
-    let found = check(rt.alloc(), &sample.sheet, &sample.season, 0, &lines, 0);
-    let (next, rows, unsettled) = (1, 0, 0);
-    assert_eq!(rt;
-        found,
-        Ok(Accepted {
-            next,
-            rows,
-            unsettled
-        })
-    );
+    assert!(rt; part_is_accepted(rt.alloc())?);
     Ok(())
 }
 
-fn one_line(alloc: Global, text: &[u8]) -> Result<LineList, Fail> {
-    let mut lines = LineList::new(alloc).ok().ok_or("room")?;
-    lines.add(1, text).ok().ok_or("room")?;
-    Ok(lines)
-}
-
-#[test]
-fn a_reason_holds(rt: HostRuntime) -> Result<(), Fail> {
-    let sample = sample_of(rt.alloc(), LEAGUE).ok_or("league")?;
+fn reason_holds_in(alloc: Global, sample: &Sample) -> Result<bool, Fail>
+    requires { IsLeague sample.now.sheet sample.now.season }
+{
     let question = outside();
     if !may_be_asked(&sample.sheet, &question) {
         return Err("question".into());
     }
     let (sheet, season) = (&sample.sheet, &sample.season);
-    let found = holds_in(rt.alloc(), sheet, season, &question, &[], Reason::Tie);
-    assert_eq!(rt; found, Ok(true));
+    Ok(holds_in(alloc, sheet, season, &question, &[], Reason::Tie) == Ok(true))
+}
+
+fn reason_holds(alloc: Global) -> Result<bool, Fail> {
+    let sample = sample_of(alloc, LEAGUE).ok_or("league")?;
+    reason_holds_in(alloc, &sample)
+}
+
+#[test]
+fn a_reason_holds(rt: HostRuntime) -> Result<(), Fail> {
+    assert!(rt; reason_holds(rt.alloc())?);
     Ok(())
 }
 

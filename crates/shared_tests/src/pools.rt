@@ -5,7 +5,6 @@ ghost use Rattle.branch_pool.specs.States.{out_count};
 
 use crate::cases::Case;
 use crate::rounds::pool_of;
-
 use branch_pool::{Gave, Pool, Took};
 use league_core::{Event, OutOfMemory, Score, TreeNode};
 use reason_core::Done;

@@ -144,9 +144,7 @@ fn report<J: Job, R: Wait>(
 fn is_told_or_as_before(pool: &Pool, told: Told, again: bool) -> bool {
     let first = if told.is_taken { Some(1u64) } else { None };
     let last = if again { Some(1) } else { first };
-    told.then == first
-        && told.at_last == last
-        && is_at(pool, last.unwrap_or(0), 0, last.is_some())
+    told.then == first && told.at_last == last && is_at(pool, last.unwrap_or(0), 0, last.is_some())
 }
 
 fn is_right(

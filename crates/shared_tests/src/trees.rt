@@ -79,7 +79,11 @@ fn has_nodes(tree: &Tree, text: &[u8]) -> Result<bool, OutOfMemory> {
 }
 
 fn are_those(nodes: &[TreeNode], text: &[u8]) -> bool {
-    nodes.len() == text.len() && nodes.iter().zip(text).all(|(node, sign)| *node == node_of(*sign))
+    nodes.len() == text.len()
+        && nodes
+            .iter()
+            .zip(text)
+            .all(|(node, sign)| *node == node_of(*sign))
 }
 
 // Whether a tree has a leaf that is lent, or stays as it was.
