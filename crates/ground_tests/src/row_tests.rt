@@ -31,7 +31,7 @@ fn device(alloc: Global, row: &[u8]) -> Result<MemSink, Fail> {
 
 fn check_put(rt: &impl Abort, row: &[u8], sink: &mut MemSink) {
     let whole = put_line(sink, b"row\n").is_ok();
-    assert_eq!(rt; whole, part(row, 3) == b"whole".as_slice(), "{row:?}");
+    assert!(rt; whole == (part(row, 3) == b"whole".as_slice()), "{row:?}");
     compare(rt, row, sink.bytes(), part(row, 4));
 }
 
@@ -74,16 +74,21 @@ impl Write for Late {
     }
 }
 
+fn puts(late: &mut Late, row: &[u8]) -> Result<(), WriteFault> {
+    put_line(&mut StdSink::new(late), row)
+}
+
+fn has_row(late: &Late) -> bool {
+    late.out.as_slice() == b"row\n".as_slice()
+}
+
 // A row goes out at once, and none where the flush fails.
 fn check_late(rt: &impl Abort, late: &mut Late) {
-    assert_eq!(rt; put_line(&mut StdSink::new(&mut *late), b"row\n"), Ok(()));
-    assert_eq!(rt; late.out.as_slice(), b"row\n".as_slice());
+    let put = puts(late, b"row\n");
+    assert!(rt; put == Ok(()) && has_row(late));
     late.broken = true;
-    assert_eq!(rt;
-        put_line(&mut StdSink::new(&mut *late), b"more\n"),
-        Err(WriteFault)
-    );
-    assert_eq!(rt; late.out.as_slice(), b"row\n".as_slice());
+    let put = puts(late, b"more\n");
+    assert!(rt; put == Err(WriteFault) && has_row(late));
 }
 
 fn check_new(rt: &impl Abort, alloc: Global) {
@@ -95,15 +100,16 @@ fn check_new(rt: &impl Abort, alloc: Global) {
     check_late(rt, &mut late);
 }
 
+fn put_in_two_bytes() -> (Result<(), WriteFault>, [u8; 2]) {
+    let mut full = [0u8; 2];
+    let mut room = full.as_mut_slice();
+    let put = put_line(&mut StdSink::new(&mut room), b"row\n");
+    (put, full)
+}
+
 #[test]
 fn each_row_reaches_std_at_once(rt: HostRuntime) -> Result<(), Fail> {
     check_new(&rt, rt.alloc());
-    let mut full = [0u8; 2];
-    let mut room = full.as_mut_slice();
-    assert_eq!(rt;
-        put_line(&mut StdSink::new(&mut room), b"row\n"),
-        Err(WriteFault)
-    );
-    assert_eq!(rt; full, *b"ro");
+    assert!(rt; put_in_two_bytes() == (Err(WriteFault), *b"ro"));
     Ok(())
 }

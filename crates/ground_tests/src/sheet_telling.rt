@@ -4,10 +4,10 @@
 
 ghost use Rattle.std.specs.Prelude.{◌<◌};
 
-use crate::line_telling::{memory, tell_read_stop};
+use crate::line_telling::{memory, tell_number, tell_read_stop};
 use fixture_sheet::{SheetStop, read_sheet};
 use league_core::{Order, Sheet};
-use port_core::{Line, LineReader, Source};
+use port_core::{Line, LineReader, MemSource};
 use std::alloc::Global;
 use std::io::Write;
 use std::test::Fail;
@@ -17,14 +17,40 @@ pub fn told(alloc: Global, input: &[u8], piece: usize, fail: &[u64]) -> Result<V
     requires { 0 < piece }
 {
     let mut source = memory(alloc, input, piece, fail)?;
+    told_over(alloc, &mut source)
+}
+
+fn told_over(alloc: Global, source: &mut MemSource) -> Result<Vec<u8>, Fail> {
     let mut reader = LineReader::new(alloc)?;
+    told_by(alloc, &mut reader, source)
+}
+
+fn told_by(
+    alloc: Global,
+    reader: &mut LineReader,
+    source: &mut MemSource,
+) -> Result<Vec<u8>, Fail> {
     let mut out = Vec::new(alloc);
-    match read_sheet(alloc, &mut reader, &mut source) {
-        Ok(sheet) => tell_sheet(&sheet, &mut out)?,
-        Err(stop) => tell_stop(stop, &mut out)?,
-    }
-    tell_next(&mut reader, &mut source, &mut out)?;
+    tell_first(alloc, reader, source, &mut out)?;
+    tell_next(reader, source, &mut out)?;
     Ok(out)
+}
+
+fn tell_first(
+    alloc: Global,
+    reader: &mut LineReader,
+    source: &mut MemSource,
+    out: &mut Vec<u8>,
+) -> Result<(), Fail> {
+    let answer = read_sheet(alloc, reader, source);
+    tell_answer(&answer, out)
+}
+
+fn tell_answer(answer: &Result<Sheet, SheetStop>, out: &mut Vec<u8>) -> Result<(), Fail> {
+    match answer {
+        Ok(sheet) => tell_sheet(sheet, out),
+        Err(stop) => tell_stop(*stop, out),
+    }
 }
 
 /// The sheet of a text.
@@ -84,18 +110,19 @@ fn tell_stop(stop: SheetStop, out: &mut Vec<u8>) -> Result<(), Fail> {
     }
 }
 
-fn tell_next<S: Source>(
+fn tell_next(
     reader: &mut LineReader,
-    source: &mut S,
+    source: &mut MemSource,
     out: &mut Vec<u8>,
 ) -> Result<(), Fail> {
     match reader.next(source) {
-        Ok(Line::Text { number }) => {
-            write!(out, " {number}:")?;
-            out.extend_from_slice(reader.text())?;
-        }
-        Ok(Line::End { number }) => write!(out, " .{number}")?,
-        Err(_) => write!(out, " !")?,
+        Ok(Line::Text { number }) => tell_text(number, reader.text(), out),
+        Ok(Line::End { number }) => tell_number(" .", number, out),
+        Err(_) => Ok(out.extend_from_slice(b" !")?),
     }
-    Ok(())
+}
+
+fn tell_text(number: u64, text: &[u8], out: &mut Vec<u8>) -> Result<(), Fail> {
+    write!(out, " {number}:")?;
+    Ok(out.extend_from_slice(text)?)
 }

@@ -84,12 +84,16 @@ fn check_piece(
     Ok(())
 }
 
+fn check_row(rt: &impl Abort, alloc: Global, head: &[u8], row: &[u8]) -> Result<(), Fail> {
+    check_piece(rt, alloc, head, row, 1)?;
+    check_piece(rt, alloc, head, row, 2)?;
+    check_piece(rt, alloc, head, row, 7)?;
+    check_piece(rt, alloc, head, row, 5000)
+}
+
 fn check_rows(rt: &impl Abort, alloc: Global, head: &[u8], table: &[u8]) -> Result<(), Fail> {
     for row in rows(alloc, table)? {
-        check_piece(rt, alloc, head, row, 1)?;
-        check_piece(rt, alloc, head, row, 2)?;
-        check_piece(rt, alloc, head, row, 7)?;
-        check_piece(rt, alloc, head, row, 5000)?;
+        check_row(rt, alloc, head, row)?;
     }
     Ok(())
 }

@@ -7,7 +7,6 @@ ghost use Rattle.league_core.specs.ClubSets.{clubs_in};
 ghost use Rattle.tie_criteria.specs.Groups.{IsGroupOf};
 
 use crate::plain::{Entrant, Group, Plain, has};
-use crate::ranking::drawn_sample;
 use league_core::ClubSet;
 use sample_leagues::{Draws, Sample};
 use std::alloc::Global;
@@ -139,7 +138,8 @@ fn check_group(
     check_table(rt, alloc, sample, plain, group)
 }
 
-fn check_drawn(
+/// Compares a drawn group of a league.
+pub fn check_drawn_group(
     rt: &impl Abort,
     alloc: Global,
     draws: &mut Draws,
@@ -152,15 +152,4 @@ fn check_drawn(
     let plain = Plain::of(alloc, &sample.sheet, &sample.season)?;
     let group = drawn_group(draws, clubs);
     check_group(rt, alloc, sample, &plain, group)
-}
-
-// Of 120 groups each second has two blocks or more, and some have a block of several clubs.
-#[test]
-fn blocks_and_records_are_those_of_the_rules(rt: HostRuntime) -> Result<(), Fail> {
-    let mut draws = Draws::new(4);
-    for _ in 0..120 {
-        let sample = drawn_sample(rt.alloc(), &mut draws, 3)?;
-        check_drawn(&rt, rt.alloc(), &mut draws, &sample)?;
-    }
-    Ok(())
 }

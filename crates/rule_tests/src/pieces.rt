@@ -25,7 +25,7 @@ const TWICE: &[u8] = b"league,Twice,20\nclub,C,1\nclub,X,2\nclub,Y,3\nclub,Z,4\n
 match,C,X\nmatch,C,X\nmatch,Y,Z\nline,1\nseason\nresult,1,1,0\nresult,2,1,0\n";
 
 /// What is found in a piece, without the piece; of an example the score of the last match.
-#[derive(Clone, Copy, Debug, PartialEq, Eq)]
+#[derive(Clone, Copy, PartialEq, Eq)]
 enum Found {
     Won(Option<Score>),
     Refuted(Reason),
@@ -73,30 +73,28 @@ fn last_score(finish: &Finish) -> Option<Score> {
     }
 }
 
-// Asserts what is found where C is to be inside, with any points.
-fn inside(
+// Whether this is found where C is to be inside or outside, with any points.
+fn finds(
     rt: &impl Abort,
     alloc: Global,
     text: &[u8],
+    claim: Claim,
     zone: &[Literal],
     wanted: Found,
 ) -> Result<(), Fail> {
-    let question = asked(Claim::Inside, -99, 1800);
-    assert_eq!(rt; work_in(rt, alloc, text, &question, zone)?, wanted);
+    let found = work_in(rt, alloc, text, &asked(claim, -99, 1800), zone)?;
+    assert!(rt; found == wanted, "{text:?}");
     Ok(())
 }
 
-// The same where it is to be outside.
-fn outside(
-    rt: &impl Abort,
-    alloc: Global,
-    text: &[u8],
-    zone: &[Literal],
-    wanted: Found,
-) -> Result<(), Fail> {
-    let question = asked(Claim::Outside, -99, 1800);
-    assert_eq!(rt; work_in(rt, alloc, text, &question, zone)?, wanted);
-    Ok(())
+// Asserts what is found in the first league where C is to be inside.
+fn inside(rt: &impl Abort, alloc: Global, zone: &[Literal], wanted: Found) -> Result<(), Fail> {
+    finds(rt, alloc, LEVEL, Claim::Inside, zone, wanted)
+}
+
+// The same in the third where it is to be outside.
+fn outside(rt: &impl Abort, alloc: Global, zone: &[Literal], wanted: Found) -> Result<(), Fail> {
+    finds(rt, alloc, TWICE, Claim::Outside, zone, wanted)
 }
 
 fn rival(club: u8) -> Found {
@@ -119,33 +117,30 @@ const COUNT: Found = Found::Refuted(Reason::Count);
 #[test]
 fn two_level_rivals_refute_a_piece_together(rt: HostRuntime) -> Result<(), Fail> {
     let alloc = rt.alloc();
-    inside(&rt, alloc, LEVEL, &[], rival(1))?;
-    inside(&rt, alloc, LEVEL, &[ahead(1)], COUNT)?;
-    inside(&rt, alloc, LEVEL, &[behind(1)], rival(2))?;
-    inside(&rt, alloc, LEVEL, &[behind(1), ahead(2)], COUNT)?;
-    inside(&rt, alloc, LEVEL, &[behind(1), behind(2)], low(6))?;
+    inside(&rt, alloc, &[], rival(1))?;
+    inside(&rt, alloc, &[ahead(1)], COUNT)?;
+    inside(&rt, alloc, &[behind(1)], rival(2))?;
+    inside(&rt, alloc, &[behind(1), ahead(2)], COUNT)?;
+    inside(&rt, alloc, &[behind(1), behind(2)], low(6))?;
     let score = Score { home: 1, away: 0 };
-    outside(&rt, alloc, LEVEL, &[], Found::Won(Some(score)))
+    let won = Found::Won(Some(score));
+    finds(&rt, alloc, LEVEL, Claim::Outside, &[], won)
 }
 
 // Each rival can have 3 points, fewer than the 6 that C has for certain.
 #[test]
 fn rivals_that_cannot_come_up_refute_pieces_alone(rt: HostRuntime) -> Result<(), Fail> {
     let alloc = rt.alloc();
-    outside(&rt, alloc, TWICE, &[], rival(1))?;
-    outside(&rt, alloc, TWICE, &[ahead(1)], high(2))?;
-    outside(&rt, alloc, TWICE, &[behind(1), ahead(2)], high(4))?;
-    outside(&rt, alloc, TWICE, &[behind(1), behind(2)], rival(3))?;
-    outside(&rt, alloc, TWICE, &[behind(1), behind(2), behind(3)], COUNT)
+    outside(&rt, alloc, &[], rival(1))?;
+    outside(&rt, alloc, &[ahead(1)], high(2))?;
+    outside(&rt, alloc, &[behind(1), ahead(2)], high(4))?;
+    outside(&rt, alloc, &[behind(1), behind(2)], rival(3))?;
+    outside(&rt, alloc, &[behind(1), behind(2), behind(3)], COUNT)
 }
 
 fn all_behind_and(tests: &[Literal], alloc: Global) -> Result<Vec<Literal>, Fail> {
-    let mut zone = vec![in alloc; behind(1); 1]?;
-    zone.push(behind(2))?;
-    zone.push(behind(3))?;
-    for literal in tests {
-        zone.push(*literal)?;
-    }
+    let mut zone = vec![in alloc; behind(1), behind(2), behind(3)]?;
+    zone.extend_from_slice(tests)?;
     Ok(zone)
 }
 
@@ -157,7 +152,7 @@ fn level_after_draws(
     wanted: Found,
 ) -> Result<(), Fail> {
     let zone = all_behind_and(tests, alloc)?;
-    inside(rt, alloc, DRAWN, &zone, wanted)
+    finds(rt, alloc, DRAWN, Claim::Inside, &zone, wanted)
 }
 
 const C_BEATS_Z: Test = Test::Home { fixture: 4 };
@@ -182,13 +177,19 @@ fn of(test: Test, yes: bool) -> Literal {
 fn criteria_refute_a_piece_where_points_do_not(rt: HostRuntime) -> Result<(), Fail> {
     let alloc = rt.alloc();
     let won = of(C_BEATS_Z, true);
-    let level = [won, of(X_BEATS_Y, false), of(X_DRAWS_Y, true)];
     level_after_draws(&rt, alloc, &[], Found::Split(C_BEATS_Z))?;
     level_after_draws(&rt, alloc, &[of(C_BEATS_Z, false)], low(2))?;
     level_after_draws(&rt, alloc, &[won], Found::Split(X_BEATS_Y))?;
     level_after_draws(&rt, alloc, &[won, of(X_BEATS_Y, true)], low(2))?;
     let lost = [won, of(X_BEATS_Y, false), of(X_DRAWS_Y, false)];
-    level_after_draws(&rt, alloc, &lost, low(4))?;
+    level_after_draws(&rt, alloc, &lost, low(4))
+}
+
+#[test]
+fn criteria_refute_a_piece_where_two_are_level(rt: HostRuntime) -> Result<(), Fail> {
+    let alloc = rt.alloc();
+    let won = of(C_BEATS_Z, true);
+    let level = [won, of(X_BEATS_Y, false), of(X_DRAWS_Y, true)];
     level_after_draws(&rt, alloc, &level, Found::Split(NO_GOAL_OF_X))?;
     for yes in [true, false] {
         let fixed = [level[0], level[1], level[2], of(NO_GOAL_OF_X, yes)];

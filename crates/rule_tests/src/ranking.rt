@@ -1,12 +1,11 @@
-//! Drawn leagues: what the ranking answers beside the plain program.
+//! What the ranking answers for a league beside the plain program.
 
-ghost use Rattle.std.specs.Prelude.{IfOk};
 ghost use Rattle.league_core.specs.Seasons.{IsLeague};
 
 use crate::plain::{Entrant, Plain};
 use final_rank::{Span, place, spans, table};
 use league_core::Lots;
-use sample_leagues::{Draws, Sample, drawn_league, sample_of};
+use sample_leagues::{Draws, Sample};
 use std::alloc::Global;
 use std::cmp::Ordering;
 use std::process::Abort;
@@ -46,22 +45,6 @@ pub fn count_around(plain: &Plain, club: Entrant) -> Counted {
     counted
 }
 
-fn league_in(alloc: Global, text: &[u8]) -> Result<Sample, Fail>
-    ensures { IfOk result (λ sample. IsLeague sample.sheet sample.season) }
-{
-    Ok(sample_of(alloc, text).ok_or("no league")?)
-}
-
-/// A drawn league with at most so many matches open.
-pub fn drawn_sample(alloc: Global, draws: &mut Draws, open: u8) -> Result<Sample, Fail>
-    ensures { IfOk result (λ sample. IsLeague sample.sheet sample.season) }
-{
-    let clubs = draws.below(7) + 2;
-    let matches = draws.below(14);
-    let text = drawn_league(alloc, draws, clubs, matches, open)?;
-    league_in(alloc, &text)
-}
-
 fn compare_spans(rt: &impl Abort, plain: &Plain, found: &[Span], round: u32) {
     assert_eq!(rt; found.len(), plain.clubs.len(), "league {round}");
     for (club, span) in plain.clubs.iter().zip(found) {
@@ -85,7 +68,8 @@ fn check_spans(
     Ok(())
 }
 
-fn check_drawn_spans(
+/// Compares the places of all clubs of a league, with the best and with the worst lots.
+pub fn check_drawn_spans(
     rt: &impl Abort,
     alloc: Global,
     sample: &Sample,
@@ -95,16 +79,6 @@ fn check_drawn_spans(
 {
     let plain = Plain::of(alloc, &sample.sheet, &sample.season)?;
     check_spans(rt, alloc, sample, &plain, round)
-}
-
-#[test]
-fn spans_are_those_of_the_rules(rt: HostRuntime) -> Result<(), Fail> {
-    let mut draws = Draws::new(1);
-    for round in 0..200u32 {
-        let sample = drawn_sample(rt.alloc(), &mut draws, 3)?;
-        check_drawn_spans(&rt, rt.alloc(), &sample, round)?;
-    }
-    Ok(())
 }
 
 // Numbers that begin with a drawn one and go on upwards or downwards.
@@ -220,7 +194,8 @@ fn check_lots(
     check_table(rt, alloc, sample, &plain, lots, round)
 }
 
-fn check_drawn_lots(
+/// Compares places and the table under drawn lots.
+pub fn check_drawn_lots(
     rt: &impl Abort,
     alloc: Global,
     draws: &mut Draws,
@@ -231,14 +206,4 @@ fn check_drawn_lots(
 {
     let lots = drawn_lots(alloc, draws, sample.sheet.clubs.len())?;
     check_lots(rt, alloc, sample, &lots, round)
-}
-
-#[test]
-fn places_and_tables_are_those_of_the_rules(rt: HostRuntime) -> Result<(), Fail> {
-    let mut draws = Draws::new(2);
-    for round in 0..100u32 {
-        let sample = drawn_sample(rt.alloc(), &mut draws, 3)?;
-        check_drawn_lots(&rt, rt.alloc(), &mut draws, &sample, round)?;
-    }
-    Ok(())
 }
