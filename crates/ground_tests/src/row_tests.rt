@@ -1,5 +1,7 @@
 //! Rows that go out over devices in pieces and with faults.
 
+ghost use Rattle.std.specs.Prelude.{◌<◌, length};
+
 use crate::rows::{compare, number, part, rows};
 use fixture_sheet::number_written;
 use port_core::{MemSink, StdSink, WriteFault, put_line};
@@ -74,7 +76,9 @@ impl Write for Late {
     }
 }
 
-fn puts(late: &mut Late, row: &[u8]) -> Result<(), WriteFault> {
+fn puts(late: &mut Late, row: &[u8]) -> Result<(), WriteFault>
+    requires { 0 < length row.now }
+{
     put_line(&mut StdSink::new(late), row)
 }
 
