@@ -1,18 +1,21 @@
-//! Feeds behind a sheet of two clubs: with faults of the source, and behind as many events as can
-//! be counted. What a feed is read as without a fault stands in rows of the program.
+//! Feeds behind a sheet of two clubs, with faults of the source, and records behind as many events
+//! as a feed may have. What a feed is read as without a fault stands in rows of the program.
 
 use crate::feed_telling::{is_of, told};
 use crate::rows::{compare, number, part, rows};
 use crate::sheet_telling::sheet_of;
 use fixture_sheet::{Fields, fields_of};
+use league_core::limits::MOST_EVENTS;
 use league_core::{Event, Score, Season, Sheet};
-use result_log::{FeedFault, read_event};
+use result_log::{Entry, read_event};
 use std::alloc::Global;
 use std::process::Abort;
 use std::test::Fail;
 
 // Six lines of 56 bytes, so that a feed begins at line 7.
 const TINY: &[u8] = b"league,Tiny,1\nclub,A,1\nclub,B,2\nmatch,A,B\nline,1\nseason\n";
+
+const SHEET: &[u8] = b"league,T,1\nclub,A,1\nclub,B,2\nmatch,A,B\nmatch,B,A\nline,1\nseason\n";
 
 const FEED: &[u8] = b"result,1,0,0\n,,\nask";
 
@@ -49,36 +52,78 @@ fn a_fault_at_any_call_loses_no_entry(rt: HostRuntime) -> Result<(), Fail> {
     Ok(())
 }
 
-// Whether an annulment is refused behind as many events as a number can count.
-fn is_refused(sheet: &Sheet, season: &Season, fields: &Fields) -> bool {
+// A record behind so many events in a league of two matches of which the first has ended 2:1, and
+// what it is read as.
+const ROOM_FOR_ONE: &[u8] = b"result,2,0,0~change@void,1~change";
+
+const FULL: &[u8] = b"result,2,0,0~log_full@result,1,0,0~already_played@fix,2,0,0~not_played@\
+    void,2~not_played@result,2,100,0~bad_goals@deduct,A,3~log_full@deduct,C,3~unknown_club@\
+    deduct,A,100~bad_points@ask~ask@proofs~proofs@report~unknown_record";
+
+const PAST_ALL: &[u8] = b"void,1~log_full";
+
+fn read_as(sheet: &Sheet, season: &Season, events: u64, fields: &Fields) -> &'static str {
     if !is_of(season, sheet) {
-        return false;
+        return "a season of another sheet";
     }
-    read_event(sheet, season, u64::MAX, fields, true) == Err(FeedFault::LogFull)
+    match read_event(sheet, season, events, fields, true) {
+        Ok(Entry::Change(_)) => "change",
+        Ok(Entry::Ask) => "ask",
+        Ok(Entry::Proofs) => "proofs",
+        Ok(Entry::End) => "end",
+        Err(fault) => fault.code(),
+    }
 }
 
-fn void_is_refused(alloc: Global, sheet: &Sheet, season: &Season) -> Result<bool, Fail> {
-    match fields_of(alloc, b"void,1") {
-        Ok(Some(fields)) => Ok(is_refused(sheet, season, &fields)),
+fn record_read_as(
+    alloc: Global,
+    sheet: &Sheet,
+    season: &Season,
+    events: u64,
+    record: &[u8],
+) -> Result<&'static str, Fail> {
+    match fields_of(alloc, record) {
+        Ok(Some(fields)) => Ok(read_as(sheet, season, events, &fields)),
         _ => Err("no record".into()),
     }
 }
 
-// The same where the one match has ended 2:1.
-fn played_is_full(alloc: Global, sheet: &Sheet) -> Result<bool, Fail> {
-    let mut season = Season::unplayed(alloc, 2, 1)?;
-    let score = Score { home: 2, away: 1 };
-    season.apply(&Event::Set { fixture: 0, score });
-    void_is_refused(alloc, sheet, &season)
+fn check_records(
+    rt: &impl Abort,
+    alloc: Global,
+    sheet: &Sheet,
+    season: &Season,
+    events: u64,
+    table: &[u8],
+) -> Result<(), Fail> {
+    for row in rows(alloc, table)? {
+        let found = record_read_as(alloc, sheet, season, events, part(row, 0))?;
+        compare(rt, row, found.as_bytes(), part(row, 1));
+    }
+    Ok(())
 }
 
-fn tiny_is_full(alloc: Global) -> Result<bool, Fail> {
-    let sheet = sheet_of(alloc, TINY)?;
-    played_is_full(alloc, &sheet)
+fn check_limits(
+    rt: &impl Abort,
+    alloc: Global,
+    sheet: &Sheet,
+    season: &Season,
+) -> Result<(), Fail> {
+    let most = u64::from(MOST_EVENTS);
+    check_records(rt, alloc, sheet, season, most - 1, ROOM_FOR_ONE)?;
+    check_records(rt, alloc, sheet, season, most, FULL)?;
+    check_records(rt, alloc, sheet, season, u64::MAX, PAST_ALL)
+}
+
+fn check_played(rt: &impl Abort, alloc: Global, sheet: &Sheet) -> Result<(), Fail> {
+    let mut season = Season::unplayed(alloc, 2, 2)?;
+    let score = Score { home: 2, away: 1 };
+    season.apply(&Event::Set { fixture: 0, score });
+    check_limits(rt, alloc, sheet, &season)
 }
 
 #[test]
-fn a_log_past_all_counting_is_full(rt: HostRuntime) -> Result<(), Fail> {
-    assert!(rt; tiny_is_full(rt.alloc())?);
-    Ok(())
+fn a_feed_has_at_most_100000_events(rt: HostRuntime) -> Result<(), Fail> {
+    let sheet = sheet_of(rt.alloc(), SHEET)?;
+    check_played(&rt, rt.alloc(), &sheet)
 }
