@@ -1,6 +1,6 @@
-//! What is read of a feed, written out: a score as `1=2:0`, an ask as `ask` and the number of events
-//! so far, a fault of the source as `!`, the end as a point, all else as `?`. The entries stand
-//! apart by a blank. Fixtures count from 1, as in a feed.
+//! What is read of a feed, written out: a score as `1=2:0`, an ask as `ask` and the number of
+//! events so far, a fault of the source as `!`, the end as a point, all else as `?`. The entries
+//! stand apart by a blank. Fixtures count from 1, as in a feed.
 
 ghost use Rattle.std.specs.Prelude.{◌≤◌, IsTrue, length};
 ghost use Rattle.league_core.specs.Seasons.{IsSeasonOf};

@@ -2,10 +2,11 @@
 //! along drawn ways: tests alone.
 //!
 //! `plain` says the rules of the game in its own words, over lists of matches, with `totals`;
-//! `ranking`, `finishes` and `groups` compare it with what the crates below answer, and `rounds` has
-//! them do it over drawn leagues in both orders of the criteria. `help` has boxes and pieces; `hand` the worked zones of a full window, `windows` those
-//! of a narrow one; `drawn` goes down drawn ways; `pieces` has the findings in pieces that are
-//! worked by hand, and `cells` the option of each cell.
+//! `ranking`, `finishes` and `groups` compare it with what the crates below answer, and `rounds`
+//! has them do so over drawn leagues in both orders of the criteria. `help` has boxes and pieces;
+//! `hand` the worked zones of a full window, `windows` those of a narrow one; `drawn` goes down
+//! drawn ways; `pieces` has the findings in pieces that are worked by hand, and `cells` the option
+//! of each cell.
 #![tactic(auto)]
 
 #[cfg(test)]
