@@ -39,7 +39,7 @@ fn words_are_those_of_the_table(rt: HostRuntime) -> Result<(), Fail> {
         (3, 9_000_002),
         (1, 9_000_002),
     ];
-    assert_eq!(rt; found, wanted);
+    assert!(rt; found == wanted);
     Ok(())
 }
 
@@ -66,9 +66,9 @@ fn find_epochs(alloc: Global) -> Result<(Epochs, Overtaken, u64), Fail> {
 #[test]
 fn a_worker_finds_each_epoch(rt: HostRuntime) -> Result<(), Fail> {
     let (epochs, overtaken, word) = find_epochs(rt.alloc())?;
-    assert_eq!(rt; epochs, (0, 1, 2));
-    assert_eq!(rt; overtaken, (Some(2), None));
-    assert_eq!(rt; halves(word), (2, 8_000_000));
+    assert!(rt; epochs == (0, 1, 2));
+    assert!(rt; overtaken == (Some(2), None));
+    assert!(rt; halves(word) == (2, 8_000_000));
     Ok(())
 }
 

@@ -1,12 +1,13 @@
 //! Calls on a pool while memory is wanting.
 
 ghost use Rattle.std.specs.Prelude.{◌≡◌, IfOk};
+ghost use Rattle.league_core.specs.Sheets.{IsWithinLimits};
 ghost use Rattle.branch_pool.specs.States.{out_count};
 
 use crate::cases::Case;
 use crate::rounds::pool_of;
 use branch_pool::{Gave, Pool, Took};
-use league_core::{Event, OutOfMemory, Score, TreeNode};
+use league_core::{Event, OutOfMemory, Score, Sheet, TreeNode};
 use reason_core::Done;
 use sample_leagues::sample_of;
 use std::alloc::Global;
@@ -66,7 +67,14 @@ fn is_begun(alloc: Global, pool: &Pool) -> Result<bool, Fail> {
 
 fn begins_or_not(alloc: Global) -> Result<bool, Fail> {
     let sample = sample_of(alloc, TWO_CLUBS).ok_or("no league")?;
-    is_begun_or_none(alloc, &pool_of(alloc, &sample.sheet, Case::Worked))
+    begins_on(alloc, &sample.sheet)
+}
+
+fn begins_on(alloc: Global, sheet: &Sheet) -> Result<bool, Fail>
+    requires { IsWithinLimits sheet.now }
+{
+    let begun = pool_of(alloc, sheet, Case::Worked);
+    is_begun_or_none(alloc, &begun)
 }
 
 fn is_begun_or_none(alloc: Global, begun: &Result<Pool, OutOfMemory>) -> Result<bool, Fail> {

@@ -1,6 +1,6 @@
 //! A report to the lock round a pool that was worked on, while memory is wanting.
 
-ghost use Rattle.std.specs.Prelude.{◌≡◌, All, IfOk};
+ghost use Rattle.std.specs.Prelude.{◌≡◌, All, IfOk, OnOk};
 ghost use Rattle.league_core.specs.Seasons.{IsEventOf, season_after};
 ghost use Rattle.branch_pool.specs.States.{out_count};
 ghost use Rattle.epoch_cancel.specs.Seats.{seat_of};
@@ -30,40 +30,39 @@ struct Told {
     at_last: Option<u64>,
 }
 
-// The pool that was worked on, which may be told the result.
-fn pool_to_tell(alloc: Global) -> Result<Pool, Fail>
-    ensures home { IfOk result (λ pool. out_count pool.loans ≡ 0) }
-    ensures may_be { IfOk result
-        (λ pool. IsEventOf (season_after pool.sheet pool.log) RESULT) }
+/// The nodes of a pool, and a word behind its events with the seats of its lock.
+#[derive(Drop)]
+struct Beside {
+    nodes: Vec<TreeNode>,
+    seated: Seated,
+}
+
+// What a pool that may be told the result has beside it.
+fn beside(alloc: Global, pool: &Pool) -> Result<Beside, Fail>
+    ensures owner { IfOk result
+        (λ made. made.seated.owner ≡ seat_of made.seated.word pool.now.log) }
+    ensures front { IfOk result
+        (λ made. made.seated.front ≡ seat_of made.seated.word pool.now.log) }
+    ensures eyes { IfOk result
+        (λ made. All (IsEyeAfter made.seated.word pool.now.log) made.seated.eyes.items) }
+    ensures may_be { OnOk result
+        (IsEventOf (season_after pool.now.sheet pool.now.log) RESULT) }
 {
-    let pool = worked(alloc)?;
-    if may_be_told(&pool, &RESULT) {
-        Ok(pool)
-    } else {
-        Err("no match".into())
+    if !may_be_told(pool, &RESULT) {
+        return Err("no match".into());
     }
+    let seated = take_seats(alloc, pool.log(), 1)?;
+    let nodes = all_nodes(alloc, pool)?;
+    Ok(Beside { nodes, seated })
 }
 
 // Whether the pool, whose first tree was split, has the result where that was taken, and else has
-// the nodes of before, and whether the word tells the same.
+// the nodes of before, and whether the word tells the same. A report that is refused is made once
+// more where so wished.
 fn reports_or_stays<R: Wait>(rt: &R, alloc: Global, again: bool) -> Result<bool, Fail> {
-    let pool = pool_to_tell(alloc)?;
-    let nodes = all_nodes(alloc, &pool)?;
-    reported(rt, alloc, pool, nodes.as_slice(), again)
-}
-
-// Reports to a lock round the pool; where that is refused, and where so wished, once again.
-fn reported<R: Wait>(
-    rt: &R,
-    alloc: Global,
-    pool: Pool,
-    nodes: &[TreeNode],
-    again: bool,
-) -> Result<bool, Fail>
-    requires home { out_count pool.loans ≡ 0 }
-    requires may_be { IsEventOf (season_after pool.sheet pool.log) RESULT }
-{
-    let seated = take_seats(alloc, pool.log(), 1)?;
+    let pool = worked(alloc)?;
+    let Beside { nodes, seated } = beside(alloc, &pool)?;
+    let nodes = nodes.as_slice();
     reported_as::<Brand, R>(rt, alloc, Blank::new(1), seated, pool, nodes, again)
 }
 

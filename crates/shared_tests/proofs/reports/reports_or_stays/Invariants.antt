@@ -1,4 +1,4 @@
-use Rattle.shared_tests.proofs.reports.reported.Given as goal
+use Rattle.shared_tests.proofs.reports.reports_or_stays.Given as goal
 
 -- the ledger is that of its blank
 abbrev pub ghosts-reported_as-J-Ledger : goal.ghosts-reported_as-J-Ledger
