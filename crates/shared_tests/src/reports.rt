@@ -38,7 +38,7 @@ struct Beside {
 }
 
 // What a pool that may be told the result has beside it.
-fn beside(alloc: Global, pool: &Pool) -> Result<Beside, Fail>
+fn made_beside(alloc: Global, pool: &Pool) -> Result<Beside, Fail>
     ensures owner { IfOk result
         (λ made. made.seated.owner ≡ seat_of made.seated.word pool.now.log) }
     ensures front { IfOk result
@@ -61,7 +61,7 @@ fn beside(alloc: Global, pool: &Pool) -> Result<Beside, Fail>
 // more where so wished.
 fn reports_or_stays<R: Wait>(rt: &R, alloc: Global, again: bool) -> Result<bool, Fail> {
     let pool = worked(alloc)?;
-    let Beside { nodes, seated } = beside(alloc, &pool)?;
+    let Beside { nodes, seated } = made_beside(alloc, &pool)?;
     let nodes = nodes.as_slice();
     reported_as::<Brand, R>(rt, alloc, Blank::new(1), seated, pool, nodes, again)
 }
