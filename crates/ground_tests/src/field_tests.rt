@@ -18,8 +18,13 @@ const FIELDS: &[u8] = b"~-@,~-@,\"\",,~-@\xef\xbb\xbf~-@a~a|@a,,b,,~a||b|@,a~|a|
     \xff,\x00~\xff|\x00|@\r~^@a,b\r~^@\"a\rb\"~^";
 
 fn told(alloc: Global, text: &[u8]) -> Result<Vec<u8>, Fail> {
-    match fields_of(alloc, text) {
-        Ok(Some(fields)) => joined(alloc, &fields),
+    let read = fields_of(alloc, text);
+    told_of(alloc, &read)
+}
+
+fn told_of(alloc: Global, read: &Result<Option<Fields>, FieldsStop>) -> Result<Vec<u8>, Fail> {
+    match read {
+        Ok(Some(fields)) => joined(alloc, fields),
         Ok(None) => Ok(b"-".to_vec(alloc)?),
         Err(FieldsStop::InnerReturn) => Ok(b"^".to_vec(alloc)?),
         Err(FieldsStop::OutOfMemory) => Ok(b"no memory".to_vec(alloc)?),

@@ -58,17 +58,34 @@ fn ends(answer: Result<Line, ReadStop>) -> bool {
 /// All that a reader answers, up to and with the second answer that nothing more comes.
 pub fn answers<S: Source>(alloc: Global, source: &mut S) -> Result<Vec<u8>, Fail> {
     let mut reader = LineReader::new(alloc)?;
+    answers_of(alloc, &mut reader, source)
+}
+
+fn answers_of<S: Source>(
+    alloc: Global,
+    reader: &mut LineReader,
+    source: &mut S,
+) -> Result<Vec<u8>, Fail> {
     let mut out = Vec::new(alloc);
+    tell_all(reader, source, &mut out)?;
+    Ok(out)
+}
+
+fn tell_all<S: Source>(
+    reader: &mut LineReader,
+    source: &mut S,
+    out: &mut Vec<u8>,
+) -> Result<(), Fail> {
     let mut ended = false;
     for _ in 0..60 {
         let answer = reader.next(source);
-        tell(answer, &reader, &mut out)?;
+        tell(answer, reader, out)?;
         if ends(answer) && ended {
-            return Ok(out);
+            return Ok(());
         }
         ended = ended || ends(answer);
     }
-    Ok(out)
+    Ok(())
 }
 
 /// The same over a device in such pieces, of which these calls fail.
