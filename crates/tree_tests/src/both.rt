@@ -63,18 +63,26 @@ fn has_two_leaves<T: ZoneTree>(tree: &T) -> Result<bool, Fail> {
 // A split with two leaves goes through.
 fn two_leaves_are_a_tree<T: ZoneTree + Drop>(alloc: Global) -> Result<bool, Fail> {
     let two = vec![in alloc; split(0), TreeNode::Lent(3), TreeNode::Open]?;
-    match T::of_nodes(alloc, two) {
-        Ok(tree) => has_two_leaves(&tree),
-        Err(_stop) => Ok(false),
+    has_leaves(&T::of_nodes(alloc, two))
+}
+
+fn has_leaves<T: ZoneTree>(made: &Result<T, TreeStop>) -> Result<bool, Fail> {
+    match made {
+        Ok(tree) => has_two_leaves(tree),
+        Err(_) => Ok(false),
     }
 }
 
 // A split with one leaf comes back.
 fn one_leaf_comes_back<T: ZoneTree + Drop>(alloc: Global) -> Result<bool, Fail> {
     let one = vec![in alloc; split(0), TreeNode::Open]?;
-    match T::of_nodes(alloc, one) {
-        Err(TreeStop::NoTree(back)) => Ok(back.len() == 2),
-        Ok(_) | Err(TreeStop::OutOfMemory) => Ok(false),
+    Ok(gives_two_back(&T::of_nodes(alloc, one)))
+}
+
+fn gives_two_back<T: ZoneTree>(made: &Result<T, TreeStop>) -> bool {
+    match made {
+        Err(TreeStop::NoTree(back)) => back.len() == 2,
+        Ok(_) | Err(TreeStop::OutOfMemory) => false,
     }
 }
 

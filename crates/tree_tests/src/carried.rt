@@ -111,8 +111,13 @@ fn leaves_goals_of_b<T: ZoneTree + Drop>(
     tree: &T,
     most: u8,
 ) -> Result<bool, Fail> {
-    let left = carried(alloc, text, tree)?.nodes()?;
-    Ok(left.as_slice() == goals_of_b(alloc, most, false)?.as_slice())
+    let wanted = goals_of_b(alloc, most, false)?;
+    let left = carried(alloc, text, tree)?;
+    gives(&left, wanted.as_slice())
+}
+
+fn gives<T: ZoneTree>(tree: &T, nodes: &[TreeNode]) -> Result<bool, Fail> {
+    Ok(tree.nodes()?.as_slice() == nodes)
 }
 
 fn leaves_halves<T: ZoneTree + Drop>(alloc: Global, tree: &T) -> Result<bool, Fail> {

@@ -59,17 +59,27 @@ fn gives(tree: &Tree, nodes: &[TreeNode]) -> Result<bool, Fail> {
 
 // Whether the list is that of a tree, which gives the same list back.
 fn goes_through(alloc: Global, nodes: &[TreeNode]) -> Result<bool, Fail> {
-    match tree_of::<Tree>(Vec::from_slice(alloc, nodes)?) {
-        Ok(tree) => gives(&tree, nodes),
+    let made = tree_of(Vec::from_slice(alloc, nodes)?);
+    is_through(&made, nodes)
+}
+
+fn is_through(made: &Result<Tree, TreeStop>, nodes: &[TreeNode]) -> Result<bool, Fail> {
+    match made {
+        Ok(tree) => gives(tree, nodes),
         Err(_) => Ok(false),
     }
 }
 
 // Whether the list is refused, and comes back.
 fn comes_back(alloc: Global, nodes: &[TreeNode]) -> Result<bool, Fail> {
-    match tree_of::<Tree>(Vec::from_slice(alloc, nodes)?) {
-        Err(TreeStop::NoTree(back)) => Ok(back.as_slice() == nodes),
-        Ok(_) | Err(TreeStop::OutOfMemory) => Ok(false),
+    let made = tree_of(Vec::from_slice(alloc, nodes)?);
+    Ok(is_back(&made, nodes))
+}
+
+fn is_back(made: &Result<Tree, TreeStop>, nodes: &[TreeNode]) -> bool {
+    match made {
+        Err(TreeStop::NoTree(back)) => back.as_slice() == nodes,
+        Ok(_) | Err(TreeStop::OutOfMemory) => false,
     }
 }
 
