@@ -58,7 +58,7 @@ FEEDS = (
     ("a line of the feed", "result,2,0,0\n", 0, "result,2,0,0\n"),
     ("a comment", "# first day\n\nask\n", 0, "ask\n"),
     ("a misspelt club", "Ancor 2-1 Köln\n", 2, "nearest name is `Anchor`"),
-    ("a name without its accent", "Anchor 2-1 Koln\n", 2, "nearest name is `Köln`"),
+    ("a name without its accent", "Anchor 2-1 Koln\n", 0, "result,1,2,1\n"),
     ("home and away exchanged", "Köln 1-2 Anchor\n", 2, "Anchor - Köln, fixture 1"),
     ("a result twice", "Anchor 2-1 Köln\nAnchor 2-1 Köln\n", 2, "already"),
     ("no score", "Anchor - Köln\n", 2, "score is missing"),

@@ -8,7 +8,7 @@ from . import common
 from .cleaning import KINDS, OTHER_WORDS
 from .feeds import FeedReader, InputReader
 from .matches import Match, match_of_line, plain_date
-from .names import nearest_name, same_name, shown
+from .names import UnknownName, club_of
 from .records import Refused, count_lines, lines_of, record_of, records_of, row_text
 from .refusals import advise
 from .texts import Fixture, Sheet
@@ -35,8 +35,9 @@ class Bookkeeper:
     """A sheet and the season so far, which takes lines by names."""
 
     def __init__(self, sheet: bytes, log: bytes = b"", sheet_name: str = "the sheet",
-                 log_name: str = "the feed") -> None:
+                 log_name: str = "the feed", aliases: dict[str, str] | None = None) -> None:
         self.reader = InputReader()
+        self.aliases = aliases or {}
         self.notes: list[str] = []
         self._read_sheet(sheet, sheet_name)
         self._read_log(log, log_name)
@@ -147,13 +148,11 @@ class Bookkeeper:
         return self._tested(row_text("deduct", self.club(name.strip()), points).rstrip("\n"))
 
     def club(self, name: str) -> str:
-        """The club of exactly this name; raises `Unclear` with the nearest name."""
-        if self.sheet.club_named(name):
-            return name
-        names = [club.name for club in self.sheet.clubs]
-        near = same_name(name, names) or nearest_name(name, names)
-        hint = f"the nearest name is {shown(near)}" if near else "the clubs are " + ", ".join(names)
-        raise Unclear(f"no club is called {shown(name)}; {hint}")
+        """The club that a name means; raises `Unclear` where none is meant, or several may be."""
+        try:
+            return club_of(name, [club.name for club in self.sheet.clubs], self.aliases)
+        except UnknownName as unknown:
+            raise Unclear(unknown.message) from unknown
 
     def fixture_of(self, kind: str, match: Match) -> Fixture:
         """The fixture of a match by names, by its date where the two meet there more than once."""

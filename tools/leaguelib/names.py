@@ -1,13 +1,36 @@
-"""Names as people type them: the same name in another spelling, and the nearest name."""
+"""Names as people type them: the club that is meant, the same name in another spelling, and the
+nearest name.
+
+`club_of` says for the whole of `league` which club a name means. A part of a name is taken only
+where one club alone has it; nothing is guessed from how a name looks.
+"""
 
 from __future__ import annotations
 
 import difflib
+import re
 import unicodedata
-from typing import Iterable
+from typing import Iterable, Mapping
 
 INVISIBLE = "\u200b\u200c\u200d\u2060\ufeff\u00ad"
 SPACES = " \t\u00a0\u2007\u202f\u3000" + INVISIBLE
+APOSTROPHES = "'’‘ʼ´`"
+DASHES = "-\u2010\u2011\u2012\u2013\u2014\u2015\u2212\ufe58\ufe63\uff0d"
+LETTERS = str.maketrans({"ø": "o", "Ø": "o", "ł": "l", "Ł": "l", "đ": "d", "Đ": "d", "ı": "i",
+                         "æ": "ae", "Æ": "ae", "œ": "oe", "Œ": "oe", "ð": "d", "þ": "th"})
+CLUB_WORDS = frozenset("fc afc cf sc sv ac as fk sk nk if bk ff cd ud sd club the & and und 1"
+                       .split())
+OTHER_TEAMS = frozenset("ii iii iv b c 2 3 u17 u18 u19 u20 u21 u23 women ladies girls frauen "
+                        "femenino femminile feminines youth reserves".split())
+
+
+class UnknownName(Exception):
+    """A name that means no club, or several: what to say, and the clubs that may be meant."""
+
+    def __init__(self, message: str, candidates: list[str]) -> None:
+        super().__init__(message)
+        self.message = message
+        self.candidates = candidates
 
 
 def tidy(text: str) -> str:
@@ -17,10 +40,115 @@ def tidy(text: str) -> str:
 
 def plain_form(name: str) -> str:
     """A form in which names are the same that differ in case, accents, spaces or points alone."""
-    opened = unicodedata.normalize("NFKD", name)
+    opened = unicodedata.normalize("NFKD", name.translate(LETTERS))
     kept = [sign for sign in opened if not unicodedata.combining(sign) and sign not in INVISIBLE]
-    words = "".join(" " if sign in ".,'-_/" else sign for sign in kept).casefold().split()
+    apart = ".,_/" + APOSTROPHES + DASHES
+    words = "".join(" " if sign in apart else sign for sign in kept).casefold().split()
     return " ".join(words)
+
+
+def club_of(name: str, names: Iterable[str], aliases: Mapping[str, str] | None = None) -> str:
+    """The club that a name means: the name itself, an alias, another spelling, or a part of it.
+
+    `aliases` has names by the plain form of another name. Raises `UnknownName` where no club is
+    meant, or where more than one may be.
+    """
+    every = list(names)
+    typed = tidy(name)
+    if name in every or typed in every:
+        return name if name in every else typed
+    alias = (aliases or {}).get(plain_form(typed))
+    if alias is not None:
+        return _club_of_alias(typed, alias, every)
+    for is_meant in (_is_same, _is_same_club, _is_part, _has_part):
+        found = [other for other in every if is_meant(typed, other)]
+        if len(found) == 1:
+            return found[0]
+        if found:
+            raise UnknownName(f"{shown(typed)} can be {listed_or(found)}: write more of the name",
+                              found)
+    near = nearest_name(typed, every)
+    hint = f"the nearest name is {shown(near)}" if near else (
+        "the clubs are " + ", ".join(every) + ". Other names can stand in a file (--aliases)")
+    raise UnknownName(f"no club is called {shown(typed)}; {hint}", [near] if near else [])
+
+
+def _club_of_alias(typed: str, alias: str, names: list[str]) -> str:
+    """The club of an alias, whose own name may be written in another way."""
+    try:
+        return club_of(alias, names)
+    except UnknownName as unknown:
+        raise UnknownName(f"{shown(typed)} is an alias of {shown(alias)}, and {unknown.message}",
+                          unknown.candidates) from unknown
+
+
+def listed_or(names: list[str]) -> str:
+    """Names of which one may be meant: `A`, `B` or `C`."""
+    texts = [shown(name) for name in names]
+    return ", ".join(texts[:-1]) + " or " + texts[-1] if len(texts) > 1 else "".join(texts)
+
+
+def words_in(name: str) -> list[str]:
+    """The words of a name in their plain form; an apostrophe divides none."""
+    return plain_form("".join(sign for sign in name if sign not in APOSTROPHES)).split()
+
+
+def core_words(name: str) -> list[str]:
+    """The words of a name without those that many clubs have, like FC; all where none is left."""
+    every = words_in(name)
+    return [word for word in every if word not in CLUB_WORDS] or every
+
+
+def _is_same(typed: str, name: str) -> bool:
+    return plain_form(typed) != "" and plain_form(typed) == plain_form(name)
+
+
+def _is_same_club(typed: str, name: str) -> bool:
+    """Whether two names are one but for words like FC, and for an umlaut written as two letters."""
+    first, second = " ".join(core_words(typed)), " ".join(core_words(name))
+    return first != "" and (first == second or _without_umlauts(first) == _without_umlauts(second))
+
+
+def _without_umlauts(text: str) -> str:
+    return re.sub(r"([aou])e", r"\1", text)
+
+
+def _is_part(typed: str, name: str) -> bool:
+    """Whether the typed words stand in the name in this order, whole or as their beginnings."""
+    words = core_words(typed)
+    if sum(len(word) for word in words) < 3:
+        return False
+    return _stand_in(words, core_words(name)) or _stand_in(words, words_in(name))
+
+
+def _has_part(typed: str, name: str) -> bool:
+    """Whether the name's words stand in what was typed, which names no other team of the club."""
+    words, core = words_in(typed), core_words(name)
+    if sum(len(word) for word in core) < 3:
+        return False
+    return not (OTHER_TEAMS & set(words)) - set(words_in(name)) and _stand_in(core, words)
+
+
+def _stand_in(words: list[str], longer: list[str]) -> bool:
+    """Whether each word is, in order, one of the others or short for it."""
+    place = 0
+    for word in words:
+        while place < len(longer) and not _is_short_for(word, longer[place]):
+            place += 1
+        if place == len(longer):
+            return False
+        place += 1
+    return bool(words)
+
+
+def _is_short_for(word: str, whole: str) -> bool:
+    """Whether a word begins the other, or leaves out letters of its middle, as `Utd` does."""
+    if word == whole or (len(word) > 1 and whole.startswith(word)):
+        return True
+    if len(word) < 3 or len(word) > 0.6 * len(whole):
+        return False
+    letters = iter(whole)
+    return (word[0], word[-1]) == (whole[0], whole[-1]) and all(sign in letters for sign in word)
 
 
 def same_name(name: str, names: Iterable[str]) -> str | None:
