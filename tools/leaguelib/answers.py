@@ -132,6 +132,7 @@ class _ReportReader:
     def __init__(self, report: Report) -> None:
         self.report = report
         self.verdict: Verdict | None = None
+        self.is_behind_score = False
         self.example: Example | None = None
         self.proof: Proof | None = None
 
@@ -141,6 +142,7 @@ class _ReportReader:
         if WIDTHS.get(record.kind) != len(fields):
             raise BadAnswer(record.line, "this is no row that futmax writes")
         self.verdict = self.example = self.proof = None
+        self.is_behind_score = record.kind == "score"
         if record.kind == "ask":
             self.report.answers.append(Answer(_natural(record, 2), record.line))
         elif record.kind == "fault":
@@ -170,7 +172,9 @@ class _ReportReader:
             answer.table.append(Place(numbers[0], numbers[1], fields[3], *numbers[2:]))
 
     def take_proof_line(self, line: int, raw: bytes) -> None:
-        """Takes a line that is a JSON array."""
+        """Takes a line that is a JSON array; the trees behind a score are passed over."""
+        if self.is_behind_score:
+            return
         try:
             parts = json.loads(raw)
         except (ValueError, RecursionError) as fault:

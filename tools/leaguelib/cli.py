@@ -1,7 +1,8 @@
 """The words of the command `league`: which part is called, and with which status it ends.
 
-A part is a module with `add_arguments(parser)` and `run(arguments) -> int`. A part raises `Trouble`
-where it cannot go on. Parts whose module is not there are left out.
+A part is a module with `add_arguments(parser)` and `run(arguments) -> int`, and with `STATUSES`
+where its statuses are not those of the other parts. A part raises `Trouble` where it cannot go on.
+Parts whose module is not there are left out.
 """
 
 from __future__ import annotations
@@ -16,18 +17,24 @@ import traceback
 from . import common
 
 PARTS = {
+    "ask": "who is in, out and open: sentences, rows or JSON",
+    "table": "the table of the matches played",
+    "scores": "how many points are enough, and how many are too few",
+    "check": "whether a report proves what it says",
+    "explain": "the same on one screen, what changed, and why",
+    "places": "the best and the worst place still possible for each club",
+    "board": "write an answer as a page for the browser",
+    "live": "keep a log and have each line answered at once",
     "sheet": "make a sheet from a list of fixtures",
     "feed": "turn results by names into a feed",
     "lint": "look for mistakes in a sheet and a feed",
-    "live": "keep a log and have each line answered at once",
-    "explain": "say an answer in plain sentences",
-    "places": "the best and the worst place still possible for each club",
-    "board": "write an answer as a page for the browser",
 }
 
 
 EXAMPLES = """\
 examples:
+  league ask sheet.csv feed.csv
+  league explain sheet.csv feed.csv --why "My club"
   league sheet fixtures.csv --name "My league" --lines 1,4 --order overall_first -o sheet.csv
   league feed sheet.csv results.txt --ask > feed.csv
   league lint sheet.csv feed.csv
@@ -37,7 +44,12 @@ examples:
 
 
 class Parser(argparse.ArgumentParser):
-    """A parser that ends with the status of this command where words do not fit."""
+    """A parser that tells its version, and ends with status 1 where words do not fit."""
+
+    def __init__(self, **words: object) -> None:
+        super().__init__(formatter_class=argparse.RawDescriptionHelpFormatter, **words)
+        self.add_argument("--version", action="version", version=f"league {common.version()}",
+                          help="tell the version, and end")
 
     def error(self, message: str) -> None:
         """Ends with the usage, the reason, and the status for words that do not fit."""
@@ -46,35 +58,45 @@ class Parser(argparse.ArgumentParser):
         self.exit(common.BAD_WORDS)
 
 
-def make_parser(chosen: str) -> Parser:
-    """The parser with a word for each part that is there; the chosen part alone is loaded."""
-    parser = Parser(
-        prog="league",
-        description="Makes, tests and reads what the program futmax takes and answers.",
-        epilog=EXAMPLES + common.STATUS_TABLE,
-        formatter_class=argparse.RawDescriptionHelpFormatter)
-    words = parser.add_subparsers(dest="part", metavar="PART", required=True, parser_class=Parser)
-    for name, summary in PARTS.items():
-        if importlib.util.find_spec(f"{__package__}.{name}") is None:
-            continue
-        if name != chosen:
-            words.add_parser(name, help=summary)
-            continue
-        part = importlib.import_module(f"{__package__}.{name}")
-        word = words.add_parser(name, help=summary, description=(part.__doc__ or summary).strip(),
-                                epilog=common.STATUS_TABLE,
-                                formatter_class=argparse.RawDescriptionHelpFormatter)
-        part.add_arguments(word)
-        word.set_defaults(run=part.run)
+def parts() -> dict[str, str]:
+    """The parts whose module is there, and what they do."""
+    return {name: summary for name, summary in PARTS.items()
+            if importlib.util.find_spec(f"{__package__}.{name}") is not None}
+
+
+def make_parser() -> Parser:
+    """The parser of the command itself: it knows the parts by their names alone."""
+    parser = Parser(prog="league", epilog=EXAMPLES + common.STATUS_TABLE,
+                    description="Asks the program futmax, says its answers in words, and makes and "
+                                "tests what it reads.")
+    words = parser.add_subparsers(dest="part", metavar="PART", required=True,
+                                  parser_class=argparse.ArgumentParser)
+    for name, summary in parts().items():
+        words.add_parser(name, help=summary, add_help=False)
     return parser
+
+
+def read_words(given: list[str]) -> argparse.Namespace:
+    """What the words ask for; ends where they ask for help, or do not fit."""
+    if given[:1] == ["help"]:
+        given = given[1:2] + ["--help"]
+    chosen = given[0] if given else ""
+    if chosen not in parts():
+        return make_parser().parse_args(given)
+    part = importlib.import_module(f"{__package__}.{chosen}")
+    parser = Parser(prog=f"league {chosen}", description=(part.__doc__ or "").strip(),
+                    epilog=getattr(part, "STATUSES", common.STATUS_TABLE))
+    part.add_arguments(parser)
+    parser.set_defaults(run=part.run, part=chosen)
+    rest = given[1:]
+    # files may stand before and behind the options; what follows `--` is taken as it stands
+    return parser.parse_args(rest) if "--" in rest else parser.parse_intermixed_args(rest)
 
 
 def main(words: list[str] | None = None) -> int:
     """Runs the command with these words, or with those of the process, and gives its status."""
     try:
-        given = sys.argv[1:] if words is None else words
-        chosen = next((word for word in given if not word.startswith("-")), "")
-        arguments = make_parser(chosen).parse_args(given)
+        arguments = read_words(sys.argv[1:] if words is None else words)
         status = arguments.run(arguments)
         if sys.stdout is not None:
             sys.stdout.flush()
@@ -85,10 +107,12 @@ def main(words: list[str] | None = None) -> int:
     except KeyboardInterrupt:
         return common.INTERRUPTED
     except BrokenPipeError:
+        common.say("league: the reader of the output went away before its end.")
         _drop_output()
         return common.CANNOT_WRITE
     except OSError as fault:
-        common.say(f"league: {fault.strerror or fault}")
+        common.say(f"league: the output cannot be written: {fault.strerror or fault}. Make room, "
+                   "or write elsewhere, and run it again.")
         _drop_output()
         return common.CANNOT_WRITE
     except Exception as fault:  # pylint: disable=broad-except

@@ -32,6 +32,31 @@ exit statuses:
 """
 
 
+FUTMAX_STATUSES = """\
+exit statuses, those of futmax:
+  0    every ask is answered; or the report is accepted
+  1    the words do not fit
+  2    a line of the sheet is refused
+  3    a line of the feed is refused; answers before it are good
+  4    a file, or standard input, cannot be read
+  5    the output cannot be written
+  6    memory ran out
+  7    the report is no proof
+  8    a line has more than 1,024 bytes, or the input more than 67,108,864
+  70   the program futmax is not there or cannot be run, or a fault of league itself
+  130  stopped by hand (Ctrl-C)
+"""
+
+
+def version() -> str:
+    """The version that the file VERSION beside the folder of these tools names."""
+    try:
+        path = Path(__file__).resolve().parents[2] / "VERSION"
+        return path.read_text("utf-8").strip() or "without a version"
+    except (OSError, ValueError):
+        return "without a version"
+
+
 class Trouble(Exception):
     """Ends the command with a message for people and an exit status."""
 

@@ -1,8 +1,9 @@
-"""Says an answer in plain sentences: what is decided and why, and how the rest can still go.
+"""Says an answer on one screen: who is in, out and open, and what changed since the ask before.
 
-The answer is that of the program on the given input; or a report that stands elsewhere (--answer),
-or behind the record `proofs` of the input. A proof is put into words only where the program's
-mode `check` has accepted the report that it stands in.
+The reasons stand behind --why: the shortest first, by points alone, by clubs that cannot pass, by
+matches between rivals; then the steps of the program's proof. The answer is that of the program; or
+a report that stands elsewhere (--answer), or behind the record `proofs` of the input. A proof is
+put into words only where the program's mode `check` has accepted the report that it stands in.
 """
 
 from __future__ import annotations
@@ -10,117 +11,148 @@ from __future__ import annotations
 import argparse
 
 from . import common
-from .answers import Answer, BadAnswer, Report, read_report
+from .aliases import add_alias_argument, chosen_club, read_aliases
+from .answers import BadAnswer, Report, read_report
+from .asking import Asked, Outcome, ask_mode, position_of
 from .feeds import Input
-from .running import (add_input_arguments, ask_lines, position_of_ask, read_files, read_league,
-                      report_of, run_program)
-from .sentences import USUAL_STEPS, explanation
+from .front import add_budget_argument
+from .given import Given, add_file_arguments, ended, gather
+from .progress import Progress, add_progress_argument
+from .proved import Told, own_report, refusal_of_report
+from .running import ask_lines
+from .stopped import league_in
 from .texts import Season, Sheet
-from .wording import days_of, paragraph
+from .view import View, first_screen, viewed
+from .why import USUAL_STEPS, Why, why_text
+from .wording import listed, paragraph
 
+__all__ = ["add_arguments", "run", "own_report"]
 NO_CHECK = ("This report was not checked, since the program here has no mode `check`: what "
             "follows is what it says. Its proofs are not told.")
 
 
 def add_arguments(parser: argparse.ArgumentParser) -> None:
     """The words of this part."""
-    add_input_arguments(parser)
+    add_file_arguments(parser)
+    parser.add_argument("--ask", type=int, metavar="N",
+                        help="look at the Nth ask of the feed, from 1; otherwise at the last")
+    parser.add_argument("--since", metavar="DATE",
+                        help="what changed since this day, like 2024-05-19, or since a matchday; "
+                             "otherwise since the ask before")
+    parser.add_argument("--why", "--club", metavar="CLUB", action="append", default=[],
+                        help="why a club is in, out or open; a part of its name does; may be "
+                             "given several times")
+    parser.add_argument("--all", action="store_true", help="why, for all clubs")
+    parser.add_argument("--line", type=int, metavar="K", help="the first K places alone")
     parser.add_argument("--answer", metavar="FILE",
                         help="explain this report instead of running the program")
-    parser.add_argument("--club", metavar="NAME", help="this club alone")
-    parser.add_argument("--line", type=int, metavar="K", help="the first K places alone")
     parser.add_argument("--steps", type=int, metavar="N", default=USUAL_STEPS,
                         help=f"tell proofs of at most N lines ({USUAL_STEPS})")
-
-
-class Told:
-    """A report with its input, and whether its proofs may be told."""
-
-    def __init__(self, league: Input, report: Report, is_checked: bool, note: str) -> None:
-        self.league = league
-        self.report = report
-        self.is_checked = is_checked
-        self.note = note
+    add_alias_argument(parser)
+    add_budget_argument(parser)
+    add_progress_argument(parser)
 
 
 def run(arguments: argparse.Namespace) -> int:
     """Explains one ask, and gives the exit status."""
-    data = read_files(arguments.files)
-    league = read_league(data, takes_proofs=True)
-    program = arguments.program
-    position = position_of_ask(league, arguments.ask)
-    told = _given_report(arguments, data, league) if (
-        arguments.answer or league.report_line) else own_report(program, data, league)
-    if position >= len(told.report.answers):
-        raise common.Trouble(f"the report has {len(told.report.answers)} answers and the feed "
-                             f"{len(ask_lines(league))} asks: they do not belong together.")
-    season = league.season_at(position)
-    answer = told.report.answers[position]
-    _test_names(league.sheet, season, answer)
-    days = days_of(data, league.sheet)
-    most_steps = arguments.steps if told.is_checked else 0
-    text = explanation(league, position, answer, most_steps, days, arguments.club, arguments.line)
-    common.write_text((paragraph(told.note) + "\n\n" if told.note else "") + text)
-    return common.DOUBTFUL if told.note == NO_CHECK else common.DONE
+    given = gather(arguments.files)
+    path = common.program_path(arguments.program)
+    with Progress("explain", 0, arguments.progress):
+        if arguments.answer or given.report_line:
+            view, proved, note = _given_report(arguments, given, path)
+        else:
+            view, proved, note = *_own_answer(arguments, given, path), ""
+        text = _text(arguments, view, path, proved)
+    common.write_text((paragraph(note) + "\n\n" if note else "") + text)
+    return common.DOUBTFUL if note == NO_CHECK else common.DONE
 
 
-def own_report(program: str | None, data: bytes, league: Input) -> Told:
-    """The program's own answer, with proofs where it can write and check them."""
-    path = common.program_path(program)
-    written = run_program(path, ["verdicts", "--proofs"], data)
-    if written.status == 1:
-        return Told(league, report_of(run_program(path, ["verdicts"], data)), False, "")
-    report = report_of(written)
-    found = _check(path, data, written.output)
-    note = "" if found in ("accepted", "unknown") else (
-        f"The program's own check refuses its proofs: {found}. They are not told.")
-    return Told(league, report, found == "accepted", note)
+def _text(arguments: argparse.Namespace, view: View, path: str, proved: Told | None) -> str:
+    """The first screen, or the reasons that were asked for."""
+    sheet = view.sheet
+    lines = list(view.marks)
+    if not lines:
+        raise common.Trouble("the sheet has no `line`, so there is no place to explain. Add one, "
+                             "like `line,1` for the first place.")
+    if arguments.line is not None and arguments.line not in lines:
+        raise common.Trouble(f"no line {arguments.line} was asked for; the lines of the sheet are "
+                             f"{listed([str(line) for line in lines])}.", common.BAD_WORDS)
+    aliases = read_aliases(arguments.aliases)
+    clubs = [chosen_club(name, sheet, aliases) for name in arguments.why]
+    if arguments.all:
+        clubs = [place.club for place in view.table]
+    if not clubs:
+        if arguments.line is not None:
+            view.ask.answer.verdicts = [it for it in view.ask.answer.verdicts
+                                        if it.places == arguments.line]
+        return first_screen(view) + "\n" + paragraph(
+            "Why: `league explain --why CLUB` behind the same files.") + "\n"
+    wanted = lines if arguments.line is None else [arguments.line]
+    why = Why(view, path, proved, arguments.steps)
+    return "\n".join(why_text(why, club, wanted) for club in clubs)
 
 
-def _given_report(arguments: argparse.Namespace, data: bytes, league: Input) -> Told:
+def _own_answer(arguments: argparse.Namespace, given: Given,
+                path: str) -> tuple[View, Told | None]:
+    """The program's own answer; its proofs are asked for once a reason wants them."""
+    league = league_in(given)
+    position = position_of(league, arguments.ask)
+    asks = list(range(max(0, position - 1), position + 1))
+    outcome = ask_mode(path, "verdicts", given, asks, arguments.budget)
+    if outcome.stop is not None:
+        raise common.Trouble(outcome.stop.message, common.NO_PROGRAM)
+    _test_names(league.sheet, outcome.asked[-1].season, outcome.asked[-1])
+    return viewed(given, outcome, path, arguments.since), None
+
+
+def _given_report(arguments: argparse.Namespace, given: Given,
+                  path: str) -> tuple[View, Told, str]:
     """A report from elsewhere: told only as far as the program's `check` accepts it."""
-    front, report_bytes = data, b""
-    if league.report_line:
-        lines = data.split(b"\n")
-        front = b"".join(line + b"\n" for line in lines[:league.report_line - 2])
-        report_bytes = b"\n".join(lines[league.report_line - 1:])
+    league = league_in(given)
+    front, report_bytes = given.data, b""
+    if given.report_line:
+        lines = given.data.split(b"\n")
+        front = b"".join(line + b"\n" for line in lines[:given.report_line - 2])
+        report_bytes = b"\n".join(lines[given.report_line - 1:])
     if arguments.answer:
         report_bytes = common.read_bytes(arguments.answer)
-    found = _check(common.program_path(arguments.program), front, report_bytes)
-    try:
-        report = read_report(report_bytes)
-    except BadAnswer as fault:
-        raise common.Trouble(f"the report cannot be read: {fault}") from fault
+    found = refusal_of_report(path, ended(front), report_bytes)
+    report = _read(report_bytes)
     if found not in ("accepted", "unknown"):
         raise common.Trouble(f"the checker refuses this report: {found}. Nothing of it is told.")
+    outcome = _outcome_of(league, report, position_of(league, arguments.ask))
+    shown = Given(given.whole, ended(front), given.paths, given.has_own_ask)
+    view = viewed(shown, outcome, path, arguments.since)
     note = "The checker accepted this report." if found == "accepted" else NO_CHECK
-    return Told(league, report, found == "accepted", note)
+    return view, Told(league, report, found == "accepted"), note
 
 
-def _check(path: str, front: bytes, report: bytes) -> str:
-    """`accepted`, `unknown` where there is no such mode, or why the report is refused."""
-    ended = front if front.endswith(b"\n") or not front else front + b"\n"
-    done = run_program(path, ["check"], ended + b"proofs\n" + report)
-    rows = [row.split(b",") for row in done.output.splitlines()]
-    last = [field.decode("ascii", "replace") for field in rows[-1]] if rows else [""]
-    if done.status == 0 and last[0] == "accepted":
-        return "accepted"
-    if done.status == 1 and last[0] == "usage":
-        return "unknown"
-    if last[0] == "refused" and len(last) == 3 and last[1].isdigit():
-        line = int(last[1]) - (ended.count(b"\n") + 1)
-        reasons = {"no_proof": "does not prove what it should", "bad_line": "does not belong there",
-                   "short": "is missing, the report ends too early"}
-        return f"line {line} of the report {reasons.get(last[2], last[2])}"
-    raise common.Trouble(f"`futmax check` ended with status {done.status} and said "
-                         f"`{','.join(last)}`", common.NO_PROGRAM)
+def _read(data: bytes) -> Report:
+    """A report, or the end of the command where it cannot be read."""
+    try:
+        return read_report(data)
+    except BadAnswer as fault:
+        raise common.Trouble(f"the report cannot be read: {fault}") from fault
 
 
-def _test_names(sheet: Sheet, season: Season, answer: Answer) -> None:
+def _outcome_of(league: Input, report: Report, position: int) -> Outcome:
+    """A report as an outcome: the ask that is looked at, behind the one before it."""
+    lines = ask_lines(league)
+    if len(report.answers) != len(lines):
+        raise common.Trouble(f"the report has {len(report.answers)} answers and the feed "
+                             f"{len(lines)} asks: they do not belong together.")
+    asked = [Asked(at, lines[at], league.season_at(at), report.answers[at], league.sheet.budget)
+             for at in range(max(0, position - 1), position + 1)]
+    for ask in asked:
+        _test_names(league.sheet, ask.season, ask)
+    return Outcome(league, asked)
+
+
+def _test_names(sheet: Sheet, season: Season, ask: Asked) -> None:
     """Ends the command where a report names clubs or matches that the sheet has not."""
     numbers = {fixture.number for fixture in season.open_fixtures(sheet)}
-    for verdict in answer.verdicts:
-        fits = sheet.club_named(verdict.club) and verdict.places in sheet.lines
+    for verdict in ask.answer.verdicts:
+        fits = sheet.club_named(verdict.club) and 0 < verdict.places < len(sheet.clubs)
         for example in verdict.examples.values():
             known = sorted(example.lots) == [club.number for club in sheet.clubs]
             fits = fits and known and set(example.scores) == numbers

@@ -1,0 +1,87 @@
+"""Whether a report of `futmax verdicts --proofs` proves what it says: `league check SHEET FEED
+REPORT`. The last file is the report; or one input has it behind the record `proofs`.
+"""
+
+from __future__ import annotations
+
+import argparse
+
+from . import common
+from .asking import found_program, run_mode
+from .files import Joined
+from .given import Given, add_file_arguments, ended, given_of, read_all
+from .objects import line_of
+from .records import fields_of
+from .running import Run
+from .stopped import Stop, stop_of
+from .wording import counted, paragraph
+
+STATUSES = common.FUTMAX_STATUSES
+
+
+def add_arguments(parser: argparse.ArgumentParser) -> None:
+    """The words of this part."""
+    add_file_arguments(parser)
+    forms = parser.add_mutually_exclusive_group()
+    forms.add_argument("--json", action="store_true", help="one JSON object")
+    forms.add_argument("--rows", action="store_true", help="the row as futmax writes it")
+
+
+def run(arguments: argparse.Namespace) -> int:
+    """Has the report checked, says how it went, and gives the exit status."""
+    given = given_report(arguments.files)
+    done = run_mode(found_program(arguments.program), "check", given.data)
+    stop = stop_of(done, given)
+    row = fields_of(done.output.splitlines()[-1]) if done.output else []
+    if stop is None and (len(row) != 3 or row[0] != "accepted"):
+        raise common.Trouble("futmax check ended with status 0 and did not say that it accepts: "
+                             "it may be of another version. Build it anew.", common.OWN_FAULT)
+    if arguments.rows:
+        common.write_text(done.output.decode("utf-8", "surrogateescape"))
+    elif arguments.json:
+        common.write_text(line_of(_object(given, stop, row)))
+    elif stop is None:
+        common.write_text(_accepted_text(done))
+    if stop is not None:
+        raise common.Trouble(stop.message, stop.status)
+    return common.DONE
+
+
+def given_report(paths: list[str]) -> Given:
+    """The input of a check: as it stands, or put together of the files before the report and it."""
+    files = read_all(paths)
+    whole = given_of(files, adds_ask=False)
+    if whole.report_line:
+        return whole
+    if len(files) < 2:
+        raise common.Trouble("there is no report: name it as the last file, as in `league check "
+                             "SHEET FEED REPORT`.", common.BAD_WORDS)
+    name, report = files[-1]
+    front = given_of(files[:-1], adds_ask=bool(report.strip()))
+    data = ended(front.data)
+    first = data.count(b"\n") + 2
+    count = report.count(b"\n") + (bool(report) and not report.endswith(b"\n"))
+    whole = Joined(data + b"proofs\n" + report, front.whole.starts + [(name, first, 1)],
+                   first - 1 + count)
+    return Given(whole, whole.data, front.paths, front.has_own_ask)
+
+
+def _object(given: Given, stop: Stop | None, row: list[str]) -> dict:
+    """How the check went, for programs."""
+    if stop is None:
+        return {"type": "check", "accepted": True, "rows": int(row[1]), "unsettled": int(row[2])}
+    if stop.status == 7:
+        return {**stop.object_for(given), "type": "check", "accepted": False}
+    return stop.object_for(given)
+
+
+def _accepted_text(done: Run) -> str:
+    """What an accepted report has shown."""
+    row = fields_of(done.output.splitlines()[-1])
+    unsettled = int(row[2])
+    text = (f"Accepted: the report proves its {counted(int(row[1]), 'row')} on this sheet and "
+            "feed, for every end within the goal limit and every drawing of lots.")
+    if unsettled:
+        text += (f" {counted(unsettled, 'row')} of them {'is' if unsettled == 1 else 'are'} "
+                 "unsettled and say nothing of the club.")
+    return paragraph(text) + "\n"

@@ -1,0 +1,119 @@
+"""What a part is given: files read one behind the other, the sheet in front, with an ask at the end
+where the feed has none; and where each line of the whole stands.
+"""
+
+from __future__ import annotations
+
+import argparse
+from dataclasses import dataclass
+
+from . import common
+from .files import Joined, examine, joined
+from .names import shown
+from .records import Refused, fields_of, lines_of, record_of
+
+MOST_QUOTED = 80
+STANDARD_INPUT = "standard input"
+
+
+@dataclass
+class Given:
+    """An input as futmax gets it, and the files that it came from.
+
+    `report_line` is the first line of a report behind the record `proofs`, and 0 where none is.
+    """
+
+    whole: Joined
+    data: bytes
+    paths: list[str]
+    has_own_ask: bool
+    report_line: int = 0
+
+    def origin(self, line: int) -> str:
+        """The file and the line in it, for a line of the whole; the report counts for itself."""
+        if self.report_line and line >= self.report_line:
+            return f"line {line - self.report_line + 1} of the report"
+        return self.whole.origin(line)
+
+    def file_and_line(self, line: int) -> tuple[str, int]:
+        """The file and the number in it, for a line of the whole."""
+        found = [start for start in self.whole.starts if start[1] <= line]
+        if not found:
+            return "", line
+        name, first, number = found[-1]
+        return name, line - first + number
+
+    def quoted(self, line: int) -> str:
+        """The line of the whole as a message shows it; nothing where there is no such line."""
+        rows = self.data.split(b"\n")
+        if not 1 <= line <= len(rows) or not rows[line - 1].strip():
+            return ""
+        text = rows[line - 1].rstrip(b"\r").decode("utf-8", "surrogateescape")
+        return shown(text if len(text) <= MOST_QUOTED else text[:MOST_QUOTED] + "..")
+
+
+def add_file_arguments(parser: argparse.ArgumentParser) -> None:
+    """The files of an input, and the program to ask."""
+    parser.add_argument("files", nargs="*", default=["-"], metavar="FILE",
+                        help="sheet and feed, in one file or several; `-` is standard input (the "
+                             "default). The end of a feed without an `ask` counts as one")
+    parser.add_argument("--program", metavar="PATH",
+                        help="the program futmax, where it is not found by itself")
+
+
+def read_all(paths: list[str]) -> list[tuple[str, bytes]]:
+    """The files with their names, in the order in which they are named."""
+    if paths.count("-") > 1:
+        raise common.Trouble("standard input can be read once: one `-` is enough.",
+                             common.BAD_WORDS)
+    return [(STANDARD_INPUT if path == "-" else path, common.read_bytes(path)) for path in paths]
+
+
+def gather(paths: list[str], adds_ask: bool = True) -> Given:
+    """Reads the files, the sheet first, and adds an ask where the feed has none."""
+    return given_of(read_all(paths), adds_ask)
+
+
+def given_of(files: list[tuple[str, bytes]], adds_ask: bool = True) -> Given:
+    """The files as one input, the sheet first, with an ask added where the feed has none."""
+    files = sorted(files, key=lambda file: not _begins_a_sheet(file[1]))
+    for name, data in files:
+        for message in examine(data).messages:
+            raise common.Trouble(f"{name}: {message}.")
+    parts = [(name, ended(data)) for name, data in files[:-1]]
+    whole = joined(parts + files[-1:])
+    has_season, has_ask, report_line = _look(whole.data)
+    data = whole.data
+    if adds_ask and has_season and not has_ask and not report_line:
+        data = ended(data) + b"ask\n"
+    return Given(whole, data, [name for name, _ in files], has_ask, report_line)
+
+
+def _begins_a_sheet(data: bytes) -> bool:
+    """Whether the first record of a file is that of a sheet."""
+    try:
+        for number, raw in lines_of(data):
+            record = record_of(number, raw)
+            if record is not None:
+                return record.kind == "league"
+    except Refused:
+        pass
+    return False
+
+
+def ended(data: bytes) -> bytes:
+    """The bytes with a line end behind the last line."""
+    return data if data.endswith(b"\n") or not data else data + b"\n"
+
+
+def _look(data: bytes) -> tuple[bool, bool, int]:
+    """Whether there is a `season` and an `ask` behind it, and the first line behind `proofs`."""
+    has_season = has_ask = False
+    for number, raw in enumerate(data.split(b"\n"), 1):
+        kind = (fields_of(raw.rstrip(b"\r")) or [""])[0] if raw[:1] in b'sap"' else ""
+        has_season = has_season or kind == "season"
+        has_ask = has_ask or (has_season and kind == "ask")
+        if has_season and kind == "proofs":
+            return has_season, has_ask, number + 1
+    return has_season, has_ask, 0
+

@@ -1,0 +1,62 @@
+"""A season with scores supposed, tried by the program: what becomes of a club then."""
+
+from __future__ import annotations
+
+from .answer_end import AnswerEnd
+from .asking import ONE_WORKER
+from .records import fields_of
+from .session import Session
+from .texts import Season, Sheet
+
+Scores = dict[int, tuple[int, int]]
+
+
+class Trial:
+    """A running futmax with one line, which is told scores of open matches and takes them back.
+
+    `asks` counts the questions that were put.
+    """
+
+    def __init__(self, path: str, data: bytes, sheet: Sheet, season: Season, places: int) -> None:
+        self.sheet = sheet
+        self.season = season
+        self.places = places
+        self.asks = 0
+        self.supposed: Scores = {}
+        self.session = Session([path, "verdicts", *ONE_WORKER], data,
+                               lambda: AnswerEnd(len(sheet.clubs), 1, "verdicts"))
+        self.session.start()
+
+    def __enter__(self) -> Trial:
+        return self
+
+    def __exit__(self, *_: object) -> None:
+        self.session.stop()
+
+    def word(self, club: str, scores: Scores) -> str:
+        """The verdict on a club where these open matches end so, and the others are open still."""
+        self._suppose(scores)
+        self.asks += 1
+        for raw in self.session.ask():
+            if raw.startswith(b"verdict,"):
+                fields = fields_of(raw.rstrip(b"\r\n"))
+                if fields[2] == club:
+                    return fields[3]
+        return "unsettled"
+
+    def _suppose(self, scores: Scores) -> None:
+        """Tells the program what is new, and takes back what holds no longer."""
+        for number in list(self.supposed):
+            if number not in scores:
+                self.session.send(f"void,{number}")
+        for number, score in scores.items():
+            if self.supposed.get(number) != score:
+                kind = "fix" if number in self.supposed else "result"
+                self.session.send(f"{kind},{number},{score[0]},{score[1]}")
+        self.supposed = dict(scores)
+
+
+def trial_data(data: bytes) -> bytes:
+    """An input without its asks, as a trial begins with it."""
+    return b"".join(raw + b"\n" for raw in data.split(b"\n")
+                    if fields_of(raw.rstrip(b"\r"))[:1] != ["ask"])

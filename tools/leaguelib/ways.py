@@ -1,0 +1,133 @@
+"""How an open place can still be reached or missed: the matches that matter, with the least goals.
+
+Every way is tried by the program before it is told. Where the other matches are said not to matter,
+the program has said `clinched` or `lost` with the scores that are told and nothing else.
+"""
+
+from __future__ import annotations
+
+from dataclasses import dataclass
+
+from .answers import Example
+from .asking import FEW_OPEN
+from .texts import Fixture, Season, Sheet
+from .trial import Scores, Trial
+from .wording import counted, listed, score_text
+
+MOST_GOALS_TRIED = 12
+
+
+@dataclass(frozen=True)
+class Way:
+    """Scores that bring a club inside or outside; whether lots have to fall so as well."""
+
+    scores: Scores
+    is_for_sure: bool
+    others: int
+
+
+def way_of(trial: Trial, club: str, example: Example) -> Way:
+    """The shortest way that was found from an example of the program, tried step by step."""
+    sheet, season = trial.sheet, trial.season
+    target = "clinched" if example.claim == "inside" else "lost"
+    still = season.open_fixtures(sheet)
+    own = [it for it in still if club in (it.home, it.away)]
+    scores = own_results(own, club, example.claim == "inside")
+    if own and trial.word(club, scores) == target:
+        scores = _dropped(trial, club, scores, target)
+        return Way(_with_least_goals(trial, club, scores, target), True,
+                   len(still) - len(scores))
+    scores, is_for_sure = _whole(trial, club, example, target)
+    if not is_for_sure:
+        return Way(scores, False, 0)
+    if len(still) > FEW_OPEN:
+        return Way(scores, True, 0)
+    names = {club}
+    order = sorted(scores, key=lambda number: _nearness(sheet.fixture(number), names))
+    scores = _dropped(trial, club, {number: scores[number] for number in order}, target)
+    scores = _with_least_goals(trial, club, scores, target)
+    return Way(dict(sorted(scores.items())), True, len(still) - len(scores))
+
+
+def _whole(trial: Trial, club: str, example: Example, target: str) -> tuple[Scores, bool]:
+    """The example, with the least goals where they do; whether no lots are needed."""
+    plain = _plain(example.scores)
+    word = trial.word(club, plain)
+    if word == target or trial.word(club, example.scores) != target:
+        # with each match told, `possible` says that lots decide
+        return plain if word in (target, "possible") else dict(example.scores), word == target
+    return dict(example.scores), True
+
+
+def _nearness(fixture: Fixture, names: set[str]) -> int:
+    """Matches of the club itself are left out last."""
+    return int(fixture.home in names or fixture.away in names)
+
+
+def own_results(own: list[Fixture], club: str, wins: bool) -> Scores:
+    """All matches of a club won by one goal, or lost by one."""
+    return {it.number: (1, 0) if (it.home == club) == wins else (0, 1) for it in own}
+
+
+def _plain(scores: Scores) -> Scores:
+    """The same results with the least goals."""
+    return {number: (int(home > away), int(away > home))
+            for number, (home, away) in scores.items()}
+
+
+def _dropped(trial: Trial, club: str, scores: Scores, target: str) -> Scores:
+    """The scores without those that are not needed, in halves, quarters and so on."""
+    kept = dict(scores)
+    size = max(1, len(kept) // 2)
+    while True:
+        numbers = list(kept)
+        for at in range(0, len(numbers), size):
+            fewer = {number: score for number, score in kept.items()
+                     if number not in numbers[at:at + size]}
+            if len(fewer) < len(kept) and trial.word(club, fewer) == target:
+                kept = fewer
+        if size == 1:
+            return kept
+        size = max(1, size // 2)
+
+
+def _with_least_goals(trial: Trial, club: str, scores: Scores, target: str) -> Scores:
+    """The scores with as few goals a match as do, one match after the other."""
+    for number, score in sorted(scores.items()):
+        for fewer in _fewer_goals(score)[:MOST_GOALS_TRIED]:
+            tried = {**scores, number: fewer}
+            if trial.word(club, tried) == target:
+                scores = tried
+                break
+    return scores
+
+
+def _fewer_goals(score: tuple[int, int]) -> list[tuple[int, int]]:
+    """Scores of the same kind with fewer goals, the fewest first."""
+    home, away = score
+    if home == away:
+        return [(goals, goals) for goals in range(home)]
+    margins = range(1, abs(home - away) + 1)
+    least = min(home, away)
+    found = [(goals + margin, goals) for goals in range(least + 1) for margin in margins]
+    found = sorted((it for it in found if sum(it) < home + away), key=sum)
+    return found if home > away else [(away_goals, home_goals) for home_goals, away_goals in found]
+
+
+def way_text(sheet: Sheet, season: Season, way: Way, verb: str) -> str:
+    """A way in words, behind a verb like `They are in`."""
+    told = [score_text(sheet.fixture(number), score) for number, score in way.scores.items()]
+    if not told:
+        return f"{verb} whatever happens."
+    lots = "" if way.is_for_sure else ", and lots fall so"
+    rest = ""
+    if way.others:
+        rest = (f"; the other {counted(way.others, 'match does', 'matches do')} not matter"
+                if way.others > 1 else "; the other match does not matter")
+    word = "this ends" if len(told) == 1 else "these end"
+    return f"{verb}, for example, if {word} {listed(told)}{lots}{rest}."
+
+
+def most_listed(way: Way, most: int) -> bool:
+    """Whether a way names so few matches that a person reads them."""
+    return len(way.scores) <= most

@@ -1,0 +1,128 @@
+"""Why a club is in, out or open, line by line: the shortest reason first, and how it can still go.
+
+Reasons are added up before they are told (`reasons.py`), ways are tried by the program
+(`ways.py`), and steps are those of a proof that the program's check accepted (`proofs.py`).
+"""
+
+from __future__ import annotations
+
+from dataclasses import dataclass, field
+
+from .answers import Answer, Score, Verdict
+from .asking import FEW_OPEN, run_mode, with_asks
+from .enough import score_words
+from .lines import with_lines_of
+from .news import plain
+from .proved import Told, own_report
+from .reasons import Points, short_reason
+from .running import report_of
+from .screen import SHORT
+from .sentences import proof_steps, unsettled_texts
+from .trial import Trial, trial_data
+from .view import View
+from .ways import way_of, way_text
+from .wording import counted, paragraph, shown
+
+USUAL_STEPS = 100
+
+
+@dataclass
+class Why:
+    """What the reasons of one ask need, and what was asked for them so far."""
+
+    view: View
+    path: str
+    told: Told | None = None
+    most_steps: int = USUAL_STEPS
+    scores: dict[int, list[Score]] = field(default_factory=dict)
+
+    def __post_init__(self) -> None:
+        self.points = Points(self.view.sheet, self.view.season)
+
+    def data_for(self, places: int) -> bytes:
+        """The input up to this ask, with this line alone."""
+        view = self.view
+        rows = view.given.data.split(b"\n")[:view.ask.line]
+        front = b"".join(raw + b"\n" for raw in rows)
+        return with_lines_of(with_asks(front, view.league, [view.ask.position]), [places])
+
+    def proof_of(self, verdict: Verdict) -> Verdict | None:
+        """The verdict with its proof, where the program's check accepted it."""
+        told = self.told
+        if told is None:
+            told = own_report(self.path, self.data_for(verdict.places), self.view.league)
+        answer: Answer = told.report.answers[-1 if self.told is None else self.view.ask.position]
+        same = [it for it in answer.verdicts
+                if (it.places, it.club, it.word) == (verdict.places, verdict.club, verdict.word)]
+        return same[0] if same and told.is_checked and same[0].proofs else None
+
+    def score_of(self, club: str, places: int) -> Score | None:
+        """The qualification scores of a club, where few matches are open."""
+        if not 0 < len(self.points.open) <= FEW_OPEN:
+            return None
+        if places not in self.scores:
+            answer = report_of(run_mode(self.path, "scores", self.data_for(places))).answers[0]
+            self.scores[places] = answer.scores
+        return next((it for it in self.scores[places] if it.club == club), None)
+
+
+def why_text(why: Why, club: str, lines: list[int]) -> str:
+    """The reasons of one club, line by line."""
+    view = why.view
+    row = next(place for place in view.table if place.club == club)
+    place = str(row.best) if row.best == row.worst else f"{row.best} to {row.worst}, by lots"
+    left = why.points.left[club]
+    head = (f"{shown(club)}: place {place}, {counted(row.points, 'point')} from "
+            f"{counted(row.played, 'match', 'matches')}")
+    head += f", {counted(left, 'match', 'matches')} to play." if left else ", all played."
+    parts = [paragraph(head)]
+    for verdict in view.ask.answer.verdicts:
+        if verdict.club == club and verdict.places in lines:
+            parts += ["", *_line_texts(why, verdict)]
+    return "\n".join(parts) + "\n"
+
+
+def _line_texts(why: Why, verdict: Verdict) -> list[str]:
+    """One line: the word, and behind it the reason or the ways."""
+    title = why.view.names.place(verdict.places)
+    word = SHORT[verdict.word]
+    below = why.view.names.outside(verdict.places)
+    word += f" ({below})" if below and verdict.word == "lost" else ""
+    parts = [f"{title[:1].upper()}{title[1:]}: {word}."]
+    if verdict.word == "unsettled":
+        return parts + unsettled_texts(why.view.sheet, verdict, why.view.ask.budget)
+    if verdict.word == "possible":
+        return parts + _open_texts(why, verdict)
+    return parts + _decided_texts(why, verdict)
+
+
+def _decided_texts(why: Why, verdict: Verdict) -> list[str]:
+    """The shortest reason that holds, or the steps of the proof."""
+    view, is_in = why.view, verdict.word == "clinched"
+    reason = short_reason(why.points, view.table, verdict.club, verdict.places, is_in)
+    if reason is not None:
+        return [paragraph(reason.text, 2)]
+    found = why.proof_of(verdict) if why.most_steps else None
+    if found is None:
+        return [paragraph("Points alone do not tell it, and no proof of it was checked here.", 2)]
+    intro = "Points alone do not tell it. The steps of the proof, which the program's check accepts:"
+    claim = "outside" if is_in else "inside"
+    return [paragraph(intro, 2), *proof_steps(view.sheet, view.season, found, claim,
+                                              why.most_steps)]
+
+
+def _open_texts(why: Why, verdict: Verdict) -> list[str]:
+    """How many points are enough, and a way in and a way out."""
+    view, club = why.view, verdict.club
+    parts = []
+    score = why.score_of(club, verdict.places)
+    if score is not None:
+        words = score_words(score, why.points.now[club], why.points.left[club])
+        parts.append(paragraph(plain(words), 2))
+    with Trial(why.path, trial_data(why.data_for(verdict.places)), view.sheet, view.season,
+               verdict.places) as trial:
+        for claim, verb in (("inside", "They are in"), ("outside", "They are out")):
+            if claim in verdict.examples:
+                way = way_of(trial, club, verdict.examples[claim])
+                parts.append(paragraph(way_text(view.sheet, view.season, way, verb), 2))
+    return parts
