@@ -61,7 +61,10 @@ TABLE_ROWS = "ask,0\nplace,1,1,A,0,0,0,0\nplace,2,2,B,0,0,0,0\n"
 
 
 class Standin:
-    """A program that gives one text and status a mode, and the usage for any other words."""
+    """A program that gives one text and status a mode, and the usage for any other words.
+
+    How many workers it is to have makes no difference.
+    """
 
     def __init__(self, folder: str) -> None:
         self.path = Path(folder) / "futmax"
@@ -69,10 +72,11 @@ class Standin:
 
     def answers(self, words: str, text: str, status: int = 0) -> None:
         """Sets what these words answer."""
-        self.modes[words] = (text, status)
+        self.modes[words.replace(" --workers 1", "")] = (text, status)
         lines = ["#!/usr/bin/env python3", "import sys", "sys.stdin.buffer.read()",
                  f"modes = {self.modes!r}",
-                 f"text, status = modes.get(' '.join(sys.argv[1:]), ({USAGE + chr(10)!r}, 1))",
+                 "words = ' '.join(sys.argv[1:]).replace(' --workers 1', '')",
+                 f"text, status = modes.get(words, ({USAGE + chr(10)!r}, 1))",
                  "sys.stdout.write(text)", "sys.exit(status)"]
         self.path.write_text("\n".join(lines) + "\n")
         self.path.chmod(self.path.stat().st_mode | stat.S_IXUSR)

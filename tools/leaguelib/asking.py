@@ -4,7 +4,9 @@ more with a greater budget where a row is unsettled.
 
 from __future__ import annotations
 
+from contextlib import contextmanager
 from dataclasses import dataclass, field
+from typing import Iterator
 
 from . import common
 from .answers import Answer
@@ -49,26 +51,26 @@ class Outcome:
     stop: Stop | None = None
 
 
-def found_program(given: str | None) -> str:
-    """Where the program stands; where it is not there the status is that of a build that failed."""
-    try:
-        return common.program_path(given)
-    except common.Trouble as trouble:
-        raise common.Trouble(f"{trouble.message}.", common.OWN_FAULT) from trouble
-
-
 def run_mode(path: str, mode: str, data: bytes, *words: str) -> Run:
     """Runs a mode of the program with one worker."""
+    return run_program(path, [mode, *ONE_WORKER, *words], data)
+
+
+@contextmanager
+def futmax_statuses() -> Iterator[None]:
+    """Gives a program that is not there, or cannot be run, the status of a build that failed."""
     try:
-        return run_program(path, [mode, *ONE_WORKER, *words], data)
+        yield
     except common.Trouble as trouble:
-        raise common.Trouble(f"{trouble.message}. Build futmax, or name another one by --program.",
-                             common.OWN_FAULT) from trouble
+        if trouble.status != common.NO_PROGRAM:
+            raise
+        raise common.Trouble(f"{trouble.message.rstrip('.')}. Build futmax, or name another one "
+                             "by --program.", common.OWN_FAULT) from trouble
 
 
 def ask_mode(path: str, mode: str, given: Given, wanted: list[int] | None = None,
              budget: int | None = None, asks_again: bool = True) -> Outcome:
-    """The answers of a mode to the asks of an input: to all, or to those that are wanted, from 0."""
+    """The answers of a mode to the asks of an input: to all, or to the wanted ones, from 0."""
     league = league_of(given.data)
     if league is None:
         run = run_mode(path, mode, given.data)

@@ -7,7 +7,7 @@ from __future__ import annotations
 import argparse
 
 from . import common
-from .asking import found_program, run_mode
+from .asking import futmax_statuses, run_mode
 from .files import Joined
 from .given import Given, add_file_arguments, ended, given_of, read_all
 from .objects import line_of
@@ -30,7 +30,8 @@ def add_arguments(parser: argparse.ArgumentParser) -> None:
 def run(arguments: argparse.Namespace) -> int:
     """Has the report checked, says how it went, and gives the exit status."""
     given = given_report(arguments.files)
-    done = run_mode(found_program(arguments.program), "check", given.data)
+    with futmax_statuses():
+        done = run_mode(common.program_path(arguments.program), "check", given.data)
     stop = stop_of(done, given)
     row = fields_of(done.output.splitlines()[-1]) if done.output else []
     if stop is None and (len(row) != 3 or row[0] != "accepted"):

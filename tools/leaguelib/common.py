@@ -88,7 +88,8 @@ def read_bytes(path: str) -> bytes:
                 data = file.read(MOST_INPUT_BYTES + 1)
     except (OSError, ValueError) as fault:
         reason = getattr(fault, "strerror", None) or str(fault)
-        raise Trouble(f"{path}: cannot be read: {reason}", CANNOT_READ) from fault
+        raise Trouble(f"{path}: cannot be read: {reason}. Look at its name and at your rights, or "
+                      "name another file", CANNOT_READ) from fault
     if len(data) > MOST_INPUT_BYTES:
         raise Trouble(f"{path}: this has more than {MOST_INPUT_BYTES:,} bytes, the most that "
                       "futmax takes")

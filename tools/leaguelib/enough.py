@@ -1,4 +1,4 @@
-"""Qualification scores in words and in results: how many points are enough, and how many too few."""
+"""Qualification scores in words and results: how many points are enough, how many too few."""
 
 from __future__ import annotations
 
@@ -14,8 +14,34 @@ def score_words(score: Score, now: int, left: int) -> str:
         return "out, with any number of points."
     if guaranteed["most"] <= max(0, now):
         return "in, with any number of points."
-    return " ".join(part for part in (_enough(guaranteed, now, left), _too_few(possible, now, left))
-                    if part)
+    if left == 1:
+        parts = [_enough_in_one(guaranteed, now), _too_little_in_one(possible, now)]
+    else:
+        parts = [_enough(guaranteed, now, left), _too_few(possible, now, left)]
+    return " ".join(part for part in parts if part)
+
+
+def _enough_in_one(found: dict, now: int) -> str:
+    """Which result of the last match is enough."""
+    least, most = found["least"] - now, found["most"] - now
+    if most <= 1:
+        return "a draw is enough, whatever else happens."
+    if most <= 3:
+        more = " Whether a draw is enough too is not settled." if least <= 1 else ""
+        return "a win is enough, whatever else happens." + more
+    if least > 3:
+        return "even a win is not enough by itself: the others count too."
+    return "whether a win is enough by itself is not settled."
+
+
+def _too_little_in_one(found: dict, now: int) -> str:
+    """Which results of the last match are too little."""
+    least, most = found["least"] - now, found["most"] - now
+    sure = "With a draw or a defeat they are out." if least > 1 else (
+        "With a defeat they are out." if least > 0 else "")
+    if most <= 0:
+        return "Even with a defeat they can be in."
+    return sure if sure or least == most else "Whether a defeat is too little is not settled."
 
 
 def _enough(found: dict, now: int, left: int) -> str:
@@ -45,15 +71,11 @@ def results_text(need: int, left: int) -> str:
     """So many points in results, at the least, out of the matches that are left."""
     if need <= 0:
         return "they have them"
-    if left == 1:
-        return "a draw is enough" if need == 1 else "a win is enough"
     return f"{counted(need, 'point')} from {left} matches, {least_results(need, left)}"
 
 
 def needed_text(need: int, left: int) -> str:
     """So many points that are needed at least."""
-    if left == 1:
-        return "a draw is needed at least" if need == 1 else "a win is needed"
     return (f"{counted(need, 'point')} from {left} matches are needed at least, "
             f"{least_results(need, left)}")
 

@@ -20,6 +20,7 @@ from .given import Given, add_file_arguments, ended, gather
 from .progress import Progress, add_progress_argument
 from .proved import Told, own_report, refusal_of_report
 from .running import ask_lines
+from .screen import limit_text
 from .stopped import league_in
 from .texts import Season, Sheet
 from .view import View, first_screen, viewed
@@ -46,6 +47,8 @@ def add_arguments(parser: argparse.ArgumentParser) -> None:
     parser.add_argument("--line", type=int, metavar="K", help="the first K places alone")
     parser.add_argument("--answer", metavar="FILE",
                         help="explain this report instead of running the program")
+    parser.add_argument("--proof", action="store_true",
+                        help="tell the steps of the proof also where a shorter reason holds")
     parser.add_argument("--steps", type=int, metavar="N", default=USUAL_STEPS,
                         help=f"tell proofs of at most N lines ({USUAL_STEPS})")
     add_alias_argument(parser)
@@ -88,8 +91,9 @@ def _text(arguments: argparse.Namespace, view: View, path: str, proved: Told | N
         return first_screen(view) + "\n" + paragraph(
             "Why: `league explain --why CLUB` behind the same files.") + "\n"
     wanted = lines if arguments.line is None else [arguments.line]
-    why = Why(view, path, proved, arguments.steps)
-    return "\n".join(why_text(why, club, wanted) for club in clubs)
+    why = Why(view, path, proved, arguments.steps, arguments.proof)
+    texts = [limit_text(sheet, view.season) + "\n"]
+    return "\n".join(texts + [why_text(why, club, wanted) for club in clubs])
 
 
 def _own_answer(arguments: argparse.Namespace, given: Given,

@@ -7,7 +7,7 @@ from typing import Callable
 
 from . import common
 from .answers import Answer
-from .asking import (Asked, Outcome, ask_mode, budget_note, found_program, league_of,
+from .asking import (Asked, Outcome, ask_mode, budget_note, futmax_statuses, league_of,
                      position_of)
 from .given import Given, add_file_arguments, gather
 from .objects import line_of, objects_of
@@ -52,32 +52,35 @@ def _budget(text: str) -> int:
 def answered(arguments: argparse.Namespace, mode: str, tell: Tell) -> int:
     """Asks the program in this mode, writes its answer as it is wanted, and gives the status."""
     given = gather(arguments.files)
-    path = found_program(arguments.program)
     is_for_people = not (arguments.json or arguments.rows)
-    wanted = wanted_asks(given, arguments.ask, is_for_people)
-    with Progress(f"futmax {mode}", 0, arguments.progress):
+    with Progress(f"futmax {mode}", 0, arguments.progress), futmax_statuses():
+        path = common.program_path(arguments.program)
+        wanted = wanted_asks(given, mode, arguments.ask, is_for_people)
         outcome = ask_mode(path, mode, given, wanted, getattr(arguments, "budget", None))
-    if outcome.stop is not None and is_for_people:
-        raise common.Trouble(outcome.stop.message, outcome.stop.status)
-    if is_for_people:
-        common.write_text(tell(given, outcome, path))
-    else:
-        common.write_text(_for_programs(given, outcome, arguments))
-    for ask in outcome.asked if outcome.league is not None else []:
-        note = budget_note(ask)
-        if note and not is_for_people:
-            common.say(f"league: ask {ask.position + 1}: {note}")
+        text = "" if is_for_people and outcome.stop else (
+            tell(given, outcome, path) if is_for_people
+            else _for_programs(given, outcome, arguments))
+    common.write_text(text)
+    if not is_for_people and outcome.league is not None:
+        for ask in outcome.asked:
+            if budget_note(ask):
+                common.say(f"league: ask {ask.position + 1}: {budget_note(ask)}")
     if outcome.stop is not None:
         raise common.Trouble(outcome.stop.message, outcome.stop.status)
     return common.DONE
 
 
-def wanted_asks(given: Given, wanted: int | None, is_for_people: bool) -> list[int] | None:
-    """The asks to answer, from 0: all, or the one that is wanted, or the last one for people."""
+def wanted_asks(given: Given, mode: str, wanted: int | None,
+                is_for_people: bool) -> list[int] | None:
+    """The asks to answer, from 0: all, or the one that is wanted; for people the last one, and of
+    verdicts also the one before it, for what changed.
+    """
     league = league_of(given.data)
     if league is None or (wanted is None and not is_for_people):
         return None
-    return [position_of(league, wanted)]
+    position = position_of(league, wanted)
+    has_earlier = is_for_people and mode == "verdicts" and position > 0
+    return [position - 1, position] if has_earlier else [position]
 
 
 def _for_programs(given: Given, outcome: Outcome, arguments: argparse.Namespace) -> str:

@@ -45,11 +45,17 @@ class Given:
 
     def quoted(self, line: int) -> str:
         """The line of the whole as a message shows it; nothing where there is no such line."""
-        rows = self.data.split(b"\n")
-        if not 1 <= line <= len(rows) or not rows[line - 1].strip():
+        text = self.text_of(line)
+        if not text:
             return ""
-        text = rows[line - 1].rstrip(b"\r").decode("utf-8", "surrogateescape")
         return shown(text if len(text) <= MOST_QUOTED else text[:MOST_QUOTED] + "..")
+
+    def text_of(self, line: int) -> str:
+        """The line of the whole, without its end; nothing where there is no such line."""
+        rows = self.data.split(b"\n") if line > 0 else []
+        if line > len(rows) or not rows:
+            return ""
+        return rows[line - 1].rstrip(b"\r").decode("utf-8", "replace")
 
 
 def add_file_arguments(parser: argparse.ArgumentParser) -> None:

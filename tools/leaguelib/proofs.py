@@ -112,13 +112,12 @@ def _count_text(zone: Zone, verdict: Verdict, is_inside: bool) -> str:
     if is_inside:
         ahead = zone.marked(True)
         _hold(len(ahead) >= verdict.places)
-        return (f"With {_names(zone, ahead)} ahead, {club} is in place {len(ahead) + 1} or further "
-                f"down, and not in {place_phrase(verdict.places)}.")
+        return (f"With {_names(zone, ahead)} ahead, {club} is in "
+                f"{_from_place(len(ahead) + 1, size)}, and not in {place_phrase(verdict.places)}.")
     behind = zone.marked(False)
     _hold(len(behind) >= size - verdict.places)
-    left, place = size - 1 - len(behind), size - len(behind)
+    left, where = size - 1 - len(behind), _up_to_place(size - len(behind))
     others = f"at most {left} of the other {size - 1} clubs can be" if left else "no club is"
-    where = f"place {place} or higher" if left else f"place {place}"
     return (f"Then {_names(zone, behind)} {_is_are(behind)} not ahead of {club}, so {others}, and "
             f"{club} is in {where}: it does not miss {place_phrase(verdict.places)}.")
 
@@ -171,7 +170,8 @@ def _sum_text(zone: Zone, clubs: list[int], most: bool) -> str:
     more = f"{gets} {word} {listed(gains)}" if gains else "need not get any more"
     if most and not gains:
         more = f"{gets} no more"
-    return f"{listed(now)} points now and {more}: {word} {zone.points(clubs, most)}{together}."
+    noun = "point" if len(clubs) == 1 and zone.points_now(clubs[0]) == 1 else "points"
+    return f"{listed(now)} {noun} now and {more}: {word} {zone.points(clubs, most)}{together}."
 
 
 def _shared(fixture: Fixture, names: set[str], gain: int, most: bool) -> str:
@@ -211,9 +211,19 @@ def _tie_count_text(zone: Zone, verdict: Verdict, is_inside: bool,
     if marked:
         text += f" {_names(zone, marked)} {_is_are(marked)} supposed to be " + (
             "ahead." if is_inside else "not ahead.")
-    place = f"place {all_of_them + 1} or further down" if is_inside else (
-        f"place {size - all_of_them} or higher")
+    place = _from_place(all_of_them + 1, size) if is_inside else (
+        _up_to_place(size - all_of_them))
     return f"{text} So {shown(verdict.club)} is in {place}.".strip()
+
+
+def _from_place(place: int, size: int) -> str:
+    """This place or a later one, where there is one."""
+    return f"place {place} or further down" if place < size else f"place {place}"
+
+
+def _up_to_place(place: int) -> str:
+    """This place or a better one, where there is one."""
+    return f"place {place} or higher" if place > 1 else f"place {place}"
 
 
 def _rival_text(zone: Zone, rival: int, found: dict[int, tuple[str, str]]) -> str:

@@ -104,7 +104,7 @@ def _out_reason(points: Points, club: str, places: int) -> Reason | None:
     if found is None:
         return None
     text = f"{points.text(club)}. " + (f"{_ahead_text(points, tuple(ahead))} " if ahead else "")
-    text += _above_text(points, found, most)
+    text += _above_text(points, found, most, bool(ahead))
     return Reason("matches_between", text, most, tuple(ahead), found)
 
 
@@ -130,18 +130,15 @@ def _set_above(points: Points, ahead: list[str], club: str) -> tuple[str, ...] |
     return None
 
 
-def _above_text(points: Points, clubs: tuple[str, ...], most: int) -> str:
+def _above_text(points: Points, clubs: tuple[str, ...], most: int, is_one_more: bool) -> str:
     """Why one of these clubs ends with more points."""
     now, between = sum(points.now[club] for club in clubs), points.between(clubs)
     names = listed([f"{shown(club)} ({points.now[club]})" for club in clubs])
-    return (f"Of {names} one at least gets more too: they have {now} points together, and the "
-            f"{counted(between, 'match', 'matches')} between them {_gives(between)} them at least "
-            f"{2 * between} more. That is {points.least_together(clubs)}, and without one above "
-            f"{most} they would have {len(clubs) * most} at most.")
-
-
-def _gives(count: int) -> str:
-    return "gives" if count == 1 else "give"
+    matches = "match between them gives" if between == 1 else f"{between} matches between them give"
+    return (f"Of {names} one at least gets more{' too' if is_one_more else ''}: they have {now} "
+            f"points together, and the {matches} them at least {2 * between} more, a point each "
+            f"for a draw. That is {points.least_together(clubs)}, and without one above {most} "
+            f"they would have {len(clubs) * most} at most.")
 
 
 def _in_reason(points: Points, club: str, places: int) -> Reason | None:
@@ -158,7 +155,8 @@ def _in_reason(points: Points, club: str, places: int) -> Reason | None:
         return None
     chosen = tuple(reversed(behind))
     text = _has_text(points, club) + (_behind_text(points, chosen, now) + " " if chosen else "")
-    return Reason("matches_between", text + _below_text(points, found, now), now, chosen, found)
+    text += _below_text(points, found, now, bool(chosen))
+    return Reason("matches_between", text, now, chosen, found)
 
 
 def _has_text(points: Points, club: str) -> str:
@@ -198,11 +196,12 @@ def _set_below(points: Points, behind: list[str], club: str) -> tuple[str, ...] 
     return None
 
 
-def _below_text(points: Points, clubs: tuple[str, ...], bound: int) -> str:
+def _below_text(points: Points, clubs: tuple[str, ...], bound: int, is_one_more: bool) -> str:
     """Why one of these clubs stays below these points."""
     names = listed([f"{shown(club)} (at most {points.most[club]})" for club in clubs])
     most, between = sum(points.most[club] for club in clubs), points.between(clubs)
-    return (f"Of {names} one at least cannot either: they play "
+    cannot = "cannot either" if is_one_more else f"cannot get {bound}"
+    return (f"Of {names} one at least {cannot}: they play "
             f"{counted(between, 'match', 'matches')} between them, in which not both can win, so "
             f"they get at most {points.most_together(clubs)} together, {3 * between} fewer than "
             f"{most}, and {bound} each would be {len(clubs) * bound}.")

@@ -45,7 +45,7 @@ def line_texts(names: LineNames, marks: Marks, table: list[Place]) -> list[str]:
     order = [place.club for place in table]
     texts = []
     for places, words in marks.items():
-        groups = {word: [club for club in order if words[club] == word]
+        groups = {word: [club for club in order if words.get(club) == word]
                   for word in ("in", "open", "not settled", "out")}
         title = names.place(places)
         texts.append(paragraph(f"{title[:1].upper()}{title[1:]}. "
@@ -77,7 +77,7 @@ def table_text(sheet: Sheet, season: Season, table: list[Place], marks: Marks,
     heads += [_head(places, names) for places in marks]
     rows = [[_places(place), shown(place.club), str(place.played), str(place.points),
              str(to_come(sheet, season, place.club)), f"{place.difference:+d}"]
-            + [words[place.club] for words in marks.values()] for place in table]
+            + [words.get(place.club, "") for words in marks.values()] for place in table]
     widths = [max(len(row[at]) for row in [heads, *rows]) for at in range(len(heads))]
     is_left = [at == 1 or at > 5 for at in range(len(heads))]
     return ["  ".join(text.ljust(width) if left else text.rjust(width)

@@ -6,13 +6,10 @@ Every sentence on a decided place names the goal limit on which it rests.
 from __future__ import annotations
 
 from . import common
-from .answers import Answer, Example, Verdict
-from .feeds import Input
+from .answers import Example, Verdict
 from .proofs import DoesNotAddUp, steps_of
-from .running import ask_lines
 from .texts import MOST_BUDGET, Season, Sheet
-from .wording import (counted, limit_phrase, listed, lots_phrase, match_text, paragraph,
-                      place_phrase, rules_phrase, score_text, shown)
+from .wording import counted, listed, lots_phrase, paragraph, place_phrase, score_text, shown
 
 USUAL_STEPS = 100
 

@@ -9,7 +9,7 @@ from __future__ import annotations
 from typing import Callable
 
 from .texts import Fixture
-from .wording import listed, shown
+from .wording import counted, listed, shown
 from .zones import Score, Zone, match_points
 
 Range = tuple[int, int]
@@ -46,7 +46,8 @@ class Standing:
         own, its = self.points[club], self.points[rival]
         if own != its:
             return ("above" if its > own else "below",
-                    f"{self._name(rival)} ends on {its} points and {self._name(club)} on {own}")
+                    f"{self._name(rival)} ends on {counted(its, 'point')} and "
+                    f"{self._name(club)} on {own}")
         group = [other for other in self.points if self.points[other] == own]
         if self.zone.sheet.order == "overall_first":
             found, smaller = self._by_parts(rival, group, OVERALL, whole=True)
@@ -77,8 +78,9 @@ class Standing:
             if theirs[0] > mine[1] or theirs[1] < mine[0]:
                 where = "over all matches" if whole else "in the matches among " + listed(
                     [self._name(club) for club in group])
-                why = (f"level on {self.points[rival]} points; {where}, {self._name(rival)} has "
-                       f"{word} {_text(theirs)} and {self._name(self.zone.club)} {_text(mine)}")
+                why = (f"level on {counted(self.points[rival], 'point')}; {where}, "
+                       f"{self._name(rival)} has {word} {_text(theirs)} and "
+                       f"{self._name(self.zone.club)} {_text(mine)}")
                 return ("above" if theirs[0] > mine[1] else "below", why), []
             if mine != theirs or mine[0] != mine[1]:
                 return ("unknown", ""), []

@@ -47,7 +47,7 @@ class Stop:
         """The same for programs."""
         name, number = given.file_and_line(self.line) if self.line else ("", 0)
         return {"type": "fault", "status": self.status, "code": self.code, "file": name,
-                "line": number, "message": self.message}
+                "line": number, "text": given.text_of(self.line), "message": self.message}
 
 
 def stop_of(run: Run, given: Given) -> Stop | None:

@@ -34,6 +34,7 @@ class Why:
     path: str
     told: Told | None = None
     most_steps: int = USUAL_STEPS
+    wants_proof: bool = False
     scores: dict[int, list[Score]] = field(default_factory=dict)
 
     def __post_init__(self) -> None:
@@ -100,15 +101,17 @@ def _decided_texts(why: Why, verdict: Verdict) -> list[str]:
     """The shortest reason that holds, or the steps of the proof."""
     view, is_in = why.view, verdict.word == "clinched"
     reason = short_reason(why.points, view.table, verdict.club, verdict.places, is_in)
-    if reason is not None:
-        return [paragraph(reason.text, 2)]
-    found = why.proof_of(verdict) if why.most_steps else None
+    parts = [paragraph(reason.text, 2)] if reason is not None else []
+    if reason is not None and not why.wants_proof:
+        return parts
+    found = why.proof_of(verdict)
     if found is None:
-        return [paragraph("Points alone do not tell it, and no proof of it was checked here.", 2)]
-    intro = "Points alone do not tell it. The steps of the proof, which the program's check accepts:"
+        return parts or [paragraph("Points alone do not tell it, and no proof of it was checked "
+                                   "here.", 2)]
+    intro = "" if reason else "Points alone do not tell it. "
     claim = "outside" if is_in else "inside"
-    return [paragraph(intro, 2), *proof_steps(view.sheet, view.season, found, claim,
-                                              why.most_steps)]
+    return [*parts, paragraph(f"{intro}The proof, which the program's check accepts, in steps:", 2),
+            *proof_steps(view.sheet, view.season, found, claim, why.most_steps)]
 
 
 def _open_texts(why: Why, verdict: Verdict) -> list[str]:

@@ -71,7 +71,7 @@ def rules_phrase(sheet: Sheet, season: Season) -> str:
     first = "goal difference and goals over all matches" if sheet.order == "overall_first" else (
         "the matches between them")
     deducted = [f"{shown(name)} {points}" for name, points in season.deductions.items() if points]
-    text = f"Between clubs level on points {first} count first."
+    text = f"Between clubs level on points, {first} count first."
     return text + (f" Points deducted: {listed(deducted)}." if deducted else "")
 
 
