@@ -2,6 +2,7 @@
 
 The program is run on the sheet with other `line` records, four lines a run, until each place is
 asked for. A best place is the first line that is not lost, a worst one the first that is clinched.
+Files are a sheet and one feed or several; the end of a feed without an `ask` counts as one.
 """
 
 from __future__ import annotations
@@ -12,11 +13,15 @@ from dataclasses import dataclass
 
 from . import common
 from .answers import Answer
+from .asking import position_of, run_mode, with_asks
 from .feeds import Input
-from .records import record_of, lines_of, row_text
-from .running import (add_input_arguments, ask_lines, front_of, position_of_ask, read_files,
-                      read_league, report_of, run_program)
-from .texts import MOST_LINES, Season, Sheet
+from .given import Given, add_file_arguments, gather
+from .lines import line_runs, with_lines_of
+from .progress import Progress, add_progress_argument
+from .records import row_text
+from .running import report_of
+from .stopped import league_in
+from .texts import Season, Sheet
 from .wording import counted, limit_phrase, paragraph, shown
 
 RUNS_AT_ONCE = 4
@@ -35,18 +40,21 @@ class Reach:
 
 def add_arguments(parser: argparse.ArgumentParser) -> None:
     """The words of this part."""
-    add_input_arguments(parser)
+    add_file_arguments(parser)
+    parser.add_argument("--ask", type=int, metavar="N",
+                        help="look at the Nth ask of the feed, from 1; otherwise at the last")
     parser.add_argument("--csv", action="store_true",
                         help="rows `reach,BEST,WORST,CLUB` instead of a table for people")
+    add_progress_argument(parser)
 
 
 def run(arguments: argparse.Namespace) -> int:
     """Prints the places of each club, and gives the exit status."""
-    data = read_files(arguments.files)
-    league = read_league(data)
-    position = position_of_ask(league, arguments.ask)
+    given = gather(arguments.files)
+    league = league_in(given)
+    position = position_of(league, arguments.ask)
     path = common.program_path(arguments.program)
-    found = reach_of(path, data, league, position)
+    found = reach_of(path, given, league, position, arguments.progress)
     if arguments.csv:
         text = "".join(row_text("reach", entry.best, entry.worst, entry.club) for entry in found)
     else:
@@ -56,35 +64,21 @@ def run(arguments: argparse.Namespace) -> int:
     return common.DONE if is_sure else common.DOUBTFUL
 
 
-def reach_of(path: str, data: bytes, league: Input, position: int) -> list[Reach]:
+def reach_of(path: str, given: Given, league: Input, position: int,
+             shows_progress: bool = False) -> list[Reach]:
     """The best and worst place of each club, in the order of the sheet."""
-    places = list(range(1, len(league.sheet.clubs)))
-    runs = [places[at:at + MOST_LINES] for at in range(0, len(places), MOST_LINES)]
-    ask_line = ask_lines(league)[position]
+    data = with_asks(given.data, league, [position])
+    runs = line_runs(list(range(1, len(league.sheet.clubs))))
+    with Progress("places", len(runs), shows_progress) as progress:
 
-    def words_of(lines: list[int]) -> Answer:
-        asked = with_lines(front_of(data, ask_line), lines)
-        return report_of(run_program(path, ["verdicts", "--workers", "1"], asked)).answers[-1]
+        def answer_to(lines: list[int]) -> Answer:
+            answer = report_of(run_mode(path, "verdicts", with_lines_of(data, lines))).answers[-1]
+            progress.step()
+            return answer
 
-    with ThreadPoolExecutor(RUNS_AT_ONCE) as pool:
-        answers = list(pool.map(words_of, runs))
+        with ThreadPoolExecutor(RUNS_AT_ONCE) as pool:
+            answers = list(pool.map(answer_to, runs))
     return [_reach(league.sheet, club.name, answers) for club in league.sheet.clubs]
-
-
-def with_lines(data: bytes, lines: list[int]) -> bytes:
-    """The input with these `line` records in place of its own, and with one ask, at its end."""
-    kept = []
-    is_sheet = True
-    for number, raw in lines_of(data):
-        record = record_of(number, raw)
-        kind = record.kind if record else ""
-        if is_sheet and kind == "season":
-            kept += [b"line,%d" % places for places in lines]
-            is_sheet = False
-        elif (is_sheet and kind == "line") or (not is_sheet and kind == "ask"):
-            continue
-        kept.append(raw)
-    return b"\n".join([*kept, b"ask"]) + b"\n"
 
 
 def _reach(sheet: Sheet, club: str, answers: list[Answer]) -> Reach:

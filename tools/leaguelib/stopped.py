@@ -72,7 +72,7 @@ def _refusal(status: int, line: int, code: str, given: Given) -> Stop:
                     f"{place}: {REPORT_WORDS.get(code, code)} (`{code}`). {REFUSED_REPORT}.")
     finding = _finding(given, line)
     reason = finding.message if finding else f"{_words(given, line, code)}."
-    text = f"{place}: {reason} (`{code}`, status {status})"
+    text = f"{place}: {reason} (`{code}`)"
     if finding and finding.instead:
         text += " Write: " + " and then ".join(shown(row) for row in finding.instead)
     elif finding and finding.is_dropped:

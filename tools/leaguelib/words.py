@@ -53,7 +53,7 @@ def _count(number: int) -> str:
 def _unknown_record(kind: str, where: str) -> str:
     """A first word that does not fit here."""
     if kind in ANSWER_WORDS or kind.startswith("["):
-        return "this is a row of an answer of futmax; lint reads what goes into it: sheet and feed"
+        return "this is a row of an answer of futmax, and no line of a sheet or a feed"
     if where == "feed" and kind in ("club", "match", "line", "league"):
         return f"`{kind}` belongs into the sheet: move this line up, before `season`"
     if where == "feed" and kind == "season":

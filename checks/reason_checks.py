@@ -1,0 +1,116 @@
+"""Tests of short reasons: each is held against every outcome of the open matches, and its numbers
+against points that are added up here.
+"""
+
+import itertools
+import random
+import re
+import sys
+import unittest
+from pathlib import Path
+
+HOME = Path(__file__).resolve().parent.parent
+sys.path.insert(0, str(HOME / "tools"))
+from leaguelib.feeds import read_input  # noqa: E402
+from leaguelib.reasons import Points, short_reason  # noqa: E402
+
+NUMBER = re.compile(r"(Club [A-F]) \((at most )?(-?\d+)\)")
+
+
+class Drawn:
+    """A small league with some matches open, and the points of each club added up by hand."""
+
+    def __init__(self, chance: random.Random) -> None:
+        self.clubs = [f"Club {letter}" for letter in "ABCDEF"[:chance.randint(3, 6)]]
+        pairs = list(itertools.permutations(self.clubs, 2))
+        chance.shuffle(pairs)
+        self.matches = pairs[:chance.randint(4, 15)]
+        self.open = list(range(max(0, len(self.matches) - chance.randint(1, 5)),
+                               len(self.matches)))
+        self.scores = {number: (chance.randint(0, 3), chance.randint(0, 3))
+                       for number in range(len(self.matches)) if number not in self.open}
+        self.deducted = {chance.choice(self.clubs): chance.randint(0, 4)}
+
+    def data(self) -> bytes:
+        """The league as sheet and feed."""
+        rows = ["league,Drawn,9", *[f"club,{club},1" for club in self.clubs],
+                *[f"match,{home},{away}" for home, away in self.matches], "season"]
+        rows += [f"result,{number + 1},{home},{away}"
+                 for number, (home, away) in self.scores.items()]
+        rows += [f"deduct,{club},{points}" for club, points in self.deducted.items()]
+        return "\n".join([*rows, "ask"]).encode() + b"\n"
+
+    def points(self, outcomes: dict[int, tuple[int, int]]) -> dict[str, int]:
+        """The points of each club, where open matches bring so many to both sides."""
+        points = {club: -self.deducted.get(club, 0) for club in self.clubs}
+        for number, (home, away) in enumerate(self.matches):
+            if number in self.scores:
+                goals, others = self.scores[number]
+                gains = (1, 1) if goals == others else (3, 0) if goals > others else (0, 3)
+            else:
+                gains = outcomes.get(number, (0, 0))
+            points[home] += gains[0]
+            points[away] += gains[1]
+        return points
+
+    def tables(self) -> list[dict[str, int]]:
+        """The points of each club in every outcome of the open matches."""
+        return [self.points(dict(zip(self.open, gains)))
+                for gains in itertools.product(((3, 0), (1, 1), (0, 3)), repeat=len(self.open))]
+
+
+class ReasonTests(unittest.TestCase):
+    """Reasons of drawn leagues."""
+
+    def test_every_reason_holds_in_every_outcome(self) -> None:
+        chance = random.Random(51)
+        told = {"points": 0, "matches_between": 0}
+        for _ in range(120):
+            drawn = Drawn(chance)
+            league = read_input(drawn.data())
+            points = Points(league.sheet, league.season_at(0))
+            tables = drawn.tables()
+            for club, places, is_in in itertools.product(
+                    drawn.clubs, range(1, len(drawn.clubs)), (True, False)):
+                reason = short_reason(points, [], club, places, is_in)
+                if reason is not None:
+                    told[reason.kind] += 1
+                    self.assertTrue(self.holds(tables, club, places, is_in), reason.text)
+                    self.numbers_are_right(drawn, reason.text)
+        self.assertGreater(told["points"], 300)
+        self.assertGreater(told["matches_between"], 20)
+
+    def holds(self, tables: list[dict[str, int]], club: str, places: int, is_in: bool) -> bool:
+        """Whether points alone decide the place in each table."""
+        for table in tables:
+            above = sum(points > table[club] for points in table.values())
+            level = sum(points >= table[club] for points in table.values()) - 1
+            if (level >= places) if is_in else (above < places):
+                return False
+        return True
+
+    def numbers_are_right(self, drawn: Drawn, text: str) -> None:
+        """Each number behind a name is what the club has, or can get at most."""
+        now = drawn.points({})
+        for club, most, number in NUMBER.findall(text):
+            left = sum(club in drawn.matches[number] for number in drawn.open)
+            wanted = now[club] + (3 * left if most else 0)
+            self.assertEqual(int(number), wanted, text)
+
+    def test_points_alone_are_never_overlooked(self) -> None:
+        chance = random.Random(3)
+        for _ in range(60):
+            drawn = Drawn(chance)
+            league = read_input(drawn.data())
+            points = Points(league.sheet, league.season_at(0))
+            now = drawn.points({})
+            most = {club: now[club] + 3 * sum(club in drawn.matches[number]
+                                              for number in drawn.open) for club in now}
+            for club, places in itertools.product(now, range(1, len(now))):
+                ahead = sum(points > most[club] for points in now.values())
+                behind = sum(most[rival] < now[club] for rival in now if rival != club)
+                found = short_reason(points, [], club, places, False)
+                self.assertEqual(found is not None and found.kind == "points", ahead >= places)
+                found = short_reason(points, [], club, places, True)
+                self.assertEqual(found is not None and found.kind == "points",
+                                 behind >= len(now) - places)
