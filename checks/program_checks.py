@@ -2,20 +2,29 @@
 
 import csv
 import io
+import itertools
 import json
 import os
 import re
 import subprocess
 import sys
+import tempfile
 import unittest
 from pathlib import Path
+
+from reference import League, Sums, blocks_of, reach, take
+from schema import faults_of
 
 HOME = Path(__file__).resolve().parent.parent
 LEAGUE = HOME / "tools" / "league"
 EXAMPLES = sorted(path.parent for path in (HOME / "examples").glob("*/wanted.csv"))
+SHIRE = HOME / "examples" / "shire-league-20"
 PROGRAM = os.environ.get("FUTMAX") or str(HOME / "crates" / "futmax" / "out" / "futmax")
 SCHEMA = json.loads((HOME / "docs" / "answer.schema.json").read_text("utf-8"))
 SHORT = {"clinched": "in", "lost": "out", "possible": "open"}
+WAY = re.compile(r"They are (in|out), for example, if (?:this ends|these end) (.*?)"
+                 r"(; the other (?:match does|\d+ matches do) not matter)?\.(?= They|$)")
+MOST_FINISHES = 10_000
 
 
 def is_there() -> bool:
@@ -29,6 +38,249 @@ def league(*words: object, data: bytes = b"") -> subprocess.CompletedProcess:
                           capture_output=True, check=False, env={**os.environ, "FUTMAX": PROGRAM})
 
 
-def rows_of(text: str) -> list[list[str]]:
-    """The fields of each row."""
-    return list(csv.reader(io.StringIO(text)))
+def files_of(example: Path) -> tuple[Path, Path]:
+    """The sheet and the feed of an example."""
+    return example / "sheet.csv", example / "feed.csv"
+
+
+def wanted_rows(example: Path) -> list[str]:
+    """The verdict rows that another program worked out."""
+    return (example / "wanted.csv").read_text("utf-8").splitlines()
+
+
+def verdicts_in(done: subprocess.CompletedProcess) -> list[str]:
+    """The verdict rows among what was written."""
+    return [row for row in done.stdout.decode().splitlines() if row.startswith("verdict,")]
+
+
+def asks_of(example: Path) -> list[League]:
+    """The season at each ask, as the plain reference reads it."""
+    found, season = [], League()
+    for path in files_of(example):
+        for fields in csv.reader(io.StringIO(path.read_text("utf-8"))):
+            if fields and not fields[0].startswith("#") and take(season, fields):
+                found.append(League(**{**vars(season), "scores": dict(season.scores),
+                                       "deducted": dict(season.deducted)}))
+    return found
+
+
+class AnswerTests(unittest.TestCase):
+    """Rows, objects and sentences of the examples."""
+
+    def test_rows_are_the_wanted_ones(self) -> None:
+        for example in EXAMPLES:
+            done = league("ask", "--rows", *files_of(example))
+            self.assertEqual((done.returncode, done.stderr), (0, b""))
+            self.assertEqual(verdicts_in(done), wanted_rows(example), example)
+
+    def test_objects_fit_the_schema_and_say_the_same(self) -> None:
+        for example in EXAMPLES:
+            done = league("ask", "--json", "--examples", *files_of(example))
+            objects = [json.loads(line) for line in done.stdout.decode().splitlines()]
+            for value in objects:
+                self.assertEqual(faults_of(value, SCHEMA, SCHEMA), [])
+            rows = [[str(it["line"]), it["club"], it["verdict"]] for it in objects
+                    if it["type"] == "verdict"]
+            self.assertEqual(rows, [it[1:] for it in csv.reader(wanted_rows(example))])
+            self.closes_each_ask(objects)
+            for it in objects:
+                self.assertEqual(sorted(it.get("finishes", {})),
+                                 ["inside", "outside"] if it.get("verdict") == "possible" else [])
+
+    def closes_each_ask(self, objects: list[dict]) -> None:
+        """An opening, its rows and one that closes and counts them, ask after ask."""
+        rows = 0
+        for value in objects:
+            if value["type"] == "ask":
+                rows = 0
+            elif value["type"] == "end":
+                self.assertEqual((value["rows"], value["unsettled"]), (rows, 0))
+            else:
+                rows += 1
+        kinds = [value["type"] for value in objects if value["type"] in ("ask", "end")]
+        self.assertEqual(kinds, ["ask", "end"] * (len(kinds) // 2))
+
+    def test_tables_and_scores_fit_the_schema(self) -> None:
+        for example in EXAMPLES:
+            for part in ("table", "scores"):
+                done = league(part, "--json", *files_of(example))
+                objects = [json.loads(line) for line in done.stdout.decode().splitlines()]
+                self.assertTrue(objects)
+                for value in objects:
+                    self.assertEqual(faults_of(value, SCHEMA, SCHEMA), [])
+                self.closes_each_ask(objects)
+
+    def test_the_screen_says_who_is_in_and_out(self) -> None:
+        for example in EXAMPLES:
+            season = asks_of(example)[-1]
+            count = len(season.clubs) * len(season.lines)
+            wanted = {(line, club): SHORT[word] for _, line, club, word
+                      in csv.reader(wanted_rows(example)[-count:])}
+            text = league("ask", *files_of(example)).stdout.decode()
+            self.assertLessEqual(text.count("\n"), 60)
+            for club in season.clubs:
+                row = next(it for it in text.splitlines()
+                           if re.match(rf" *\d+(-\d+)?  {re.escape(club)}  ", it))
+                words = row.split()[-len(season.lines):]
+                self.assertEqual(words, [wanted[str(line), club] for line in season.lines])
+
+    def test_files_standard_input_and_an_added_ask_say_the_same(self) -> None:
+        sheet, feed = files_of(HOME / "examples" / "euro-2024-group-b")
+        whole = sheet.read_bytes() + feed.read_bytes()
+        wanted = league("ask", "--json", sheet, feed).stdout
+        self.assertEqual(league("ask", "--json", data=whole).stdout, wanted)
+        self.assertEqual(league("ask", "--json", "-", feed, data=sheet.read_bytes()).stdout, wanted)
+        self.assertEqual(league("ask", feed, "--json", sheet).stdout, wanted)
+        last = league("ask", "--rows", "--ask", "2", sheet, feed).stdout
+        ended = whole.replace(b"ask\n", b"")
+        self.assertEqual(league("ask", "--rows", data=ended).stdout, last)
+
+    def test_the_same_words_in_ten_runs(self) -> None:
+        files = (SHIRE / "sheet.csv", SHIRE / "matchdays.csv")
+        said = {league("ask", "--rows", "--ask", "3", *files).stdout for _ in range(10)}
+        self.assertEqual(len(said), 1)
+
+    def test_unsettled_rows_are_asked_again(self) -> None:
+        wanted = (SHIRE / "wanted-matchdays.csv").read_text("utf-8").splitlines()
+        sheet = (SHIRE / "sheet.csv").read_bytes().replace(b"League,9\n", b"League,9,1\n", 1)
+        data = sheet + (SHIRE / "matchdays.csv").read_bytes()
+        done = league("ask", "--rows", "--ask", "4", data=data)
+        self.assertEqual(verdicts_in(done), wanted[180:240])
+        self.assertIn(b"asked again with the budget 50,000", done.stderr)
+        done = league("ask", "--rows", "--ask", "4", "--budget", "1", data=data)
+        self.assertIn(b"are unsettled (the budget was 1)", done.stderr)
+
+
+class SentenceTests(unittest.TestCase):
+    """Sentences of `explain --why`, held against every finish that is left."""
+
+    def told(self, example: Path, number: int) -> list[tuple[str, int, str]]:
+        """What is said of each club and line at an ask."""
+        done = league("explain", "--all", "--ask", number, *files_of(example))
+        self.assertEqual(done.returncode, 0, done.stderr)
+        parts, club = [], ""
+        for text in done.stdout.decode().split("\n\n"):
+            text = " ".join(text.split())
+            head = re.match(r"(.*): place \d", text)
+            club = head.group(1) if head else club
+            line = re.match(r"(?:The|A place among the) first (place|\d+): ", text)
+            if line:
+                places = 1 if line.group(1) == "place" else int(line.group(1))
+                parts.append((club, places, text))
+        return parts
+
+    def test_ways_bring_the_club_in_or_out(self) -> None:
+        tried = 0
+        for example in EXAMPLES:
+            for number, season in enumerate(asks_of(example), 1):
+                if len(season.clubs) > 6 or not season.open_fixtures():
+                    continue
+                for club, places, text in self.told(example, number):
+                    for kind, scores, rest in WAY.findall(text):
+                        tried += 1
+                        self.leads(season, club, places, kind, scores, bool(rest), text)
+        self.assertGreater(tried, 20)
+
+    def leads(self, season: League, club: str, places: int, kind: str, scores: str, has_rest: bool,
+              text: str) -> None:
+        """With these scores the club is in, or out, in every finish of the other matches."""
+        needs_lots = ", and lots fall so" in scores
+        names = scores.removesuffix(", and lots fall so")
+        filled = League(**{**vars(season), "scores": dict(season.scores)})
+        named = [(number, f"{season.clubs[home]} – {season.clubs[away]} ")
+                 for number, (home, away) in enumerate(season.fixtures)
+                 if number in season.open_fixtures()]
+        for number, name in named:
+            found = re.search(re.escape(name) + r"(\d+):(\d+)", names)
+            if found:
+                filled.scores[number] = (int(found.group(1)), int(found.group(2)))
+        self.assertEqual(bool(filled.open_fixtures()), has_rest, text)
+        best, worst = reach(filled, blocks_of)[season.clubs.index(club)]
+        if kind == "in":
+            self.assertLessEqual(best if needs_lots else worst, places, text)
+        else:
+            self.assertGreater(worst if needs_lots else best, places, text)
+
+    def test_results_that_are_enough_are_enough(self) -> None:
+        told = 0
+        for example in EXAMPLES:
+            for number, season in enumerate(asks_of(example), 1):
+                still = season.open_fixtures()
+                if len(season.clubs) > 6 or not still or 100 ** len(still) > MOST_FINISHES:
+                    continue
+                for club, places, text in self.told(example, number):
+                    told += self.results_hold(season, club, places, text)
+        self.assertGreater(told, 10)
+
+    def results_hold(self, season: League, club: str, places: int, text: str) -> int:
+        """How many sentences on a last result there were; each is true in every finish."""
+        enough = re.search(r"[Aa] (draw|win) is enough, whatever", text)
+        too_little = re.search(r"With a (draw or a defeat|defeat) they are out", text)
+        if not enough and not too_little:
+            return 0
+        least = {"draw": 1, "win": 3}[enough.group(1)] if enough else 4
+        most = {"draw or a defeat": 1, "defeat": 0}[too_little.group(1)] if too_little else -1
+        at = season.clubs.index(club)
+        own = [it for it in season.open_fixtures() if at in season.fixtures[it]]
+        self.assertEqual(len(own), 1, text)
+        for scores in itertools.product(itertools.product(range(10), repeat=2),
+                                        repeat=len(season.open_fixtures())):
+            filled = {**season.scores, **dict(zip(season.open_fixtures(), scores))}
+            goals = filled[own[0]] if season.fixtures[own[0]][0] == at else filled[own[0]][::-1]
+            result = 3 if goals[0] > goals[1] else 1 if goals[0] == goals[1] else 0
+            if result < least and result > most:
+                continue
+            above = 0
+            for block in blocks_of(season, filled, Sums(season, filled)):
+                if at in block:
+                    if result >= least:
+                        self.assertLessEqual(above + len(block), places, text)
+                    else:
+                        self.assertGreaterEqual(above, places, text)
+                above += len(block)
+        return 1
+
+
+class RefusalTests(unittest.TestCase):
+    """Statuses of the program itself."""
+
+    def test_a_refused_line_is_quoted_with_its_file(self) -> None:
+        sheet, _ = files_of(HOME / "examples" / "tiny")
+        with tempfile.TemporaryDirectory() as folder:
+            feed = Path(folder) / "feed.csv"
+            for text, status, says in (("result,1,1-0\nask\n", 3, "line 1: `result,1,1-0`"),
+                                       ("ask\nresult,9,1,0\n", 3, "line 2: `result,9,1,0`"),
+                                       ("#" * 1025 + "\n", 8, "more than 1,024 bytes")):
+                feed.write_text(text)
+                for words in (["ask"], ["ask", "--json"], ["table"], ["scores", "--rows"]):
+                    done = league(*words, sheet, feed)
+                    self.assertEqual(done.returncode, status)
+                    self.assertIn(f"{feed}, line", done.stderr.decode())
+                    self.assertIn(says, done.stderr.decode())
+                done = league("ask", "--json", sheet, feed)
+                fault = json.loads(done.stdout.decode().splitlines()[-1])
+                self.assertEqual(faults_of(fault, SCHEMA, SCHEMA), [])
+                self.assertEqual((fault["type"], fault["status"]), ("fault", status))
+        done = league("ask", data=b"club,A,1\n")
+        self.assertEqual(done.returncode, 2)
+        self.assertIn(b"standard input, line 1: `club,A,1`", done.stderr)
+
+    def test_reports_are_checked(self) -> None:
+        sheet, feed = files_of(HOME / "examples" / "euro-2024-group-a")
+        report = subprocess.run([PROGRAM, "verdicts", "--proofs", "--workers", "1"], check=True,
+                                input=sheet.read_bytes() + feed.read_bytes(),
+                                capture_output=True).stdout
+        with tempfile.TemporaryDirectory() as folder:
+            path = Path(folder) / "report.txt"
+            path.write_bytes(report)
+            done = league("check", sheet, feed, path)
+            self.assertEqual((done.returncode, done.stderr), (0, b""))
+            self.assertIn(b"proves its 24 rows", done.stdout)
+            path.write_bytes(report.replace(b"Hungary,lost", b"Hungary,clinched", 1))
+            done = league("check", "--json", sheet, feed, path)
+            self.assertEqual(done.returncode, 7)
+            line = report[:report.index(b"Hungary,lost")].count(b"\n") + 1
+            self.assertIn(f"{path}, line ".encode(), done.stderr)
+            value = json.loads(done.stdout)
+            self.assertEqual(faults_of(value, SCHEMA, SCHEMA), [])
+            self.assertGreaterEqual(value["line"], line)
