@@ -201,6 +201,17 @@ class SentenceTests(unittest.TestCase):
         else:
             self.assertGreater(worst if needs_lots else best, places, text)
 
+    def test_a_draw_is_enough_unless(self) -> None:
+        """Worked by hand: with a draw A has 4 points, 2 goals to the good and 2 goals at least; B
+        comes to 4 with a win, and to as many goals to the good with a win by two.
+        """
+        data = (b"league,Unless,3,2000,overall_first\nclub,A,1\nclub,B,1\nclub,C,1\nclub,D,1\n"
+                b"match,A,D\nmatch,B,C\nmatch,A,C\nmatch,B,D\nline,1\nseason\n"
+                b"result,1,2,0\nresult,2,1,1\n")
+        text = " ".join(league("explain", "--why", "A", data=data).stdout.decode().split())
+        self.assertIn("A win is enough, whatever else happens. With a defeat they are out. A draw "
+                      "is enough too, unless B beats D by 2 goals or more.", text)
+
     def test_results_that_are_enough_are_enough(self) -> None:
         told = 0
         for example in EXAMPLES:

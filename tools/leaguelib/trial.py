@@ -3,6 +3,7 @@
 from __future__ import annotations
 
 from .answer_end import AnswerEnd
+from .answers import read_report
 from .asking import ONE_WORKER
 from .records import fields_of
 from .session import Session
@@ -35,14 +36,26 @@ class Trial:
 
     def word(self, club: str, scores: Scores) -> str:
         """The verdict on a club where these open matches end so, and the others are open still."""
-        self._suppose(scores)
-        self.asks += 1
-        for raw in self.session.ask():
+        for raw in self._answer(scores):
             if raw.startswith(b"verdict,"):
                 fields = fields_of(raw.rstrip(b"\r\n"))
                 if fields[2] == club:
                     return fields[3]
         return "unsettled"
+
+    def example(self, club: str, scores: Scores, claim: str) -> Scores | None:
+        """How the other matches can end so that the club is inside, or outside; none if unknown."""
+        verdicts = read_report(b"".join(self._answer(scores))).answers[0].verdicts
+        found = next((it for it in verdicts if it.club == club), None)
+        if found is None or claim not in found.examples:
+            return None
+        return dict(found.examples[claim].scores)
+
+    def _answer(self, scores: Scores) -> list[bytes]:
+        """The lines of the answer where these open matches end so."""
+        self._suppose(scores)
+        self.asks += 1
+        return self.session.ask()
 
     def _suppose(self, scores: Scores) -> None:
         """Tells the program what is new, and takes back what holds no longer."""

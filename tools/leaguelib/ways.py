@@ -34,7 +34,7 @@ def way_of(trial: Trial, club: str, example: Example) -> Way:
     own = [it for it in still if club in (it.home, it.away)]
     scores = own_results(own, club, example.claim == "inside")
     if own and trial.word(club, scores) == target:
-        scores = _dropped(trial, club, scores, target)
+        scores = dropped(trial, club, scores, target)
         return Way(_with_least_goals(trial, club, scores, target), True,
                    len(still) - len(scores))
     scores, is_for_sure = _whole(trial, club, example, target)
@@ -44,7 +44,7 @@ def way_of(trial: Trial, club: str, example: Example) -> Way:
         return Way(scores, True, 0)
     names = {club}
     order = sorted(scores, key=lambda number: _nearness(sheet.fixture(number), names))
-    scores = _dropped(trial, club, {number: scores[number] for number in order}, target)
+    scores = dropped(trial, club, {number: scores[number] for number in order}, target)
     scores = _with_least_goals(trial, club, scores, target)
     return Way(dict(sorted(scores.items())), True, len(still) - len(scores))
 
@@ -75,12 +75,15 @@ def _plain(scores: Scores) -> Scores:
             for number, (home, away) in scores.items()}
 
 
-def _dropped(trial: Trial, club: str, scores: Scores, target: str) -> Scores:
-    """The scores without those that are not needed, in halves, quarters and so on."""
+def dropped(trial: Trial, club: str, scores: Scores, target: str, keeps: int = 0) -> Scores:
+    """The scores without those that are not needed, in halves, quarters and so on.
+
+    The fixture `keeps` stays in any case.
+    """
     kept = dict(scores)
     size = max(1, len(kept) // 2)
     while True:
-        numbers = list(kept)
+        numbers = [number for number in kept if number != keeps]
         for at in range(0, len(numbers), size):
             fewer = {number: score for number, score in kept.items()
                      if number not in numbers[at:at + size]}

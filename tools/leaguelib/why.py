@@ -19,6 +19,7 @@ from .running import report_of
 from .screen import SHORT
 from .sentences import proof_steps, unsettled_texts
 from .trial import Trial, trial_data
+from .unless import can_draw_be_enough, unless_text
 from .view import View
 from .ways import way_of, way_text
 from .wording import counted, paragraph, shown
@@ -117,13 +118,17 @@ def _decided_texts(why: Why, verdict: Verdict) -> list[str]:
 def _open_texts(why: Why, verdict: Verdict) -> list[str]:
     """How many points are enough, and a way in and a way out."""
     view, club = why.view, verdict.club
+    now, left = why.points.now[club], why.points.left[club]
     parts = []
     score = why.score_of(club, verdict.places)
-    if score is not None:
-        words = score_words(score, why.points.now[club], why.points.left[club])
-        parts.append(paragraph(plain(words), 2))
     with Trial(why.path, trial_data(why.data_for(verdict.places)), view.sheet, view.season,
                verdict.places) as trial:
+        if score is not None:
+            words = score_words(score, now, left)
+            if left == 1 and can_draw_be_enough(score, now):
+                own = next(it for it in why.points.open if club in (it.home, it.away))
+                words += " " + unless_text(trial, club, own)
+            parts.append(paragraph(plain(words.strip()), 2))
         for claim, verb in (("inside", "They are in"), ("outside", "They are out")):
             if claim in verdict.examples:
                 way = way_of(trial, club, verdict.examples[claim])
