@@ -36,11 +36,11 @@ def check_live(counter: Counter) -> None:
         stand_in.write_text(STAND_IN.format(python=sys.executable, mark=work + "/mark"), "utf-8")
         stand_in.chmod(0o755)
         sheet.write_text(SHEET, "utf-8")
-        words = ["live", sheet, log, "--mode", "table", "--program", stand_in]
+        words = ["live", sheet, log, "--rows", "--mode", "table", "--program", stand_in]
         lines = "Anchor 2-1 Köln\nask\nAncor 1-0 Köln\nresult,2,0,0\nask\nresult,3,1,1\nask\n"
         run = league(*words, data=lines.encode("utf-8"))
         text = run.stdout.decode("utf-8") + run.stderr.decode("utf-8")
-        wanted = ["ask,1\n", "# end of answer 1, after 1 event\n", "refused, not sent: no club",
+        wanted = ["ask,1\n", "# end of answer 1, after 1 event\n", "line 3, `Ancor 1-0 Köln`: refused, not sent: no club",
                   "this ask has no answer", "ask,3\n",
                   "# end of answer 3, after 3 events\n", "started again"]
         faults = [f"not said: {part}" for part in wanted if part not in text]

@@ -9,7 +9,8 @@ from .cleaning import KINDS, OTHER_WORDS
 from .feeds import FeedReader, InputReader
 from .matches import Match, match_of_line, plain_date
 from .names import UnknownName, club_of
-from .records import Refused, count_lines, lines_of, record_of, records_of, row_text
+from .records import (Record, Refused, count_lines, lines_of, record_of, records_of,
+                      row_text)
 from .refusals import advise
 from .texts import Fixture, Sheet
 from .words import words_for
@@ -39,6 +40,7 @@ class Bookkeeper:
         self.reader = InputReader()
         self.aliases = aliases or {}
         self.notes: list[str] = []
+        self.forms = "`league feed --help`"
         self._read_sheet(sheet, sheet_name)
         self._read_log(log, log_name)
         self.dates = dates_of(sheet, self.sheet)
@@ -112,8 +114,7 @@ class Bookkeeper:
         match = match_of_line(rest)
         if not isinstance(match, Match):
             raise Unclear("this is not understood. A result is written like `Germany 5-1 "
-                          "Scotland`; "
-                          "`league feed --help` has the other forms")
+                          f"Scotland`; {self.forms} has the other forms")
         return self._line_of_match(kind, match)
 
     def line_of_listed(self, match: Match) -> str | None:
@@ -186,13 +187,17 @@ class Bookkeeper:
         record = record_of(1, line.encode("utf-8", "surrogateescape"))
         if record is None:
             raise Unclear("this line has no field")
+        self.test(record)
+        return line
+
+    def test(self, record: Record) -> None:
+        """Raises `Unclear`, with what to write instead, where the program would refuse a record."""
         try:
             self.feed.read(record)
         except Refused as refused:
             advice = advise(record, refused, self.reader)
             hint = " Write: " + " / ".join(advice.instead) if advice.instead else ""
             raise Unclear(advice.message + hint) from refused
-        return line
 
 
 def dates_of(data: bytes, sheet: Sheet) -> dict[int, str]:

@@ -1,23 +1,31 @@
 """Takes results as they come, and has each `ask` answered at once. Lines are as in `league feed`:
 `Germany 5-1 Scotland`, `correct ..`, `annul ..`, `deduct ..`, `ask`, or lines of the feed. Each is
-tested first: what futmax would refuse is not sent, and the session goes on. Events, and asks with
-an answer, are kept in the log, which is a feed. Behind each answer stands a line
-`# end of answer N, after E events`.
+tested first: what futmax would refuse is not sent, and the session goes on. A score in play,
+`Germany ~1-0 Scotland`, is no result. `help` tells the other words: undo, table, rows, quit.
+
+Each line is echoed in words, and an ask says what changed since the one before. With --rows each
+ask has the rows of futmax, and behind them a line `# end of answer N, after E events`. The log
+keeps events, asks with an answer, and scores in play as comments; it is a feed. Lines that another
+program adds to it are taken as if they were typed here.
 """
 
 from __future__ import annotations
 
 import argparse
-import fcntl
-import os
-import sys
-from typing import BinaryIO
 
 from . import common
 from .answer_end import AnswerEnd
+from .asker import Asker
 from .bookkeeper import Bookkeeper, Unclear
-from .records import records_of
+from .evening import Evening
+from .linesource import LineSource, Prompt
+from .livelog import LiveLog
+from .names import shown as quoted
+from .records import lines_of, record_of
 from .session import Ended, Session
+from .voices import HELP, Rows, Speaker, events_text, words_of_answer
+
+ENDS = ("quit", "exit", "end", "bye")
 
 
 def add_arguments(parser: argparse.ArgumentParser) -> None:
@@ -25,142 +33,258 @@ def add_arguments(parser: argparse.ArgumentParser) -> None:
     parser.add_argument("sheet", metavar="SHEET", help="the sheet")
     parser.add_argument("log", metavar="LOG", help="the feed so far, kept; made where it is "
                                                    "missing")
+    parser.add_argument("--rows", action="store_true",
+                        help="for programs: answer with the rows of futmax, echo nothing")
     parser.add_argument("--mode", default="verdicts", choices=("verdicts", "table", "scores"),
-                        help="what an ask answers (verdicts)")
-    parser.add_argument("--proofs", action="store_true", help="ask for proofs")
-    parser.add_argument("--workers", type=int, metavar="N", help="threads, 1 to 8")
+                        help="with --rows: what an ask answers (verdicts)")
+    parser.add_argument("--proofs", action="store_true", help="with --rows: ask for proofs")
+    parser.add_argument("--workers", type=int, metavar="N", default=1,
+                        help="threads, 1 to 8 (1: the same lines, the same words)")
     parser.add_argument("--program", metavar="PATH", help="the program futmax")
 
 
 def run(arguments: argparse.Namespace) -> int:
-    """Runs until the end of standard input."""
+    """Runs until the end of standard input, or until `quit`."""
+    if not arguments.rows and (arguments.mode != "verdicts" or arguments.proofs):
+        raise common.Trouble("--mode and --proofs need --rows: their answers are rows",
+                             common.BAD_WORDS)
     sheet = common.read_bytes(arguments.sheet)
-    with _opened_log(arguments.log) as log:
-        before = log.read()
-        book = Bookkeeper(sheet, before, arguments.sheet, arguments.log)
-        if before and not before.endswith(b"\n"):
-            _keep(log, "")
-        live = Live(book, log, _session(arguments, sheet, book))
-        live.begin(before)
-        try:
-            for raw in sys.stdin.buffer:
-                live.take(raw.decode("utf-8", "surrogateescape"))
-        finally:
+    log = LiveLog(arguments.log)
+    live = None
+    try:
+        evening = Evening(Bookkeeper(sheet, b"", arguments.sheet))
+        live = Live(evening, log, sheet, arguments)
+        live.begin()
+        live.go_on()
+    except KeyboardInterrupt:
+        if live is not None:
+            live.voice.tell(f"stopped by hand. {live.kept_text()}")
+        raise
+    finally:
+        if live is not None:
             live.session.stop()
-    return common.TO_MEND if live.refused else common.DONE
-
-
-def _opened_log(path: str) -> BinaryIO:
-    """The log, open to read and to add to, for this session alone."""
-    try:
-        log = open(path, "a+b")
-    except OSError as fault:
-        raise common.Trouble(f"{path}: cannot be written: {fault.strerror}",
-                             common.CANNOT_WRITE) from fault
-    try:
-        fcntl.flock(log, fcntl.LOCK_EX | fcntl.LOCK_NB)
-    except OSError as fault:
         log.close()
-        raise common.Trouble(f"{path}: another `league live` keeps this log",
-                             common.CANNOT_WRITE) from fault
-    log.seek(0)
-    return log
-
-
-def _keep(log: BinaryIO, line: str) -> None:
-    """Adds a line to the log, down to the disk."""
-    log.write(line.encode("utf-8", "surrogateescape") + b"\n")
-    log.flush()
-    os.fsync(log.fileno())
-
-
-def _session(arguments: argparse.Namespace, sheet: bytes, book: Bookkeeper) -> Session:
-    """The program as it is to be run."""
-    command = [common.program_path(arguments.program), arguments.mode]
-    if arguments.workers is not None:
-        command += ["--workers", str(arguments.workers)]
-    if arguments.proofs:
-        command.append("--proofs")
-
-    def make_end() -> AnswerEnd:
-        return AnswerEnd(len(book.sheet.clubs), len(book.sheet.lines), arguments.mode,
-                         arguments.proofs)
-
-    return Session(command, sheet, make_end)
+    return common.TO_MEND if live.refused and not live.prompt.is_shown else common.DONE
 
 
 class Live:
     """A session with its log: every line is tested, kept, sent, and answered where it asks."""
 
-    def __init__(self, book: Bookkeeper, log: BinaryIO, session: Session) -> None:
-        self.book = book
+    def __init__(self, evening: Evening, log: LiveLog, sheet: bytes,
+                 arguments: argparse.Namespace) -> None:
+        self.evening = evening
+        self.book = evening.book
         self.log = log
-        self.session = session
+        self.asker = Asker(common.program_path(arguments.program), sheet)
+        self.session = self._session(arguments, sheet)
+        self.voice = Rows() if arguments.rows else Speaker(self.book)
+        self.prompt = Prompt()
         self.answers = 0
+        self.typed = 0
         self.refused = 0
 
-    def begin(self, before: bytes) -> None:
+    def _session(self, arguments: argparse.Namespace, sheet: bytes) -> Session:
+        """The program as it is to be run."""
+        command = [self.asker.path, arguments.mode, "--workers", str(arguments.workers)]
+        if arguments.proofs:
+            command.append("--proofs")
+        clubs, lines = len(self.book.sheet.clubs), len(self.book.sheet.lines)
+        return Session(command, sheet, lambda: AnswerEnd(clubs, lines, arguments.mode,
+                                                         arguments.proofs))
+
+    def begin(self) -> None:
         """Starts the program with the events of the log; its asks are not answered again."""
-        for record in records_of(before):
-            if record.kind != "ask":
-                self.session.events.append(record.raw + b"\n")
+        last_ask = None
+        for number, raw in lines_of(self.log.read()):
+            line = raw.decode("utf-8", "surrogateescape")
+            try:
+                self.evening.take(line)
+            except Unclear as unclear:
+                raise common.Trouble(f"{self.log.path}, line {number}: {unclear.message} "
+                                     "(`league lint` tells more)") from unclear
+            if _kind(line) == "ask":
+                last_ask = len(self.session.events)
+            elif _is_event(line):
+                self.session.events.append(raw + b"\n")
         self.session.start()
         if self.session.events:
-            common.say(f"league: {_events(len(self.session.events))} of the log replayed")
+            self.voice.tell(f"{events_text(len(self.session.events))} of the log replayed")
+        if isinstance(self.voice, Speaker):
+            self._look_back(last_ask)
+            self.voice.tell("`help` tells what can be typed")
 
-    def take(self, text: str) -> None:
-        """Takes a line as it was typed."""
+    def _look_back(self, last_ask: int | None) -> None:
+        """Has the words of the last ask of the log, with which the next one is compared."""
+        if last_ask is not None and self.book.sheet.lines:
+            self.voice.remember(self.asker.words(self.session.events[:last_ask]))
+
+    def go_on(self) -> None:
+        """Takes lines until there is none."""
+        source = LineSource(self._look)
+        self.prompt.show()
+        text = source.wait()
+        while text is not None:
+            self.typed += 1
+            self.take_in()
+            if self.take(text.rstrip("\r")):
+                break
+            self.prompt.show()
+            text = source.wait()
+        else:
+            self.prompt.leave()
+        if isinstance(self.voice, Speaker):
+            self.voice.tell(self.kept_text())
+
+    def kept_text(self) -> str:
+        """What the log keeps."""
+        events = events_text(self.book.feed.season.events)
+        return f"{self.log.path} keeps {events}; `league live` goes on with it"
+
+    def _look(self) -> None:
+        """Takes what another program added while nothing is typed."""
+        if self.take_in(self.prompt.leave):
+            self.prompt.show()
+
+    def take(self, text: str) -> bool:
+        """Takes a line as it was typed; whether it ends the evening."""
+        word = text.strip().lower()
+        if word in ENDS:
+            return True
+        commands = {"undo": self._undo, "ask": self._answer}
+        if isinstance(self.voice, Speaker):
+            commands.update({"table": self._table, "rows": self._all_rows, "help": self._help})
         try:
-            line = self.book.line_of(text)
+            if word in commands:
+                commands[word]()
+            else:
+                self._keep(self.evening.line_of(text))
         except Unclear as unclear:
             self.refused += 1
-            common.say(f"refused, not sent: {unclear.message}")
-            return
+            self.voice.refused(f"line {self.typed}, {quoted(text.strip())}: refused, not sent: "
+                               f"{unclear.message}")
+        return False
+
+    def _keep(self, line: str | None) -> None:
+        """Writes a tested line to the log, and takes it from there."""
         for note in self.book.take_notes():
-            common.say(f"league: {note}")
-        if line is None:
-            return
-        if line.split(",")[0] == "ask":
+            self.voice.tell(note)
+        if line is not None and _kind(line) == "ask":
             self._answer()
+        elif line is not None:
+            self.log.append(line)
+            self.take_in(own=line)
+
+    def _undo(self) -> None:
+        """Takes the last line back by the feed's own records."""
+        lines = self.evening.back()
+        if not lines:
+            raise Unclear("there is nothing to take back")
+        for line in lines:
+            self.log.append(line)
+        self.take_in(own=lines[-1])
+
+    def take_in(self, before: object = None, own: str | None = None) -> bool:
+        """Takes the lines that the log has beyond those taken; whether there were some."""
+        first = self.log.lines() + 1
+        lines = self.log.grown()
+        notes, self.log.notes = self.log.notes, []
+        if (lines or notes) and before is not None:
+            before()
+        for note in notes:
+            self.voice.tell(note)
+        for number, line in enumerate(lines, first):
+            is_own = number == first + len(lines) - 1 and line == own
+            self._take_line(line, number, is_own)
+        return bool(lines or notes)
+
+    def _take_line(self, line: str, number: int, is_own: bool) -> None:
+        """Takes a line of the log; of one that was not typed here it is said where it stands."""
+        origin = f"{self.log.path}, line {number}"
+        try:
+            words = self.evening.take(line)
+        except Unclear as unclear:
+            self.refused += 1
+            self.log.refuse(number)
+            self.voice.refused(f"{origin}, {quoted(line)}: not taken: {unclear.message} Take it "
+                               "out of the log: it is not read again with this line")
             return
-        _keep(self.log, line)
-        self.book.enter(line)
-        if not self.session.send(line):
+        self.voice.noted(words, "" if is_own else origin)
+        if _kind(line) == "ask":
+            self._write_answer()
+        elif _is_event(line) and not self.session.send(line):
             self._tell_restart("futmax had ended")
 
     def _answer(self) -> None:
-        """Has an ask answered, once more where the program ended without a fault row.
+        """Has an ask answered, and keeps it in the log where it was."""
+        if self._write_answer():
+            self.log.append("ask")
+            self._pass_own_ask()
 
-        An ask that has an answer is kept in the log.
-        """
+    def _pass_own_ask(self) -> None:
+        """Takes the `ask` that was just kept, which has its answer already."""
+        first = self.log.lines() + 1
+        lines = self.log.grown()
+        for number, line in enumerate(lines[:-1], first):
+            self._take_line(line, number, False)
+
+    def _write_answer(self) -> bool:
+        """Writes an answer; once more where the program ended without a fault row."""
         self.answers += 1
+        lines = self._lines_of_answer()
+        if lines is None:
+            self.voice.tell("this ask has no answer, and is not kept. The session goes on")
+        if isinstance(self.voice, Rows):
+            events = events_text(self.book.feed.season.events)
+            self.voice.answer(lines or [], f"end of answer {self.answers}, after {events}")
+        elif lines is not None:
+            words = self.asker.more(words_of_answer(lines), self.session.events)
+            self.voice.answer(words, self.answers, len(self.evening.in_play))
+        return lines is not None
+
+    def _lines_of_answer(self) -> list[bytes] | None:
+        """The lines of an answer, or none where the program dies twice at this ask."""
         for _ in range(2):
             try:
-                lines = self.session.ask()
+                return self.session.ask()
             except Ended as ended:
                 self.session.start()
                 self._tell_restart(ended.reason)
                 if ended.fault:
                     raise common.Trouble("futmax refuses what this tool takes: is it an older "
                                          f"version? {ended.reason}", common.NO_PROGRAM) from ended
-                continue
-            _keep(self.log, "ask")
-            self._write(b"".join(lines))
-            return
-        common.say("league: this ask has no answer, and is not kept. The session goes on")
-        self._write(b"")
+        return None
 
-    def _write(self, answer: bytes) -> None:
-        """Writes an answer and the mark behind it."""
-        events = self.book.feed.season.events
-        mark = f"# end of answer {self.answers}, after {_events(events)}\n"
-        sys.stdout.buffer.write(answer + mark.encode("utf-8"))
-        sys.stdout.buffer.flush()
+    def _all_rows(self) -> None:
+        """Every row of the last answer."""
+        if not self.voice.words:
+            self._answer()
+        self.voice.rows()
+
+    def _table(self) -> None:
+        """The table, and how it stands with the scores in play."""
+        events = self.session.events
+        self.voice.table(self.asker.table(events))
+        in_play = self.evening.in_play
+        if in_play:
+            ended = [f"result,{number},{home},{away}\n".encode()
+                     for number, (home, away) in in_play.items()]
+            before = self.asker.words(events) if self.book.sheet.lines else {}
+            after = self.asker.words(events + ended) if self.book.sheet.lines else {}
+            self.voice.as_it_stands(in_play, self.asker.table(events + ended), before, after)
+
+    def _help(self) -> None:
+        self.voice.tell(HELP.rstrip("\n"))
 
     def _tell_restart(self, reason: str) -> None:
-        common.say(f"league: {reason}. It was started again, with "
-                   f"{_events(len(self.session.events))} of the log replayed")
+        self.voice.tell(f"{reason}. It was started again, with "
+                        f"{events_text(len(self.session.events))} of the log replayed")
 
 
-def _events(number: int) -> str:
-    return "1 event" if number == 1 else f"{number} events"
+def _kind(line: str) -> str:
+    """The first field of a line of the log; nothing where futmax passes it over."""
+    record = record_of(1, line.encode("utf-8", "surrogateescape"))
+    return record.kind if record else ""
+
+
+def _is_event(line: str) -> bool:
+    return _kind(line) not in ("", "ask")

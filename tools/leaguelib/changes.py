@@ -1,0 +1,66 @@
+"""What changed between two answers, in words, and how an answer stands in few words."""
+
+from __future__ import annotations
+
+from dataclasses import dataclass
+from typing import Iterable
+
+from .answers import Verdict
+from .wording import counted, listed, place_phrase, shown
+
+ARROW = "→"
+FEW = 6
+
+Words = dict[tuple[int, str], str]
+
+
+@dataclass(frozen=True)
+class Change:
+    """A line and club of which two answers say different words."""
+
+    places: int
+    club: str
+    before: str
+    now: str
+
+    @property
+    def is_of_search(self) -> bool:
+        """Whether only the search got further, or not so far: no result need be behind it."""
+        return "unsettled" in (self.before, self.now)
+
+
+def words_of(verdicts: Iterable[Verdict]) -> Words:
+    """The word of each line and club."""
+    return {(verdict.places, verdict.club): verdict.word for verdict in verdicts}
+
+
+def changes_between(before: Words, now: Words) -> list[Change]:
+    """The lines and clubs whose word is another one now, in the order of the later answer."""
+    return [Change(places, club, before[(places, club)], word)
+            for (places, club), word in now.items()
+            if before.get((places, club), word) != word]
+
+
+def change_text(change: Change) -> str:
+    """A change in words."""
+    return (f"{shown(change.club)}, {place_phrase(change.places)}: "
+            f"{change.before} {ARROW} {change.now}")
+
+
+def summary(words: Words) -> list[str]:
+    """One sentence a line: who has it, who can have it, and who cannot any more."""
+    texts = []
+    for places in dict.fromkeys(places for places, _ in words):
+        parts = [f"{word}: {_clubs([club for (line, club), said in words.items() if (line, said) == (places, word)])}"
+                 for word in ("clinched", "possible", "lost", "unsettled")
+                 if (places, word) in {(line, said) for (line, _), said in words.items()}]
+        text = place_phrase(places)
+        texts.append(f"{text[0].upper()}{text[1:]} - " + "; ".join(parts))
+    return texts
+
+
+def _clubs(names: list[str]) -> str:
+    """Clubs by their names, or their number where they are many."""
+    if len(names) > FEW:
+        return counted(len(names), "club")
+    return listed([shown(name) for name in names])

@@ -1,0 +1,146 @@
+"""An evening's season as its log tells it: events, scores in play, and how each is taken back.
+
+A score in play is no result. It stands in the log as a comment, `# in play: FIXTURE,HOME,AWAY`,
+which futmax passes over, and counts until the match has a result. Behind the comment `# undo` the
+next line takes back the one before it.
+"""
+
+from __future__ import annotations
+
+import re
+
+from .bookkeeper import Bookkeeper, Unclear
+from .records import record_of, row_text
+from .texts import Entry, Fixture
+from .wording import counted, shown
+
+UNDO = "# undo"
+IN_PLAY = re.compile(r"^#\s*in play:\s*(\d{1,6})\s*,\s*(?:(\d{1,2})\s*,\s*(\d{1,2})|none)\s*$")
+TILDE = re.compile(r"^\s*~\s*|~\s*(?=\d)|(?<=\d)\s*~\s*|\s*~\s*$")
+
+Score = tuple[int, int]
+
+
+def in_play_line(fixture: int, score: Score | None) -> str:
+    """The line of the log for a score in play, or for none any more."""
+    return f"# in play: {fixture}," + ("none" if score is None else f"{score[0]},{score[1]}")
+
+
+class Evening:
+    """Takes the lines of a log in order, and says each in words."""
+
+    def __init__(self, book: Bookkeeper) -> None:
+        self.book = book
+        self.book.forms = "`help`"
+        self._in_play: dict[int, Score] = {}
+        self._back: list[str] = []
+        self._is_undoing = False
+
+    @property
+    def in_play(self) -> dict[int, Score]:
+        """The scores in play, of matches without a result."""
+        scores = self.book.feed.season.scores
+        return {number: score for number, score in sorted(self._in_play.items())
+                if number not in scores}
+
+    def line_of(self, text: str) -> str | None:
+        """The line of the log for a line as it was typed; none where there is nothing in it."""
+        if "~" not in text:
+            return self.book.line_of(text)
+        line = self.book.line_of(TILDE.sub(" ", text).strip())
+        record = record_of(1, line.encode("utf-8", "surrogateescape")) if line else None
+        if record is None or record.kind != "result":
+            raise Unclear("a score in play is written like `Germany ~1-0 Scotland`")
+        entry = self.book.feed.read(record)
+        return in_play_line(entry.fixture, entry.score)
+
+    def back(self) -> list[str]:
+        """The lines of the log that take the last one back; none where there is none."""
+        return [UNDO, self._back[-1]] if self._back else []
+
+    def take(self, line: str) -> str:
+        """Takes a line of the log that changes something, and gives it in words.
+
+        Empty where nothing is said of it; raises `Unclear` where futmax would refuse it.
+        """
+        text = line.strip()
+        if text == UNDO:
+            self._is_undoing = True
+            return ""
+        if text.startswith("#"):
+            found = IN_PLAY.match(text)
+            return self._take_in_play(found) if found else ""
+        record = record_of(1, line.encode("utf-8", "surrogateescape"))
+        if record is None:
+            return ""
+        self.book.test(record)
+        entry = self.book.feed.read(record)
+        before = self._before(entry)
+        self.book.feed.take(record)
+        if entry.is_event:
+            self._note_back(self._line_back(entry, before))
+        if entry.kind == "void" and not self._is_undoing:
+            self._in_play.pop(entry.fixture, None)
+        words = self._words(entry, before)
+        self._is_undoing = self._is_undoing and not entry.is_event
+        return words
+
+    def _note_back(self, line: str) -> None:
+        """Remembers how the line is taken back, or forgets it where it took one back itself."""
+        if self._is_undoing and self._back:
+            self._back.pop()
+        else:
+            self._back.append(line)
+
+    def _take_in_play(self, found: re.Match) -> str:
+        """Takes a score in play; one of a match that is not open, or not there, is passed over."""
+        number = int(found.group(1))
+        if not 1 <= number <= len(self.book.sheet.fixtures):
+            return ""
+        fixture = self.book.sheet.fixture(number)
+        self._note_back(in_play_line(number, self._in_play.get(number)))
+        self._is_undoing = False
+        if found.group(2) is None:
+            self._in_play.pop(number, None)
+            return f"match {number}: {_names(fixture)} has no score in play"
+        self._in_play[number] = (int(found.group(2)), int(found.group(3)))
+        return f"match {number}: {_scored(fixture, self._in_play[number])} in play, no result"
+
+    def _before(self, entry: Entry) -> Score | int | None:
+        """What stands before an event: the score of its match, or the points of its club."""
+        season = self.book.feed.season
+        if entry.kind == "deduct":
+            return season.deductions.get(entry.club, 0)
+        return season.scores.get(entry.fixture)
+
+    def _line_back(self, entry: Entry, before: Score | int | None) -> str:
+        """The line of the feed that takes an event back."""
+        if entry.kind == "deduct":
+            return row_text("deduct", entry.club, before).rstrip("\n")
+        if entry.kind == "result":
+            return f"void,{entry.fixture}"
+        kind = "result" if entry.kind == "void" else "fix"
+        return f"{kind},{entry.fixture},{before[0]},{before[1]}"
+
+    def _words(self, entry: Entry, before: Score | int | None) -> str:
+        """An event in words."""
+        taken = "taken back: " if self._is_undoing else ""
+        if entry.kind == "deduct":
+            return (f"{taken}{shown(entry.club)}: {counted(entry.points, 'point')} deducted in all "
+                    f"(before: {before})")
+        if not entry.is_event:
+            return ""
+        fixture = self.book.sheet.fixture(entry.fixture)
+        text = f"{taken}match {entry.fixture}: "
+        if entry.kind == "void":
+            return f"{text}{_names(fixture)} is open again (it had {before[0]}-{before[1]})"
+        text += f"{_scored(fixture, entry.score)} noted"
+        return text + (f" (it had {before[0]}-{before[1]})" if entry.kind == "fix" else "")
+
+
+def _names(fixture: Fixture) -> str:
+    return f"{shown(fixture.home)} - {shown(fixture.away)}"
+
+
+def _scored(fixture: Fixture, score: Score) -> str:
+    return f"{shown(fixture.home)} {score[0]}-{score[1]} {shown(fixture.away)}"

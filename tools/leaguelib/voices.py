@@ -1,0 +1,158 @@
+"""How `league live` speaks: in words for people, or in the program's rows for programs."""
+
+from __future__ import annotations
+
+import sys
+
+from . import common
+from .answers import Place, read_report
+from .bookkeeper import Bookkeeper
+from .changes import Words, change_text, changes_between, summary, words_of
+from .records import row_text
+from .wording import counted, limit_phrase, listed, place_phrase, score_text, shown
+
+HELP = """\
+Arsenal 2-1 Chelsea           the match has ended so
+Arsenal ~1-0 Chelsea          a score in play: no result, not counted by an ask
+correct Arsenal 2-2 Chelsea   another score for a match that has one
+annul Arsenal - Chelsea       the match counts as not played
+deduct Chelsea 3              three points are deducted in all
+undo                          take the last line back
+ask                           what has changed since the last ask
+rows                          every row of the last answer
+table                         the table, and how it stands with the scores in play
+quit                          end the evening; the log keeps everything
+"""
+
+
+def events_text(number: int) -> str:
+    """A number of events."""
+    return counted(number, "event")
+
+
+class Rows:
+    """Rows alone on standard output, messages on standard error."""
+
+    def noted(self, words: str, origin: str) -> None:
+        """A line that was taken; of those typed here nothing is said."""
+        if words and origin:
+            common.say(f"league: {origin}: {words}")
+
+    def tell(self, text: str) -> None:
+        """Something that no program reads."""
+        common.say(f"league: {text}")
+
+    def refused(self, text: str) -> None:
+        """A line that was not taken."""
+        common.say(text)
+
+    def answer(self, lines: list[bytes], mark: str) -> None:
+        """An answer as futmax wrote it, and the mark behind it."""
+        sys.stdout.buffer.write(b"".join(lines) + f"# {mark}\n".encode("utf-8"))
+        sys.stdout.buffer.flush()
+
+
+class Speaker:
+    """Sentences on standard output; refused lines on standard error."""
+
+    def __init__(self, book: Bookkeeper) -> None:
+        self.book = book
+        self.before: Words | None = None
+        self.words: Words = {}
+
+    def noted(self, words: str, origin: str) -> None:
+        """A line that was taken."""
+        if words:
+            self.tell(f"{origin}: {words}" if origin else words)
+
+    def tell(self, text: str) -> None:
+        """Something to know."""
+        write(text)
+
+    def refused(self, text: str) -> None:
+        """A line that was not taken."""
+        sys.stdout.flush()
+        common.say(text)
+
+    def remember(self, words: Words) -> None:
+        """The words that the next answer is compared with."""
+        self.before, self.words = words, words
+
+    def answer(self, words: Words, number: int, in_play: int) -> None:
+        """What changed since the last ask; at the first one how it stands."""
+        season = self.book.feed.season
+        head = f"answer {number}, after {events_text(season.events)}"
+        if not words:
+            lines = ["the sheet has no `line`, so an ask has no answer; `table` has one"]
+        elif self.before is None:
+            lines = summary(words)
+            head += ", " + limit_phrase(self.book.sheet, season)
+        else:
+            lines = news(self.before, words)
+        lines += unsettled(words)
+        if in_play:
+            scores = counted(in_play, "score in play is", "scores in play are")
+            lines.append(f"{scores} not counted; `table` shows how it stands with them")
+        self.remember(words)
+        write("\n".join([head + ":", *("  " + line for line in lines)]))
+
+
+    def rows(self) -> None:
+        """Every row of the last answer."""
+        self.tell("\n".join(row_text("verdict", places, club, word).rstrip("\n")
+                            for (places, club), word in self.words.items()))
+
+    def table(self, table: list[Place]) -> None:
+        """The table of the matches that have ended."""
+        self.tell(table_text(table))
+
+    def as_it_stands(self, in_play: dict[int, tuple[int, int]], table: list[Place],
+                     before: Words, after: Words) -> None:
+        """The table, and what would change, if the matches in play ended as they stand."""
+        scores = [score_text(self.book.sheet.fixture(number), score)
+                  for number, score in in_play.items()]
+        lines = [f"as it stands, if {listed(scores)} were the end:", table_text(table)]
+        changes = changes_between(before, after)
+        lines += [change_text(change) for change in changes]
+        self.tell("\n".join(lines if changes else [*lines, "no verdict would change"]))
+
+
+def news(before: Words, now: Words) -> list[str]:
+    """What changed, in words; what only the search found out is set apart."""
+    changes = changes_between(before, now)
+    lines = [change_text(change) for change in changes if not change.is_of_search]
+    found = [change_text(change) for change in changes if change.is_of_search]
+    if not lines:
+        lines = ["nothing changed since the last ask"]
+    return lines + (["the search alone: " + "; ".join(found)] if found else [])
+
+
+def unsettled(words: Words) -> list[str]:
+    """The questions that stay without an answer."""
+    names = [f"{shown(club)}, {place_phrase(places)}"
+             for (places, club), word in words.items() if word == "unsettled"]
+    return ["not settled within the budget: " + listed(names)] if names else []
+
+
+def words_of_answer(lines: list[bytes]) -> Words:
+    """The words of an answer as futmax wrote it."""
+    return words_of(read_report(b"".join(lines)).answers[-1].verdicts)
+
+
+def table_text(table: list[Place]) -> str:
+    """A table in columns."""
+    heads = ("place", "club", "played", "points", "difference", "goals")
+    rows = [(str(place.best) if place.best == place.worst else f"{place.best}-{place.worst}",
+             shown(place.club), str(place.played), str(place.points), f"{place.difference:+d}",
+             str(place.scored)) for place in table]
+    widths = [max(len(row[column]) for row in [heads, *rows]) for column in range(len(heads))]
+    return "\n".join(
+        "  ".join(part.ljust(width) if column == 1 else part.rjust(width)
+                  for column, (part, width) in enumerate(zip(row, widths))).rstrip()
+        for row in [heads, *rows])
+
+
+def write(text: str) -> None:
+    """Writes text and a line end to standard output at once."""
+    sys.stdout.buffer.write(text.encode("utf-8", "replace") + b"\n")
+    sys.stdout.buffer.flush()
