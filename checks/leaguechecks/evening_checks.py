@@ -35,6 +35,7 @@ def check_evening(counter: Counter) -> None:
         _check_answers(counter, evening)
         _check_undo(counter, evening)
         _check_in_play(counter, evening)
+        _check_lines(counter, evening)
         _check_words(counter, evening)
 
 
@@ -168,6 +169,18 @@ def _check_in_play(counter: Counter, evening: Evening) -> None:
             "match 2: Köln - Dock United has no score in play"))
     run = evening.run("~ Köln - Dock United\n")
     counter.check("evening: in play wants a score", said(run, 2, "line 1, `~ Köln - Dock United`"))
+
+
+def _check_lines(counter: Counter, evening: Evening) -> None:
+    """Lines go by their names, and one that only a comment has is asked as well."""
+    evening.sheet.write_text(SHEET.replace("line,1", "# line 1: Cup\nline,1\n# line 2"), "utf-8")
+    run = evening.run("Anchor 2-1 Köln\nask\nKöln 0-0 dock\nask\n")
+    counter.check("evening: names of lines", _missing(
+        run, "  Cup (the first place) - possible: Anchor, Köln and Dock United",
+        "  A place among the first 2 - possible: Anchor, Köln and Dock United",
+        "match 2: Köln 0-0 Dock United noted", "  Köln, Cup (the first place): possible → lost",
+        "  Anchor, a place among the first 2: possible → clinched"))
+    evening.sheet.write_text(SHEET, "utf-8")
 
 
 def _check_words(counter: Counter, evening: Evening) -> None:

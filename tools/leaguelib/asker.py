@@ -4,12 +4,14 @@ from __future__ import annotations
 
 from .answers import Answer, Place
 from .changes import Words, words_of
+from .feeds import read_sheet
+from .line_names import asked_lines
+from .lines import line_runs, with_lines_of
 from .progress import Progress
 from .records import lines_of, record_of, row_text
 from .running import report_of, run_program
 from .texts import MOST_BUDGET, USUAL_BUDGET
 
-STEP = 10
 ONE_WORKER = ["--workers", "1"]
 
 
@@ -34,6 +36,11 @@ def budget_of(sheet: bytes) -> int:
     return USUAL_BUDGET
 
 
+def greater_budget(budget: int) -> int:
+    """The budget with which unsettled rows are asked again."""
+    return max(budget, MOST_BUDGET)
+
+
 class Asker:
     """Asks futmax about a season, with one worker: the same question has the same answer."""
 
@@ -41,22 +48,32 @@ class Asker:
         self.path = path
         self.sheet = sheet if sheet.endswith(b"\n") else sheet + b"\n"
         self.budget = budget_of(sheet)
+        own = read_sheet(self.sheet)
+        beyond = [places for places in asked_lines(sheet, own) if places not in own.lines]
+        self.runs = [run for run in line_runs(beyond) if run]
+        if own.lines:
+            self.runs.insert(0, own.lines)
 
     def words(self, events: list[bytes]) -> Words:
         """The words of an ask behind these events, settled as far as budgets do it."""
-        return self.more(words_of(self._ask("verdicts", self.sheet, events).verdicts), events)
+        return self.more({}, events)
 
     def more(self, words: Words, events: list[bytes]) -> Words:
-        """The words, with those that are unsettled asked again with greater budgets."""
-        budget = self.budget
-        words = dict(words)
-        while "unsettled" in words.values() and budget < MOST_BUDGET:
-            budget = min(MOST_BUDGET, budget * STEP)
-            answer = self._ask("verdicts", with_budget(self.sheet, budget), events)
-            for place, word in words_of(answer.verdicts).items():
-                if words.get(place) == "unsettled":
-                    words[place] = word
-        return words
+        """The words of all lines, where some are known; unsettled ones are asked once more."""
+        known = dict(words)
+        for run in self.runs:
+            if not any(places in run for places, _ in known):
+                known.update(self._words(run, self.budget, events))
+            if any(places in run and word == "unsettled" for (places, _), word in known.items()):
+                again = self._words(run, greater_budget(self.budget), events)
+                known.update({place: word for place, word in again.items()
+                              if known[place] == "unsettled"})
+        return dict(sorted(known.items(), key=lambda item: item[0][0]))
+
+    def _words(self, lines: list[int], budget: int, events: list[bytes]) -> Words:
+        """The words of some lines."""
+        sheet = with_lines_of(with_budget(self.sheet, budget), lines)
+        return words_of(self._ask("verdicts", sheet, events).verdicts)
 
     def table(self, events: list[bytes]) -> list[Place]:
         """The table behind these events."""

@@ -6,7 +6,8 @@ from dataclasses import dataclass
 from typing import Iterable
 
 from .answers import Verdict
-from .wording import counted, listed, place_phrase, shown
+from .line_names import LineNames
+from .wording import counted, listed, shown
 
 ARROW = "→"
 FEW = 6
@@ -41,22 +42,30 @@ def changes_between(before: Words, now: Words) -> list[Change]:
             if before.get((places, club), word) != word]
 
 
-def change_text(change: Change) -> str:
+def change_text(change: Change, names: LineNames) -> str:
     """A change in words."""
-    return (f"{shown(change.club)}, {place_phrase(change.places)}: "
+    return (f"{shown(change.club)}, {names.place(change.places)}: "
             f"{change.before} {ARROW} {change.now}")
 
 
-def summary(words: Words) -> list[str]:
+def summary(words: Words, names: LineNames) -> list[str]:
     """One sentence a line: who has it, who can have it, and who cannot any more."""
     texts = []
     for places in dict.fromkeys(places for places, _ in words):
-        parts = [f"{word}: {_clubs([club for (line, club), said in words.items() if (line, said) == (places, word)])}"
-                 for word in ("clinched", "possible", "lost", "unsettled")
-                 if (places, word) in {(line, said) for (line, _), said in words.items()}]
-        text = place_phrase(places)
+        text = names.place(places)
+        parts = [f"{word}: {_clubs(clubs)}" for word, clubs in clubs_by_word(words, places).items()]
         texts.append(f"{text[0].upper()}{text[1:]} - " + "; ".join(parts))
     return texts
+
+
+def clubs_by_word(words: Words, places: int) -> dict[str, list[str]]:
+    """The clubs of a line by their word, in the order of the answer; words of nobody left out."""
+    clubs: dict[str, list[str]] = {word: [] for word in ("clinched", "possible", "lost",
+                                                         "unsettled")}
+    for (line, club), word in words.items():
+        if line == places:
+            clubs[word].append(club)
+    return {word: found for word, found in clubs.items() if found}
 
 
 def _clubs(names: list[str]) -> str:

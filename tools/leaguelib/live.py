@@ -14,10 +14,12 @@ from __future__ import annotations
 import argparse
 
 from . import common
+from .aliases import add_alias_argument, read_aliases
 from .answer_end import AnswerEnd
 from .asker import Asker
 from .bookkeeper import Bookkeeper, Unclear
 from .evening import Evening
+from .line_names import names_in
 from .linesource import LineSource, Prompt
 from .livelog import LiveLog
 from .names import shown as quoted
@@ -40,6 +42,7 @@ def add_arguments(parser: argparse.ArgumentParser) -> None:
     parser.add_argument("--proofs", action="store_true", help="with --rows: ask for proofs")
     parser.add_argument("--workers", type=int, metavar="N", default=1,
                         help="threads, 1 to 8 (1: the same lines, the same words)")
+    add_alias_argument(parser)
     parser.add_argument("--program", metavar="PATH", help="the program futmax")
 
 
@@ -52,7 +55,8 @@ def run(arguments: argparse.Namespace) -> int:
     log = LiveLog(arguments.log)
     live = None
     try:
-        evening = Evening(Bookkeeper(sheet, b"", arguments.sheet))
+        aliases = read_aliases(arguments.aliases)
+        evening = Evening(Bookkeeper(sheet, b"", arguments.sheet, aliases=aliases))
         live = Live(evening, log, sheet, arguments)
         live.begin()
         live.go_on()
@@ -77,7 +81,7 @@ class Live:
         self.log = log
         self.asker = Asker(common.program_path(arguments.program), sheet)
         self.session = self._session(arguments, sheet)
-        self.voice = Rows() if arguments.rows else Speaker(self.book)
+        self.voice = Rows() if arguments.rows else Speaker(self.book, names_in(sheet))
         self.prompt = Prompt()
         self.answers = 0
         self.typed = 0
@@ -115,7 +119,7 @@ class Live:
 
     def _look_back(self, last_ask: int | None) -> None:
         """Has the words of the last ask of the log, with which the next one is compared."""
-        if last_ask is not None and self.book.sheet.lines:
+        if last_ask is not None and self.asker.runs:
             self.voice.remember(self.asker.words(self.session.events[:last_ask]))
 
     def go_on(self) -> None:
@@ -268,8 +272,7 @@ class Live:
         if in_play:
             ended = [f"result,{number},{home},{away}\n".encode()
                      for number, (home, away) in in_play.items()]
-            before = self.asker.words(events) if self.book.sheet.lines else {}
-            after = self.asker.words(events + ended) if self.book.sheet.lines else {}
+            before, after = self.asker.words(events), self.asker.words(events + ended)
             self.voice.as_it_stands(in_play, self.asker.table(events + ended), before, after)
 
     def _help(self) -> None:

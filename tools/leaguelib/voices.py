@@ -8,8 +8,9 @@ from . import common
 from .answers import Place, read_report
 from .bookkeeper import Bookkeeper
 from .changes import Words, change_text, changes_between, summary, words_of
+from .line_names import LineNames
 from .records import row_text
-from .wording import counted, limit_phrase, listed, place_phrase, score_text, shown
+from .wording import counted, limit_phrase, listed, score_text, shown
 
 HELP = """\
 Arsenal 2-1 Chelsea           the match has ended so
@@ -55,8 +56,9 @@ class Rows:
 class Speaker:
     """Sentences on standard output; refused lines on standard error."""
 
-    def __init__(self, book: Bookkeeper) -> None:
+    def __init__(self, book: Bookkeeper, names: LineNames) -> None:
         self.book = book
+        self.names = names
         self.before: Words | None = None
         self.words: Words = {}
 
@@ -85,11 +87,11 @@ class Speaker:
         if not words:
             lines = ["the sheet has no `line`, so an ask has no answer; `table` has one"]
         elif self.before is None:
-            lines = summary(words)
+            lines = summary(words, self.names)
             head += ", " + limit_phrase(self.book.sheet, season)
         else:
-            lines = news(self.before, words)
-        lines += unsettled(words)
+            lines = news(self.before, words, self.names)
+        lines += unsettled(words, self.names)
         if in_play:
             scores = counted(in_play, "score in play is", "scores in play are")
             lines.append(f"{scores} not counted; `table` shows how it stands with them")
@@ -113,25 +115,25 @@ class Speaker:
                   for number, score in in_play.items()]
         lines = [f"as it stands, if {listed(scores)} were the end:", table_text(table)]
         changes = changes_between(before, after)
-        lines += [change_text(change) for change in changes]
+        lines += [change_text(change, self.names) for change in changes]
         self.tell("\n".join(lines if changes else [*lines, "no verdict would change"]))
 
 
-def news(before: Words, now: Words) -> list[str]:
+def news(before: Words, now: Words, names: LineNames) -> list[str]:
     """What changed, in words; what only the search found out is set apart."""
     changes = changes_between(before, now)
-    lines = [change_text(change) for change in changes if not change.is_of_search]
-    found = [change_text(change) for change in changes if change.is_of_search]
+    lines = [change_text(change, names) for change in changes if not change.is_of_search]
+    found = [change_text(change, names) for change in changes if change.is_of_search]
     if not lines:
         lines = ["nothing changed since the last ask"]
     return lines + (["the search alone: " + "; ".join(found)] if found else [])
 
 
-def unsettled(words: Words) -> list[str]:
+def unsettled(words: Words, names: LineNames) -> list[str]:
     """The questions that stay without an answer."""
-    names = [f"{shown(club)}, {place_phrase(places)}"
+    texts = [f"{shown(club)}, {names.place(places)}"
              for (places, club), word in words.items() if word == "unsettled"]
-    return ["not settled within the budget: " + listed(names)] if names else []
+    return ["not settled within the budget: " + "; ".join(texts)] if texts else []
 
 
 def words_of_answer(lines: list[bytes]) -> Words:
