@@ -96,6 +96,11 @@ class Browser:
         answer = self.call("Page.captureScreenshot", captureBeyondViewport=True)
         path.write_bytes(base64.b64decode(answer["data"]))
 
+    def printed(self) -> bytes:
+        """The page as it is printed on A4."""
+        answer = self.call("Page.printToPDF", preferCSSPageSize=True)
+        return base64.b64decode(answer["data"])
+
     def end(self) -> None:
         """Ends the browser that this object started."""
         os.close(self._write)

@@ -13,31 +13,17 @@ from pathlib import Path
 from typing import TYPE_CHECKING
 
 from .answers import Place, Verdict
-from .sentences import USUAL_STEPS, decided_text, proof_steps, unsettled_texts
-from .wording import (counted, limit_phrase, lots_phrase, match_text, place_phrase, rules_phrase,
-                      score_text)
+from .changes import clubs_by_word, words_of
+from .marks import EMPTY_CELL, MEANINGS, SIGNS, anchor, name_of, names_of, safe
+from .page_news import news, next_parts, open_matches
+from .page_reasons import reasons
+from .wording import counted, limit_phrase, rules_phrase
 
 if TYPE_CHECKING:
     from .board import Board
 
-SIGNS = {"clinched": "✓", "lost": "✗", "possible": "&nbsp;", "unsettled": "?"}
-MEANINGS = {
-    "clinched": "sure of it {limit}",
-    "lost": "sure to miss it {limit}",
-    "possible": "can still reach it and can still miss it",
-    "unsettled": "not found out within the budget; says nothing for or against the club",
-}
-EMPTY_CELL = '<td class="mark"><span class="hidden-words">no answer</span></td>'
-
-
-def safe(text: str) -> str:
-    """Text as HTML shows it, whatever signs are in it."""
-    return escape(text.encode("utf-8", "replace").decode("utf-8"), quote=True)
-
-
-def name_of(text: str) -> str:
-    """A name, kept apart from the direction of what is around it."""
-    return f"<bdi>{safe(text)}</bdi>"
+FEW = 6
+MANY_LINES = 4
 
 
 def page_text(board: Board) -> str:
@@ -54,7 +40,8 @@ def page_text(board: Board) -> str:
         f"<title>{safe(board.sheet.name)}</title>",
         f"<style>{style}</style>", "</head>", "<body>", "<main>",
         f"<h1>{name_of(board.sheet.name)}</h1>",
-        *_state(board), *_table(board), *_legend(board), *_news(board), *_reasons(board),
+        *_state(board), *_races(board), *_table(board), *_legend(board), *news(board),
+        *next_parts(board), *open_matches(board), *reasons(board),
         "</main>", f"<script>{script}</script>", "</body>", "</html>"]
     return "\n".join(parts) + "\n"
 
@@ -65,33 +52,56 @@ def _hash(text: str) -> str:
 
 
 def _state(board: Board) -> list[str]:
-    """How many matches are played, and which are open."""
-    open_fixtures = board.season.open_fixtures(board.sheet)
+    """How many matches are played and open, when the page was made, and what counts first."""
+    still = len(board.season.open_fixtures(board.sheet))
     played = counted(len(board.season.scores), "match", "matches")
+    last = board.last_day()
+    until = f", the last on {last}" if last else ""
     rules = safe(rules_phrase(board.sheet, board.season))
-    parts = [f"<p>{played} played, {len(open_fixtures)} open. {rules}</p>"]
-    if 0 < len(open_fixtures) <= 20:
-        items = [f"<li>{safe(match_text(fixture))}{_day(board, fixture.number)}</li>"
-                 for fixture in open_fixtures]
-        parts += ["<details><summary>Open matches</summary>", "<ul>", *items, "</ul>", "</details>"]
-    return parts
+    return [f"<p>{played} played{until}; {still or 'none'} open. {rules} "
+            f'<span class="quiet">Page of {safe(board.made)}.</span></p>']
 
 
-def _day(board: Board, fixture: int) -> str:
-    day = board.days.get(fixture)
-    return f" ({safe(day)})" if day else ""
+def _races(board: Board) -> list[str]:
+    """A sentence a line: who has it, who can still have it, who cannot."""
+    if not board.verdicts:
+        return []
+    words = words_of(board.verdicts.values())
+    points = {place.club: place.points for place in board.table}
+    items = []
+    for places in board.lines:
+        groups = clubs_by_word(words, places)
+        parts = [f"{phrase}: {_clubs(groups[word], points)}"
+                 for word, phrase in (("clinched", "sure of it"), ("possible", "can still have it"),
+                                      ("unsettled", "not found out"), ("lost", "out of it"))
+                 if word in groups]
+        title = board.names.place(places)
+        items.append(f"<li><strong>{safe(title[:1].upper() + title[1:])}</strong>: "
+                     + "; ".join(parts) + ".</li>")
+    return ['<ul class="races" aria-label="How it stands">', *items, "</ul>"]
+
+
+def _clubs(clubs: list[str], points: dict[str, int]) -> str:
+    """Clubs with their points, the first of the table in front; a number where they are many."""
+    if len(clubs) > FEW:
+        return counted(len(clubs), "club")
+    order = list(points)
+    return names_of([f"{name_of(club)} ({points[club]})"
+                     for club in sorted(clubs, key=order.index)])
 
 
 def _table(board: Board) -> list[str]:
     """The table of the matches played, with a mark a line and club."""
-    lines = board.sheet.lines if board.verdicts else []
-    heads = ['<th scope="col">Place</th>', '<th scope="col" class="club">Club</th>',
-             '<th scope="col" class="extra">Played</th>', '<th scope="col">Points</th>',
-             '<th scope="col" class="extra">Difference</th>',
+    lines = board.lines if board.verdicts else []
+    heads = [f'<th scope="col">{_short("Place", "#")}</th>',
+             '<th scope="col" class="club">Club</th>', '<th scope="col" class="extra">Played</th>',
+             f'<th scope="col">{_short("Points", "Pts")}</th>',
+             '<th scope="col" class="more">Difference</th>',
              '<th scope="col" class="extra">Goals</th>']
-    heads += [f'<th scope="col" class="mark">{_head(places)}</th>' for places in lines]
+    heads += [f'<th scope="col" class="mark">{_head(board, places)}</th>' for places in lines]
+    size = "many" if len(lines) > MANY_LINES else "few"
     return ['<div class="scroll" id="table" tabindex="0" role="region" aria-label="Table">',
-            "<table>",
+            f'<table class="{size}">',
             "<caption>The table of the matches played. A mark leads to its reasons.</caption>",
             "<thead>", "<tr>", *heads, "</tr>", "</thead>", "<tbody>",
             *[row for position, place in enumerate(board.table, 1)
@@ -99,17 +109,27 @@ def _table(board: Board) -> list[str]:
             "</tbody>", "</table>", "</div>"]
 
 
-def _head(places: int) -> str:
-    return "First" if places == 1 else f"First {places}"
+def _short(word: str, short: str) -> str:
+    """A head, and what stands in its place where there is little room."""
+    return f'<span class="full">{word}</span><abbr class="short" title="{word}">{short}</abbr>'
+
+
+def _head(board: Board, places: int) -> str:
+    """The head of a line's column: its name, if it has one, and its places."""
+    name = board.names.inside.get(places)
+    count = "first" if places == 1 else f"first {places}"
+    shown = count if name else count.capitalize()
+    text = f'<span class="count">{shown}</span>'
+    return f'<span class="name">{name_of(name)}</span> {text}' if name else text
 
 
 def _row(board: Board, position: int, place: Place, lines: list[int]) -> list[str]:
     """One club of the table."""
-    cut = ' class="cut"' if position in board.sheet.lines else ""
+    cut = ' class="cut"' if position in board.lines else ""
     shown_place = str(place.best) if place.best == place.worst else f"{place.best}–{place.worst}"
     cells = [f"<td>{shown_place}</td>", f'<th scope="row" class="club">{name_of(place.club)}</th>',
              f'<td class="extra">{place.played}</td>', f"<td>{place.points}</td>",
-             f'<td class="extra">{_signed(place.difference)}</td>',
+             f'<td class="more">{_signed(place.difference)}</td>',
              f'<td class="extra">{place.scored}</td>']
     cells += [_mark(board, board.verdicts.get((line, place.club))) for line in lines]
     return [f"<tr{cut}>", *cells, "</tr>"]
@@ -124,14 +144,11 @@ def _mark(board: Board, verdict: Verdict | None) -> str:
     """A mark that leads to its reasons."""
     if verdict is None:
         return EMPTY_CELL
-    new = '<span class="new">new</span>' if board.has_changed(verdict) else ""
-    return (f'<td class="mark {verdict.word}"><a href="#{_anchor(board, verdict)}">'
+    change = board.change_of(verdict)
+    new = '<span class="new">new</span>' if change and not change.is_of_search else ""
+    return (f'<td class="mark {verdict.word}"><a href="#{anchor(board, verdict)}">'
             f'<span class="sign" aria-hidden="true">{SIGNS[verdict.word]}</span> '
             f'<span class="word">{verdict.word}</span>{new}</a></td>')
-
-
-def _anchor(board: Board, verdict: Verdict) -> str:
-    return f"why-{verdict.places}-{board.sheet.club_named(verdict.club).number}"
 
 
 def _legend(board: Board) -> list[str]:
@@ -144,61 +161,3 @@ def _legend(board: Board) -> list[str]:
              f"<strong>{word}</strong>: {safe(MEANINGS[word].format(limit=limit))}</li>"
              for word in words]
     return ['<ul class="legend" aria-label="What the marks mean">', *items, "</ul>"]
-
-
-def _news(board: Board) -> list[str]:
-    """What the last event changed."""
-    if not board.last_event:
-        return []
-    parts = ["<h2>What the last event changed</h2>", f"<p>{safe(board.last_event)}</p>"]
-    changed = [verdict for verdict in board.verdicts.values() if board.has_changed(verdict)]
-    if not changed:
-        return [*parts, "<p>No mark.</p>"]
-    goals = counted(board.sheet.goal_limit, "goal")
-    items = [f"<li>{name_of(v.club)}, {place_phrase(v.places)}: {v.word}, "
-             f"before {board.earlier[(v.places, v.club)]}</li>" for v in changed]
-    parts.append(f"<p>With at most {goals} a side in each open match:</p>")
-    return [*parts, "<ul>", *items, "</ul>"]
-
-
-def _reasons(board: Board) -> list[str]:
-    """A section for each mark, to which it leads."""
-    if not board.verdicts:
-        return []
-    parts = ['<div class="why">', "<h2>Reasons</h2>"]
-    for verdict in board.verdicts.values():
-        title = f"{name_of(verdict.club)}, {place_phrase(verdict.places)}: {verdict.word}"
-        parts += [f'<section id="{_anchor(board, verdict)}" tabindex="-1">', f"<h3>{title}</h3>",
-                  *_reason(board, verdict), '<p><a class="back" href="#table">Back to the table'
-                                            "</a></p>", "</section>"]
-    return [*parts, "</div>"]
-
-
-def _reason(board: Board, verdict: Verdict) -> list[str]:
-    """What stands behind a mark: a sentence and a proof, or finishes."""
-    if verdict.word in ("clinched", "lost"):
-        limit = limit_phrase(board.sheet, board.season)
-        parts = [f"<p>{safe(decided_text([verdict], verdict.word, limit))}</p>"]
-        claim = "outside" if verdict.word == "clinched" else "inside"
-        if board.has_proofs and claim in verdict.proofs:
-            steps = proof_steps(board.sheet, board.season, verdict, claim, USUAL_STEPS)
-            items = [f"<li>{safe(' '.join(step.split()))}</li>" for step in steps]
-            parts += ["<ul>", *items, "</ul>"]
-        return parts
-    if verdict.word == "unsettled":
-        return [f"<p>{safe(' '.join(text.lstrip(' -').split()))}</p>"
-                for text in unsettled_texts(board.sheet, verdict)]
-    return [part for claim, verb in (("inside", "reaches"), ("outside", "misses"))
-            if claim in verdict.examples for part in _finish(board, verdict, claim, verb)]
-
-
-def _finish(board: Board, verdict: Verdict, claim: str, verb: str) -> list[str]:
-    """One finish that shows a place reached, or missed."""
-    example = verdict.examples[claim]
-    scores = [f"<li>{safe(score_text(board.sheet.fixture(number), score))}</li>"
-              for number, score in sorted(example.scores.items())]
-    lots = safe(lots_phrase(board.sheet, example.lots, verdict.club))
-    intro = f"<p>{name_of(verdict.club)} {verb} it, for example, if"
-    if not scores:
-        return [f"{intro} {lots}.</p>"]
-    return [f"{intro}</p>", "<ul>", *scores, f"<li>and, {lots}</li>", "</ul>"]
