@@ -14,40 +14,51 @@ from dataclasses import dataclass, field
 
 from . import common
 from .answers import Place, Verdict
-from .boardruns import ASK, shown_answer, table_of
+from .asking import Asked, ask_mode, budget_note, position_of, with_asks, with_budget
 from .changes import Change, changes_between, words_of
 from .feeds import Input
+from .front import add_budget_argument
+from .given import Given, add_file_arguments, gather
 from .line_names import LineNames, asked_lines, names_in
 from .lines import line_runs, with_lines_of
 from .outlook import ISO_DATE, Outlook, next_matches, outlook
 from .page import page_text
-from .running import (add_input_arguments, ask_lines, front_of, position_of_ask, read_files,
-                      read_league)
+from .progress import Progress, add_progress_argument
+from .proved import own_report
+from .reasons import Points, short_reason
+from .running import front_of
+from .stopped import league_in
 from .texts import Season, Sheet
+from .view import table_at
 from .wording import days_of
 
-# with so many matches open at most, unsettled rows are asked again with the greatest budget
-FEW_OPEN = 60
 MONTHS = ("January", "February", "March", "April", "May", "June", "July", "August", "September",
           "October", "November", "December")
+
+Mark = tuple[int, str]
 
 
 @dataclass
 class Board:
-    """What a page shows of one ask; `changes` is none where no ask stands before it."""
+    """What a page shows of one ask; `changes` is none where no ask stands before it.
+
+    `reasons` are short ones in words, `proved` the verdicts whose proofs were accepted.
+    """
 
     sheet: Sheet
     season: Season
     table: list[Place]
     lines: list[int] = field(default_factory=list)
     names: LineNames = field(default_factory=LineNames)
-    verdicts: dict[tuple[int, str], Verdict] = field(default_factory=dict)
+    verdicts: dict[Mark, Verdict] = field(default_factory=dict)
     changes: list[Change] | None = None
     events_since: int = 0
     outlook: list[Outlook] | None = None
-    has_proofs: bool = False
+    reasons: dict[Mark, str] = field(default_factory=dict)
+    proved: dict[Mark, Verdict] = field(default_factory=dict)
     days: dict[int, str] = field(default_factory=dict)
     made: str = ""
+    note: str = ""
     budget: int = 0
 
     def change_of(self, verdict: Verdict) -> Change | None:
@@ -63,47 +74,88 @@ class Board:
 
 def add_arguments(parser: argparse.ArgumentParser) -> None:
     """The words of this part."""
-    add_input_arguments(parser)
+    add_file_arguments(parser)
+    parser.add_argument("--ask", type=int, metavar="N",
+                        help="look at the Nth ask of the feed, from 1; otherwise at the last")
     parser.add_argument("-o", "--output", metavar="FILE", default="-",
                         help="where the page is written; otherwise to standard output")
     parser.add_argument("--tonight", action="store_true",
                         help="tell what each match of the next day can decide by itself")
+    add_budget_argument(parser)
+    add_progress_argument(parser)
 
 
 def run(arguments: argparse.Namespace) -> int:
     """Writes the page, and gives the exit status."""
-    data = read_files(arguments.files)
-    league = read_league(data)
-    position = position_of_ask(league, arguments.ask)
+    given = gather(arguments.files)
+    league = league_in(given)
+    position = position_of(league, arguments.ask)
     path = common.program_path(arguments.program)
-    board = board_of(path, data, league, position)
+    with Progress("board", 0, arguments.progress):
+        board = board_of(path, given, league, position, arguments.budget)
     if arguments.tonight and board.lines:
-        front = _without_asks(front_of(data, ask_lines(league)[position]), league, -1)
-        _add_outlook(board, path, front)
+        _add_outlook(board, path, _front(given, league, position, False), arguments.progress)
     common.write_text(page_text(board), arguments.output)
     return common.DONE
 
 
-def board_of(path: str, data: bytes, league: Input, position: int) -> Board:
-    """Asks the program for what the page shows."""
-    asks = ask_lines(league)
-    before = position - 1 if position > 0 else -1
-    front = _without_asks(front_of(data, asks[position]), league, before)
+def board_of(path: str, given: Given, league: Input, position: int,
+             budget: int | None = None) -> Board:
+    """Asks the program for what the page shows: the ask and the one before it in one run."""
     season = league.season_at(position)
-    board = Board(league.sheet, season, table_of(path, front + ASK), days=days_of(data, league.sheet),
-                  names=names_in(data), lines=asked_lines(data, league.sheet), made=_today())
-    if board.lines:
-        is_long = len(season.open_fixtures(league.sheet)) > FEW_OPEN
-        shown = shown_answer(path, front + ASK, board.lines, is_long)
-        board.verdicts = {(it.places, it.club): it for it in shown.answer.verdicts}
-        board.has_proofs, board.budget = shown.has_proofs, shown.budget
-        if before >= 0:
-            board.changes = changes_between(shown.earlier, words_of(shown.answer.verdicts))
-            board.events_since = season.events - league.season_at(before).events
+    table = table_at(path, given, league, position)
+    board = Board(league.sheet, season, table, asked_lines(given.data, league.sheet),
+                  names_in(given.data), days=days_of(given.data, league.sheet), made=_today())
+    if not board.lines:
+        return board
+    outcome = ask_mode(path, "verdicts", given, list(range(max(0, position - 1), position + 1)),
+                       budget)
+    if outcome.stop is not None:
+        raise common.Trouble(outcome.stop.message, common.NO_PROGRAM)
+    now = outcome.asked[-1]
+    board.verdicts = {(it.places, it.club): it for it in now.answer.verdicts}
+    _test_names(board)
+    board.note, board.budget = budget_note(now), now.budget
+    if len(outcome.asked) > 1:
+        before = outcome.asked[0]
+        board.changes = changes_between(words_of(before.answer.verdicts),
+                                        words_of(now.answer.verdicts))
+        board.events_since = season.events - before.season.events
+    _add_reasons(board, path, _front(given, league, position, True), league, now)
     return board
 
 
-def _add_outlook(board: Board, path: str, front: bytes) -> None:
+def _test_names(board: Board) -> None:
+    """Ends the command where the program names clubs or lines that the sheet has not."""
+    clubs = {club.name for club in board.sheet.clubs}
+    wanted = {(places, club) for places in board.lines for club in clubs}
+    if {place.club for place in board.table} != clubs or set(board.verdicts) != wanted:
+        raise common.Trouble("the answer of futmax does not fit this sheet: it may be an older "
+                             "program. Build it anew.", common.NO_PROGRAM)
+
+
+def _add_reasons(board: Board, path: str, front: bytes, league: Input, now: Asked) -> None:
+    """Adds the short reasons, and for what has none the proofs, where they are accepted."""
+    points = Points(board.sheet, board.season)
+    missing: set[int] = set()
+    for mark, verdict in board.verdicts.items():
+        if verdict.word not in ("clinched", "lost"):
+            continue
+        reason = short_reason(points, board.table, verdict.club, verdict.places,
+                              verdict.word == "clinched")
+        if reason is not None:
+            board.reasons[mark] = reason.text
+        else:
+            missing.add(verdict.places)
+    for lines in line_runs(sorted(missing)) if missing else []:
+        told = own_report(path, with_budget(with_lines_of(front, lines), now.budget), league)
+        for verdict in told.report.answers[-1].verdicts if told.is_checked else []:
+            mark = (verdict.places, verdict.club)
+            if verdict.proofs and board.verdicts[mark].word == verdict.word:
+                board.proved[mark] = verdict
+
+
+def _add_outlook(board: Board, path: str, front: bytes, is_wanted: bool) -> None:
     """Adds what the next matches can decide, where it is known which they are."""
     fixtures = next_matches(board.sheet, board.season, board.days)
     if not fixtures:
@@ -111,14 +163,14 @@ def _add_outlook(board: Board, path: str, front: bytes) -> None:
                    "in the sheet, twelve a day at most; nothing is told of them")
         return
     runs = [with_lines_of(front, run) for run in line_runs(board.lines)]
-    board.outlook = outlook(path, board.sheet, runs, fixtures)
+    board.outlook = outlook(path, board.sheet, runs, fixtures, is_wanted)
 
 
-def _without_asks(front: bytes, league: Input, kept: int) -> bytes:
-    """The lines with each ask but one made an empty line, so that line numbers stay."""
-    dropped = {line for position, line in enumerate(ask_lines(league)) if position != kept}
-    lines = front.split(b"\n")
-    return b"\n".join(b"" if number in dropped else line for number, line in enumerate(lines, 1))
+def _front(given: Given, league: Input, position: int, has_ask: bool) -> bytes:
+    """The input up to an ask, with it alone or with none; every line keeps its number."""
+    data = with_asks(given.data, league, [position])
+    line = [entry.line for entry in league.entries if entry.kind == "ask"][position]
+    return front_of(data, line) + (b"ask\n" if has_ask else b"")
 
 
 def _today() -> str:

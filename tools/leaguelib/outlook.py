@@ -10,11 +10,11 @@ import re
 from dataclasses import dataclass
 
 from . import common
-from .asker import ONE_WORKER
+from .asking import run_mode
 from .changes import Change, Words, changes_between
 from .progress import Progress
 from .records import fields_of
-from .running import ENDINGS, run_program
+from .running import ENDINGS
 from .texts import Fixture, Season, Sheet
 
 MOST_MATCHES = 12
@@ -47,7 +47,8 @@ def next_matches(sheet: Sheet, season: Season, days: dict[int, str]) -> list[Fix
     return found if len(found) <= MOST_MATCHES else []
 
 
-def outlook(path: str, sheet: Sheet, runs: list[bytes], fixtures: list[Fixture]) -> list[Outlook]:
+def outlook(path: str, sheet: Sheet, runs: list[bytes], fixtures: list[Fixture],
+            is_wanted: bool = False) -> list[Outlook]:
     """What each outcome of these matches decides; the runs are inputs without an ask, by lines."""
     first = _answers(path, runs, [(it.number, score) for it in fixtures
                                   for score in ((1, 0), (0, 0), (0, 1))])
@@ -55,7 +56,7 @@ def outlook(path: str, sheet: Sheet, runs: list[bytes], fixtures: list[Fixture])
     likely = [(it, outcome, changes) for it in fixtures for outcome in OUTCOMES
               if (changes := _decided(now, next(tried)))]
     found = []
-    with Progress("what the next matches decide", len(likely)) as progress:
+    with Progress("what the next matches decide", len(likely), is_wanted) as progress:
         for fixture, outcome, changes in likely:
             scores = _scores(outcome, sheet.goal_limit)
             answers = _answers(path, runs, [(fixture.number, score) for score in scores])
@@ -96,7 +97,7 @@ def _answers(path: str, runs: list[bytes], trials: list[tuple[int, Score]]) -> l
 
 def _words_of_run(path: str, data: bytes) -> list[Words]:
     """The words of each answer of a run; its finishes are not read."""
-    run = run_program(path, ["verdicts", *ONE_WORKER], data)
+    run = run_mode(path, "verdicts", data)
     if run.status != 0:
         reason = ENDINGS.get(run.status, "it takes these results no more")
         raise common.Trouble(f"futmax ended with status {run.status}: {reason}.",

@@ -59,7 +59,8 @@ def _state(board: Board) -> list[str]:
     until = f", the last on {last}" if last else ""
     rules = safe(rules_phrase(board.sheet, board.season))
     return [f"<p>{played} played{until}; {still or 'none'} open. {rules} "
-            f'<span class="quiet">Page of {safe(board.made)}.</span></p>']
+            f'<span class="quiet">Page of {safe(board.made)}.</span></p>',
+            *([f"<p>{safe(board.note)}</p>"] if board.note else [])]
 
 
 def _races(board: Board) -> list[str]:

@@ -35,7 +35,7 @@ def _reason(board: Board, verdict: Verdict) -> list[str]:
         return _decided(board, verdict)
     if verdict.word == "unsettled":
         return [f"<p>{safe(' '.join(text.lstrip(' -').split()))}</p>"
-                for text in unsettled_texts(board.sheet, verdict)]
+                for text in unsettled_texts(board.sheet, verdict, board.budget)]
     still = len(board.season.open_fixtures(board.sheet))
     if still > MOST_TOLD:
         return [f"<p>{name_of(verdict.club)} can still reach it and can still miss it: there is "
@@ -46,15 +46,19 @@ def _reason(board: Board, verdict: Verdict) -> list[str]:
 
 
 def _decided(board: Board, verdict: Verdict) -> list[str]:
-    """A sentence, and the steps of a proof that was accepted."""
+    """A sentence, and a short reason or the steps of a proof that was accepted."""
+    mark = (verdict.places, verdict.club)
     limit = limit_phrase(board.sheet, board.season)
     parts = [f"<p>{safe(decided_text([verdict], verdict.word, limit))}</p>"]
-    claim = "outside" if verdict.word == "clinched" else "inside"
-    if board.has_proofs and claim in verdict.proofs:
-        steps = proof_steps(board.sheet, board.season, verdict, claim, USUAL_STEPS)
+    if mark in board.reasons:
+        return [*parts, f"<p>{safe(board.reasons[mark])}</p>"]
+    if mark in board.proved:
+        claim = "outside" if verdict.word == "clinched" else "inside"
+        steps = proof_steps(board.sheet, board.season, board.proved[mark], claim, USUAL_STEPS)
         items = [f"<li>{safe(' '.join(step.split()))}</li>" for step in steps]
-        parts += ["<ul>", *items, "</ul>"]
-    return parts
+        return [*parts, "<p>Points alone do not tell it. The steps of the proof:</p>",
+                "<ul>", *items, "</ul>"]
+    return [*parts, "<p>Points alone do not tell it, and no proof of it was checked here.</p>"]
 
 
 def _finish(board: Board, verdict: Verdict, claim: str, verb: str) -> list[str]:
