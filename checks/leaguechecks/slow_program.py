@@ -12,8 +12,11 @@ sys.path.insert(0, str(Path(__file__).resolve().parent.parent))
 import reference  # noqa: E402  (the folder of the checks is set above)
 
 
-def main() -> None:
-    """Answers each ask of standard input, as verdicts or as a table."""
+def main() -> int:
+    """Answers each ask of standard input, as verdicts or as a table; it has no proofs."""
+    if sys.argv[1] not in ("verdicts", "table") or "--proofs" in sys.argv:
+        print("usage,futmax MODE [--workers N] [--proofs] [--seed N]")
+        return 1
     league = reference.League()
     writer = csv.writer(sys.stdout, lineterminator="\n")
     for line in sys.stdin:
@@ -30,7 +33,8 @@ def main() -> None:
                 for claim in ("inside", "outside"):
                     print(f'["finish","{claim}"]\n["lots",{lots}]'.replace(", ", ","))
         sys.stdout.flush()
+    return 0
 
 
 if __name__ == "__main__":
-    main()
+    sys.exit(main())
