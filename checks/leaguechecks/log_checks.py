@@ -36,7 +36,7 @@ class Running:
             self.input, self.output = self.process.stdin.fileno(), self.process.stdout.fileno()
         self.said = ""
         self.faults: list[str] = []
-        self.hears("can be typed")
+        self.hears("can be typed" if has_terminal else "replayed\n")
 
     def type(self, text: str) -> None:
         """Types a line."""

@@ -111,10 +111,11 @@ class Live:
             elif _is_event(line):
                 self.session.events.append(raw + b"\n")
         self.session.start()
-        if self.session.events:
-            self.voice.tell(f"{events_text(len(self.session.events))} of the log replayed")
         if isinstance(self.voice, Speaker):
             self._look_back(last_ask)
+        if self.session.events or isinstance(self.voice, Speaker):
+            self.voice.tell(f"{events_text(len(self.session.events))} of the log replayed")
+        if self.prompt.is_shown:
             self.voice.tell("`help` tells what can be typed")
 
     def _look_back(self, last_ask: int | None) -> None:
