@@ -36,6 +36,7 @@ def check_evening(counter: Counter) -> None:
         _check_undo(counter, evening)
         _check_in_play(counter, evening)
         _check_lines(counter, evening)
+        _check_tonight(counter, evening)
         _check_words(counter, evening)
 
 
@@ -171,6 +172,22 @@ def _check_in_play(counter: Counter, evening: Evening) -> None:
     counter.check("evening: in play wants a score", said(run, 2, "line 1, `~ Köln - Dock United`"))
 
 
+def _check_tonight(counter: Counter, evening: Evening) -> None:
+    """What a match decides with each of its scores: `checks/page` has it worked out by hand."""
+    run = evening.run("tonight\n", "result,1,2,1\n")
+    counter.check("evening: tonight", _missing(
+        run, "of 2 matches, each by itself, whatever its score up to 2 goals a side and however "
+             "the other open matches end:",
+        "  Köln - Dock United, if it is a draw: Köln, the first place: possible → lost",
+        "  Köln - Dock United, if Dock United win: Köln, the first place: possible → lost",
+        "  Dock United - Anchor, if it is a draw: Köln, the first place: possible → lost",
+        "  Dock United - Anchor, if Anchor win: Anchor, the first place: possible → clinched",
+        "  Dock United - Anchor, if Anchor win: Köln, the first place: possible → lost",
+        "  Dock United - Anchor, if Anchor win: Dock United, the first place: possible → lost"))
+    counter.check("evening: no more than that", [] if sum("→" in it for it in _lines(run)) == 6
+                  else _lines(run))
+
+
 def _check_lines(counter: Counter, evening: Evening) -> None:
     """Lines go by their names, and one that only a comment has is asked as well."""
     evening.sheet.write_text(SHEET.replace("line,1", "# line 1: Cup\nline,1\n# line 2"), "utf-8")
@@ -185,6 +202,8 @@ def _check_lines(counter: Counter, evening: Evening) -> None:
 
 def _check_words(counter: Counter, evening: Evening) -> None:
     """The other words, and what they need."""
+    run = evening.run("rows\n")
+    counter.check("evening: rows of nothing", said(run, 2, "nothing was asked so far"))
     run = evening.run("help\nquit\nAnchor 2-1 Köln\n")
     counter.check("evening: help", _missing(
         run, "undo                          take the last line back"))

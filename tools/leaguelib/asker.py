@@ -46,6 +46,10 @@ class Asker:
         words = self._words(run, budget, events)
         return {mark: word for mark, word in words.items() if known[mark] == "unsettled"}
 
+    def inputs(self, events: list[bytes]) -> list[bytes]:
+        """An input for each run of lines, with these events and no ask."""
+        return [b"".join([with_lines_of(self.data, run), *events]) for run in self.runs]
+
     def _words(self, lines: list[int], budget: int, events: list[bytes]) -> Words:
         """The words of some lines."""
         sheet = with_lines_of(with_budget(self.data, budget), lines)

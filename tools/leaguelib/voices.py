@@ -9,7 +9,9 @@ from .answers import Place, read_report
 from .bookkeeper import Bookkeeper
 from .changes import Words, change_text, changes_between, summary, words_of
 from .line_names import LineNames
+from .outlook import Outlook
 from .records import row_text
+from .texts import Fixture
 from .wording import counted, limit_phrase, listed, score_text, shown
 
 HELP = """\
@@ -22,6 +24,7 @@ undo                          take the last line back
 ask                           what has changed since the last ask
 rows                          every row of the last answer
 table                         the table, and how it stands with the scores in play
+tonight                       what each of the next matches can decide by itself
 quit                          end the evening; the log keeps everything
 """
 
@@ -107,6 +110,19 @@ class Speaker:
     def table(self, table: list[Place]) -> None:
         """The table of the matches that have ended."""
         self.tell(table_text(table))
+
+    def tonight(self, fixtures: list[Fixture], found: list[Outlook]) -> None:
+        """What the next matches can decide, each by itself."""
+        goals = counted(self.book.sheet.goal_limit, "goal")
+        lines = [f"of {counted(len(fixtures), 'match', 'matches')}, each by itself, whatever its "
+                 f"score up to {goals} a side and however the other open matches end:"]
+        for one in found:
+            home, away = shown(one.fixture.home), shown(one.fixture.away)
+            outcome = {"home": f"if {home} win", "draw": "if it is a draw",
+                       "away": f"if {away} win"}[one.outcome]
+            lines += [f"  {home} - {away}, {outcome}: {change_text(change, self.names)}"
+                      for change in one.changes]
+        self.tell("\n".join(lines if found else [*lines, "  none decides anything"]))
 
     def as_it_stands(self, in_play: dict[int, tuple[int, int]], table: list[Place],
                      before: Words, after: Words) -> None:

@@ -1,0 +1,260 @@
+"""An evening on air: each line is tested, kept in the log, sent to futmax, and answered where it
+asks; lines of other hands in the log as well.
+"""
+
+from __future__ import annotations
+
+import argparse
+
+from . import common
+from .answer_end import AnswerEnd
+from .asker import Asker
+from .bookkeeper import Unclear
+from .evening import Evening
+from .line_names import names_in
+from .linesource import LineSource, Prompt
+from .livelog import LiveLog
+from .names import shown as quoted
+from .outlook import next_matches, outlook
+from .progress import Progress
+from .records import lines_of, record_of
+from .session import Ended, Session
+from .voices import HELP, Rows, Speaker, events_text, words_of_answer
+from .wording import days_of
+
+ENDS = ("quit", "exit")
+
+
+class Live:
+    """A session with its log: every line is tested, kept, sent, and answered where it asks."""
+
+    def __init__(self, evening: Evening, log: LiveLog, sheet: bytes,
+                 arguments: argparse.Namespace) -> None:
+        self.evening = evening
+        self.book = evening.book
+        self.log = log
+        self.asker = Asker(common.program_path(arguments.program), sheet)
+        self.session = self._session(arguments, sheet)
+        self.voice = Rows() if arguments.rows else Speaker(self.book, names_in(sheet))
+        self.prompt = Prompt()
+        self.answers = 0
+        self.typed = 0
+        self.refused = 0
+
+    def _session(self, arguments: argparse.Namespace, sheet: bytes) -> Session:
+        """The program as it is to be run."""
+        command = [self.asker.path, arguments.mode, "--workers", str(arguments.workers)]
+        if arguments.proofs:
+            command.append("--proofs")
+        clubs, lines = len(self.book.sheet.clubs), len(self.book.sheet.lines)
+        return Session(command, sheet, lambda: AnswerEnd(clubs, lines, arguments.mode,
+                                                         arguments.proofs))
+
+    def begin(self) -> None:
+        """Starts the program with the events of the log; its asks are not answered again."""
+        last_ask = None
+        for number, raw in lines_of(self.log.read()):
+            line = raw.decode("utf-8", "surrogateescape")
+            try:
+                self.evening.take(line)
+            except Unclear as unclear:
+                raise common.Trouble(f"{self.log.path}, line {number}: {unclear.message} "
+                                     "(`league lint` tells more)") from unclear
+            if _kind(line) == "ask":
+                last_ask = len(self.session.events)
+            elif _is_event(line):
+                self.session.events.append(raw + b"\n")
+        self.session.start()
+        if isinstance(self.voice, Speaker):
+            self._look_back(last_ask)
+        if self.session.events or isinstance(self.voice, Speaker):
+            self.voice.tell(f"{events_text(len(self.session.events))} of the log replayed")
+        if self.prompt.is_shown:
+            self.voice.tell("`help` tells what can be typed")
+
+    def _look_back(self, last_ask: int | None) -> None:
+        """Has the words of the last ask of the log, with which the next one is compared."""
+        if last_ask is not None and self.asker.runs:
+            self.voice.remember(self.asker.words(self.session.events[:last_ask]))
+
+    def go_on(self) -> None:
+        """Takes lines until there is none."""
+        source = LineSource(self._look)
+        self.prompt.show()
+        text = source.wait()
+        while text is not None:
+            self.typed += 1
+            self.take_in()
+            if self.take(text.rstrip("\r")):
+                break
+            self.prompt.show()
+            text = source.wait()
+        else:
+            self.prompt.leave()
+        if isinstance(self.voice, Speaker):
+            self.voice.tell(self.kept_text())
+
+    def kept_text(self) -> str:
+        """What the log keeps."""
+        events = events_text(self.book.feed.season.events)
+        return f"{self.log.path} keeps {events}; `league live` goes on with it"
+
+    def _look(self) -> None:
+        """Takes what another program added while nothing is typed."""
+        if self.take_in(self.prompt.leave):
+            self.prompt.show()
+
+    def take(self, text: str) -> bool:
+        """Takes a line as it was typed; whether it ends the evening."""
+        word = text.strip().lower()
+        if word in ENDS:
+            return True
+        commands = {"undo": self._undo, "ask": self._answer}
+        if isinstance(self.voice, Speaker):
+            commands.update({"table": self._table, "rows": self._all_rows, "help": self._help,
+                             "tonight": self._tonight})
+        try:
+            if word in commands:
+                commands[word]()
+            else:
+                self._keep(self.evening.line_of(text))
+        except Unclear as unclear:
+            self.refused += 1
+            self.voice.refused(f"line {self.typed}, {quoted(text.strip())}: refused, not sent: "
+                               f"{unclear.message}")
+        return False
+
+    def _keep(self, line: str | None) -> None:
+        """Writes a tested line to the log, and takes it from there."""
+        for note in self.book.take_notes():
+            self.voice.tell(note)
+        if line is not None and _kind(line) == "ask":
+            self._answer()
+        elif line is not None:
+            self.log.append(line)
+            self.take_in(own=line)
+
+    def _undo(self) -> None:
+        """Takes the last line back by the feed's own records."""
+        lines = self.evening.back()
+        if not lines:
+            raise Unclear("there is nothing to take back")
+        for line in lines:
+            self.log.append(line)
+        self.take_in(own=lines[-1])
+
+    def take_in(self, before: object = None, own: str | None = None) -> bool:
+        """Takes the lines that the log has beyond those taken; whether there were some."""
+        first = self.log.lines() + 1
+        lines = self.log.grown()
+        notes, self.log.notes = self.log.notes, []
+        if (lines or notes) and before is not None:
+            before()
+        for note in notes:
+            self.voice.tell(note)
+        for number, line in enumerate(lines, first):
+            is_own = number == first + len(lines) - 1 and line == own
+            self._take_line(line, number, is_own)
+        return bool(lines or notes)
+
+    def _take_line(self, line: str, number: int, is_own: bool) -> None:
+        """Takes a line of the log; of one that was not typed here it is said where it stands."""
+        origin = f"{self.log.path}, line {number}"
+        try:
+            words = self.evening.take(line)
+        except Unclear as unclear:
+            self.refused += 1
+            self.log.refuse(number)
+            self.voice.refused(f"{origin}, {quoted(line)}: not taken: {unclear.message} Take it "
+                               "out of the log: it is not read again with this line")
+            return
+        self.voice.noted(words, "" if is_own else origin)
+        if _kind(line) == "ask":
+            self._write_answer()
+        elif _is_event(line) and not self.session.send(line):
+            self._tell_restart("futmax had ended")
+
+    def _answer(self) -> None:
+        """Has an ask answered, and keeps it in the log where it was."""
+        if self._write_answer():
+            self.log.append("ask")
+            self._pass_own_ask()
+
+    def _pass_own_ask(self) -> None:
+        """Takes the `ask` that was just kept, which has its answer already."""
+        first = self.log.lines() + 1
+        lines = self.log.grown()
+        for number, line in enumerate(lines[:-1], first):
+            self._take_line(line, number, False)
+
+    def _write_answer(self) -> bool:
+        """Writes an answer; once more where the program ended without a fault row."""
+        self.answers += 1
+        lines = self._lines_of_answer()
+        if lines is None:
+            self.voice.tell("this ask has no answer, and is not kept. The session goes on")
+        if isinstance(self.voice, Rows):
+            events = events_text(self.book.feed.season.events)
+            self.voice.answer(lines or [], f"end of answer {self.answers}, after {events}")
+        elif lines is not None:
+            words = self.asker.more(words_of_answer(lines), self.session.events)
+            self.voice.answer(words, self.answers, len(self.evening.in_play))
+        return lines is not None
+
+    def _lines_of_answer(self) -> list[bytes] | None:
+        """The lines of an answer, or none where the program dies twice at this ask."""
+        for _ in range(2):
+            try:
+                with Progress("the answer"):
+                    return self.session.ask()
+            except Ended as ended:
+                self.session.start()
+                self._tell_restart(ended.reason)
+                if ended.fault:
+                    raise common.Trouble("futmax refuses what this tool takes: is it an older "
+                                         f"version? {ended.reason}", common.NO_PROGRAM) from ended
+        return None
+
+    def _all_rows(self) -> None:
+        """Every row of the last answer."""
+        if not self.voice.words:
+            raise Unclear("nothing was asked so far; `ask` does")
+        self.voice.rows()
+
+    def _tonight(self) -> None:
+        """What each of the next matches can decide by itself."""
+        sheet = self.book.sheet
+        fixtures = next_matches(sheet, self.book.feed.season, days_of(self.asker.data, sheet))
+        if not fixtures:
+            raise Unclear("no match is open, or so many that the next ones need dates in the "
+                          "sheet, twelve a day at most")
+        runs = self.asker.inputs(self.session.events)
+        self.voice.tonight(fixtures, outlook(self.asker.path, sheet, runs, fixtures))
+
+    def _table(self) -> None:
+        """The table, and how it stands with the scores in play."""
+        events = self.session.events
+        self.voice.table(self.asker.table(events))
+        in_play = self.evening.in_play
+        if in_play:
+            ended = [f"result,{number},{home},{away}\n".encode()
+                     for number, (home, away) in in_play.items()]
+            before, after = self.asker.words(events), self.asker.words(events + ended)
+            self.voice.as_it_stands(in_play, self.asker.table(events + ended), before, after)
+
+    def _help(self) -> None:
+        self.voice.tell(HELP.rstrip("\n"))
+
+    def _tell_restart(self, reason: str) -> None:
+        self.voice.tell(f"{reason}. It was started again, with "
+                        f"{events_text(len(self.session.events))} of the log replayed")
+
+
+def _kind(line: str) -> str:
+    """The first field of a line of the log; nothing where futmax passes it over."""
+    record = record_of(1, line.encode("utf-8", "surrogateescape"))
+    return record.kind if record else ""
+
+
+def _is_event(line: str) -> bool:
+    return _kind(line) not in ("", "ask")
