@@ -2,10 +2,13 @@
 
 from __future__ import annotations
 
+import io
 import os
 import subprocess
 import sys
 from pathlib import Path
+
+from leaguelib import cli
 
 HOME = Path(__file__).resolve().parents[2]
 LEAGUE = HOME / "tools" / "league"
@@ -35,6 +38,25 @@ def league(*words: object, data: bytes = b"") -> subprocess.CompletedProcess:
     texts = [word if isinstance(word, bytes) else str(word) for word in words]
     return subprocess.run([sys.executable, str(LEAGUE), *texts], input=data,
                           capture_output=True, timeout=60, check=False)
+
+
+def called(*words: object, data: bytes = b"") -> subprocess.CompletedProcess:
+    """Runs the command in this process, which takes a tenth of the time of one of its own."""
+    texts = [os.fsdecode(word) if isinstance(word, bytes) else str(word) for word in words]
+    kept = sys.stdin, sys.stdout, sys.stderr
+    streams = [io.TextIOWrapper(io.BytesIO(part), "utf-8", "surrogateescape")
+               for part in (data, b"", b"")]
+    sys.stdin, sys.stdout, sys.stderr = streams
+    try:
+        status = cli.main(texts)
+    except SystemExit as end:
+        status = end.code if isinstance(end.code, int) else 1
+    finally:
+        sys.stdin, sys.stdout, sys.stderr = kept
+    for stream in streams[1:]:
+        stream.flush()
+    output, errors = (stream.buffer.getvalue() for stream in streams[1:])
+    return subprocess.CompletedProcess(texts, status, output, errors)
 
 
 def sound_end(run: subprocess.CompletedProcess) -> list[str]:

@@ -9,7 +9,7 @@ import subprocess
 from leaguelib.files import examine
 from leaguelib.lint import look, looked_at, refusal_of
 
-from .counting import PROGRAM, Counter, league, sound_end
+from .counting import PROGRAM, Counter, called, sound_end
 from .mistake import FEED, SHEET, Mistake
 from .mistakes import TABLE
 
@@ -26,7 +26,7 @@ def check_mistakes(counter: Counter) -> None:
     for mistake in TABLE if program_answers() else ():
         counter.check("program: " + mistake.name, program_faults(mistake))
     for mistake in TABLE[::12]:
-        run = league("lint", "-", data=mistake.input)
+        run = called("lint", "-", data=mistake.input)
         text, status = looked_at([("standard input", mistake.input)])
         counter.check("command: " + mistake.name, sound_end(run) + (
             [] if (run.stdout.decode(), run.returncode) == (text, status) else ["it says other"]))
@@ -89,11 +89,11 @@ def check_offers(counter: Counter) -> None:
     """A feed with many mistakes, put right as lint offers, has none left."""
     data = (SHEET + "result,1,5-1\nresult,Köln,dock united,2,2\nresult,1,5,2\nvoid,3\nASK\n"
             "deduct,Ancor,-3\nask\n")
-    run = league("lint", "-", data=data.encode())
+    run = called("lint", "-", data=data.encode())
     offered = [line[16:] for line in run.stdout.decode().splitlines()
                if line.startswith("    write:") and "leave the line out" not in line]
     mended = SHEET + "".join(line + "\n" for line in offered) + "ask\n"
-    again = league("lint", "-", data=mended.encode())
+    again = called("lint", "-", data=mended.encode())
     counter.check("a feed put right as lint offers", sound_end(run) + (
         [] if again.returncode in (0, 3) and len(offered) == 5 else [again.stdout.decode()]))
 

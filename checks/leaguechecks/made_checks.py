@@ -8,7 +8,7 @@ from pathlib import Path
 from leaguelib.feeds import read_input, read_sheet
 from leaguelib.records import fields_of
 
-from .counting import HOME, Counter, league, said, same, sound_end
+from .counting import HOME, Counter, called, said, same, sound_end
 from .mistake import SHEET
 
 EXAMPLES = sorted(path.parent for path in HOME.glob("examples/*/sheet.csv"))
@@ -60,9 +60,11 @@ FEEDS = (
     ("a misspelt club", "Ancor 2-1 Köln\n", 2, "nearest name is `Anchor`"),
     ("a name without its accent", "Anchor 2-1 Koln\n", 0, "result,1,2,1\n"),
     ("home and away exchanged", "Köln 1-2 Anchor\n", 2, "Anchor - Köln, fixture 1"),
-    ("a result twice", "Anchor 2-1 Köln\nAnchor 2-1 Köln\n", 2, "already"),
-    ("no score", "Anchor - Köln\n", 2, "score is missing"),
-    ("no match", "good evening\n", 2, "not understood"),
+    ("a result twice", "Anchor 2-1 Köln\nAnchor 2-1 Köln\n", 0, "1 result that stands already "
+     "(line 2 `Anchor 2-1 Köln`)"),
+    ("a result twice, another score", "Anchor 2-1 Köln\nAnchor 2-2 Köln\n", 2, "already"),
+    ("no score", "Anchor - Köln\n", 0, "1 match without a score (line 1 `Anchor - Köln`)"),
+    ("no match", "good evening\n", 2, "line 1: cannot be read as a match: `good evening`"),
     ("a table of results", "HomeTeam,AwayTeam,FTHG,FTAG\nAnchor,Köln,2,1\nKöln,Dock United,,\n", 0,
      "result,1,2,1\n"),
 )
@@ -114,12 +116,12 @@ def check_round_trips(counter: Counter) -> None:
             has_budget = len(fields_of(records(by_hand).split(b"\n")[0])) > 3
             if has_budget and sheet.order == "head_first":
                 words += ["--budget", sheet.budget]
-            run = league(*words, data=fixtures.encode("utf-8"))
+            run = called(*words, data=fixtures.encode("utf-8"))
         counter.check(f"sheet by names: {folder.name}", same(run, records(by_hand)))
-        run = league("feed", folder / "sheet.csv", data=feed.encode("utf-8"))
+        run = called("feed", folder / "sheet.csv", data=feed.encode("utf-8"))
         wanted = records((folder / "feed.csv").read_bytes())
         counter.check(f"feed by names: {folder.name}", same(run, wanted))
-        run = league("lint", folder / "sheet.csv", folder / "feed.csv")
+        run = called("lint", folder / "sheet.csv", folder / "feed.csv")
         counter.check(f"lint takes the example {folder.name}",
                       [] if run.returncode in (0, 3) else [run.stdout.decode("utf-8", "replace")])
 
@@ -127,24 +129,24 @@ def check_round_trips(counter: Counter) -> None:
 def check_made(counter: Counter) -> None:
     """What `league sheet` and `league feed` write and say."""
     for name, text, words, status, says in SHEETS:
-        run = league("sheet", "-", *words, data=text.encode("utf-8"))
+        run = called("sheet", "-", *words, data=text.encode("utf-8"))
         counter.check("sheet: " + name, sound_end(run) + said(run, status, says))
     with tempfile.TemporaryDirectory() as work:
         sheet = Path(work) / "sheet.csv"
         sheet.write_text(SHEET, "utf-8")
         for name, text, status, says in FEEDS:
-            run = league("feed", sheet, data=text.encode("utf-8"))
+            run = called("feed", sheet, data=text.encode("utf-8"))
             counter.check("feed: " + name, sound_end(run) + said(run, status, says) + (
                 ["something was written"] if status and run.stdout else []))
         check_log(counter, sheet, Path(work) / "feed.csv")
 
 
 def check_log(counter: Counter, sheet: Path, log: Path) -> None:
-    """A feed that grows: by lines, by the table of a day that is read twice, and by nothing wrong."""
+    """A feed that grows: by lines, by the table of a day that is read twice, by nothing wrong."""
     log.write_text("# first day\nresult,1,2,1\nask", "utf-8")
     words = ["feed", sheet, "--log", log, "--append", "--ask"]
     table = "HomeTeam,AwayTeam,FTHG,FTAG\nAnchor,Köln,2,1\nKöln,Dock United,0,0\n"
-    runs = [league(*words, data=text.encode("utf-8"))
+    runs = [called(*words, data=text.encode("utf-8"))
             for text in (table, table, "Köln 1-1 Dock United\n", "correct Köln 1-1 Dock United\n")]
     wanted = ("# first day\nresult,1,2,1\nask\nresult,2,0,0\nask\nask\n"
               "fix,2,1,1\nask\n")

@@ -13,13 +13,17 @@ from leaguelib.feed import made_lines
 from leaguelib.lint import looked_at
 from leaguelib.matches import read_matches
 
-from .counting import HOME, Counter, league, said, sound_end
+from .counting import HOME, Counter, called, league, said, sound_end
+from .defect_checks import CASES
+from .list_checks import CROSS, REFUSED
 from .made_checks import FEEDS, MADE, SHEETS
 from .mistake import FEED, SHEET
 from .mistakes import TABLE
+from .shapes import CLUBS, SHAPES, games_of
 
 MOST_RANDOM = 36
-MOST_CHANGED = 3000
+MOST_CHANGED = 1500
+MOST_HALVED = 120
 
 
 def check_changed(counter: Counter) -> None:
@@ -27,6 +31,7 @@ def check_changed(counter: Counter) -> None:
     draw = random.Random(12)
     inputs = [mistake.input for mistake in TABLE if len(mistake.input) < 3000]
     lines = [text for _, text, _, _ in FEEDS] + [text for _, text, *_ in SHEETS]
+    lines += [CROSS, *(text for _, text, *_ in CASES), *(text for _, text, _ in REFUSED)]
     faults = []
     for _ in range(MOST_CHANGED):
         data = changed(draw, draw.choice(inputs), draw.choice(inputs))
@@ -42,6 +47,28 @@ def check_changed(counter: Counter) -> None:
             except Exception as fault:  # pylint: disable=broad-except
                 faults.append(f"{name}: {fault!r} on {data!r}, {text!r}")
     counter.check(f"{MOST_CHANGED} changed inputs", faults[:3])
+
+
+def check_halved(counter: Counter) -> None:
+    """Fronts and backs of lists of each shape, and those with bytes changed: no exception."""
+    draw = random.Random(51)
+    games = games_of(CLUBS[:6], 7)
+    whole = [data for make in SHAPES.values() for data in make(games)]
+    faults = []
+    for _ in range(MOST_HALVED):
+        data = draw.choice(whole)
+        place = draw.randrange(len(data))
+        part = data[place:] if draw.random() < 0.5 else data[:place]
+        part = changed(draw, part, draw.choice(whole)[:500])
+        for name, call in (("sheet", lambda: read_matches(part, "list")),
+                           ("feed", lambda: made_lines(Bookkeeper(SHEET.encode("utf-8")), part))):
+            try:
+                call()
+            except Trouble as trouble:
+                faults += [] if trouble.message else [f"{name}: no message"]
+            except Exception as fault:  # pylint: disable=broad-except
+                faults.append(f"{name}: {fault!r} on {part!r}")
+    counter.check(f"{MOST_HALVED} halves of lists", faults[:3])
 
 
 def changed(draw: random.Random, data: bytes, other: bytes) -> bytes:
@@ -91,11 +118,11 @@ def check_random(counter: Counter) -> None:
             faults = []
             for words in calls if number % 4 == 0 else calls[number % 8:number % 8 + 1]:
                 odd.write_bytes(data)
-                run = league(*words, data=data[:200])
+                run = (league if words[0] == "live" else called)(*words, data=data[:200])
                 faults += [f"{words[0]}: {fault}" for fault in sound_end(run)]
             counter.check(f"random input {number}", faults + ([repr(data)] if faults else []))
-    missing = league("lint", "/nowhere/sheet.csv")
+    missing = called("lint", "/nowhere/sheet.csv")
     counter.check("a file that is not there", sound_end(missing) + said(missing, 4, "cannot be "
                                                                                     "read"))
-    folder = league("lint", HOME)
+    folder = called("lint", HOME)
     counter.check("a folder for a file", sound_end(folder) + said(folder, 4, "cannot be read"))

@@ -6,6 +6,7 @@ import re
 
 from . import common
 from .cleaning import KINDS, OTHER_WORDS
+from .dates import is_same_day
 from .feeds import FeedReader, InputReader
 from .matches import Match, match_of_line, plain_date
 from .names import UnknownName, club_of
@@ -39,6 +40,7 @@ class Bookkeeper:
                  log_name: str = "the feed", aliases: dict[str, str] | None = None) -> None:
         self.reader = InputReader()
         self.aliases = aliases or {}
+        self.meant: dict[str, str] = {}
         self.notes: list[str] = []
         self.forms = "`league feed --help`"
         self._read_sheet(sheet, sheet_name)
@@ -96,15 +98,22 @@ class Bookkeeper:
         if record is not None:
             self.feed.take(record)
 
+    def is_order(self, text: str) -> bool:
+        """Whether a line is one of the feed, or a correction, annulment or deduction by names."""
+        line = text.strip()
+        if line.lower() in KINDS or FIRST_WORD.match(line):
+            return True
+        word = line.split(",")[0].strip().lower()
+        return "," in line and (word in KINDS or word in OTHER_WORDS)
+
     def line_of(self, text: str) -> str | None:
         """The line of the feed for a line by names, tested; none where it is empty or a comment."""
         line = text.strip()
         if not line or line.startswith("#"):
             return None
-        word = line.split(",")[0].strip().lower()
-        if "," in line and (word in KINDS or word in OTHER_WORDS) or line.lower() in KINDS:
-            return self._tested(line.lower() if line.lower() in KINDS else line)
         found = FIRST_WORD.match(line)
+        if found is None and self.is_order(line):
+            return self._tested(line.lower() if line.lower() in KINDS else line)
         kind, rest = ("result", line)
         if found:
             word = found.group(1).lower()
@@ -130,10 +139,9 @@ class Bookkeeper:
             raise Unclear("the score is missing, as in `Germany 5-1 Scotland`")
         fixture = self.fixture_of(kind, match)
         date = self.dates.get(fixture.number, "")
-        if match.date and date and match.date != date:
+        if match.date and date and not is_same_day(match.date, date):
             self.notes.append(f"the sheet has {fixture.home} - {fixture.away} on {date}, and not "
-                              f"on "
-                              f"{match.date}; it was taken all the same")
+                              f"on {match.date}; it was taken all the same")
         goals = [] if kind == "void" else [str(goal) for goal in match.score or ()]
         return self._tested(",".join([kind, str(fixture.number), *goals]))
 
@@ -150,10 +158,13 @@ class Bookkeeper:
 
     def club(self, name: str) -> str:
         """The club that a name means; raises `Unclear` where none is meant, or several may be."""
-        try:
-            return club_of(name, [club.name for club in self.sheet.clubs], self.aliases)
-        except UnknownName as unknown:
-            raise Unclear(unknown.message) from unknown
+        if name not in self.meant:
+            try:
+                self.meant[name] = club_of(name, [club.name for club in self.sheet.clubs],
+                                           self.aliases)
+            except UnknownName as unknown:
+                raise Unclear(unknown.message) from unknown
+        return self.meant[name]
 
     def fixture_of(self, kind: str, match: Match) -> Fixture:
         """The fixture of a match by names, by its date where the two meet there more than once."""
@@ -163,7 +174,8 @@ class Bookkeeper:
             turned = [one for one in self.sheet.fixtures if (one.home, one.away) == (away, home)]
             hint = f": they meet as {away} - {home}, fixture {turned[0].number}" if turned else ""
             raise Unclear(f"the sheet has no match {home} - {away}{hint}")
-        dated = [one for one in found if match.date and self.dates.get(one.number) == match.date]
+        dated = [one for one in found
+                 if match.date and is_same_day(match.date, self.dates.get(one.number, ""))]
         if len(found) == 1 or len(dated) == 1:
             return found[0] if len(found) == 1 else dated[0]
         raise Unclear(self._which(kind, match, found))
@@ -171,6 +183,7 @@ class Bookkeeper:
     def _which(self, kind: str, match: Match, found: list[Fixture]) -> str:
         """What to say where two clubs meet more than once with the same one at home."""
         goals = ""
+        dated = f" None of them is dated {match.date}." if match.date else ""
         if match.score is not None and kind != "void":
             goals = f",{match.score[0]},{match.score[1]}"
         choices = []
@@ -178,9 +191,8 @@ class Bookkeeper:
             date = self.dates.get(one.number)
             state = "played" if one.number in self.feed.season.scores else "open"
             choices.append(f"`{kind},{one.number}{goals}` ({date + ', ' if date else ''}{state})")
-        return (f"{match.home} - {match.away} stands {len(found)} times in the sheet. Write the "
-                f"date "
-                f"in front, or one of these: {', '.join(choices)}")
+        return (f"{match.home} - {match.away} stands {len(found)} times in the sheet.{dated} Write "
+                f"the date in front, or one of these: {', '.join(choices)}")
 
     def _tested(self, line: str) -> str:
         """The line, where the program takes it; raises `Unclear` where it does not."""

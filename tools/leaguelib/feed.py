@@ -8,26 +8,37 @@ guessed. Lines are written like these, with a date in front or not:
     deduct Scotland 3                 three points are deducted from Scotland in all
     ask                               answer here
 
-Lines of the feed itself (`result,1,5,1`) are taken too, and so is a table with the columns HomeTeam
-and AwayTeam, or a text of openfootball: there the matches without a score are passed over.
+Lines of the feed itself (`result,1,5,1`) are taken too, and so is every list that `league sheet`
+takes, one or several: a table, a cross table, a text of openfootball, lines copied from a page.
+What is passed over, like headings and matches without a score, is said. A part of a club's name
+does where no other club has it.
 """
 
 from __future__ import annotations
 
 import argparse
-from dataclasses import dataclass
+from dataclasses import dataclass, field
 
 from . import common
+from .aliases import add_alias_argument, read_aliases
 from .bookkeeper import Bookkeeper, Unclear
-from .matches import Match, is_openfootball, is_table, read_matches, text_of
-from .names import shown
+from .match_lines import HINT
+from .match_list import MOST_WRONG, Match, MatchList, Passed, quoted
+from .matches import LineReader, is_month_first, lines_in, read_text, text_of
+from .several import FULL_DATE, file_name
+from .match_tables import head_of
+
+MOST_NAMES_SAID = 30
+MOST_NOTES = 5
 
 
 def add_arguments(parser: argparse.ArgumentParser) -> None:
     """The words of `league feed`."""
     parser.add_argument("sheet", metavar="SHEET", help="the sheet")
-    parser.add_argument("lines", nargs="?", default="-", metavar="LINES",
-                        help="the lines by names; standard input if left out")
+    parser.add_argument("lines", nargs="*", default=["-"], metavar="LINES",
+                        help="the lines by names, in one file or several; standard input if left "
+                             "out")
+    add_alias_argument(parser)
     parser.add_argument("--log", metavar="FEED", help="the feed so far; new lines go behind it")
     parser.add_argument("--append", action="store_true",
                         help="write the new lines to the end of the feed so far")
@@ -36,25 +47,42 @@ def add_arguments(parser: argparse.ArgumentParser) -> None:
 
 @dataclass
 class Made:
-    """Lines of a feed that were made, what has to be said about them, and what was not clear."""
+    """Lines of a feed that were made, what has to be said about them, and what was not clear.
 
+    `refused` is what was said of lists that cannot be read.
+    """
+
+    lines: list[str] = field(default_factory=list)
+    notes: list[str] = field(default_factory=list)
+    wrong: list[str] = field(default_factory=list)
+    refused: list[str] = field(default_factory=list)
+
+
+@dataclass
+class Given:
+    """A file of lines by names: a list of matches, or lines of which each is taken as it is."""
+
+    file: str
     lines: list[str]
     notes: list[str]
-    wrong: list[str]
+    is_list: bool
 
 
 def run(arguments: argparse.Namespace) -> int:
     """Writes the lines of the feed, or says what is not clear and writes none."""
     if arguments.append and not arguments.log:
         raise common.Trouble("--append needs --log FEED", common.BAD_WORDS)
+    paths = arguments.lines or ["-"]
+    if [arguments.sheet, *paths].count("-") > 1:
+        raise common.Trouble("standard input can be read once: say `-` once", common.BAD_WORDS)
     log = common.read_bytes(arguments.log) if arguments.log else b""
-    book = Bookkeeper(common.read_bytes(arguments.sheet), log, arguments.sheet,
-                      arguments.log or "the feed")
-    made = made_lines(book, common.read_bytes(arguments.lines))
-    for note in made.notes + made.wrong:
+    book = Bookkeeper(common.read_bytes(arguments.sheet), log, file_name(arguments.sheet),
+                      arguments.log or "the feed", read_aliases(arguments.aliases))
+    made = all_made(book, [(file_name(path), common.read_bytes(path)) for path in paths])
+    for note in made.notes:
         common.say(f"league: {note}")
-    if made.wrong:
-        common.say("league: nothing was written")
+    if made.wrong or made.refused:
+        _tell_wrong(made)
         return common.TO_MEND
     if arguments.ask:
         made.lines.append("ask")
@@ -67,6 +95,18 @@ def run(arguments: argparse.Namespace) -> int:
     return common.DONE
 
 
+def _tell_wrong(made: Made) -> None:
+    """Says what is not clear, and that nothing was written."""
+    for message in made.refused + made.wrong[:MOST_WRONG]:
+        common.say(f"league: {message}")
+    number = len(made.wrong) - MOST_WRONG
+    if number > 0:
+        common.say(f"league: and {number} more line{'' if number == 1 else 's'}")
+    if any("cannot be read as a match" in message for message in made.wrong):
+        common.say(f"league: {HINT}")
+    common.say("league: nothing was written")
+
+
 def _append(path: str, text: str) -> None:
     """Writes text to the end of a file."""
     try:
@@ -77,31 +117,113 @@ def _append(path: str, text: str) -> None:
                              common.CANNOT_WRITE) from fault
 
 
-def made_lines(book: Bookkeeper, data: bytes) -> Made:
-    """The lines of the feed for lines by names, or for a table or text of matches."""
-    made = Made([], [], [])
-    text = text_of(data, made.notes)
-    if is_table(text) or is_openfootball(text):
-        for match in read_matches(data).matches:
-            if match.score is not None:
-                _take(made, book, match.line, match)
-        return made
-    for number, line in enumerate(text.splitlines(), 1):
-        _take(made, book, number, line)
+def made_lines(book: Bookkeeper, data: bytes, file: str = "") -> Made:
+    """The lines of the feed for one file of lines by names, or for one list of matches."""
+    return all_made(book, [(file, data)])
+
+
+def all_made(book: Bookkeeper, files: list[tuple[str, bytes]]) -> Made:
+    """The lines of the feed for several files; lists of matches come first, by their dates."""
+    made = Made()
+    given = [_given(book, file, data) for file, data in files]
+    for one in given:
+        made.notes += one.notes
+    lists = [found for one in given if one.is_list
+             for found in _read(made, one, needs_scores=len(files) == 1)]
+    taken = Made()
+    for found, match in in_order(lists):
+        _take_match(taken, book, found, match)
+    made.lines, made.wrong = taken.lines, taken.wrong
+    made.notes += taken.notes[:MOST_NOTES]
+    if len(taken.notes) > MOST_NOTES:
+        made.notes.append(f"and {len(taken.notes) - MOST_NOTES} more matches on another day than "
+                          "in the sheet")
+    for found in lists:
+        made.notes += found.notes + [text for text in [found.passed_text()] if text]
+    for one in given:
+        if not one.is_list:
+            _take_lines(made, book, one)
+    _note_names(made, book)
     return made
 
 
-def _take(made: Made, book: Bookkeeper, number: int, wish: str | Match) -> None:
-    """Makes the line for one line or match, or notes what is not clear."""
+def in_order(lists: list[MatchList]) -> list[tuple[MatchList, Match]]:
+    """The matches with a score, by date where there are several lists and each has its date."""
+    every = [(found, match) for found in lists for match in found.matches
+             if match.score is not None]
+    if len(lists) > 1 and all(FULL_DATE.match(match.date) for _, match in every):
+        every.sort(key=lambda one: one[1].date)
+    return every
+
+
+def _given(book: Bookkeeper, file: str, data: bytes) -> Given:
+    """A file as lines; it is a list where no line is meant for the feed alone."""
+    notes: list[str] = []
+    lines = lines_in(text_of(data, notes))
+    front = f"{file}: " if file else ""
+    is_list = _has_heads(lines) or not any(book.is_order(line) for line in lines)
+    return Given(file, lines, [front + note for note in notes], is_list)
+
+
+def _has_heads(lines: list[str]) -> bool:
+    """Whether the lines are a table with a row of heads, which may begin with any word."""
     try:
-        if isinstance(wish, Match):
-            entry = book.line_of_listed(wish)
+        return head_of(lines) is not None
+    except common.Trouble:
+        return True
+
+
+def _read(made: Made, given: Given, needs_scores: bool) -> list[MatchList]:
+    """The list that a file is; nothing where it cannot be read, which is noted."""
+    try:
+        return [read_text("\n".join(given.lines), given.file, needs_scores)]
+    except common.Trouble as trouble:
+        made.refused.append(trouble.message)
+        return []
+
+
+def _take_match(made: Made, book: Bookkeeper, found: MatchList, match: Match) -> None:
+    """Takes a match with its score, unless it stands already with this score."""
+    try:
+        line = book.line_of_listed(match)
+        if line is None:
+            found.passed.append(Passed("result that stands already", match.line, match.text))
         else:
-            entry = book.line_of(wish)
-        if entry is not None:
-            book.enter(entry)
-            made.lines.append(entry)
+            book.enter(line)
+            made.lines.append(line)
     except Unclear as unclear:
-        written = "" if isinstance(wish, Match) else f" in {shown(wish)}"
-        made.wrong.append(f"line {number}{written}: {unclear.message}")
-    made.notes.extend(f"line {number}: {note}" for note in book.take_notes())
+        made.wrong.append(f"{match.place}, {quoted(match.text)}: {unclear.message}")
+    made.notes += [f"{match.place}: {note}" for note in book.take_notes()]
+
+
+def _take_lines(made: Made, book: Bookkeeper, given: Given) -> None:
+    """Takes lines one by one: those that are meant for the feed alone, and matches among them."""
+    order = is_month_first("\n".join(given.lines), given.file)
+    reader = LineReader(given.file, order)
+    for number, line in enumerate(given.lines, 1):
+        if not book.is_order(line):
+            match = reader.take(number, line)
+            if match is not None and match.score is not None:
+                _take_match(made, book, reader.found, match)
+            continue
+        try:
+            entry = book.line_of(line)
+            if entry is not None:
+                book.enter(entry)
+                made.lines.append(entry)
+        except Unclear as unclear:
+            where = f"{given.file}, line {number}" if given.file else f"line {number}"
+            made.wrong.append(f"{where}, {quoted(line)}: {unclear.message}")
+    made.wrong += reader.wrong.messages
+    made.notes += reader.found.notes
+    if reader.found.passed_text():
+        made.notes.append(reader.found.passed_text())
+
+
+def _note_names(made: Made, book: Bookkeeper) -> None:
+    """Tells which names were taken for which clubs, where the sheet writes them in another way."""
+    meant = [f"{typed} = {club}" for typed, club in book.meant.items() if typed != club]
+    if meant:
+        more = f"; and {len(meant) - MOST_NAMES_SAID} more" if len(meant) > MOST_NAMES_SAID else ""
+        made.notes.append("names taken for clubs of the sheet: "
+                          + "; ".join(meant[:MOST_NAMES_SAID]) + more)

@@ -9,7 +9,7 @@ import argparse
 
 from . import common
 from .cleaning import KINDS
-from .doubts import feed_doubts, sheet_doubts
+from .doubts import Doubt, feed_doubts, sheet_doubts
 from .feeds import InputReader, read_input
 from .files import examine, joined
 from .findings import Finding, Outcome, capital, outcome_text
@@ -29,7 +29,8 @@ def add_arguments(parser: argparse.ArgumentParser) -> None:
     parser.add_argument("--quiet", action="store_true", help="say nothing where nothing is wrong")
     parser.add_argument("--sheet-only", action="store_true",
                         help="the files hold a sheet alone: do not miss a feed")
-    parser.add_argument("--mode", default="verdicts", choices=("verdicts", "table"),
+    parser.add_argument("--mode", default="verdicts",
+                        choices=("verdicts", "table", "scores", "check"),
                         help="the mode in which futmax is to be run (verdicts)")
 
 
@@ -37,41 +38,44 @@ def run(arguments: argparse.Namespace) -> int:
     """Looks at the files, and prints what was found."""
     files = [("standard input" if name == "-" else name, common.read_bytes(name))
              for name in arguments.files]
-    text, status = looked_at(files, arguments.sheet_only, arguments.mode == "table")
+    text, status = looked_at(files, arguments.sheet_only, arguments.mode)
     if text or not arguments.quiet:
         common.write_text(text or "No mistakes found.\n")
     return status
 
 
 def looked_at(files: list[tuple[str, bytes]], is_sheet_only: bool = False,
-              is_for_table: bool = False) -> tuple[str, int]:
-    """What there is to say about the files, and the exit status."""
+              mode: str = "verdicts") -> tuple[str, int]:
+    """What there is to say about the files in a mode of the program, and the exit status."""
     examined = [(name, examine(data)) for name, data in files]
     texts = [f"{name}: {capital(message)}.\n"
              for name, file in examined for message in file.messages]
-    original = refusal_of(b"".join(data for _, data in files))
+    takes_proofs = mode == "check"
+    original = refusal_of(b"".join(data for _, data in files), takes_proofs)
     if not all(file.is_readable for _, file in examined):
         whole = joined(files)
         return "".join(texts) + outcome_text(Outcome(refused=original), whole), common.TO_MEND
     whole = joined([(name, file.data) for name, file in examined])
-    outcome = look(whole.data, is_sheet_only, is_for_table)
+    outcome = look(whole.data, is_sheet_only, mode)
     if texts:
         outcome.refused = original
     text = "".join(texts) + outcome_text(outcome, whole)
     return text, common.TO_MEND if texts else outcome.status
 
 
-def look(data: bytes, is_sheet_only: bool = False, is_for_table: bool = False) -> Outcome:
-    """Looks at a whole input in UTF-8."""
-    outcome = Outcome(refused=refusal_of(data), league_line=_league_line(data))
-    reader = InputReader()
+def look(data: bytes, is_sheet_only: bool = False, mode: str = "verdicts") -> Outcome:
+    """Looks at a whole input in UTF-8; in the mode `check` the report behind `proofs` is not."""
+    takes_proofs = mode == "check"
+    outcome = Outcome(refused=refusal_of(data, takes_proofs), league_line=_league_line(data))
+    reader = InputReader(takes_proofs)
     entries: list[Entry] = []
     try:
         for number, raw in lines_of(data):
             record = record_of(number, raw)
             if record is not None:
                 entries.extend(_take(record, reader, outcome))
-            if outcome.more >= MOST_REFUSED:
+            is_report_next = bool(entries) and entries[-1].kind == "proofs"
+            if outcome.more >= MOST_REFUSED or is_report_next:
                 break
     except Refused as refused:
         words = capital(words_for(refused, [], None)) + "."
@@ -79,9 +83,12 @@ def look(data: bytes, is_sheet_only: bool = False, is_for_table: bool = False) -
         return outcome
     _test_end(reader, count_lines(data), outcome)
     if reader.sheet is not None:
-        outcome.doubts.extend(sheet_doubts(reader.sheet, is_for_table))
+        outcome.doubts.extend(sheet_doubts(reader.sheet, mode == "table"))
         if reader.feed_reader is not None and not is_sheet_only:
             outcome.doubts.extend(feed_doubts(reader.sheet, entries))
+            if takes_proofs and not any(entry.kind == "proofs" for entry in entries):
+                outcome.doubts.append(Doubt(0, "the input has no `proofs`, behind which the report "
+                                               "stands that the mode `check` looks at"))
     return outcome
 
 
@@ -91,10 +98,10 @@ def _league_line(data: bytes) -> int:
     return data.count(b"\n", 0, place) + 1 if place or data.startswith(b"league,") else 0
 
 
-def refusal_of(data: bytes) -> Refused | None:
+def refusal_of(data: bytes, takes_proofs: bool = False) -> Refused | None:
     """The line at which the program stops, if it does."""
     try:
-        read_input(data)
+        read_input(data, takes_proofs)
     except Refused as refused:
         return refused
     return None

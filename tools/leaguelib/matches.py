@@ -1,56 +1,24 @@
 """Matches by names, as lists of fixtures and results have them: tables of football-data and others,
-texts of openfootball, and lines like `Germany 5-1 Scotland` or `Germany - Scotland`.
+cross tables, texts of openfootball, and lines like `Germany 5-1 Scotland`.
+
+`read_matches` reads one list in whichever form, `read_lists` several that belong together.
 """
 
 from __future__ import annotations
 
-import csv
-import io
-import re
-from dataclasses import dataclass, replace
+from dataclasses import replace
 
 from .common import Trouble
+from .crosses import cross_of, read_cross
+from .dates import plain_date, slashed_order
 from .files import examine, without_mark
+from .headless import plan_of, read_headless
+from .match_lines import LineReader, match_of_line, read_lines
+from .match_list import Match, MatchList
+from .match_tables import head_of, read_table
 
-HOME_HEADS = ("hometeam", "home", "team1", "homeclub", "heim", "local", "domicile")
-AWAY_HEADS = ("awayteam", "away", "team2", "awayclub", "gast", "visitante", "visitor")
-HOME_GOAL_HEADS = ("fthg", "hg", "homescore", "homegoals", "score1")
-AWAY_GOAL_HEADS = ("ftag", "ag", "awayscore", "awaygoals", "score2")
-SCORE_HEADS = ("ft", "result", "score")
-MONTHS = ("jan", "feb", "mar", "apr", "may", "jun", "jul", "aug", "sep", "oct", "nov", "dec")
-GOALS = r"(0|[1-9]\d?)\s?[-:–−]\s?(0|[1-9]\d?)"
-DAY = r"(?:Mon|Tues?|Wed(?:nes)?|Thu(?:rs)?|Fri|Sat(?:ur)?|Sun)(?:day)?\b\.?,?"
-MONTH = r"(?:Jan|Feb|Mar|Apr|May|Jun|Jul|Aug|Sep|Oct|Nov|Dec)[a-z]*"
-FRONT_DATE = re.compile(
-    r"^\[?(?:" + DAY + r"\s+)?(\d{4}-\d{2}-\d{2}|\d{1,2}[./]\d{1,2}[./]\d{2,4}"
-    r"|" + MONTH + r"[/ ]\d{1,2}(?:[ ,/]+\d{4})?)\]?(?:\s+|$)")
-FRONT_TIME = re.compile(r"^\d{1,2}[.:h]\d{2}(?:\s+UTC[+-]?\d*)?\s+")
-HEADING = re.compile(r"^(=|▪|»|\|)|^(matchday|round|spieltag|jornada|giornata|journée|week|group|"
-                     r"regular|final|stage)\b[^-–:]*(\|.*)?$", re.IGNORECASE)
-SCORERS = re.compile(r"^(?!\(\d+\)\s)[\[(].*(\d'|;)")
-MIDDLE_SCORE = re.compile(r"^(.+?)\s+" + GOALS + r"\s+(?:\([\d\s,:–-]*\)\s*)?([^\s(].*)$")
-TWO_NAMES = re.compile(r"^(.+?)\s+(?:-|–|—|v|vs|vs\.)\s+(.+?)(?:\s+" + GOALS + r")?"
-                       r"\s*(?:\([\d\s,:–-]*\))?$")
-
-
-@dataclass(frozen=True)
-class Match:
-    """A match by names, its score and date where they are known, and the line it stands in."""
-
-    home: str
-    away: str
-    score: tuple[int, int] | None = None
-    date: str = ""
-    line: int = 0
-
-
-@dataclass
-class MatchList:
-    """The matches of a list, its title where it has one, and what has to be said about it."""
-
-    matches: list[Match]
-    title: str = ""
-    notes: tuple[str, ...] = ()
+__all__ = ["LineReader", "Match", "MatchList", "is_month_first", "lines_in", "match_of_line",
+           "plain_date", "read_matches", "read_text", "text_of"]
 
 
 def text_of(data: bytes, notes: list[str]) -> str:
@@ -68,159 +36,59 @@ def text_of(data: bytes, notes: list[str]) -> str:
         return raw.decode("cp1252", "replace")
 
 
-def plain_date(text: str) -> str:
-    """A date as YYYY-MM-DD where day, month and year are clear; otherwise as it stands."""
-    text = text.strip()
-    found = re.match(r"^(\d{1,2})[./](\d{1,2})[./](\d{2}|\d{4})(?:\s.*)?$", text)
-    if found:
-        day, month, year = (int(part) for part in found.groups())
-        if month <= 12 and day <= 31:
-            return f"{year + 2000 if year < 100 else year:04}-{month:02}-{day:02}"
-    found = re.match(r"^(\d{4}-\d{2}-\d{2})", text)
-    if found:
-        return found.group(1)
-    found = re.match(r"^([A-Za-z]{3})[a-z]*[/ ](\d{1,2})[ ,/]+(\d{4})$", text)
-    if found and found.group(1).lower() in MONTHS:
-        month = MONTHS.index(found.group(1).lower()) + 1
-        return f"{int(found.group(3)):04}-{month:02}-{int(found.group(2)):02}"
-    return text
+def lines_in(text: str) -> list[str]:
+    """The lines of a text; a mark at the begin of a file that was joined to another is left out."""
+    return [line.lstrip("\ufeff") for line in text.replace("\r\n", "\n").split("\n")]
 
 
-def with_year(date: str, before: str) -> str:
-    """A date like Aug/12 with the year of the full date before it, or the next where it is past."""
-    found = re.match(r"^([A-Z][a-z]{2})[a-z]*[/ ](\d{1,2})$", date)
-    earlier = re.match(r"^(\d{4})-(\d{2})-\d{2}$", before)
-    if not found or not earlier or found.group(1).lower() not in MONTHS:
-        return date
-    month = MONTHS.index(found.group(1).lower()) + 1
-    year = int(earlier.group(1)) + (month < int(earlier.group(2)))
-    return f"{year:04}-{month:02}-{int(found.group(2)):02}"
+def is_month_first(text: str, file: str) -> bool:
+    """Whether dates like 8/15/2024 have the month first; raises `Trouble` where both stand."""
+    order = slashed_order(text)
+    if order == "both":
+        where = f"{file}: " if file else ""
+        raise Trouble(f"{where}some dates have the month in front, like 8/15/2024, and others the "
+                      "day, like 15/8/2024. Write all in one way, best as 2024-08-15")
+    return order == "month"
 
 
-def is_table(text: str) -> bool:
-    """Whether the text begins with the header row of a table of matches."""
-    front = next((line for line in text.splitlines() if line.strip()), "")
-    heads = {_head(part) for part in re.split(r"[,;\t]", front)}
-    return bool(heads & set(HOME_HEADS)) and bool(heads & set(AWAY_HEADS))
+def read_matches(data: bytes, file: str = "", needs_scores: bool = False) -> MatchList:
+    """The matches of a list; raises `Trouble` with every line that is not understood.
 
-
-def is_openfootball(text: str) -> bool:
-    """Whether the text has the headings of openfootball."""
-    return any(line.startswith(("= ", "▪", "»")) for line in text.splitlines())
-
-
-def _head(text: str) -> str:
-    return re.sub(r"[^a-z0-9]", "", text.strip().strip('"').lower())
-
-
-def read_matches(data: bytes) -> MatchList:
-    """The matches of a list; raises `Trouble` with every line that is not understood."""
+    Where scores are needed, a table without a column for them is refused.
+    """
     notes: list[str] = []
     text = text_of(data, notes)
-    found = _read_table(text) if is_table(text) else _read_lines(text)
-    found.notes = tuple(notes)
+    found = read_text(text, file, needs_scores)
+    front = f"{file}: " if file else ""
+    found.notes = [front + note for note in notes] + found.notes
     return found
 
 
-def _read_table(text: str) -> MatchList:
-    """A table with a header row."""
-    lines = text.splitlines()
-    first = next(number for number, line in enumerate(lines) if line.strip())
-    sign = max(",;\t", key=lines[first].count)
-    rows = csv.reader(io.StringIO("\n".join(lines[first:])), delimiter=sign)
-    heads = [_head(part) for part in next(rows)]
-    places = {name: _column(heads, wanted) for name, wanted in (
-        ("home", HOME_HEADS), ("away", AWAY_HEADS), ("home_goals", HOME_GOAL_HEADS),
-        ("away_goals", AWAY_GOAL_HEADS), ("score", SCORE_HEADS), ("date", ("date", "datum")))}
-    matches, wrong = [], []
-    for row in rows:
-        match = _match_of_row(row, places, first + rows.line_num)
-        if match is not None:
-            matches.append(match)
-        elif any(part.strip() for part in row):
-            wrong.append(f"line {first + rows.line_num}: a club's name is missing, or the score is "
-                         "no score")
-    if wrong:
-        raise Trouble("\n".join(wrong))
-    return MatchList(matches)
+def read_text(text: str, file: str, needs_scores: bool = False) -> MatchList:
+    """The matches of a list as text."""
+    lines = lines_in(text)
+    if any(line.startswith("league,") for line in lines[:50]):
+        where = f"{file}: " if file else ""
+        raise Trouble(f"{where}this is a sheet already, and no list of matches: `league lint` "
+                      "looks at it")
+    order = is_month_first(text, file)
+    try:
+        head = head_of(lines)
+    except Trouble as trouble:
+        raise Trouble(f"{file}, {trouble.message}" if file else trouble.message) from trouble
+    if head is not None:
+        return read_table(lines, head, file, order, needs_scores)
+    cross = cross_of(lines)
+    if cross is not None:
+        return read_cross(lines, cross, file)
+    plan = plan_of(lines, file)
+    if plan is not None:
+        return read_headless(lines, plan, file, order)
+    return read_lines(lines, file, order)
 
 
-def _column(heads: list[str], wanted: tuple[str, ...]) -> int:
-    """The first column with one of these heads, or -1."""
-    return next((number for number, head in enumerate(heads) if head in wanted), -1)
-
-
-def _match_of_row(row: list[str], places: dict[str, int], line: int) -> Match | None:
-    """The match of a row, or none where the row has no two names or its score is no score."""
-    def part(name: str) -> str:
-        place = places[name]
-        return row[place].strip() if 0 <= place < len(row) else ""
-
-    if not part("home") or not part("away"):
-        return None
-    goals = (part("home_goals"), part("away_goals"))
-    if goals == ("", "") and part("score"):
-        found = re.match(r"^\s*" + GOALS + r"\s*$", part("score"))
-        goals = found.groups() if found else ("", "")
-        if not found and any(sign.isdigit() for sign in part("score")):
-            return None
-    if goals == ("", ""):
-        return Match(part("home"), part("away"), None, plain_date(part("date")), line)
-    if not all(goal.isascii() and goal.isdigit() and len(goal) < 3 for goal in goals):
-        return None
-    score = (int(goals[0]), int(goals[1]))
-    return Match(part("home"), part("away"), score, plain_date(part("date")), line)
-
-
-def _read_lines(text: str) -> MatchList:
-    """Lines with two names each, among headings and dates."""
-    matches, wrong, title, date = [], [], "", ""
-    for number, whole in enumerate(text.splitlines(), 1):
-        line = re.sub(r"\s+#.*$", "", whole).strip()
-        if not line or line.startswith("#"):
-            continue
-        if line.startswith("=") and not title:
-            title = line.strip("= ")
-        is_heading = HEADING.match(line) and not re.search(r"\sv\s", line)
-        if is_heading or SCORERS.match(line):
-            continue
-        match = match_of_line(line, number, date)
-        if isinstance(match, Match):
-            date = with_year(match.date, date)
-            matches.append(replace(match, date=date))
-        elif match:
-            date = with_year(match, date)
-        else:
-            wrong.append(f"line {number}: cannot be read as a match: {whole.strip()}")
-    if wrong:
-        more = [f"and {len(wrong) - 10} more lines"] if len(wrong) > 10 else []
-        raise Trouble("\n".join(wrong[:10] + more) + "\nA match is written like "
-                      "`Germany - Scotland` or `Germany 5-1 Scotland`, with a date in front or "
-                      "not.")
-    return MatchList(matches, title)
-
-
-def match_of_line(line: str, number: int = 0, date: str = "") -> Match | str | None:
-    """The match of a line; the date where the line is one and nothing more; none if neither."""
-    rest = re.sub(r"^(?:\(\d+\)|[*•])\s+", "", line.strip())
-    found = FRONT_DATE.match(rest)
-    if found:
-        date = plain_date(found.group(1))
-        rest = rest[found.end():].strip()
-        if not rest:
-            return date
-    rest = re.sub(r"^\[?" + DAY + r"\]?\s+", "", rest)
-    rest = FRONT_TIME.sub("", rest)
-    rest = re.sub(r"\s+@\s.*$|\s+\[[a-z ]+\]$", "", rest).strip()
-    if re.search(r"a\.e\.t\.|\bpen\.|\baet\b", rest):
-        return None
-    found = MIDDLE_SCORE.match(rest)
-    if found:
-        home, first, second, away = found.groups()
-        return Match(home.strip(), away.strip(), (int(first), int(second)), date, number)
-    found = TWO_NAMES.match(rest)
-    if found:
-        home, away, first, second = found.groups()
-        score = None if first is None else (int(first), int(second))
-        return Match(home.strip(), away.strip(), score, date, number)
-    return None
+def renamed(found: MatchList, meant: dict[str, str]) -> MatchList:
+    """The list with other names in place of some of its own."""
+    found.matches = [replace(match, home=meant.get(match.home, match.home),
+                             away=meant.get(match.away, match.away)) for match in found.matches]
+    return found

@@ -7,8 +7,9 @@ from dataclasses import dataclass, field
 from itertools import combinations
 
 from .doubts import some, some_pairs, times
-from .matches import Match
+from .match_list import Match
 from .names import are_alike, shown
+from .wording import counted
 
 
 @dataclass
@@ -53,8 +54,8 @@ class Gaps:
         """What to say about matches that were added."""
         notes = []
         if self.missing:
-            notes.append(f"{len(self.missing)} matches were added that the list does not have: "
-                         f"{some_pairs(self.missing)}")
+            notes.append(f"{counted(len(self.missing), 'match was', 'matches were')} added that "
+                         f"the list does not have: {some_pairs(self.missing)}")
         if self.unsure:
             notes.append("nothing tells who is at home in these; look at them: "
                          f"{some_pairs(self.unsure)}")

@@ -1,7 +1,9 @@
-"""Makes a sheet from a list of fixtures by names: a table with the columns HomeTeam and AwayTeam
-(as football-data has it, with or without scores), a text of openfootball, or lines `Home - Away`.
-A list that is not complete, or that has played matches alone, is refused, unless --rounds says how
-often each pair meets (the missing matches are then added), or --as-is says that it is meant so.
+"""Makes a sheet from a list of fixtures by names, or several that belong together: a table with
+the columns HomeTeam and AwayTeam, or their like in German, Spanish, French, Italian or Portuguese;
+one without heads where its columns are clear; a cross table; a text of openfootball; or lines
+`Home - Away`. A list that is not complete, or that has played matches alone, is refused, unless
+--rounds says how often each pair meets (the missing matches are then added), or --as-is says that
+it is meant so.
 """
 
 from __future__ import annotations
@@ -10,12 +12,15 @@ import argparse
 import sys
 
 from . import common
+from .aliases import add_alias_argument, read_aliases
 from .doubts import name_doubts
-from .matches import Match, MatchList, read_matches
+from .line_names import LineNames, add_name_arguments, comments_of, told_names
+from .match_list import Match, MatchList
 from .names import nearest_name, shown
 from .pairs import Gaps, gaps_in, lone_names, usual_rounds
 from .records import Refused, number_of, records_of, row_text
-from .texts import ORDERS, USUAL_BUDGET, SheetReader
+from .several import read_lists
+from .texts import MOST_LINES, ORDERS, USUAL_BUDGET, SheetReader
 from .wording import counted
 from .words import words_for
 
@@ -35,15 +40,18 @@ the last three of twenty; or `--lines none` where only the table is wanted."""
 
 def add_arguments(parser: argparse.ArgumentParser) -> None:
     """The words of `league sheet`."""
-    parser.add_argument("list", metavar="LIST", help="the list of fixtures; - is standard input")
+    parser.add_argument("lists", nargs="+", metavar="LIST",
+                        help="the list of fixtures, or several in any order; - is standard input")
     parser.add_argument("--name", help="the league's name; else the title of the list")
     parser.add_argument("--lines", help="the places that count, like 1,4,17; or none")
+    add_name_arguments(parser)
     parser.add_argument("--order", choices=ORDERS, help="which criteria come first")
     parser.add_argument("--goal-limit", type=int, default=9, metavar="L",
                         help="most goals a side in an open match, 1 to 20 (9)")
     parser.add_argument("--budget", type=int, metavar="B", help="the node budget, 1 to 50000")
     parser.add_argument("--ranks", metavar="FILE",
                         help="lines NAME,RANK: the clubs in their order, with their ranks")
+    add_alias_argument(parser)
     parser.add_argument("--rounds", type=int, metavar="N", help="how often each pair meets")
     parser.add_argument("--as-is", action="store_true", help="the list is meant as it stands")
     parser.add_argument("--no-comments", action="store_true", help="write records alone")
@@ -52,7 +60,7 @@ def add_arguments(parser: argparse.ArgumentParser) -> None:
 
 def run(arguments: argparse.Namespace) -> int:
     """Makes the sheet, or says what is missing."""
-    found = read_matches(common.read_bytes(arguments.list))
+    found = read_lists(arguments.lists, read_aliases(arguments.aliases))
     if not found.matches:
         raise common.Trouble("the list has no matches")
     if arguments.rounds is not None and not 1 <= arguments.rounds <= 20:
@@ -64,9 +72,17 @@ def run(arguments: argparse.Namespace) -> int:
     gaps = complete(found.matches, list(ranks), arguments.rounds, arguments.as_is)
     order = arguments.order or _asked_order()
     lines = _lines(arguments.lines)
-    records = _records(name, order, arguments, ranks, lines)
+    for places in lines[MOST_LINES:]:
+        if not 0 < places < len(ranks):
+            raise common.Trouble(f"the line {places} would be refused: with {len(ranks)} clubs a "
+                                 f"line is a number from 1 to {len(ranks) - 1}")
+    names = told_names(arguments.line_name, lines, arguments.relegated)
+    if arguments.no_comments and (names.inside or names.below or len(lines) > MOST_LINES):
+        raise common.Trouble("names of lines, and lines beyond four, stand in comments: leave "
+                             "--no-comments out", common.BAD_WORDS)
+    records = _records(name, order, arguments, ranks, lines, names)
     text = _text(found, gaps, ranks, records, order, arguments)
-    notes = list(found.notes) + list(_test(text)) + gaps.notes()
+    notes = found.notes + _open_words(found) + list(_test(text)) + gaps.notes()
     notes += lone_names(found.matches) if gaps.missing else []
     common.write_text(text, arguments.output)
     for note in notes:
@@ -84,8 +100,8 @@ def complete(matches: list[Match], names: list[str], rounds: int | None, is_as_i
         raise common.Trouble(gaps.extra_text())
     are_played = all(match.score is not None for match in matches)
     if rounds is None and (gaps.missing or are_played):
-        sentences = [gaps.missing_text(are_played)] + lone_names(matches)
-        raise common.Trouble(". ".join(sentences))
+        sentences = [gaps.missing_text(are_played) + "."] + lone_names(matches)
+        raise common.Trouble(" ".join(sentences))
     return gaps
 
 
@@ -109,6 +125,8 @@ def _lines(text: str | None) -> list[int]:
     numbers = [number_of(part.strip()) for part in text.split(",")]
     if None in numbers:
         raise common.Trouble(LINES_HELP, common.BAD_WORDS)
+    if len(set(numbers)) != len(numbers):
+        raise common.Trouble(f"--lines {text}: a line stands already")
     return [number for number in numbers if number is not None]
 
 
@@ -138,7 +156,7 @@ def _ranks(path: str | None, matches: list[Match]) -> dict[str, int]:
 
 
 def _records(name: str, order: str, arguments: argparse.Namespace, ranks: dict[str, int],
-             lines: list[int]) -> tuple[list[str], list[str]]:
+             lines: list[int], names: LineNames) -> tuple[list[str], list[str]]:
     """The records before the matches, and those behind them."""
     league: list[object] = ["league", name, arguments.goal_limit]
     if arguments.budget is not None or order != ORDERS[0]:
@@ -148,8 +166,24 @@ def _records(name: str, order: str, arguments: argparse.Namespace, ranks: dict[s
         league.append(order)
     front = [row_text(*league)]
     front.extend(row_text("club", club, rank) for club, rank in ranks.items())
-    back = [row_text("line", places) for places in lines] + [row_text("season")]
-    return front, back
+    back = []
+    for number, places in enumerate(lines):
+        named = comments_of(names, places)
+        if number < MOST_LINES:
+            back.append(row_text("line", places))
+        elif places not in names.inside:
+            named.insert(0, f"# line {places}\n")
+        back += named
+    return front, back + [row_text("season")]
+
+
+def _open_words(found: MatchList) -> list[str]:
+    """What to say of matches that a word marks as open, like `postp.`."""
+    marked = [one for one in found.passed if one.why.startswith("match without a score (")]
+    words = dict.fromkeys(one.why[len("match without a score "):] for one in marked)
+    counts = {word: sum(one.why.endswith(word) for one in marked) for word in words}
+    return [f"taken as open: {counted(number, 'match', 'matches')} marked {word}"
+            for word, number in counts.items()]
 
 
 def _text(found: MatchList, gaps: Gaps, ranks: dict[str, int],

@@ -16,6 +16,7 @@ GLUED = "\0–\0"
 DATE = re.compile(
     rb"\d{4}-\d{2}-\d{2}|\d{1,2}[./]\d{1,2}[./]\d{2,4}"
     rb"|\d{1,2} (?:Jan|Feb|Mar|Apr|May|Jun|Jul|Aug|Sep|Oct|Nov|Dec)[a-z]* \d{4}")
+NO_DAY = re.compile(rb"# (?:no date\s*$|added,)")
 MATCHDAY = re.compile(rb"(?:matchday|round|gameweek) \d+", re.IGNORECASE)
 
 
@@ -95,7 +96,7 @@ def days_of(data: bytes, sheet: Sheet) -> dict[int, str]:
     for number, raw in lines_of(data):
         if raw.startswith(b"#"):
             found = DATE.search(raw) or MATCHDAY.search(raw)
-            day = found.group().decode("ascii") if found else day
+            day = found.group().decode("ascii") if found else "" if NO_DAY.match(raw) else day
         elif number in by_line and day:
             days[by_line[number]] = day
     return days

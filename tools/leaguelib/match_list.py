@@ -1,0 +1,111 @@
+"""Matches by names, as every reader of lists gives them, and what is said about a list."""
+
+from __future__ import annotations
+
+from collections import Counter
+from dataclasses import dataclass, field
+
+from .common import Trouble
+from .names import shown
+
+MOST_QUOTED = 3
+MOST_WRONG = 10
+MOST_SHOWN = 120
+
+
+@dataclass(frozen=True)
+class Match:
+    """A match by names, its score and date where they are known, and where it stands.
+
+    `text` is the line as it stands in the file; `file` is empty where it was typed.
+    """
+
+    home: str
+    away: str
+    score: tuple[int, int] | None = None
+    date: str = ""
+    line: int = 0
+    text: str = ""
+    file: str = ""
+
+    @property
+    def place(self) -> str:
+        """The file and line, as messages begin."""
+        return f"{self.file}, line {self.line}" if self.file else f"line {self.line}"
+
+
+@dataclass(frozen=True)
+class Passed:
+    """A line that gave no match or no score: why, and the line itself."""
+
+    why: str
+    line: int
+    text: str
+
+
+@dataclass
+class MatchList:
+    """The matches of a list, its title where it has one, and what has to be said about it.
+
+    `notes` are what looks odd, `passed` what was passed over and holds nothing that counts.
+    """
+
+    matches: list[Match] = field(default_factory=list)
+    title: str = ""
+    notes: list[str] = field(default_factory=list)
+    passed: list[Passed] = field(default_factory=list)
+    file: str = ""
+
+    def add(self, match: Match) -> None:
+        """Takes a match."""
+        self.matches.append(match)
+
+    def passed_text(self) -> str:
+        """What was passed over, in a sentence; nothing where nothing was."""
+        counts = Counter(one.why for one in self.passed)
+        parts = []
+        for why, number in counts.items():
+            first = [one for one in self.passed if one.why == why][:MOST_QUOTED]
+            lines = "; ".join(f"line {one.line} {quoted(one.text)}" for one in first)
+            more = ", .." if number > len(first) else ""
+            parts.append(f"{number} {plural(why, number)} ({lines}{more})")
+        return f"{self.file or 'the list'}: passed over: " + ", ".join(parts) if parts else ""
+
+
+def plural(why: str, number: int) -> str:
+    """What was passed over, for one line or several."""
+    words = {"heading": "headings", "line with a date": "lines with a date",
+             "line of scorers": "lines of scorers",
+             "match without a score": "matches without a score",
+             "row of heads": "rows of heads"}
+    return why if number == 1 else words.get(why, why)
+
+
+def quoted(text: str) -> str:
+    """A line as a message shows it, and no more than its front where it is long."""
+    line = text.rstrip("\r\n").strip()
+    return shown(line if len(line) <= MOST_SHOWN else line[:MOST_SHOWN] + "..")
+
+
+class Wrong:
+    """The lines of a list that cannot be read, each with its reason and as it stands."""
+
+    def __init__(self, file: str) -> None:
+        self.file = file
+        self.messages: list[str] = []
+
+    def add(self, line: int, why: str, text: str) -> None:
+        """Notes a line."""
+        front = f"{self.file}, " if self.file else ""
+        self.messages.append(f"{front}line {line}: {why}: {quoted(text)}")
+
+    def refuse(self, hint: str = "") -> None:
+        """Raises `Trouble` with the first of them, if there are any."""
+        if self.messages:
+            raise Trouble(self.text(hint))
+
+    def text(self, hint: str = "") -> str:
+        """The first of the lines, and how many more there are."""
+        number = len(self.messages) - MOST_WRONG
+        more = [f"and {number} more line{'s' if number > 1 else ''}"] if number > 0 else []
+        return "\n".join(self.messages[:MOST_WRONG] + more + ([hint] if hint else []))
