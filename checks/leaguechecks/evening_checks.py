@@ -148,7 +148,7 @@ def _check_in_play(counter: Counter, evening: Evening) -> None:
         "    1  Anchor            1       3          +1      2",
         "as it stands, if Köln – Dock United 0:0 were the end:",
         "    1  Anchor            1       3          +1      2",
-        "    2  Dock United       1       1          +0      0",
+        "    2  Dock United       1       1           0      0",
         "    3  Köln              2       1          -1      1",
         "Köln, the first place: possible → lost"))
     log = evening.kept()

@@ -161,8 +161,9 @@ def table_text(table: list[Place]) -> str:
     """A table in columns."""
     heads = ("place", "club", "played", "points", "difference", "goals")
     rows = [(str(place.best) if place.best == place.worst else f"{place.best}-{place.worst}",
-             shown(place.club), str(place.played), str(place.points), f"{place.difference:+d}",
-             str(place.scored)) for place in table]
+             shown(place.club), str(place.played), str(place.points),
+             f"{place.difference:+d}" if place.difference else "0", str(place.scored))
+            for place in table]
     widths = [max(len(row[column]) for row in [heads, *rows]) for column in range(len(heads))]
     return "\n".join(
         "  ".join(part.ljust(width) if column == 1 else part.rjust(width)
