@@ -168,6 +168,11 @@ def _check_in_play(counter: Counter, evening: Evening) -> None:
         counter.check(f"evening: `{form}`", _missing(
             run, "match 2: Köln 1-0 Dock United in play, no result",
             "match 2: Köln - Dock United has no score in play"))
+    evening.sheet.write_text(SHEET.replace("Anchor", "An~chor"), "utf-8")
+    run = evening.run("An~chor 2-1 Köln\n")
+    counter.check("evening: a name with a tilde", _missing(
+        run, "match 1: An~chor 2-1 Köln noted"))
+    evening.sheet.write_text(SHEET, "utf-8")
     run = evening.run("~ Köln - Dock United\n")
     counter.check("evening: in play wants a score", said(run, 2, "line 1, `~ Köln - Dock United`"))
 

@@ -26,6 +26,17 @@ def in_play_line(fixture: int, score: Score | None) -> str:
     return f"# in play: {fixture}," + ("none" if score is None else f"{score[0]},{score[1]}")
 
 
+def kind_of(line: str) -> str:
+    """The first field of a line of the log; nothing where futmax passes it over."""
+    record = record_of(1, line.encode("utf-8", "surrogateescape"))
+    return record.kind if record else ""
+
+
+def is_event(line: str) -> bool:
+    """Whether futmax is to be told a line."""
+    return kind_of(line) not in ("", "ask")
+
+
 class Evening:
     """Takes the lines of a log in order, and says each in words."""
 
@@ -45,9 +56,10 @@ class Evening:
 
     def line_of(self, text: str) -> str | None:
         """The line of the log for a line as it was typed; none where there is nothing in it."""
-        if "~" not in text:
+        plain = TILDE.sub(" ", text).strip()
+        if plain == text.strip():
             return self.book.line_of(text)
-        line = self.book.line_of(TILDE.sub(" ", text).strip())
+        line = self.book.line_of(plain)
         record = record_of(1, line.encode("utf-8", "surrogateescape")) if line else None
         if record is None or record.kind != "result":
             raise Unclear("a score in play is written like `Germany ~1-0 Scotland`")

@@ -10,14 +10,14 @@ from . import common
 from .answer_end import AnswerEnd
 from .asker import Asker
 from .bookkeeper import Unclear
-from .evening import Evening
+from .evening import Evening, is_event, kind_of
 from .line_names import names_in
 from .linesource import LineSource, Prompt
 from .livelog import LiveLog
 from .names import shown as quoted
 from .outlook import next_matches, outlook
 from .progress import Progress
-from .records import lines_of, record_of
+from .records import lines_of
 from .session import Ended, Session
 from .voices import HELP, Rows, Speaker, events_text, words_of_answer
 from .wording import days_of
@@ -60,9 +60,9 @@ class Live:
             except Unclear as unclear:
                 raise common.Trouble(f"{self.log.path}, line {number}: {unclear.message} "
                                      "(`league lint` tells more)") from unclear
-            if _kind(line) == "ask":
+            if kind_of(line) == "ask":
                 last_ask = len(self.session.events)
-            elif _is_event(line):
+            elif is_event(line):
                 self.session.events.append(raw + b"\n")
         self.session.start()
         if isinstance(self.voice, Speaker):
@@ -128,7 +128,7 @@ class Live:
         """Writes a tested line to the log, and takes it from there."""
         for note in self.book.take_notes():
             self.voice.tell(note)
-        if line is not None and _kind(line) == "ask":
+        if line is not None and kind_of(line) == "ask":
             self._answer()
         elif line is not None:
             self.log.append(line)
@@ -169,9 +169,9 @@ class Live:
                                "out of the log: it is not read again with this line")
             return
         self.voice.noted(words, "" if is_own else origin)
-        if _kind(line) == "ask":
+        if kind_of(line) == "ask":
             self._write_answer()
-        elif _is_event(line) and not self.session.send(line):
+        elif is_event(line) and not self.session.send(line):
             self._tell_restart("futmax had ended")
 
     def _answer(self) -> None:
@@ -248,13 +248,3 @@ class Live:
     def _tell_restart(self, reason: str) -> None:
         self.voice.tell(f"{reason}. It was started again, with "
                         f"{events_text(len(self.session.events))} of the log replayed")
-
-
-def _kind(line: str) -> str:
-    """The first field of a line of the log; nothing where futmax passes it over."""
-    record = record_of(1, line.encode("utf-8", "surrogateescape"))
-    return record.kind if record else ""
-
-
-def _is_event(line: str) -> bool:
-    return _kind(line) not in ("", "ask")
