@@ -151,6 +151,77 @@ class AnswerTests(unittest.TestCase):
         self.assertIn(b"are unsettled (the budget was 1)", done.stderr)
 
 
+class ScreenTests(unittest.TestCase):
+    """The first screen of a league of twenty on its last matchdays."""
+
+    FILES = (SHIRE / "sheet.csv", SHIRE / "matchdays.csv")
+
+    def test_one_screen_holds_four_lines_of_twenty_clubs(self) -> None:
+        sheet = self.FILES[0].read_bytes().replace(b"line,17\n", b"line,17\nline,6\n", 1)
+        for number in range(1, 6):
+            done = league("explain", "-", self.FILES[1], "--ask", number, data=sheet)
+            self.assertEqual(done.returncode, 0, done.stderr)
+            lines = done.stdout.decode().splitlines()
+            self.assertLessEqual(len(lines), 60)
+            self.assertEqual(sum(bool(re.match(r" *\d+(-\d+)?  ", line)) for line in lines), 20)
+            self.assertTrue(all(len(line) <= 100 for line in lines), lines)
+
+    def test_points_and_points_to_come(self) -> None:
+        text = league("explain", *self.FILES, "--ask", "4").stdout.decode()
+        for row in csv.reader((SHIRE / "wanted-tables.csv").read_text("utf-8").splitlines()[64:84]):
+            _, best, _, club, played, points, difference, _ = row
+            wanted = [best, *club.split(), played, points, "3", f"{int(difference):+d}"]
+            self.assertIn(wanted, [line.split()[:len(wanted)] for line in text.splitlines()])
+
+    def test_what_changed_is_what_the_wanted_verdicts_say(self) -> None:
+        rows = list(csv.reader((SHIRE / "wanted-matchdays.csv").read_text("utf-8").splitlines()))
+        before, after = rows[180:240], rows[240:300]
+        wanted = {(row[1], row[2], f"{SHORT[old[3]]} → {SHORT[row[3]]}")
+                  for old, row in zip(before, after) if old[3] != row[3]}
+        self.assertGreater(len(wanted), 4)
+        for words in (["--ask", "5"], ["--ask", "5", "--since", "matchday 38"]):
+            text = league("explain", *self.FILES, *words).stdout.decode()
+            told = text[text.index("What changed since"):text.index("Why: ")]
+            self.assertIn("10 results", told.replace("\n", " "))
+            self.assertEqual(self.changes_in(" ".join(told.split())), wanted)
+
+    def changes_in(self, text: str) -> set[tuple[str, str, str]]:
+        """The changes that a screen tells: line, club, and the words before and after."""
+        found = set()
+        for line, told in re.findall(r"(?:The|A place among the) first (place|\d+): ([^.]*)\.",
+                                     text):
+            for part in told.split("; "):
+                names, words = re.fullmatch(r"(.*) (\w+ → \w+)", part).groups()
+                for club in re.split(", | and ", names):
+                    found.add(("1" if line == "place" else line, club, words))
+        return found
+
+    def test_a_day_that_the_sheet_does_not_tell(self) -> None:
+        done = league("explain", *self.FILES, "--since", "2024-05-19")
+        self.assertEqual(done.returncode, 2)
+        self.assertIn(b"tell no dates", done.stderr)
+        done = league("explain", *self.FILES, "--since", "yesterday")
+        self.assertEqual(done.returncode, 1)
+
+    def test_lines_have_names_and_may_be_more_than_four(self) -> None:
+        sheet, feed = files_of(HOME / "examples" / "orchard-league")
+        data = sheet.read_bytes().replace(b"season\n", b"# line 4: Orchard Cup\n# line 2\n"
+                                          b"# line 3\n# below line 5: relegated\n# line 5\n"
+                                          b"season\n")
+        text = " ".join(league("ask", "-", feed, data=data).stdout.decode().split())
+        for words in ("Orchard Cup (the first 4). In:", "A place among the first 2.",
+                      "Out (relegated): "):
+            self.assertIn(words, text)
+        told = verdicts_in(league("ask", "--rows", "-", feed, data=data))
+        season = subprocess.run([sys.executable, str(HOME / "checks" / "reference.py"),
+                                 "verdicts"], check=True, capture_output=True, input=data.replace(
+                                     b"# line 2\n# line 3\n", b"line,2\nline,3\n").replace(
+                                     b"# line 5\n", b"line,5\n") + feed.read_bytes()).stdout
+        wanted = [row for row in season.decode().splitlines() if row.startswith("verdict,")]
+        self.assertEqual(sorted(told), sorted(wanted))
+        self.assertEqual(len(told), 5 * 6 * 4)
+
+
 class SentenceTests(unittest.TestCase):
     """Sentences of `explain --why`, held against every finish that is left."""
 
@@ -217,7 +288,7 @@ class SentenceTests(unittest.TestCase):
         for example in EXAMPLES:
             for number, season in enumerate(asks_of(example), 1):
                 still = season.open_fixtures()
-                if len(season.clubs) > 6 or not still or 100 ** len(still) > MOST_FINISHES:
+                if len(season.clubs) > 4 or not still or 100 ** len(still) > MOST_FINISHES:
                     continue
                 for club, places, text in self.told(example, number):
                     told += self.results_hold(season, club, places, text)

@@ -20,8 +20,10 @@ from .stopped import Stop, stop_of, whole_report
 from .texts import MOST_BUDGET, Season, Sheet
 
 ONE_WORKER = ("--workers", "1")
-# with so many matches open at most, an ask with the greatest budget takes no more than two seconds
+# with so many matches open at most, an ask with the greatest budget takes about a second; with more
+# it is asked again with a budget that does so
 FEW_OPEN = 60
+MIDDLE_BUDGET = 10_000
 ASK = b"ask\n"
 
 
@@ -168,7 +170,7 @@ def with_budget(data: bytes, budget: int) -> bytes:
 def greater_budget(sheet: Sheet, season: Season) -> int:
     """The budget to ask again with: the greatest one where few matches are open."""
     few = len(season.open_fixtures(sheet)) <= FEW_OPEN
-    return max(sheet.budget, MOST_BUDGET if few else sheet.budget)
+    return max(sheet.budget, MOST_BUDGET if few else MIDDLE_BUDGET)
 
 
 def _again(path: str, given: Given, league: Input, ask: Asked) -> Asked:

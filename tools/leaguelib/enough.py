@@ -76,7 +76,8 @@ def results_text(need: int, left: int) -> str:
 
 def needed_text(need: int, left: int) -> str:
     """So many points that are needed at least."""
-    return (f"{counted(need, 'point')} from {left} matches are needed at least, "
+    verb = "is" if need == 1 else "are"
+    return (f"{counted(need, 'point')} from {left} matches {verb} needed at least, "
             f"{least_results(need, left)}")
 
 

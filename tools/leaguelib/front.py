@@ -37,8 +37,8 @@ def add_budget_argument(parser: argparse.ArgumentParser) -> None:
     """The budget in place of that of the sheet."""
     parser.add_argument("--budget", type=_budget, metavar="N",
                         help=f"the budget in place of that of the sheet, 1 to {MOST_BUDGET:,}; "
-                             "otherwise an ask with unsettled rows and few open matches is "
-                             "asked again with the greatest")
+                             "otherwise an ask with unsettled rows is asked again with a "
+                             "greater one")
 
 
 def _budget(text: str) -> int:

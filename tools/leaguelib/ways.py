@@ -13,6 +13,7 @@ from .asking import FEW_OPEN
 from .texts import Fixture, Season, Sheet
 from .trial import Scores, Trial
 from .wording import counted, listed, score_text
+from .zones import Zone
 
 MOST_GOALS_TRIED = 12
 
@@ -27,26 +28,57 @@ class Way:
 
 
 def way_of(trial: Trial, club: str, example: Example) -> Way:
-    """The shortest way that was found from an example of the program, tried step by step."""
-    sheet, season = trial.sheet, trial.season
-    target = "clinched" if example.claim == "inside" else "lost"
-    still = season.open_fixtures(sheet)
-    own = [it for it in still if club in (it.home, it.away)]
-    scores = own_results(own, club, example.claim == "inside")
-    if own and trial.word(club, scores) == target:
-        scores = dropped(trial, club, scores, target)
-        return Way(_with_least_goals(trial, club, scores, target), True,
-                   len(still) - len(scores))
+    """The shortest way that was found, tried step by step: by the club's own matches alone, by
+    those of its rivals too, or else from the example of the program.
+    """
+    still = trial.season.open_fixtures(trial.sheet)
+    is_in = example.claim == "inside"
+    target = "clinched" if is_in else "lost"
+    own = own_results([it for it in still if club in (it.home, it.away)], club, is_in)
+    for scores in (own, {**_rival_results(trial, club, example), **own}):
+        if scores and trial.word(club, scores) == target:
+            return _shortened(trial, club, scores, target)
     scores, is_for_sure = _whole(trial, club, example, target)
-    if not is_for_sure:
-        return Way(scores, False, 0)
-    if len(still) > FEW_OPEN:
-        return Way(scores, True, 0)
-    names = {club}
-    order = sorted(scores, key=lambda number: _nearness(sheet.fixture(number), names))
-    scores = dropped(trial, club, {number: scores[number] for number in order}, target)
-    scores = _with_least_goals(trial, club, scores, target)
-    return Way(dict(sorted(scores.items())), True, len(still) - len(scores))
+    if not is_for_sure or len(still) > FEW_OPEN:
+        return Way(scores, is_for_sure, 0)
+    return _shortened(trial, club, scores, target)
+
+
+def _shortened(trial: Trial, club: str, scores: Scores, target: str) -> Way:
+    """The way without the matches that are not needed, which need not be the club's own."""
+    fixtures = {number: trial.sheet.fixture(number) for number in scores}
+    order = sorted(scores, key=lambda number: club in (fixtures[number].home,
+                                                       fixtures[number].away))
+    kept = dropped(trial, club, {number: scores[number] for number in order}, target)
+    kept = _with_least_goals(trial, club, kept, target)
+    others = len(trial.season.open_fixtures(trial.sheet)) - len(kept)
+    return Way(dict(sorted(kept.items())), True, others)
+
+
+def _rival_results(trial: Trial, club: str, example: Example) -> Scores:
+    """The matches of the rivals that pass the club in the example, all won; or of those that stay
+    behind it, all lost. Where two of them meet it ends as in the example, with the least goals.
+    """
+    sheet, is_in = trial.sheet, example.claim == "inside"
+    points = _points_in(trial, example)
+    rivals = sorted((it for it in points if it != club), key=lambda it: points[it])
+    chosen = set(rivals[:len(points) - trial.places] if is_in else rivals[-trial.places:])
+    plain, found = _plain(example.scores), {}
+    for number in example.scores:
+        it = sheet.fixture(number)
+        if it.home in chosen and it.away in chosen:
+            found[number] = plain[number]
+        elif it.home in chosen or it.away in chosen:
+            found[number] = (1, 0) if (it.home in chosen) != is_in else (0, 1)
+    return found
+
+
+def _points_in(trial: Trial, example: Example) -> dict[str, int]:
+    """The points of each club at the end of an example."""
+    season = trial.season.copy()
+    season.scores.update(example.scores)
+    zone = Zone(trial.sheet, season, 1)
+    return {club.name: zone.points_now(club.number) for club in trial.sheet.clubs}
 
 
 def _whole(trial: Trial, club: str, example: Example, target: str) -> tuple[Scores, bool]:
@@ -57,11 +89,6 @@ def _whole(trial: Trial, club: str, example: Example, target: str) -> tuple[Scor
         # with each match told, `possible` says that lots decide
         return plain if word in (target, "possible") else dict(example.scores), word == target
     return dict(example.scores), True
-
-
-def _nearness(fixture: Fixture, names: set[str]) -> int:
-    """Matches of the club itself are left out last."""
-    return int(fixture.home in names or fixture.away in names)
 
 
 def own_results(own: list[Fixture], club: str, wins: bool) -> Scores:
@@ -129,8 +156,3 @@ def way_text(sheet: Sheet, season: Season, way: Way, verb: str) -> str:
                 if way.others > 1 else "; the other match does not matter")
     word = "this ends" if len(told) == 1 else "these end"
     return f"{verb}, for example, if {word} {listed(told)}{lots}{rest}."
-
-
-def most_listed(way: Way, most: int) -> bool:
-    """Whether a way names so few matches that a person reads them."""
-    return len(way.scores) <= most

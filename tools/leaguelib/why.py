@@ -9,7 +9,7 @@ from __future__ import annotations
 from dataclasses import dataclass, field
 
 from .answers import Answer, Score, Verdict
-from .asking import FEW_OPEN, run_mode, with_asks
+from .asking import FEW_OPEN, run_mode, with_asks, with_budget
 from .enough import score_words
 from .lines import with_lines_of
 from .news import plain
@@ -18,6 +18,7 @@ from .reasons import Points, short_reason
 from .running import report_of
 from .screen import SHORT
 from .sentences import proof_steps, unsettled_texts
+from .texts import MOST_BUDGET
 from .trial import Trial, trial_data
 from .unless import can_draw_be_enough, unless_text
 from .view import View
@@ -63,8 +64,8 @@ class Why:
         if not 0 < len(self.points.open) <= FEW_OPEN:
             return None
         if places not in self.scores:
-            answer = report_of(run_mode(self.path, "scores", self.data_for(places))).answers[0]
-            self.scores[places] = answer.scores
+            data = with_budget(self.data_for(places), MOST_BUDGET)
+            self.scores[places] = report_of(run_mode(self.path, "scores", data)).answers[0].scores
         return next((it for it in self.scores[places] if it.club == club), None)
 
 
