@@ -183,13 +183,12 @@ def _check_tonight(counter: Counter, evening: Evening) -> None:
     counter.check("evening: tonight", _missing(
         run, "of 2 matches, each by itself, whatever its score up to 2 goals a side and however "
              "the other open matches end:",
-        "  Köln - Dock United, if it is a draw: Köln, the first place: possible → lost",
-        "  Köln - Dock United, if Dock United win: Köln, the first place: possible → lost",
-        "  Dock United - Anchor, if it is a draw: Köln, the first place: possible → lost",
-        "  Dock United - Anchor, if Anchor win: Anchor, the first place: possible → clinched",
-        "  Dock United - Anchor, if Anchor win: Köln, the first place: possible → lost",
-        "  Dock United - Anchor, if Anchor win: Dock United, the first place: possible → lost"))
-    counter.check("evening: no more than that", [] if sum("→" in it for it in _lines(run)) == 6
+        "  Köln - Dock United, if it is a draw: Köln, the first place: lost",
+        "  Köln - Dock United, if Dock United win: Köln, the first place: lost",
+        "  Dock United - Anchor, if it is a draw: Köln, the first place: lost",
+        "  Dock United - Anchor, if Anchor win: Anchor, the first place: clinched; Köln, the first "
+        "place: lost; Dock United, the first place: lost"))
+    counter.check("evening: no more than that", [] if sum("the first place" in it for it in _lines(run)) == 4
                   else _lines(run))
 
 

@@ -120,8 +120,9 @@ class Speaker:
             home, away = shown(one.fixture.home), shown(one.fixture.away)
             outcome = {"home": f"if {home} win", "draw": "if it is a draw",
                        "away": f"if {away} win"}[one.outcome]
-            lines += [f"  {home} - {away}, {outcome}: {change_text(change, self.names)}"
-                      for change in one.changes]
+            told = [f"{shown(change.club)}, {self.names.place(change.places)}: {change.now}"
+                    for change in one.changes]
+            lines.append(f"  {home} - {away}, {outcome}: {'; '.join(told)}")
         self.tell("\n".join(lines if found else [*lines, "  none decides anything"]))
 
     def as_it_stands(self, in_play: dict[int, tuple[int, int]], table: list[Place],
