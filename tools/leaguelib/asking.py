@@ -40,8 +40,10 @@ class Asked:
 
     @property
     def unsettled(self) -> int:
-        """How many rows are unsettled still."""
-        return sum(verdict.word == "unsettled" for verdict in self.answer.verdicts)
+        """How many rows are unsettled still, or have a range in place of a score."""
+        words = sum(verdict.word == "unsettled" for verdict in self.answer.verdicts)
+        return words + sum(".." in score.possible + score.guaranteed
+                           for score in self.answer.scores)
 
 
 @dataclass
@@ -85,8 +87,8 @@ def ask_mode(path: str, mode: str, given: Given, wanted: list[int] | None = None
     asked = [Asked(position, ask_lines(league)[position], league.season_at(position), answer,
                    budget or league.sheet.budget)
              for position, answer in zip(positions, answers)]
-    if mode == "verdicts" and budget is None and asks_again and stop is None:
-        asked = [_again(path, given, league, ask) for ask in asked]
+    if budget is None and asks_again and stop is None:
+        asked = [_again(path, mode, given, league, ask) for ask in asked]
     return Outcome(league, asked, stop)
 
 
@@ -173,13 +175,14 @@ def greater_budget(sheet: Sheet, season: Season) -> int:
     return max(sheet.budget, MOST_BUDGET if few else MIDDLE_BUDGET)
 
 
-def _again(path: str, given: Given, league: Input, ask: Asked) -> Asked:
+def _again(path: str, mode: str, given: Given, league: Input, ask: Asked) -> Asked:
     """The ask with a greater budget, where a row is unsettled and there is one."""
     budget = greater_budget(league.sheet, ask.season)
-    if not ask.unsettled or budget == ask.budget:
+    is_long = mode == "scores" and len(ask.season.open_fixtures(league.sheet)) > FEW_OPEN
+    if not ask.unsettled or budget == ask.budget or is_long:
         return ask
     data = with_budget(with_asks(given.data, league, [ask.position]), budget)
-    answers, _ = _over_lines(path, "verdicts", data, given, league)
+    answers, _ = _over_lines(path, mode, data, given, league)
     return Asked(ask.position, ask.line, ask.season, answers[0], budget, True)
 
 
@@ -194,4 +197,6 @@ def budget_note(ask: Asked) -> str:
     rows = "1 row is" if ask.unsettled == 1 else f"{ask.unsettled} rows are"
     advice = "wait for the next results" if ask.budget >= MOST_BUDGET else (
         f"--budget N takes up to {MOST_BUDGET:,}")
-    return f"{rows} unsettled ({again}): nothing is said for or against the club; {advice}."
+    says = "a range stands in place of a number" if ask.answer.scores else (
+        "nothing is said for or against the club")
+    return f"{rows} unsettled ({again}): {says}; {advice}."

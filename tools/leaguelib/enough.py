@@ -53,7 +53,8 @@ def _enough(found: dict, now: int, left: int) -> str:
                 f"{now + 3 * left}, and the others count too." if left else
                 "it hangs on the others alone.")
     if least != most:
-        return f"{least} to {most} points are enough for sure; which of these is not settled."
+        return (f"{most} points are enough, whatever else happens; whether fewer are, down to "
+                f"{least}, is not settled.")
     return f"{most} points are enough, whatever else happens: {results_text(need, left)}."
 
 

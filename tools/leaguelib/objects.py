@@ -29,9 +29,7 @@ def objects_of(sheet: Sheet, ask: Asked, has_finishes: bool = False) -> Iterator
     for score in answer.scores:
         yield _score(sheet, season, number, score)
     rows = len(answer.verdicts) + len(answer.table) + len(answer.scores)
-    unsettled = ask.unsettled + sum(".." in score.possible + score.guaranteed
-                                    for score in answer.scores)
-    yield {"type": "end", "ask": number, "rows": rows, "unsettled": unsettled,
+    yield {"type": "end", "ask": number, "rows": rows, "unsettled": ask.unsettled,
            "budget": ask.budget}
 
 

@@ -9,7 +9,8 @@ from __future__ import annotations
 import argparse
 
 from . import common
-from .asking import Outcome, run_mode, with_asks
+from .answers import Place, Score
+from .asking import Outcome, budget_note, run_mode, with_asks
 from .enough import score_words
 from .front import add_budget_argument, add_front_arguments, answered, place_of_ask, season_sheet
 from .given import Given
@@ -17,7 +18,8 @@ from .line_names import names_in
 from .objects import to_come
 from .running import report_of
 from .screen import state_text
-from .wording import counted, paragraph, shown
+from .texts import Season, Sheet
+from .wording import counted, listed, paragraph, shown
 
 STATUSES = common.FUTMAX_STATUSES
 
@@ -44,9 +46,24 @@ def _told(given: Given, outcome: Outcome, path: str) -> str:
     for places in dict.fromkeys(score.places for score in ask.answer.scores):
         title = names.place(places)
         parts += ["", f"{title[:1].upper()}{title[1:]}"]
-        for place in table:
-            left = to_come(sheet, ask.season, place.club) // 3
-            words = score_words(scores[places, place.club], place.points, left)
-            has = f"{counted(place.points, 'point')}, {counted(left, 'match', 'matches')} to play"
-            parts.append(paragraph(f"{shown(place.club)} ({has}): {words}", 2))
+        parts += _line_texts(sheet, ask.season, table,
+                             {club: score for (line, club), score in scores.items()
+                              if line == places})
+    parts += ["", paragraph(budget_note(ask))] if budget_note(ask) else []
     return "\n".join(parts) + "\n"
+
+
+def _line_texts(sheet: Sheet, season: Season, table: list[Place],
+                scores: dict[str, Score]) -> list[str]:
+    """The clubs of a line: a sentence for each that hangs on its points, names for the others."""
+    texts, sure = [], {"in": [], "out": []}
+    for place in table:
+        left = to_come(sheet, season, place.club) // 3
+        words = score_words(scores[place.club], place.points, left)
+        if words.partition(",")[0] in sure:
+            sure[words.partition(",")[0]].append(shown(place.club))
+            continue
+        has = f"{counted(place.points, 'point')}, {counted(left, 'match', 'matches')} to play"
+        texts.append(paragraph(f"{shown(place.club)} ({has}): {words}", 2))
+    return texts + [paragraph(f"{word.capitalize()} with any number of points: {listed(clubs)}.", 2)
+                    for word, clubs in sure.items() if clubs]
