@@ -56,8 +56,12 @@ class Outcome:
 
 
 def run_mode(path: str, mode: str, data: bytes, *words: str) -> Run:
-    """Runs a mode of the program with one worker."""
-    return run_program(path, [mode, *ONE_WORKER, *words], data)
+    """Runs a mode of the program with one worker; trees behind scores are left out."""
+    run = run_program(path, [mode, *ONE_WORKER, *words], data)
+    if mode != "scores":
+        return run
+    rows = [row for row in run.output.split(b"\n") if not row.startswith(b"[")]
+    return Run(run.status, b"\n".join(rows))
 
 
 @contextmanager

@@ -35,13 +35,24 @@ def way_of(trial: Trial, club: str, example: Example) -> Way:
     is_in = example.claim == "inside"
     target = "clinched" if is_in else "lost"
     own = own_results([it for it in still if club in (it.home, it.away)], club, is_in)
+    if len(still) > FEW_OPEN:
+        return _early_way(trial, club, example, own, target)
     for scores in (own, {**_rival_results(trial, club, example), **own}):
         if scores and trial.word(club, scores) == target:
             return _shortened(trial, club, scores, target)
     scores, is_for_sure = _whole(trial, club, example, target)
-    if not is_for_sure or len(still) > FEW_OPEN:
-        return Way(scores, is_for_sure, 0)
+    if not is_for_sure:
+        return Way(scores, False, 0)
     return _shortened(trial, club, scores, target)
+
+
+def _early_way(trial: Trial, club: str, example: Example, own: Scores, target: str) -> Way:
+    """A way while many matches are open: all of the club's own, or the example as it stands."""
+    if own and trial.word(club, own) == target:
+        still = len(trial.season.open_fixtures(trial.sheet))
+        return Way(own, True, still - len(own))
+    scores, is_for_sure = _whole(trial, club, example, target)
+    return Way(scores, is_for_sure, 0)
 
 
 def _shortened(trial: Trial, club: str, scores: Scores, target: str) -> Way:
@@ -146,6 +157,9 @@ def _fewer_goals(score: tuple[int, int]) -> list[tuple[int, int]]:
 
 def way_text(sheet: Sheet, season: Season, way: Way, verb: str) -> str:
     """A way in words, behind a verb like `They are in`."""
+    if len(way.scores) > FEW_OPEN:
+        return (f"{verb}, for example, in an end that names all {len(way.scores)} open matches; "
+                "`league ask --json --examples` writes it.")
     told = [score_text(sheet.fixture(number), score) for number, score in way.scores.items()]
     if not told:
         return f"{verb} whatever happens."

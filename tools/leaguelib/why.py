@@ -9,7 +9,7 @@ from __future__ import annotations
 from dataclasses import dataclass, field
 
 from .answers import Answer, Score, Verdict
-from .asking import FEW_OPEN, run_mode, with_asks, with_budget
+from .asking import FEW_OPEN, MIDDLE_BUDGET, run_mode, with_asks, with_budget
 from .enough import score_words
 from .lines import with_lines_of
 from .news import plain
@@ -26,6 +26,8 @@ from .ways import way_of, way_text
 from .wording import counted, paragraph, shown
 
 USUAL_STEPS = 100
+# with so many matches open at most, scores are asked for with the greatest budget
+LAST_OPEN = 20
 
 
 @dataclass
@@ -64,7 +66,8 @@ class Why:
         if not 0 < len(self.points.open) <= FEW_OPEN:
             return None
         if places not in self.scores:
-            data = with_budget(self.data_for(places), MOST_BUDGET)
+            budget = MOST_BUDGET if len(self.points.open) <= LAST_OPEN else MIDDLE_BUDGET
+            data = with_budget(self.data_for(places), budget)
             self.scores[places] = report_of(run_mode(self.path, "scores", data)).answers[0].scores
         return next((it for it in self.scores[places] if it.club == club), None)
 
