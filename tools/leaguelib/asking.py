@@ -72,8 +72,10 @@ def futmax_statuses() -> Iterator[None]:
     except common.Trouble as trouble:
         if trouble.status != common.NO_PROGRAM:
             raise
-        raise common.Trouble(f"{trouble.message.rstrip('.')}. Build futmax, or name another one "
-                             "by --program.", common.OWN_FAULT) from trouble
+        advice = "" if "--program" in trouble.message else (
+            " Build futmax, or name another one by --program.")
+        raise common.Trouble(f"{trouble.message.rstrip('.')}.{advice}",
+                             common.OWN_FAULT) from trouble
 
 
 def ask_mode(path: str, mode: str, given: Given, wanted: list[int] | None = None,

@@ -3,6 +3,7 @@
 from __future__ import annotations
 
 import os
+import subprocess
 import sys
 from pathlib import Path
 
@@ -120,6 +121,8 @@ def program_path(given: str | None = None) -> str:
         return os.environ["FUTMAX"]
     home = Path(__file__).resolve().parents[2]
     built = home / "crates" / "futmax" / "out" / "futmax"
+    if not built.exists():
+        _take_kept(home / "tools" / "prebuilt")
     if os.access(built, os.X_OK):
         return str(built)
     for folder in os.environ.get("PATH", "").split(os.pathsep):
@@ -127,3 +130,14 @@ def program_path(given: str | None = None) -> str:
             return os.path.join(folder, "futmax")
     raise Trouble("the program futmax is not built yet: run ./futmax once, or say --program PATH",
                   NO_PROGRAM)
+
+
+def _take_kept(script: Path) -> None:
+    """Puts the program that is kept in a clone to where a built one stands, if it fits here."""
+    if not script.is_file():
+        return
+    try:
+        subprocess.run([sys.executable, str(script), "take"], stdin=subprocess.DEVNULL,
+                       stdout=subprocess.DEVNULL, stderr=subprocess.DEVNULL, check=False)
+    except OSError:
+        pass

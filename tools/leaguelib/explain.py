@@ -60,17 +60,18 @@ def run(arguments: argparse.Namespace) -> int:
     """Explains one ask, and gives the exit status."""
     given = gather(arguments.files)
     path = common.program_path(arguments.program)
-    with Progress("explain", 0, arguments.progress):
+    with Progress("explain", 0, arguments.progress) as progress:
         if arguments.answer or given.report_line:
             view, proved, note = _given_report(arguments, given, path)
         else:
             view, proved, note = *_own_answer(arguments, given, path), ""
-        text = _text(arguments, view, path, proved)
+        text = _text(arguments, view, path, proved, progress)
     common.write_text((paragraph(note) + "\n\n" if note else "") + text)
     return common.DOUBTFUL if note == NO_CHECK else common.DONE
 
 
-def _text(arguments: argparse.Namespace, view: View, path: str, proved: Told | None) -> str:
+def _text(arguments: argparse.Namespace, view: View, path: str, proved: Told | None,
+          progress: Progress) -> str:
     """The first screen, or the reasons that were asked for."""
     sheet = view.sheet
     lines = list(view.marks)
@@ -93,7 +94,11 @@ def _text(arguments: argparse.Namespace, view: View, path: str, proved: Told | N
     wanted = lines if arguments.line is None else [arguments.line]
     why = Why(view, path, proved, arguments.steps, arguments.proof)
     texts = [limit_text(sheet, view.season) + "\n"]
-    return "\n".join(texts + [why_text(why, club, wanted) for club in clubs])
+    progress.total = len(clubs)
+    for club in clubs:
+        texts.append(why_text(why, club, wanted))
+        progress.step()
+    return "\n".join(texts)
 
 
 def _own_answer(arguments: argparse.Namespace, given: Given,
