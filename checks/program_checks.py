@@ -2,7 +2,6 @@
 
 import csv
 import io
-import itertools
 import json
 import os
 import re
@@ -12,7 +11,7 @@ import tempfile
 import unittest
 from pathlib import Path
 
-from reference import League, Sums, blocks_of, reach, take
+from reference import League, take
 from schema import faults_of
 
 HOME = Path(__file__).resolve().parent.parent
@@ -22,9 +21,6 @@ SHIRE = HOME / "examples" / "shire-league-20"
 PROGRAM = os.environ.get("FUTMAX") or str(HOME / "crates" / "futmax" / "out" / "futmax")
 SCHEMA = json.loads((HOME / "docs" / "answer.schema.json").read_text("utf-8"))
 SHORT = {"clinched": "in", "lost": "out", "possible": "open"}
-WAY = re.compile(r"They are (in|out), for example, if (?:this ends|these end) (.*?)"
-                 r"(; the other (?:match does|\d+ matches do) not matter)?\.(?= They|$)")
-MOST_FINISHES = 10_000
 
 
 def is_there() -> bool:
@@ -222,107 +218,6 @@ class ScreenTests(unittest.TestCase):
         self.assertEqual(len(told), 5 * 6 * 4)
 
 
-class SentenceTests(unittest.TestCase):
-    """Sentences of `explain --why`, held against every finish that is left."""
-
-    def told(self, example: Path, number: int) -> list[tuple[str, int, str]]:
-        """What is said of each club and line at an ask."""
-        done = league("explain", "--all", "--ask", number, *files_of(example))
-        self.assertEqual(done.returncode, 0, done.stderr)
-        parts, club = [], ""
-        for text in done.stdout.decode().split("\n\n"):
-            text = " ".join(text.split())
-            head = re.match(r"(.*): place \d", text)
-            club = head.group(1) if head else club
-            line = re.match(r"(?:The|A place among the) first (place|\d+): ", text)
-            if line:
-                places = 1 if line.group(1) == "place" else int(line.group(1))
-                parts.append((club, places, text))
-        return parts
-
-    def test_ways_bring_the_club_in_or_out(self) -> None:
-        tried = 0
-        for example in EXAMPLES:
-            for number, season in enumerate(asks_of(example), 1):
-                if len(season.clubs) > 6 or not season.open_fixtures():
-                    continue
-                for club, places, text in self.told(example, number):
-                    for kind, scores, rest in WAY.findall(text):
-                        tried += 1
-                        self.leads(season, club, places, kind, scores, bool(rest), text)
-        self.assertGreater(tried, 20)
-
-    def leads(self, season: League, club: str, places: int, kind: str, scores: str, has_rest: bool,
-              text: str) -> None:
-        """With these scores the club is in, or out, in every finish of the other matches."""
-        needs_lots = ", and lots fall so" in scores
-        names = scores.removesuffix(", and lots fall so")
-        filled = League(**{**vars(season), "scores": dict(season.scores)})
-        named = [(number, f"{season.clubs[home]} – {season.clubs[away]} ")
-                 for number, (home, away) in enumerate(season.fixtures)
-                 if number in season.open_fixtures()]
-        for number, name in named:
-            found = re.search(re.escape(name) + r"(\d+):(\d+)", names)
-            if found:
-                filled.scores[number] = (int(found.group(1)), int(found.group(2)))
-        self.assertEqual(bool(filled.open_fixtures()), has_rest, text)
-        best, worst = reach(filled, blocks_of)[season.clubs.index(club)]
-        if kind == "in":
-            self.assertLessEqual(best if needs_lots else worst, places, text)
-        else:
-            self.assertGreater(worst if needs_lots else best, places, text)
-
-    def test_a_draw_is_enough_unless(self) -> None:
-        """Worked by hand: with a draw A has 4 points, 2 goals to the good and 2 goals at least; B
-        comes to 4 with a win, and to as many goals to the good with a win by two.
-        """
-        data = (b"league,Unless,3,2000,overall_first\nclub,A,1\nclub,B,1\nclub,C,1\nclub,D,1\n"
-                b"match,A,D\nmatch,B,C\nmatch,A,C\nmatch,B,D\nline,1\nseason\n"
-                b"result,1,2,0\nresult,2,1,1\n")
-        text = " ".join(league("explain", "--why", "A", data=data).stdout.decode().split())
-        self.assertIn("A win is enough, whatever else happens. With a defeat they are out. A draw "
-                      "is enough too, unless B beats D by 2 goals or more.", text)
-
-    def test_results_that_are_enough_are_enough(self) -> None:
-        told = 0
-        for example in EXAMPLES:
-            for number, season in enumerate(asks_of(example), 1):
-                still = season.open_fixtures()
-                if len(season.clubs) > 4 or not still or 100 ** len(still) > MOST_FINISHES:
-                    continue
-                for club, places, text in self.told(example, number):
-                    told += self.results_hold(season, club, places, text)
-        self.assertGreater(told, 10)
-
-    def results_hold(self, season: League, club: str, places: int, text: str) -> int:
-        """How many sentences on a last result there were; each is true in every finish."""
-        enough = re.search(r"[Aa] (draw|win) is enough, whatever", text)
-        too_little = re.search(r"With a (draw or a defeat|defeat) they are out", text)
-        if not enough and not too_little:
-            return 0
-        least = {"draw": 1, "win": 3}[enough.group(1)] if enough else 4
-        most = {"draw or a defeat": 1, "defeat": 0}[too_little.group(1)] if too_little else -1
-        at = season.clubs.index(club)
-        own = [it for it in season.open_fixtures() if at in season.fixtures[it]]
-        self.assertEqual(len(own), 1, text)
-        for scores in itertools.product(itertools.product(range(10), repeat=2),
-                                        repeat=len(season.open_fixtures())):
-            filled = {**season.scores, **dict(zip(season.open_fixtures(), scores))}
-            goals = filled[own[0]] if season.fixtures[own[0]][0] == at else filled[own[0]][::-1]
-            result = 3 if goals[0] > goals[1] else 1 if goals[0] == goals[1] else 0
-            if result < least and result > most:
-                continue
-            above = 0
-            for block in blocks_of(season, filled, Sums(season, filled)):
-                if at in block:
-                    if result >= least:
-                        self.assertLessEqual(above + len(block), places, text)
-                    else:
-                        self.assertGreaterEqual(above, places, text)
-                above += len(block)
-        return 1
-
-
 class RefusalTests(unittest.TestCase):
     """Statuses of the program itself."""
 
@@ -366,3 +261,19 @@ class RefusalTests(unittest.TestCase):
             value = json.loads(done.stdout)
             self.assertEqual(faults_of(value, SCHEMA, SCHEMA), [])
             self.assertGreaterEqual(value["line"], line)
+
+    def test_half_files_and_bytes_of_any_kind(self) -> None:
+        sheet, feed = files_of(HOME / "examples" / "harbour-cup")
+        whole = sheet.read_bytes() + feed.read_bytes() + b"proofs\nask,5\n"
+        inputs = [whole[:end] for end in range(0, len(whole), 41)]
+        inputs += [b"\xff\xfe\x00a", b"\0" * 50, b"\x80\n" * 9, b'league,"\xc3\n', b"[" * 2000]
+        for at, data in enumerate(inputs):
+            words = (["ask"], ["ask", "--json"], ["table", "--rows"], ["scores"],
+                     ["check", "--json"], ["explain"])[at % 6]
+            done = league(*words, data=data)
+            self.assertIn(done.returncode, (0, 1, 2, 3, 7, 8), (words, data))
+            self.assertNotIn(b"Traceback", done.stderr)
+            self.assertTrue(done.returncode == 0 or done.stderr, (words, data))
+            if "--json" in words:
+                for line in done.stdout.decode().splitlines():
+                    self.assertEqual(faults_of(json.loads(line), SCHEMA, SCHEMA), [], line)
