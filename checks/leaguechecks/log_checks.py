@@ -79,6 +79,7 @@ class Running:
 def check_log(counter: Counter) -> None:
     """All looks at a log in other hands."""
     for name, check in (("lines of another program", _grows), ("a refused line", _refused_line),
+                        ("a line that is never ended", _half_line),
                         ("another file in its place", _replaced), ("a log that is cut", _cut),
                         ("stopped by hand", _stopped)):
         with tempfile.TemporaryDirectory() as work:
@@ -118,6 +119,16 @@ def _refused_line(running: Running, log: Path) -> None:
     running.hears("match 2: Köln 0-0 Dock United noted")
     running.ends(2)
     running.keeps(log, "result,1,2,1\nresult,2,0,0\n")
+
+
+def _half_line(running: Running, log: Path) -> None:
+    """A line that its program does not end is ended after a second, and refused for itself."""
+    running.add("result,3,")
+    running.type("Anchor 2-1 Köln")
+    running.hears("log.csv, line 1, `result,3,`: not taken: ")
+    running.hears("match 1: Anchor 2-1 Köln noted")
+    running.ends(2)
+    running.keeps(log, "result,3,\nresult,1,2,1\n")
 
 
 def _replaced(running: Running, log: Path) -> None:
