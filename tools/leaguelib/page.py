@@ -103,7 +103,8 @@ def _table(board: Board) -> list[str]:
     size = "many" if len(lines) > MANY_LINES else "few"
     return ['<div class="scroll" id="table" tabindex="0" role="region" aria-label="Table">',
             f'<table class="{size}">',
-            "<caption>The table of the matches played. A mark leads to its reasons.</caption>",
+            "<caption>The table of the matches played."
+            f"{' A mark leads to its reasons.' if lines else ''}</caption>",
             "<thead>", "<tr>", *heads, "</tr>", "</thead>", "<tbody>",
             *[row for position, place in enumerate(board.table, 1)
               for row in _row(board, position, place, lines)],
