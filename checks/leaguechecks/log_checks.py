@@ -28,7 +28,10 @@ class Running:
         evening.log.write_text("", "utf-8")
         words = [sys.executable, str(LEAGUE), *map(str, evening.words())]
         self.input, end = pty.openpty() if has_terminal else (None, subprocess.PIPE)
-        self.process = subprocess.Popen(words, stdin=end, stdout=end, stderr=subprocess.STDOUT)
+        # what runs behind `&` in a shell passes Ctrl-C over, and so would the command
+        self.process = subprocess.Popen(
+            words, stdin=end, stdout=end, stderr=subprocess.STDOUT,
+            preexec_fn=lambda: signal.signal(signal.SIGINT, signal.SIG_DFL))
         if has_terminal:
             os.close(end)
             self.output = self.input
