@@ -109,7 +109,37 @@ REFUSED = (
     ("a name of digits", "HomeTeam,AwayTeam,FTHG,FTAG\nGull,2,1,0\n", "`2` is no name of a club"),
     ("dates in two orders", "8/15/2024 Gull 2-1 Tern\n15/8/2024 Tern 2-1 Gull\n",
      "some dates have the month in front"),
+    ("a score in a name", "Date,Home,Away\n1.8.24,Gull,Tern 2-1\n",
+     "line 2: a score stands in the away side's name"),
+    ("two names in one", "Home,Away,HG,AG\nGull v Ebb,Tern,2,1\n", "two names stand in the home"),
+    ("a score that a spreadsheet made a time", "Home,Away,Result\nGull,Tern,03:00\n",
+     "a spreadsheet makes one of a score like 3:0"),
+    ("such a score in a line", "Gull 03:00 Tern\n", "a spreadsheet makes one of a score like 3:0"),
+    ("a row with other signs", "Home;Away;Score\nGull;Tern;3:0\nTern,Gull,2:1\n",
+     "line 3: this line is no row of the table around it: `Tern,Gull,2:1`"),
+    ("a line among rows", "Home;Away;Score\nGull;Tern;3:0\nTern 2-1 Gull\n", "line 3: this line"),
+    ("a match in front of the heads", "Gull 2-1 Tern\nHome,Away,HG,AG\nTern,Gull,0,0\n",
+     "line 1: this line is no row of the table around it"),
     ("a sheet", "league,Cup,9\nclub,A,1\n", "this is a sheet already"),
+)
+
+# lists as they stand on pages and in programs: two matches between Gull and Tern, 2:1 and open
+PASTES = (
+    "Wk,Day,Date,Time,Home,xG,Score,xG,Away,Attendance,Venue,Referee,Match Report,Notes\n1,Thu,"
+    "2024-08-15,20:00,Gull,1.9,2–1,0.3,Tern,21,The Quay,A Ebb,Match Report,\n,,,,,,,,,,,,,\n"
+    "2,Thu,2024-08-22,20:00,Tern,,,,Gull,,The Pier,,Head-to-Head,\n",
+    "| Date | Home | Away | Score |\n|---|:--:|---|---|\n| 2024-08-15 | Gull | Tern | 2-1 |\n"
+    "| 2024-08-22 | Tern | Gull | |\n",
+    "1. Spieltag\nDo 15.08.2024 15:30 Gull - Tern 2:1 (1:1)\n2. Spieltag\nDo 22.08.2024 17:30 "
+    "Tern - Gull -:- (-:-)\n",
+    "Jornada 1\njueves 15 de agosto de 2024\nGull  2-1  Tern\nJornada 2\njueves 22 de agosto de "
+    "2024\nTern  20:45  Gull\n",
+    "Round 1 [Aug 15 2024]\n[Aug 15 2024]\nGull        2-1 Tern\nRound 2\n[Aug 22]\nTern    -    "
+    "Gull\n",
+    "sep=;\nJour;Dom.;Ext.;Buts dom.;Buts ext.\n15/08/2024;Gull;Tern;2;1\n22/08/2024;Tern;Gull;;\n",
+    "2024-08-15\tGull\tTern\t2:1\n2024-08-22\tTern\tGull\tabgesagt\n",
+    "E0,15/08/2024,20:00,Gull,Tern,2,1\nE0,22/08/2024,20:00,Tern,Gull,,\n",
+    "Date,Match,Score\n8/15/2024,Gull vs Tern,2-1\n8/22/2024,Tern vs Gull,TBD\n",
 )
 
 
@@ -122,6 +152,13 @@ def faults_of(text: str, home: str, away: str, score: tuple[int, int] | None,
         return [str(trouble)]
     found = (match.home, match.away, match.score, match.date)
     return [] if found == (home, away, score, date) else [f"{found} of {text!r}"]
+
+
+def last_faults(text: str) -> list[str]:
+    """Nothing where the second match of a list, and its last, is open."""
+    found = [(match.home, match.away, match.score, match.date)
+             for match in read_matches(text.encode("utf-8")).matches[1:]]
+    return [] if found == [("Tern", "Gull", None, "2024-08-22")] else [str(found)]
 
 
 def refusal_faults(text: str, says: str) -> list[str]:
@@ -156,6 +193,9 @@ def check_lists(counter: Counter) -> None:
         counter.check(f"date {text!r}", [] if plain_date(text) == wanted else [plain_date(text)])
     for name, text, says in REFUSED:
         counter.check(f"list refused: {name}", refusal_faults(text, says))
+    for text in PASTES:
+        counter.check(f"paste {text[:40]!r}", faults_of(text, "Gull", "Tern", (2, 1), "2024-08-15")
+                      + last_faults(text))
     check_scores(counter)
     check_crosses(counter)
     check_days(counter)

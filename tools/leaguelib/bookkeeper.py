@@ -8,7 +8,8 @@ from . import common
 from .cleaning import KINDS, OTHER_WORDS
 from .dates import is_same_day
 from .feeds import FeedReader, InputReader
-from .matches import Match, match_of_line, plain_date
+from .match_lines import match_of_line, parts_of
+from .matches import Match, plain_date
 from .names import UnknownName, club_of
 from .records import (Record, Refused, count_lines, lines_of, record_of, records_of,
                       row_text)
@@ -122,8 +123,10 @@ class Bookkeeper:
             return self._deduction(rest)
         match = match_of_line(rest)
         if not isinstance(match, Match):
-            raise Unclear("this is not understood. A result is written like `Germany 5-1 "
-                          f"Scotland`; {self.forms} has the other forms")
+            why = parts_of(rest).why
+            reason = why if why and "cannot be read" not in why else "this is not understood"
+            raise Unclear(f"{reason}. A result is written like `Germany 5-1 Scotland`; "
+                          f"{self.forms} has the other forms")
         return self._line_of_match(kind, match)
 
     def line_of_listed(self, match: Match) -> str | None:

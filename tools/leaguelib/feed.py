@@ -26,7 +26,7 @@ from .match_lines import HINT
 from .match_list import MOST_WRONG, Match, MatchList, Passed, quoted
 from .matches import LineReader, is_month_first, lines_in, read_text, text_of
 from .several import FULL_DATE, file_name
-from .match_tables import head_of
+from .match_tables import SIGNS, head_of
 
 MOST_NAMES_SAID = 30
 MOST_NOTES = 5
@@ -125,7 +125,7 @@ def made_lines(book: Bookkeeper, data: bytes, file: str = "") -> Made:
 def all_made(book: Bookkeeper, files: list[tuple[str, bytes]]) -> Made:
     """The lines of the feed for several files; lists of matches come first, by their dates."""
     made = Made()
-    given = [_given(book, file, data) for file, data in files]
+    given = [one for file, data in files for one in _given(book, file, data)]
     for one in given:
         made.notes += one.notes
     lists = [found for one in given if one.is_list
@@ -156,13 +156,23 @@ def in_order(lists: list[MatchList]) -> list[tuple[MatchList, Match]]:
     return every
 
 
-def _given(book: Bookkeeper, file: str, data: bytes) -> Given:
-    """A file as lines; it is a list where no line is meant for the feed alone."""
+def _given(book: Bookkeeper, file: str, data: bytes) -> list[Given]:
+    """A file as lines; it is a list where no line is meant for the feed alone.
+
+    Such lines among the rows of a table are taken behind it.
+    """
     notes: list[str] = []
     lines = lines_in(text_of(data, notes))
     front = f"{file}: " if file else ""
-    is_list = _has_heads(lines) or not any(book.is_order(line) for line in lines)
-    return Given(file, lines, [front + note for note in notes], is_list)
+    notes = [front + note for note in notes]
+    if not _has_heads(lines):
+        return [Given(file, lines, notes, not any(book.is_order(line) for line in lines))]
+    places = {place for place, line in enumerate(lines)
+              if book.is_order(line) and not any(sign in line for sign in SIGNS)}
+    rows = ["" if place in places else line for place, line in enumerate(lines)]
+    orders = [line if place in places else "" for place, line in enumerate(lines)]
+    return [Given(file, rows, notes, True)] + (
+        [Given(file, orders, [], False)] if places else [])
 
 
 def _has_heads(lines: list[str]) -> bool:

@@ -13,10 +13,10 @@ from itertools import combinations
 
 from .common import Trouble
 from .dates import TIME, WEEKDAY, is_date, plain_date
-from .match_lines import HEADING, note_told
-from .match_list import Match, MatchList, Passed, Wrong
+from .match_lines import HEADING, note_told, why_no_name
+from .match_list import Match, MatchList, Wrong
 from .score_texts import OPEN_WORDS, Told, is_clock, read_goals, read_score
-from .match_tables import SIGNS, cells_of
+from .match_tables import SIGNS, cells_of, pass_line
 
 ADVICE = ("Put a row of heads in front, like Date,HomeTeam,AwayTeam,FTHG,FTAG, with a head for "
           "each column")
@@ -61,7 +61,7 @@ def plan_of(lines: list[str], file: str) -> Plan | None:
     filled = [line for line in lines if line.strip() and not line.startswith("#")]
     for sign in SIGNS:
         rows = [cells_of(line, sign) for line in filled if sign in line]
-        if len(rows) < 2 or len(rows) * 3 < len(filled) * 2:
+        if len(rows) < (1 if sign in ";\t" else 2) or len(rows) * 3 < len(filled) * 2:
             continue
         width = Counter(len(row) for row in rows).most_common(1)[0][0]
         rows = [row + [""] * (width - len(row)) for row in rows if len(row) <= width]
@@ -128,7 +128,7 @@ def read_headless(lines: list[str], plan: Plan, file: str, is_month_first: bool)
         if len(filled) == 1:
             if is_date(filled[0]):
                 date = plain_date(filled[0], is_month_first)
-            found.passed.append(Passed("heading", number, line))
+            pass_line(found, wrong, number, line)
             continue
         cells += [""] * (plan.width - len(cells))
         if plan.date >= 0 and cells[plan.date]:
@@ -149,8 +149,10 @@ def _why_no_names(cells: list[str], plan: Plan) -> str:
     if len(cells) > plan.width:
         return "this row has more columns than the others"
     for place, side in ((plan.home, "home"), (plan.away, "away")):
-        if not re.search(r"[^\W\d_]", cells[place]) or kind_of(cells[place]) in ("date", "time"):
-            return f"the {side} side's name is missing"
+        is_name = kind_of(cells[place]) not in ("date", "time")
+        why = why_no_name(cells[place] if is_name else "", side)
+        if why:
+            return why
     return ""
 
 

@@ -7,19 +7,22 @@ from __future__ import annotations
 import re
 from dataclasses import dataclass, replace
 
-from .dates import TIME, WEEKDAY, front_date, with_year
+from .dates import MONTH, TIME, WEEKDAY, front_date, with_year
 from .match_list import Match, MatchList, Passed, Wrong
+from .names import shown
 from .score_texts import (GOALS, HALF_TIME, MARK, Told, is_clock, mark_of, plain_signs, read_score,
                      with_marks)
 
 ROUND_WORDS = (r"(?:matchday|match day|round|gameweek|game week|week|gw|md|day|spieltag|runde|"
                r"jornada|fecha|journée|giornata|rodada|ronda|tour)")
+# no score between two names, but the days from 12 to 15 August may stand there
+NO_SCORE = (r"(?!.*[^\W\d]\S*\s+\d{1,2}\s?[-:]\s?\d{1,2}\s+(?!" + MONTH + r")[^\W\d])")
 HEADING = re.compile(
     r"^(=|▪|»|\|)"
     r"|^" + ROUND_WORDS + r"\s*(?:no\.?|nr\.?|n°|n\.)?\s*\d{1,2}\b"
-    r"(?!\s*[-:]\s*\d{1,2}\s+[^\W\d])(?!.*\sv\s).*$"
+    r"(?!\s*[-:]\s*\d{1,2}\s+[^\W\d])(?!.*\sv\s)" + NO_SCORE + r".*$"
     r"|^\d{1,2}\s?(?:\.|ª|º|°|a|e|re|ère|ème|er|st|nd|rd|th)?\s+" + ROUND_WORDS
-    + r"\b(?!.*\sv\s).*$"
+    + r"\b(?!.*\sv\s)" + NO_SCORE + r".*$"
     r"|^(?:matchday|round|spieltag|jornada|giornata|journée|week|group|gruppe|grupo|groupe|girone|"
     r"regular|final|stage|phase|hinrunde|rückrunde)\b[^-–:]*(?:\|.*)?$",
     re.IGNORECASE)
@@ -91,7 +94,8 @@ def _is_tail(text: str) -> bool:
     if re.match(r"^[-–—?*_]\s?[:-]\s?[-–—?*_]$", text) or is_clock(text):
         return True
     if text[0] in "([":
-        return bool(HALF_TIME.match(text)) or bool(mark_of(inner)) or text[0] == "["
+        is_mark = bool(HALF_TIME.match(text) or mark_of(inner))
+        return is_mark or text[0] == "[" or not inner.strip("-–—:?* ")
     is_word = mark_of(text) in ("extra time", "penalties", "awarded", "open")
     return is_word and (len(text.strip(".")) > 2 or "." in text or "/" in text)
 
@@ -136,6 +140,9 @@ def _told(score: tuple[int, int] | None, marks: list[str]) -> Told:
         return with_marks(score, " ".join(known))
     if any(mark_of(mark) in ("extra time", "penalties", "awarded") for mark in marks):
         return Told(why="the score is missing")
+    bare = [read_score(mark) for mark in marks if re.match(r"^\d+:\d+$", mark)]
+    if any(one.why for one in bare):
+        return next(one for one in bare if one.why)
     if any(HALF_TIME.match(mark) and not is_clock(mark) for mark in marks):
         return Told(why="a score stands in brackets alone: is it half time? Write the score that "
                         "counts without brackets")
@@ -153,6 +160,19 @@ def _why_no_match(text: str) -> str:
     if re.search(r"\d\s?[-:]\s?\d{3}|\d{3}\s?[-:]\s?\d", text):
         return "cannot be read as a match: goals are whole numbers from 0 to 99"
     return "cannot be read as a match"
+
+
+def why_no_name(name: str, side: str) -> str:
+    """What is wrong with a field for a name; nothing where it can be one."""
+    if not name:
+        return f"the {side} side's name is missing"
+    if not re.search(r"[^\W\d_]", name):
+        return f"{shown(name)} is no name of a club"
+    found = NO_NAME.search(plain_signs(name))
+    if not found:
+        return ""
+    what = "a score stands" if re.search(r"\d", found.group()) else "two names stand"
+    return f"{what} in the {side} side's name"
 
 
 def match_of_line(line: str, number: int = 0, date: str = "",

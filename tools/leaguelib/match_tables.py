@@ -12,7 +12,7 @@ from .common import Trouble
 from .dates import is_date, plain_date
 from .heads import Columns, columns_of, is_head_row, missing_side
 from .match_list import Match, MatchList, Passed, Wrong, quoted
-from .match_lines import match_of_line, note_told
+from .match_lines import match_of_line, note_told, why_no_name
 from .score_texts import Told, is_clock, read_goals, read_score
 
 SIGNS = ",;\t|"
@@ -76,11 +76,11 @@ class TableReader:
         if is_head_row(cells):
             self.columns, self.heads = columns_of(cells), cells
             return
-        filled = [cell for cell in cells if cell]
+        filled = [cell for cell in cells if cell.strip("-:= ")]
         if not filled or line.startswith("#"):
             return
         if len(filled) == 1 and len(self.heads) > 2:
-            self.found.passed.append(Passed("heading", number, line))
+            pass_line(self.found, self.wrong, number, line)
             return
         self._take_row(number, line, cells)
 
@@ -146,14 +146,21 @@ class TableReader:
                       "no score")
 
 
+def pass_line(found: MatchList, wrong: Wrong, number: int, line: str) -> None:
+    """Passes over a line that is no row of the table, unless a score stands in it."""
+    match = match_of_line(line)
+    has_score = isinstance(match, Match) and match.score is not None
+    if has_score or any(line.count(sign) > 1 for sign in ",;\t"):
+        wrong.add(number, "this line is no row of the table around it", line)
+    else:
+        found.passed.append(Passed("heading", number, line))
+
+
 def _why_no_names(names: tuple[str, str] | None) -> str:
     """What is wrong with the names of a row; nothing where both are there."""
     if names is None or not any(names):
         return "the names of the two clubs are missing"
-    if not all(names):
-        return f"the {'away' if names[0] else 'home'} side's name is missing"
-    odd = next((name for name in names if not re.search(r"[^\W\d_]", name)), "")
-    return f"{quoted(odd)} is no name of a club" if odd else ""
+    return why_no_name(names[0], "home") or why_no_name(names[1], "away")
 
 
 def read_table(lines: list[str], head: Head, file: str, is_month_first: bool,
@@ -164,7 +171,7 @@ def read_table(lines: list[str], head: Head, file: str, is_month_first: bool,
         if number > head.line:
             reader.take(number, line)
         elif line.strip() and not line.startswith("#"):
-            reader.found.passed.append(Passed("heading", number, line))
+            pass_line(reader.found, reader.wrong, number, line)
     reader.wrong.refuse()
     reader.test_scores(needs_scores)
     return reader.found

@@ -106,13 +106,14 @@ def mark_of(text: str) -> str:
 
 
 def is_clock(text: str) -> bool:
-    """Whether a text is a time of day, and no score: 15:00, 20:45, 9:10; 0:10 may be a score."""
+    """Whether a text is a time of day, and no score: 15:00, 20:45, 9:10. 03:00 may be a 3:0 of which
+    a spreadsheet has made a time.
+    """
     found = CLOCK.match(text.strip())
     if not found:
         return False
     hours, minutes = re.findall(r"\d+", text)[:2]
-    is_sure = minutes.startswith("0") or int(hours) > 8 or int(minutes) > 14
-    return is_sure and int(minutes) % 5 == 0 or bool(re.search(r"[a-z]", text))
+    return (int(hours) > 8 and int(minutes) % 5 == 0) or bool(re.search(r"[a-z]", text))
 
 
 def _why_no_score(line: str) -> str:
@@ -120,6 +121,9 @@ def _why_no_score(line: str) -> str:
     if SPREADSHEET.match(line):
         return ("this is a date: a spreadsheet makes one of a score like 2-1. Format the column "
                 "as text and type the score again")
+    if CLOCK.match(line) or re.match(r"^\d{1,2}:\d{2}:\d{2}$", line):
+        return ("this is a time of day: a spreadsheet makes one of a score like 3:0. Format the "
+                "column as text and type the score again")
     if re.match(r"^\d{3,}", line) or re.match(r"^\d+\s?[-:x]\s?\d{3,}", line):
         return "goals are whole numbers from 0 to 99"
     if re.match(r"^\d{1,2}\s?[-:]?$", line) or re.match(r"^[-:]\s?\d{1,2}$", line):
