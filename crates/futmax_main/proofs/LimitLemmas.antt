@@ -215,9 +215,8 @@ club-added sheet club draft first is =
     fits-unless IsDraft (has_name sheet club.name) fault.ClubTwice _
     (λ fresh. fits-unless IsDraft (nat_le most_clubs (length sheet.clubs)) fault.TooMany
     (Ok (record sheet { clubs = sheet.clubs ++ club ∷ [] }))
-    (λ room. (club-keeps sheet sheet (sheet.clubs ++ club ∷ []) club (names_of sheet)
-    (names_of sheet ++ club.name ∷ []) club.name refl (draft, refl) is fresh
-    (leb-false most_clubs (length sheet.clubs) room) first refl refl refl).0))
+    (λ room. club-keeps sheet sheet (sheet.clubs ++ club ∷ []) club refl draft is fresh
+    (leb-false most_clubs (length sheet.clubs) room) first refl))
 
 club-fits : (sheet : Sheet) (fields : List (List ℕ)) → IsDraft sheet
     → Fits IsDraft (club_taken sheet fields)
