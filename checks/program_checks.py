@@ -192,6 +192,14 @@ class ScreenTests(unittest.TestCase):
                     found.add(("1" if line == "place" else line, club, words))
         return found
 
+    def test_level_clubs_have_a_short_reason(self) -> None:
+        """As about.md has it: Northquay has 75 points like Brightwater, which is ahead of it."""
+        text = league("explain", *files_of(SHIRE), "--ask", "1", "--why", "northq", "--line",
+                      "1").stdout.decode()
+        self.assertIn("Northquay ends on 75 points. Brightwater has as many already. If they end "
+                      "level, the criteria leave Northquay out, whatever else happens.",
+                      " ".join(text.split()))
+
     def test_a_day_that_the_sheet_does_not_tell(self) -> None:
         done = league("explain", *self.FILES, "--since", "2024-05-19")
         self.assertEqual(done.returncode, 2)

@@ -64,7 +64,7 @@ class ReasonTests(unittest.TestCase):
 
     def test_every_reason_holds_in_every_outcome(self) -> None:
         chance = random.Random(51)
-        told = {"points": 0, "matches_between": 0}
+        told = {"points": 0, "matches_between": 0, "level": 0}
         for _ in range(120):
             drawn = Drawn(chance)
             league = read_input(drawn.data())
@@ -75,17 +75,21 @@ class ReasonTests(unittest.TestCase):
                 reason = short_reason(points, [], club, places, is_in)
                 if reason is not None:
                     told[reason.kind] += 1
-                    self.assertTrue(self.holds(tables, club, places, is_in), reason.text)
+                    is_level = reason.kind == "level"
+                    self.assertTrue(self.holds(tables, club, places, is_in, is_level), reason.text)
                     self.numbers_are_right(drawn, reason.text)
         self.assertGreater(told["points"], 300)
         self.assertGreater(told["matches_between"], 20)
+        self.assertGreater(told["level"], 100)
 
-    def holds(self, tables: list[dict[str, int]], club: str, places: int, is_in: bool) -> bool:
-        """Whether points alone decide the place in each table."""
+    def holds(self, tables: list[dict[str, int]], club: str, places: int, is_in: bool,
+              is_level: bool) -> bool:
+        """Whether points alone decide the place in each table, or leave it to level clubs."""
         for table in tables:
             above = sum(points > table[club] for points in table.values())
             level = sum(points >= table[club] for points in table.values()) - 1
-            if (level >= places) if is_in else (above < places):
+            worst, best = (above, level) if is_level else (level, above)
+            if (worst >= places) if is_in else (best < places):
                 return False
         return True
 

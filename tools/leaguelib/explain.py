@@ -1,9 +1,10 @@
 """Says an answer on one screen: who is in, out and open, and what changed since the ask before.
 
 The reasons stand behind --why: the shortest first, by points alone, by clubs that cannot pass, by
-matches between rivals; then the steps of the program's proof. The answer is that of the program; or
-a report that stands elsewhere (--answer), or behind the record `proofs` of the input. A proof is
-put into words only where the program's mode `check` has accepted the report that it stands in.
+matches between rivals, by clubs that can be level at the most; then the steps of the program's
+proof. The answer is that of the program; or a report that stands elsewhere (--answer), or behind
+the record `proofs` of the input. A proof is put into words only where the program's mode `check`
+has accepted the report that it stands in.
 """
 
 from __future__ import annotations

@@ -9,16 +9,14 @@ from __future__ import annotations
 from dataclasses import dataclass
 
 from .answers import Proof, Verdict
-from .standing import Standing
+from .proof_ties import tie_text
+from .proof_words import DoesNotAddUp, from_place, hold, is_are, names_of, up_to_place
 from .texts import Fixture, Season, Sheet
-from .wording import counted, listed, match_text, paragraph, place_phrase, shown
+from .wording import listed, match_text, paragraph, place_phrase, shown
 from .zones import Zone
 
+__all__ = ["DoesNotAddUp", "steps_of"]
 DEEPEST_INDENT = 10
-
-
-class DoesNotAddUp(Exception):
-    """A step that the checker accepted, and whose sums come out otherwise here."""
 
 
 @dataclass
@@ -40,16 +38,23 @@ def steps_of(sheet: Sheet, season: Season, verdict: Verdict, proof: Proof) -> li
     cases = [Case(Zone(sheet, season, club), 0, "")]
     steps: list[str] = []
     lines = [line.parts for line in proof.lines]
-    for position, parts in enumerate(lines):
-        case = cases.pop()
-        number = len(steps) + 1
+    position = 0
+    while position < len(lines):
+        case, parts, number = cases.pop(), lines[position], len(steps) + 1
+        rivals = _rivals_too_many(lines, position) if is_inside else []
+        if len(rivals) > 1:
+            steps.append(_step(number, case.depth, _too_many_text(case, verdict, rivals)))
+            cases.append(_none_ahead(case, rivals))
+            position += 2 * len(rivals)
+            continue
+        position += 1
         if parts[0] in ("leaf", "new_leaf"):
             text = f"{case.lead} {reason_text(case.zone, verdict, is_inside, parts[1:])}"
             steps.append(_step(number, case.depth, text))
             continue
         test = parts[1:]
         yes, no = test_texts(case.zone, test)
-        shuts_at_once = lines[position + 1][0] in ("leaf", "new_leaf")
+        shuts_at_once = lines[position][0] in ("leaf", "new_leaf")
         if shuts_at_once:
             lead = f"{case.lead} Suppose that {yes}.".strip()
             inner = Case(case.zone.supposed(test, True), case.depth, lead)
@@ -62,6 +67,36 @@ def steps_of(sheet: Sheet, season: Season, verdict: Verdict, proof: Proof) -> li
         cases += [Case(case.zone.supposed(test, False), case.depth, outer), inner]
     end = f"No case is left. So {name} {'cannot reach' if is_inside else 'has'} {place}."
     return [paragraph(opening, 4), *steps, paragraph(end, 4)]
+
+
+def _rivals_too_many(lines: list[list], position: int) -> list[int]:
+    """The rivals, one split behind the other, each of whom ahead would be one too many."""
+    rivals: list[int] = []
+    while position + 1 < len(lines) and lines[position][1:2] == ["rival"] and (
+            lines[position + 1][1:] == ["count"]):
+        rivals.append(lines[position][2])
+        position += 2
+    return rivals
+
+
+def _too_many_text(case: Case, verdict: Verdict, rivals: list[int]) -> str:
+    """Several rivals in one step: any one of them ahead is one too many."""
+    zone, club, size = case.zone, shown(verdict.club), len(case.zone.sheet.clubs)
+    ahead = zone.marked(True)
+    hold(len(ahead) + 1 >= verdict.places)
+    names = listed([shown(zone.name(rival)) for rival in rivals], "or")
+    also = f"{names_of(zone, ahead)} and " if ahead else ""
+    return (f"{case.lead} Suppose that {names} ends ahead of {club}. With {also}one of these "
+            f"ahead, {club} is in {from_place(len(ahead) + 2, size)}, and not in "
+            f"{place_phrase(verdict.places)}. That cannot be.")
+
+
+def _none_ahead(case: Case, rivals: list[int]) -> Case:
+    """The case in which none of these rivals ends ahead."""
+    zone = case.zone
+    for rival in rivals:
+        zone = zone.supposed(["rival", rival], False)
+    return Case(zone, case.depth, f"So none of these ends ahead of {shown(zone.name(zone.club))}.")
 
 
 def _step(number: int, depth: int, text: str) -> str:
@@ -96,14 +131,10 @@ def reason_text(zone: Zone, verdict: Verdict, is_inside: bool, reason: list) -> 
     elif kind == "high":
         text = _high_text(zone, reason[1])
     elif kind == "tie":
-        text = _tie_text(zone, verdict, is_inside)
+        text = tie_text(zone, verdict, is_inside)
     else:
         text = f"The points that are supposed of {shown(zone.name(zone.club))} cannot be reached."
     return text + " That cannot be."
-
-
-def _names(zone: Zone, clubs: list[int]) -> str:
-    return listed([shown(zone.name(club)) for club in clubs])
 
 
 def _count_text(zone: Zone, verdict: Verdict, is_inside: bool) -> str:
@@ -111,28 +142,24 @@ def _count_text(zone: Zone, verdict: Verdict, is_inside: bool) -> str:
     club, size = shown(verdict.club), len(zone.sheet.clubs)
     if is_inside:
         ahead = zone.marked(True)
-        _hold(len(ahead) >= verdict.places)
-        return (f"With {_names(zone, ahead)} ahead, {club} is in "
-                f"{_from_place(len(ahead) + 1, size)}, and not in {place_phrase(verdict.places)}.")
+        hold(len(ahead) >= verdict.places)
+        return (f"With {names_of(zone, ahead)} ahead, {club} is in "
+                f"{from_place(len(ahead) + 1, size)}, and not in {place_phrase(verdict.places)}.")
     behind = zone.marked(False)
-    _hold(len(behind) >= size - verdict.places)
-    left, where = size - 1 - len(behind), _up_to_place(size - len(behind))
+    hold(len(behind) >= size - verdict.places)
+    left, where = size - 1 - len(behind), up_to_place(size - len(behind))
     others = f"at most {left} of the other {size - 1} clubs can be" if left else "no club is"
-    return (f"Then {_names(zone, behind)} {_is_are(behind)} not ahead of {club}, so {others}, and "
+    return (f"Then {names_of(zone, behind)} {is_are(behind)} not ahead of {club}, so {others}, and "
             f"{club} is in {where}: it does not miss {place_phrase(verdict.places)}.")
-
-
-def _is_are(clubs: list[int]) -> str:
-    return "is" if len(clubs) == 1 else "are"
 
 
 def _low_text(zone: Zone, clubs: list[int]) -> str:
     """Rivals that must stay at the club's most points, and have more."""
     club, most = shown(zone.name(zone.club)), zone.points([zone.club], True)
-    _hold(set(clubs) <= set(zone.marked(False)))
-    _hold(zone.points(clubs, False) > len(clubs) * most)
+    hold(set(clubs) <= set(zone.marked(False)))
+    hold(zone.points(clubs, False) > len(clubs) * most)
     each = "" if len(clubs) == 1 else "Each of "
-    return (f"{each}{_names(zone, clubs)}, not being ahead of {club}, ends with at most as many "
+    return (f"{each}{names_of(zone, clubs)}, not being ahead of {club}, ends with at most as many "
             f"points as {club}. "
             f"{_sum_text(zone, [zone.club], True)} {_bound_text(zone, clubs, most, 'at most')} "
             f"But {_sum_text(zone, clubs, False)} {zone.points(clubs, False)} is more than "
@@ -142,10 +169,10 @@ def _low_text(zone: Zone, clubs: list[int]) -> str:
 def _high_text(zone: Zone, clubs: list[int]) -> str:
     """Rivals that must come up to the club's least points, and have fewer."""
     club, least = shown(zone.name(zone.club)), zone.points([zone.club], False)
-    _hold(set(clubs) <= set(zone.marked(True)))
-    _hold(zone.points(clubs, True) < len(clubs) * least)
+    hold(set(clubs) <= set(zone.marked(True)))
+    hold(zone.points(clubs, True) < len(clubs) * least)
     each = "" if len(clubs) == 1 else "Each of "
-    return (f"{each}{_names(zone, clubs)}, being ahead of {club}, ends with at least as many "
+    return (f"{each}{names_of(zone, clubs)}, being ahead of {club}, ends with at least as many "
             f"points as {club}. {_sum_text(zone, [zone.club], False)} "
             f"{_bound_text(zone, clubs, least, 'at least')} But {_sum_text(zone, clubs, True)} "
             f"{zone.points(clubs, True)} is less than {len(clubs) * least}.")
@@ -154,7 +181,7 @@ def _high_text(zone: Zone, clubs: list[int]) -> str:
 def _bound_text(zone: Zone, clubs: list[int], bound: int, word: str) -> str:
     """What the rivals have to keep to, together."""
     if len(clubs) == 1:
-        return f"So {_names(zone, clubs)} has {word} {bound}."
+        return f"So {names_of(zone, clubs)} has {word} {bound}."
     return (f"So the {len(clubs)} have together {word} {len(clubs)} times {bound}, "
             f"which is {len(clubs) * bound}.")
 
@@ -179,68 +206,3 @@ def _shared(fixture: Fixture, names: set[str], gain: int, most: bool) -> str:
     if most or gain != 2 or not {fixture.home, fixture.away} <= names:
         return ""
     return " (a draw gives each a point, a win gives the winner three)"
-
-
-def _tie_text(zone: Zone, verdict: Verdict, is_inside: bool) -> str:
-    """Each match has its outcome, and the criteria place the rivals."""
-    standing = Standing(zone)
-    outcomes = [_outcome_text(zone, fixture) for fixture in zone.season.open_fixtures(zone.sheet)]
-    club = shown(verdict.club)
-    text = f"Here it is settled who wins: {listed(outcomes)}." if outcomes else "All is played."
-    text += f" {club} ends on {counted(standing.points[zone.club], 'point')}."
-    found = {rival.number: standing.judge(rival.number) for rival in zone.sheet.clubs
-             if rival.number != zone.club}
-    for is_before, sure, words in ((False, "above", "was supposed not to be ahead, and is"),
-                                   (True, "below", "was supposed to be ahead, and is behind")):
-        for rival in zone.marked(is_before):
-            if found[rival][0] == sure:
-                where = _rival_text(zone, rival, found)
-                return f"{text} {where} But {_names(zone, [rival])} {words}."
-    return f"{text} {_tie_count_text(zone, verdict, is_inside, found)}"
-
-
-def _tie_count_text(zone: Zone, verdict: Verdict, is_inside: bool,
-                    found: dict[int, tuple[str, str]]) -> str:
-    """Rivals that are supposed or surely on one side, as many as shut the case."""
-    sure = "above" if is_inside else "below"
-    marked = zone.marked(is_inside)
-    settled = [rival for rival in found if found[rival][0] == sure and rival not in marked]
-    size, all_of_them = len(zone.sheet.clubs), len(marked) + len(settled)
-    _hold(all_of_them >= (verdict.places if is_inside else size - verdict.places))
-    text = " ".join(_rival_text(zone, rival, found) for rival in settled)
-    if marked:
-        text += f" {_names(zone, marked)} {_is_are(marked)} supposed to be " + (
-            "ahead." if is_inside else "not ahead.")
-    place = _from_place(all_of_them + 1, size) if is_inside else (
-        _up_to_place(size - all_of_them))
-    return f"{text} So {shown(verdict.club)} is in {place}.".strip()
-
-
-def _from_place(place: int, size: int) -> str:
-    """This place or a later one, where there is one."""
-    return f"place {place} or further down" if place < size else f"place {place}"
-
-
-def _up_to_place(place: int) -> str:
-    """This place or a better one, where there is one."""
-    return f"place {place} or higher" if place > 1 else f"place {place}"
-
-
-def _rival_text(zone: Zone, rival: int, found: dict[int, tuple[str, str]]) -> str:
-    """Where a rival surely stands, and by which criterion."""
-    place = "ahead of" if found[rival][0] == "above" else "behind"
-    return f"{_names(zone, [rival])} is {place} {_names(zone, [zone.club])} ({found[rival][1]})."
-
-
-def _hold(condition: bool) -> None:
-    """Stops where a step does not come out as the checker says."""
-    if not condition:
-        raise DoesNotAddUp
-
-
-def _outcome_text(zone: Zone, fixture: Fixture) -> str:
-    """The one outcome that the scores of a match have."""
-    home, away = zone.options(fixture)[0]
-    if home == away:
-        return f"{match_text(fixture)} is drawn"
-    return f"{shown(fixture.home if home > away else fixture.away)} wins {match_text(fixture)}"

@@ -1,8 +1,9 @@
 """Short reasons for a decided place, as a person gives them: the final table, points alone, clubs
-that cannot pass, matches that rivals play against each other.
+that cannot pass, matches that rivals play against each other, clubs that can be level at the most.
 
-Each is added up once more over the matches (`zones.py`) before it is told, and not told where the
-sum does not hold. The program decided; this looks for words.
+The program decided; this looks for words. Each reason is added up once more over the matches
+(`zones.py`) before it is told, and not told where the sum does not hold. That the criteria decide
+between level clubs follows from the verdict.
 """
 
 from __future__ import annotations
@@ -101,9 +102,13 @@ def _out_reason(points: Points, club: str, places: int) -> Reason | None:
         text = f"{points.text(club)}. {_ahead_text(points, chosen)}"
         return Reason("points", text, most, chosen)
     found = _set_above(points, ahead, club) if len(ahead) == places - 1 else None
-    if found is None:
-        return None
     text = f"{points.text(club)}. " + (f"{_ahead_text(points, tuple(ahead))} " if ahead else "")
+    if found is None:
+        level = [rival for rival in points.now if points.now[rival] == most and rival != club]
+        if len(ahead) + len(level) < places:
+            return None
+        text += f"{listed([shown(rival) for rival in level])} {_has(level)} as many already. "
+        return Reason("level", text + _level_text("out", club), most, (*ahead, *level))
     text += _above_text(points, found, most, bool(ahead))
     return Reason("matches_between", text, most, tuple(ahead), found)
 
@@ -114,9 +119,8 @@ def _ahead_text(points: Points, clubs: tuple[str, ...]) -> str:
         first, last = clubs[0], clubs[-1]
         return (f"{len(clubs)} clubs have more already, from {shown(first)} with "
                 f"{points.now[first]} down to {shown(last)} with {points.now[last]}.")
-    has = "has" if len(clubs) == 1 else "have"
     names = listed([f"{shown(club)} ({points.now[club]})" for club in clubs])
-    return f"{names} {has} more already."
+    return f"{names} {_has(list(clubs))} more already."
 
 
 def _set_above(points: Points, ahead: list[str], club: str) -> tuple[str, ...] | None:
@@ -151,12 +155,26 @@ def _in_reason(points: Points, club: str, places: int) -> Reason | None:
         return Reason("points", _has_text(points, club) + _behind_text(points, chosen, now), now,
                       chosen)
     found = _set_below(points, behind, club) if len(behind) == wanted - 1 else None
-    if found is None:
-        return None
     chosen = tuple(reversed(behind))
+    if found is None:
+        level = [rival for rival in points.now if points.most[rival] == now and rival != club]
+        if len(behind) + len(level) < wanted:
+            return None
+        text = _has_text(points, club) + (_behind_text(points, chosen, now) + " " if chosen else "")
+        text += f"{listed([shown(rival) for rival in level])} can get as many and no more. "
+        return Reason("level", text + _level_text("in", club), now, (*chosen, *level))
     text = _has_text(points, club) + (_behind_text(points, chosen, now) + " " if chosen else "")
     text += _below_text(points, found, now, bool(chosen))
     return Reason("matches_between", text, now, chosen, found)
+
+
+def _has(clubs: list[str]) -> str:
+    return "has" if len(clubs) == 1 else "have"
+
+
+def _level_text(word: str, club: str) -> str:
+    """What the program's verdict says where points alone leave clubs level."""
+    return f"If they end level, the criteria leave {shown(club)} {word}, whatever else happens."
 
 
 def _has_text(points: Points, club: str) -> str:

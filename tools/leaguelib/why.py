@@ -55,7 +55,8 @@ class Why:
         """The verdict with its proof, where the program's check accepted it."""
         told = self.told
         if told is None:
-            told = own_report(self.path, self.data_for(verdict.places), self.view.league)
+            data = with_budget(self.data_for(verdict.places), self.view.ask.budget)
+            told = own_report(self.path, data, self.view.league)
         answer: Answer = told.report.answers[-1 if self.told is None else self.view.ask.position]
         same = [it for it in answer.verdicts
                 if (it.places, it.club, it.word) == (verdict.places, verdict.club, verdict.word)]
@@ -115,6 +116,9 @@ def _decided_texts(why: Why, verdict: Verdict) -> list[str]:
                                    "here.", 2)]
     intro = "" if reason else "Points alone do not tell it. "
     claim = "outside" if is_in else "inside"
+    if len(found.proofs[claim].lines) > why.most_steps:
+        return [*parts, paragraph(f"{intro}The proof has {len(found.proofs[claim].lines):,} lines, "
+                                  "too many to tell here; the program's check accepts it.", 2)]
     return [*parts, paragraph(f"{intro}The proof, which the program's check accepts, in steps:", 2),
             *proof_steps(view.sheet, view.season, found, claim, why.most_steps)]
 
