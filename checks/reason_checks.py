@@ -101,6 +101,23 @@ class ReasonTests(unittest.TestCase):
             wanted = now[club] + (3 * left if most else 0)
             self.assertEqual(int(number), wanted, text)
 
+    def test_a_sum_that_does_not_hold_is_not_told(self) -> None:
+        chance = random.Random(7)
+        told = 0
+        for _ in range(40):
+            drawn = Drawn(chance)
+            league = read_input(drawn.data())
+            for club, is_in in itertools.product(drawn.clubs, (True, False)):
+                points = Points(league.sheet, league.season_at(0))
+                if short_reason(points, [], club, 1, is_in) is None:
+                    continue
+                told += 1
+                change = 1 if is_in else -1
+                points.now[club] += change
+                points.most[club] += change
+                self.assertIsNone(short_reason(points, [], club, 1, is_in))
+        self.assertGreater(told, 50)
+
     def test_points_alone_are_never_overlooked(self) -> None:
         chance = random.Random(3)
         for _ in range(60):

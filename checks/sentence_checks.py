@@ -37,7 +37,7 @@ class SentenceTests(unittest.TestCase):
         tried = 0
         for example in EXAMPLES:
             for number, season in enumerate(asks_of(example), 1):
-                if len(season.clubs) > 6 or not season.open_fixtures():
+                if not 0 < len(season.open_fixtures()) <= 3:
                     continue
                 for club, places, text in self.told(example, number):
                     for kind, scores, rest in WAY.findall(text):
