@@ -161,6 +161,11 @@ class ScreenTests(unittest.TestCase):
             self.assertLessEqual(len(lines), 60)
             self.assertEqual(sum(bool(re.match(r" *\d+(-\d+)?  ", line)) for line in lines), 20)
             self.assertTrue(all(len(line) <= 100 for line in lines), lines)
+        sheet = sheet.replace(b"season\n", b"# line 1: Champion of the Shire\n# line 4: Cup of all "
+                              b"Shires\n# line 6: Shield of the Shires\n# line 17: Safe\nseason\n")
+        lines = league("ask", "-", self.FILES[1], data=sheet).stdout.decode().splitlines()
+        self.assertTrue(all(len(line) <= 100 for line in lines), lines)
+        self.assertTrue(lines[3].startswith("Champion of the Shire (the first place). In: "))
 
     def test_points_and_points_to_come(self) -> None:
         text = league("explain", *self.FILES, "--ask", "4").stdout.decode()

@@ -8,9 +8,10 @@ from .answers import Place, Verdict
 from .line_names import LineNames
 from .objects import to_come
 from .texts import Season, Sheet
-from .wording import counted, listed, paragraph, rules_phrase, shown
+from .wording import WIDTH, counted, listed, paragraph, rules_phrase, shown
 
 SHORT = {"clinched": "in", "lost": "out", "possible": "open", "unsettled": "not settled"}
+HEADS = ["place", "club", "played", "points", "to come", "difference"]
 MOST_LISTED = 6
 Marks = dict[int, dict[str, str]]
 
@@ -72,17 +73,26 @@ def _group_texts(groups: dict[str, list[str]], below: str) -> list[str]:
 
 def table_text(sheet: Sheet, season: Season, table: list[Place], marks: Marks,
                names: LineNames | None = None) -> list[str]:
-    """The table with the points to come, and a word a line and club."""
-    heads = ["place", "club", "played", "points", "to come", "difference"]
-    heads += [_head(places, names) for places in marks]
+    """The table with the points to come, and a word a line and club.
+
+    Lines stand by their names where a row has room for them, and else by their numbers.
+    """
     rows = [[_places(place), shown(place.club), str(place.played), str(place.points),
              str(to_come(sheet, season, place.club)), f"{place.difference:+d}"]
             + [words.get(place.club, "") for words in marks.values()] for place in table]
-    widths = [max(len(row[at]) for row in [heads, *rows]) for at in range(len(heads))]
-    is_left = [at == 1 or at > 5 for at in range(len(heads))]
+    heads = [_head(places, names) for places in marks]
+    texts = _columns([HEADS + heads, *rows])
+    if max(map(len, texts)) <= WIDTH:
+        return texts
+    return _columns([HEADS + [_head(places, None) for places in marks], *rows])
+
+
+def _columns(rows: list[list[str]]) -> list[str]:
+    """Rows in columns: numbers to the right, names and words to the left."""
+    widths = [max(len(row[at]) for row in rows) for at in range(len(rows[0]))]
+    is_left = [at == 1 or at >= len(HEADS) for at in range(len(widths))]
     return ["  ".join(text.ljust(width) if left else text.rjust(width)
-                      for text, width, left in zip(row, widths, is_left)).rstrip()
-            for row in [heads, *rows]]
+                      for text, width, left in zip(row, widths, is_left)).rstrip() for row in rows]
 
 
 def _places(place: Place) -> str:
