@@ -18,7 +18,8 @@ FEED_OF_TWO = "8/15/2024 Anchor 3-1 Köln\n"
 CASES = (
     ("goals under heads in German", GERMAN, [], 0, "match,Köln,Anchor", 0, "result,1,2,1\n"),
     ("goals under heads that are not known", UNKNOWN, [], 2, "no column is one for scores. The "
-     "heads are Datum, Heim, Gast, TH, TG. What is `2` under `TH` in line 2?", 2, "Heads for scores are"),
+     "heads are Datum, Heim, Gast, TH, TG. What is `2` under `TH` in line 2?", 2,
+     "Heads for scores are"),
     ("an open match among lines", "Anchor - Köln 2:1\nKöln - Anchor\n", [], 0, "match,Köln,Anchor",
      0, "result,1,2,1\n"),
     ("headings among lines", "Matchday 1\nAnchor 2-1 Köln\nMatchday 2\nKöln - Anchor\n", [], 0,

@@ -96,7 +96,7 @@ def is_self(cell: str) -> bool:
 
 def read_cross(lines: list[str], cross: Cross, file: str) -> MatchList:
     """The matches of a cross table; raises `Trouble` with every cell that is not understood."""
-    found, wrong = MatchList(file=file), Wrong(file)
+    found, wrong = MatchList(file=file, is_cross=True), Wrong(file)
     names = [cells[0] for _, cells in cross.rows]
     order = _order(cross, names, file)
     for number, line in cross.passed:

@@ -47,7 +47,8 @@ class Passed:
 class MatchList:
     """The matches of a list, its title where it has one, and what has to be said about it.
 
-    `notes` are what looks odd, `passed` what was passed over and holds nothing that counts.
+    `notes` are what looks odd, `passed` what was passed over and holds nothing that counts. Where
+    it `is_cross`, each pair stands in it twice, however often they meet.
     """
 
     matches: list[Match] = field(default_factory=list)
@@ -55,6 +56,7 @@ class MatchList:
     notes: list[str] = field(default_factory=list)
     passed: list[Passed] = field(default_factory=list)
     file: str = ""
+    is_cross: bool = False
 
     def add(self, match: Match) -> None:
         """Takes a match."""

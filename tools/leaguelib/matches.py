@@ -6,6 +6,7 @@ cross tables, texts of openfootball, and lines like `Germany 5-1 Scotland`.
 
 from __future__ import annotations
 
+import json
 from dataclasses import replace
 
 from .common import Trouble
@@ -67,6 +68,7 @@ def read_matches(data: bytes, file: str = "", needs_scores: bool = False) -> Mat
 def read_text(text: str, file: str, needs_scores: bool = False) -> MatchList:
     """The matches of a list as text."""
     lines = lines_in(text)
+    _test_form(text, file)
     if any(line.startswith("league,") for line in lines[:50]):
         where = f"{file}: " if file else ""
         raise Trouble(f"{where}this is a sheet already, and no list of matches: `league lint` "
@@ -85,6 +87,17 @@ def read_text(text: str, file: str, needs_scores: bool = False) -> MatchList:
     if plan is not None:
         return read_headless(lines, plan, file, order)
     return read_lines(lines, file, order)
+
+
+def _test_form(text: str, file: str) -> None:
+    """Raises `Trouble` where the text is JSON, of which no line is a match."""
+    if text.lstrip()[:1] in ("{", "["):
+        try:
+            json.loads(text)
+        except (ValueError, RecursionError):
+            return
+        where = f"{file}: " if file else ""
+        raise Trouble(f"{where}this is JSON. A list of matches is a table or text: save it as CSV")
 
 
 def renamed(found: MatchList, meant: dict[str, str]) -> MatchList:

@@ -40,11 +40,12 @@ class Gaps:
                     f"meets {times(self.rounds)} in it. Say --rounds N for how often each pair "
                     "meets in the season, and what is missing is added as open matches; or say "
                     "--as-is if the list is the whole season")
+        number = len(self.missing)
         front = f"the list is not complete: each pair meets {times(self.rounds)}, but for "
         if are_played:
             front = ("all matches of this list have a score, and it is not complete: it seems to "
-                     "be a list of results, without the matches to come. Missing are ")
-        number = len(self.missing)
+                     "be a list of results, without the matches to come. Missing "
+                     f"{'is' if number == 1 else 'are'} ")
         names = some([f"{home} - {away}" for home, away in self.missing])
         return (f"{front}{number} match{'' if number == 1 else 'es'}: {names}. Add them; or say "
                 "--rounds N for how often each pair meets, and they are added as open matches; "
@@ -75,6 +76,30 @@ def usual_rounds(matches: list[Match]) -> int:
     are_played = all(match.score is not None for match in matches)
     is_double = both_ways * 3 >= len(pairs) or (are_played and both_ways > 0)
     return max(usual, 2) if is_double else usual
+
+
+def of_one_round(matches: list[Match]) -> list[Match]:
+    """The matches of a cross table in which each pair meets once: of its two cells the one with a
+    score, or the first where both are open.
+    """
+    kept: dict[frozenset[str], Match] = {}
+    again: list[Match] = []
+    for match in matches:
+        pair = frozenset((match.home, match.away))
+        other = kept.get(pair)
+        if other is None or (other.score is None and match.score is not None):
+            kept[pair] = match
+        elif match.score is not None:
+            again.append(match)
+    return list(kept.values()) + again
+
+
+def is_half_empty(matches: list[Match]) -> bool:
+    """Whether all scores of a cross table stand on one side of its diagonal."""
+    names = list(dict.fromkeys(match.home for match in matches))
+    sides = {names.index(match.home) < names.index(match.away)
+             for match in matches if match.score is not None}
+    return len(sides) == 1 and len(names) > 2
 
 
 def lone_names(matches: list[Match]) -> list[str]:

@@ -106,8 +106,9 @@ def mark_of(text: str) -> str:
 
 
 def is_clock(text: str) -> bool:
-    """Whether a text is a time of day, and no score: 15:00, 20:45, 9:10. 03:00 may be a 3:0 of which
-    a spreadsheet has made a time.
+    """Whether a text is a time of day and no score: 15:00, 20:45, 9:10.
+
+    03:00 is none, since it may be a 3:0 of which a spreadsheet has made a time.
     """
     found = CLOCK.match(text.strip())
     if not found:

@@ -9,6 +9,7 @@ from collections import defaultdict
 from dataclasses import replace
 
 from . import common
+from .dates import is_same_day
 from .match_list import Match, MatchList
 from .matches import read_matches, renamed
 from .names import plain_form
@@ -80,11 +81,17 @@ def _take(matches: list[Match], match: Match, waiting: list[int], notes: list[st
         wrong.append(f"{match.home} - {match.away} is {_score(other)} in {other.place}, and "
                      f"{_score(match)} in {match.place}. Take one of the two out")
         return
-    if match.date and other.date and match.date != other.date:
+    if _are_of_other_days(match, other):
         notes.append(f"{match.home} - {match.away} stands under {other.date} in {other.place} and "
                      f"under {match.date} in {match.place}; it was taken for one match")
     kept = match if match.score is not None and other.score is None else other
-    matches[place] = replace(kept, date=kept.date or other.date or match.date)
+    matches[place] = replace(kept, date=_best_date(kept.date, other.date, match.date))
+
+
+def _best_date(*dates: str) -> str:
+    """The first of the dates that has its year; else the first that is one."""
+    known = [date for date in dates if date]
+    return next((date for date in known if FULL_DATE.match(date)), (known or [""])[0])
 
 
 def _same(matches: list[Match], match: Match, waiting: list[int]) -> int | None:
@@ -92,14 +99,19 @@ def _same(matches: list[Match], match: Match, waiting: list[int]) -> int | None:
     which not both have a score under different days.
     """
     for place in waiting:
-        if match.date and matches[place].date == match.date:
+        if match.date and is_same_day(matches[place].date, match.date):
             return place
     for place in waiting:
         other = matches[place]
-        is_other_day = match.date and other.date and match.date != other.date
-        if not (is_other_day and None not in (match.score, other.score)):
+        has_both = None not in (match.score, other.score)
+        if not (has_both and _are_of_other_days(match, other)):
             return place
     return None
+
+
+def _are_of_other_days(first: Match, second: Match) -> bool:
+    """Whether both matches have a date, and not the same."""
+    return bool(first.date and second.date) and not is_same_day(first.date, second.date)
 
 
 def _score(match: Match) -> str:

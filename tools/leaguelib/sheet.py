@@ -17,7 +17,7 @@ from .doubts import name_doubts
 from .line_names import LineNames, add_name_arguments, comments_of, told_names
 from .match_list import Match, MatchList
 from .names import nearest_name, shown
-from .pairs import Gaps, gaps_in, lone_names, usual_rounds
+from .pairs import (Gaps, gaps_in, is_half_empty, lone_names, of_one_round, usual_rounds)
 from .records import Refused, number_of, records_of, row_text
 from .several import read_lists
 from .texts import MOST_LINES, ORDERS, USUAL_BUDGET, SheetReader
@@ -68,6 +68,11 @@ def run(arguments: argparse.Namespace) -> int:
     name = arguments.name or found.title
     if not name:
         raise common.Trouble("what is the league called? Say --name \"NAME\"", common.BAD_WORDS)
+    if found.is_cross and arguments.rounds == 1:
+        found.matches = of_one_round(found.matches)
+    elif found.is_cross and arguments.rounds is None and is_half_empty(found.matches):
+        found.notes.append("all scores of this cross table stand on one side of its diagonal; if "
+                           "each pair meets once, say --rounds 1")
     ranks = _ranks(arguments.ranks, found.matches)
     gaps = complete(found.matches, list(ranks), arguments.rounds, arguments.as_is)
     order = arguments.order or _asked_order()
