@@ -37,6 +37,10 @@ CASES = (
     ("words for open matches", "Home,Away,Result\nAnchor,Köln,P-P\nKöln,Anchor,postp.\n", [], 3,
      "taken as open: 1 match marked (P-P)", 0,
      "1 match without a score (postp.) (line 3 `Köln,Anchor,postp.`)"),
+    ("a word of the feed above a cross table", "Result table 2024\nHome \\ Away\tA\tK\n"
+     "Anchor\t—\t2–1\nKöln\t\t—\n", [], 0, "match,Köln,Anchor", 0, "result,1,2,1\n"),
+    ("an ask among the rows of a table", "Home,Away,Score\nAnchor,Köln,2-1\nask\nKöln,Anchor,\n",
+     [], 0, "match,Köln,Anchor", 0, "result,1,2,1\nask\n"),
     ("months in front", AMERICAN, ["--as-is"], 0, "# 2024-08-01\nmatch,Anchor,Köln\n# 2024-08-15\n",
      0, "result,1,2,1\n"),
     ("a hyphen that is none", "Anchor 1‑0 Köln\nKöln - Anchor\n", [], 0, "match,Köln,Anchor", 0,

@@ -187,8 +187,8 @@ def check_lists(counter: Counter) -> None:
     for text, home, away, score, date in LINES:
         counter.check(f"line {text!r}", faults_of(text, home, away, score, date))
     for text, says in NO_LINES:
-        counter.check(f"no line {text!r}", refusal_faults(text, f"{says}") + refusal_faults(
-            text, f"line 1: ") + refusal_faults(text, f"`{text}`"))
+        counter.check(f"no line {text!r}", refusal_faults(text, says) + refusal_faults(
+            text, "line 1: ") + refusal_faults(text, f"`{text}`"))
     for text, wanted in DATES:
         counter.check(f"date {text!r}", [] if plain_date(text) == wanted else [plain_date(text)])
     for name, text, says in REFUSED:

@@ -22,6 +22,7 @@ from dataclasses import dataclass, field
 from . import common
 from .aliases import add_alias_argument, read_aliases
 from .bookkeeper import Bookkeeper, Unclear
+from .crosses import cross_of
 from .match_lines import HINT
 from .match_list import MOST_WRONG, Match, MatchList, Passed, quoted
 from .matches import LineReader, is_month_first, lines_in, read_text, text_of
@@ -168,7 +169,8 @@ def _given(book: Bookkeeper, file: str, data: bytes) -> list[Given]:
     if not _has_heads(lines):
         return [Given(file, lines, notes, not any(book.is_order(line) for line in lines))]
     places = {place for place, line in enumerate(lines)
-              if book.is_order(line) and not any(sign in line for sign in SIGNS)}
+              if book.is_order(line) and not any(sign in line for sign in SIGNS)
+              and not line.lower().startswith("result")}
     rows = ["" if place in places else line for place, line in enumerate(lines)]
     orders = [line if place in places else "" for place, line in enumerate(lines)]
     return [Given(file, rows, notes, True)] + (
@@ -176,9 +178,11 @@ def _given(book: Bookkeeper, file: str, data: bytes) -> list[Given]:
 
 
 def _has_heads(lines: list[str]) -> bool:
-    """Whether the lines are a table with a row of heads, which may begin with any word."""
+    """Whether the lines are a table with a row of heads, or a cross table, whatever words stand in
+    front of them.
+    """
     try:
-        return head_of(lines) is not None
+        return head_of(lines) is not None or cross_of(lines) is not None
     except common.Trouble:
         return True
 

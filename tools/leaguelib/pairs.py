@@ -7,7 +7,7 @@ from dataclasses import dataclass, field
 from itertools import combinations
 
 from .doubts import some, some_pairs, times
-from .match_list import Match
+from .match_list import Match, MatchList
 from .names import are_alike, shown
 from .wording import counted
 
@@ -76,6 +76,15 @@ def usual_rounds(matches: list[Match]) -> int:
     are_played = all(match.score is not None for match in matches)
     is_double = both_ways * 3 >= len(pairs) or (are_played and both_ways > 0)
     return max(usual, 2) if is_double else usual
+
+
+def look_at_cross(found: MatchList, rounds: int | None) -> None:
+    """Takes one cell of each pair where each meets once, or says that it may be meant so."""
+    if rounds == 1:
+        found.matches = of_one_round(found.matches)
+    elif rounds is None and is_half_empty(found.matches):
+        found.notes.append("all scores of this cross table stand on one side of its diagonal; if "
+                           "each pair meets once, say --rounds 1")
 
 
 def of_one_round(matches: list[Match]) -> list[Match]:

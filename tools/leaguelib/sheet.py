@@ -17,7 +17,7 @@ from .doubts import name_doubts
 from .line_names import LineNames, add_name_arguments, comments_of, told_names
 from .match_list import Match, MatchList
 from .names import nearest_name, shown
-from .pairs import (Gaps, gaps_in, is_half_empty, lone_names, of_one_round, usual_rounds)
+from .pairs import Gaps, gaps_in, lone_names, look_at_cross, usual_rounds
 from .records import Refused, number_of, records_of, row_text
 from .several import read_lists
 from .texts import MOST_LINES, ORDERS, USUAL_BUDGET, SheetReader
@@ -68,23 +68,13 @@ def run(arguments: argparse.Namespace) -> int:
     name = arguments.name or found.title
     if not name:
         raise common.Trouble("what is the league called? Say --name \"NAME\"", common.BAD_WORDS)
-    if found.is_cross and arguments.rounds == 1:
-        found.matches = of_one_round(found.matches)
-    elif found.is_cross and arguments.rounds is None and is_half_empty(found.matches):
-        found.notes.append("all scores of this cross table stand on one side of its diagonal; if "
-                           "each pair meets once, say --rounds 1")
+    if found.is_cross:
+        look_at_cross(found, arguments.rounds)
     ranks = _ranks(arguments.ranks, found.matches)
     gaps = complete(found.matches, list(ranks), arguments.rounds, arguments.as_is)
     order = arguments.order or _asked_order()
     lines = _lines(arguments.lines)
-    for places in lines[MOST_LINES:]:
-        if not 0 < places < len(ranks):
-            raise common.Trouble(f"the line {places} would be refused: with {len(ranks)} clubs a "
-                                 f"line is a number from 1 to {len(ranks) - 1}")
-    names = told_names(arguments.line_name, lines, arguments.relegated)
-    if arguments.no_comments and (names.inside or names.below or len(lines) > MOST_LINES):
-        raise common.Trouble("names of lines, and lines beyond four, stand in comments: leave "
-                             "--no-comments out", common.BAD_WORDS)
+    names = _names_of_lines(arguments, lines, len(ranks))
     records = _records(name, order, arguments, ranks, lines, names)
     text = _text(found, gaps, ranks, records, order, arguments)
     notes = found.notes + _open_words(found) + list(_test(text)) + gaps.notes()
@@ -93,6 +83,19 @@ def run(arguments: argparse.Namespace) -> int:
     for note in notes:
         common.say(f"league: {note}")
     return common.DOUBTFUL if notes else common.DONE
+
+
+def _names_of_lines(arguments: argparse.Namespace, lines: list[int], clubs: int) -> LineNames:
+    """The names of the lines; raises `Trouble` where a line that stands in a comment does not fit."""
+    for places in lines[MOST_LINES:]:
+        if not 0 < places < clubs:
+            raise common.Trouble(f"the line {places} would be refused: with {clubs} clubs a line "
+                                 f"is a number from 1 to {clubs - 1}")
+    names = told_names(arguments.line_name, lines, arguments.relegated)
+    if arguments.no_comments and (names.inside or names.below or len(lines) > MOST_LINES):
+        raise common.Trouble("names of lines, and lines beyond four, stand in comments: leave "
+                             "--no-comments out", common.BAD_WORDS)
+    return names
 
 
 def complete(matches: list[Match], names: list[str], rounds: int | None, is_as_is: bool) -> Gaps:
