@@ -25,9 +25,10 @@ from .bookkeeper import Bookkeeper, Unclear
 from .crosses import cross_of
 from .match_lines import HINT
 from .match_list import MOST_WRONG, Match, MatchList, Passed, quoted
-from .matches import LineReader, is_month_first, lines_in, read_text, text_of
-from .several import FULL_DATE, file_name
 from .match_tables import SIGNS, head_of
+from .matches import LineReader, is_month_first, lines_in, read_text, text_of
+from .names import ALL_CLUBS
+from .several import FULL_DATE, file_name
 
 MOST_NAMES_SAID = 30
 MOST_NOTES = 5
@@ -98,8 +99,13 @@ def run(arguments: argparse.Namespace) -> int:
 
 def _tell_wrong(made: Made) -> None:
     """Says what is not clear, and that nothing was written."""
+    clubs = ""
     for message in made.refused + made.wrong[:MOST_WRONG]:
-        common.say(f"league: {message}")
+        front, sign, back = message.partition(ALL_CLUBS)
+        clubs = back if sign else clubs
+        common.say(f"league: {front}")
+    if clubs:
+        common.say(f"league: the clubs are {clubs}")
     number = len(made.wrong) - MOST_WRONG
     if number > 0:
         common.say(f"league: and {number} more line{'' if number == 1 else 's'}")
@@ -206,8 +212,20 @@ def _take_match(made: Made, book: Bookkeeper, found: MatchList, match: Match) ->
             book.enter(line)
             made.lines.append(line)
     except Unclear as unclear:
-        made.wrong.append(f"{match.place}, {quoted(match.text)}: {unclear.message}")
+        for reason in _reasons(book, match, unclear.message):
+            made.wrong.append(f"{match.place}, {quoted(match.text)}: {reason}")
     made.notes += [f"{match.place}: {note}" for note in book.take_notes()]
+
+
+def _reasons(book: Bookkeeper, match: Match, first: str) -> list[str]:
+    """Why a match is not clear: the first reason, and that of the other name, if it has one too."""
+    reasons = [first]
+    for name in (match.home, match.away):
+        try:
+            book.club(name)
+        except Unclear as unclear:
+            reasons.append(unclear.message)
+    return list(dict.fromkeys(reasons))
 
 
 def _take_lines(made: Made, book: Bookkeeper, given: Given) -> None:

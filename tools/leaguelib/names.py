@@ -20,6 +20,7 @@ LETTERS = str.maketrans({"ø": "o", "Ø": "o", "ł": "l", "Ł": "l", "đ": "d", 
                          "æ": "ae", "Æ": "ae", "œ": "oe", "Œ": "oe", "ð": "d", "þ": "th"})
 CLUB_WORDS = frozenset("fc afc cf sc sv ac as fk sk nk if bk ff cd ud sd club the & and und 1"
                        .split())
+ALL_CLUBS = "; the clubs are "
 OTHER_TEAMS = frozenset("ii iii iv b c 2 3 u17 u18 u19 u20 u21 u23 women ladies girls frauen "
                         "femenino femminile feminines youth reserves".split())
 
@@ -69,8 +70,9 @@ def club_of(name: str, names: Iterable[str], aliases: Mapping[str, str] | None =
                               found)
     near = nearest_name(typed, every)
     hint = f"the nearest name is {shown(near)}" if near else (
-        "the clubs are " + ", ".join(every) + ". Other names can stand in a file (--aliases)")
-    raise UnknownName(f"no club is called {shown(typed)}; {hint}", [near] if near else [])
+        ", ".join(every) + ". Other names can stand in a file (--aliases)")
+    sign = "; " if near else ALL_CLUBS
+    raise UnknownName(f"no club is called {shown(typed)}{sign}{hint}", [near] if near else [])
 
 
 def _club_of_alias(typed: str, alias: str, names: list[str]) -> str:
