@@ -9,7 +9,7 @@ from pathlib import Path
 from leaguelib.answers import BadAnswer, read_report
 from leaguelib.bookkeeper import Bookkeeper
 from leaguelib.common import Trouble
-from leaguelib.feed import made_lines
+from leaguelib.feed_lines import made_lines
 from leaguelib.lint import looked_at
 from leaguelib.matches import read_matches
 
