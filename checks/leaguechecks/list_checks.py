@@ -34,7 +34,7 @@ HEADS_OF_ONE = (
     "Home,Away,Result", "HomeTeam,AwayTeam,FT", "Home,Away,Score", "Heim,Gast,Ergebnis",
     "Heim,Gast,Endstand", "Heim,Gast,Tore", "Local,Visitante,Resultado", "Local,Visitante,Marcador",
     "Domicile,Extérieur,Score", "Recevant,Visiteur,Résultat", "Casa,Ospite,Risultato",
-    "Mandante,Visitante,Placar", "Visitado,Visitante,Resultado",
+    "Mandante,Visitante,Placar", "Visitado,Visitante,Resultado", "Home,Away,FT,Result",
 )
 PAIR_HEADS = ("Match,Result", "Begegnung,Ergebnis", "Partido,Resultado", "Rencontre,Score",
               "Partita,Risultato", "Jogo,Placar")
@@ -42,7 +42,11 @@ REFUSED_HEADS = (
     ("Home,Away,HS,AS\nA,B,2,1\n", "What is `2` under `HS` in line 2?"),
     ("Heim;Gast;Punkte\nA;B;2:1\n", "The heads are Heim, Gast, Punkte. What is `2:1` under "
                                     "`Punkte` in line 2? Heads for scores are FTHG and FTAG"),
-    ("Home,Away\nA,B,2,1\n", "What is `2` under `no head` in line 2?"),
+    ("Home,Away\nA,B,2,1\n", "What is `2` without a head in line 2?"),
+    ("Home,,Away\nA,2-1,B\n", "What is `2-1` without a head in line 2?"),
+    ("Home,Away,FTHG\nA,B,2\n", "line 2: the goals of one side are missing"),
+    ("Home,Away,Time\nA,B,2:1\n", "What is `2:1` under `Time` in line 2?"),
+    ("Home,Away,Status\nA,B,FT 2-1\n", "What is `FT 2-1` under `Status` in line 2?"),
     ("Date,Home,Guests,FT\n1.8.2024,A,B,2-1\n", "none of them is for the away side"),
     ("Date,Hosts,Away,FT\n1.8.2024,A,B,2-1\n", "none of them is for the home side"),
 )
@@ -86,7 +90,8 @@ DATES = (("2024-08-15", "2024-08-15"), ("15/08/24", "2024-08-15"), ("15.08.2024"
          ("15. März 2024", "2024-03-15"), ("jueves 15 de agosto de 2024", "2024-08-15"),
          ("jeudi 15 août 2024", "2024-08-15"), ("15 dicembre 2024", "2024-12-15"),
          ("15 de fevereiro de 2024", "2024-02-15"), ("2024-08-15T19:00:00Z", "2024-08-15"),
-         ("15/08/2024 20:00", "2024-08-15"), ("Aug/15", "Aug/15"), ("soon", "soon"))
+         ("15/08/2024 20:00", "2024-08-15"), ("(Thu) 15 Aug 2024 (33)", "2024-08-15"),
+         ("Aug/15", "Aug/15"), ("soon", "soon"))
 CROSS = "Home \\ Away\tGUL\tTER\tEBB\nGull\t—\t4–1\t\nTern\t1–0\t—\t3–1[a]\nEbb\t0–4\tppd\t—\n"
 CROSS_MATCHES = {("Gull", "Tern"): (4, 1), ("Gull", "Ebb"): None, ("Tern", "Gull"): (1, 0),
                  ("Tern", "Ebb"): (3, 1), ("Ebb", "Gull"): (0, 4), ("Ebb", "Tern"): None}

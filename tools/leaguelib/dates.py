@@ -47,7 +47,7 @@ FORMS = tuple(re.compile(form, re.IGNORECASE) for form in (
     r"(?P<first>\d{1,2})(?P<sign>\.)(?P<second>\d{1,2})\.(?=\s|$|,)",
 ))
 WEEKDAY = re.compile(r"^\[?" + DAY + r"\]?(?=\s|$)\s*", re.IGNORECASE)
-WEEKDAY_IN_FRONT = re.compile(DAY + r"\s+", re.IGNORECASE)
+WEEKDAY_IN_FRONT = re.compile(DAY + r"\)?\s+", re.IGNORECASE)
 TIME = re.compile(r"^\(?(?:[01]?\d|2[0-3])(?:[.:h]\d{2}(?::\d{2})?)(?:\s?[ap]\.?m\.?)?"
                   r"(?:\s?(?:uhr|hs?|ore|utc[+-]?\d*|gmt|cest|cet|bst|et))?\)?(?=\s|$|,)[,\s]*",
                   re.IGNORECASE)
@@ -72,7 +72,7 @@ def folded(text: str) -> str:
 def front_date(text: str, is_month_first: bool = False) -> Front | None:
     """The date with which a text begins, a weekday before it or not; none where it has none."""
     line = folded(text)
-    start = 1 if line.startswith("[") else 0
+    start = 1 if line.startswith(("[", "(")) else 0
     weekday = WEEKDAY_IN_FRONT.match(line, start)
     start = weekday.end() if weekday else start
     for form in FORMS:

@@ -44,6 +44,7 @@ KNOWN = frozenset(
     "attendance zuschauer publico affluence spettatori day weekday wochentag tag status notes note "
     "notiz bemerkung tv channel sender matchnumber matchno matchid gameid number nr no num id "
     "spielnummer spielnr index link url report matchreport".split())
+SEASONS = frozenset("season saison temporada stagione epoca".split())
 # what bookmakers offer, as football-data has it behind the matches
 ODDS = re.compile(r"^(?:b365|bw|bfe?d?|bmgm|bv|cl|lb|ps?|wh|1xb|iw|vc|max|avg|gb|bs|sb|sj|sy|so|"
                   r"bb(?:mx|av)?)c?(?:[hda]|25|ahh?|aha)$|^(?:bb)?ahc?h?$|^bb\w{2,5}$")
@@ -53,16 +54,19 @@ ODDS = re.compile(r"^(?:b365|bw|bfe?d?|bmgm|bv|cl|lb|ps?|wh|1xb|iw|vc|max|avg|gb
 class Columns:
     """Which column has what, counted from 0; -1 where none does.
 
-    `unknown` are the columns with a head that is none of these.
+    `scores` are all columns of scores, `lone` those of the goals of one side alone, `unknown` those
+    with a head that is none of these, or with none, and `others` those that are known to be others.
     """
 
     home: int = -1
     away: int = -1
     pair: int = -1
-    score: int = -1
     date: int = -1
     goals: tuple[int, int] = (-1, -1)
+    scores: list[int] = field(default_factory=list)
+    lone: list[int] = field(default_factory=list)
     unknown: list[int] = field(default_factory=list)
+    others: list[int] = field(default_factory=list)
 
     @property
     def has_names(self) -> bool:
@@ -72,7 +76,7 @@ class Columns:
     @property
     def has_score(self) -> bool:
         """Whether a score has a column, or two."""
-        return self.score >= 0 or self.goals[0] >= 0
+        return bool(self.scores) or self.goals[0] >= 0
 
 
 def plain_head(text: str) -> str:
@@ -88,13 +92,15 @@ def columns_of(heads: list[str]) -> Columns:
     if found.home < 0 and found.away < 0:
         found.pair = _first(plain, PAIR)
     taken = {found.home, found.away, found.pair}
-    found.score = _first(plain, SCORE, taken)
     found.date = _first(plain, DATE, taken)
     found.goals = _goal_columns(plain, taken) if found.home >= 0 and found.away >= 0 else (-1, -1)
-    taken |= {found.score, found.date, *found.goals}
-    found.unknown = [number for number, head in enumerate(plain)
-                     if number not in taken and head and head not in KNOWN | DATE | SCORE
-                     and not ODDS.match(head)]
+    taken |= {found.date, *found.goals}
+    for number, head in enumerate(plain):
+        if number in taken or ODDS.match(head) or head in SEASONS:
+            continue
+        kind = (found.scores if head in SCORE else found.others if head in KNOWN | DATE else
+                found.lone if head in LONE_HEADS else found.unknown)
+        kind.append(number)
     return found
 
 
@@ -117,6 +123,7 @@ def _goal_heads() -> list[tuple[frozenset[str], frozenset[str]]]:
 
 
 GOAL_HEADS = _goal_heads()
+LONE_HEADS = frozenset().union(*(names for pair in GOAL_HEADS[:len(GOALS) + 1] for names in pair))
 
 
 def _goal_columns(heads: list[str], taken: set[int]) -> tuple[int, int]:

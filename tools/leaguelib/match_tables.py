@@ -9,11 +9,11 @@ import re
 from dataclasses import dataclass
 
 from .common import Trouble
-from .dates import is_date, plain_date
+from .dates import TIME, is_date, plain_date
 from .heads import Columns, columns_of, is_head_row, missing_side
 from .match_list import Match, MatchList, Passed, Wrong, quoted
 from .match_lines import match_of_line, note_told, why_no_name
-from .score_texts import Told, is_clock, read_goals, read_score
+from .score_texts import Told, read_goals, read_score
 
 SIGNS = ",;\t|"
 FRONT_LINES = 12
@@ -111,19 +111,23 @@ class TableReader:
     def _told(self, cell) -> Told:
         """What the row tells of a score."""
         goals = [cell(place) for place in self.columns.goals]
-        if any(goals) or self.columns.score < 0:
-            return read_goals(*goals)
-        return read_score(cell(self.columns.score))
+        told = [read_goals(*goals)] if any(goals) else []
+        told += [read_score(cell(place)) for place in self.columns.scores if cell(place)]
+        if any(LIKE_GOALS.match(cell(place)) for place in self.columns.lone):
+            told.append(Told(why="the goals of one side are missing"))
+        found = next((one for one in told if one.score is not None), None)
+        return found or next((one for one in told if one.why or one.word), Told())
 
     def _note_loose(self, number: int, cells: list[str]) -> None:
         """Notes what may be goals in columns without a known head, if no column is for scores."""
         if self.columns.has_score:
             return
-        for place in [*self.columns.unknown, *range(len(self.heads), len(cells))]:
+        unknown = [*self.columns.unknown, *range(len(self.heads), len(cells))]
+        for place in [*unknown, *self.columns.others]:
             cell = cells[place] if place < len(cells) else ""
-            if LIKE_SCORE.match(cell) and not is_date(cell) and not is_clock(cell):
+            if LIKE_SCORE.match(cell) and not is_date(cell) and TIME.sub("", cell):
                 self.loose.setdefault(place, (number, cell))
-            elif LIKE_GOALS.match(cell):
+            elif LIKE_GOALS.match(cell) and place in unknown:
                 self.goals.setdefault(place, (number, cell))
             elif cell:
                 self.others.add(place)
@@ -139,8 +143,9 @@ class TableReader:
         example = ""
         if loose:
             place, (number, text) = next(iter(loose.items()))
-            head = self.heads[place] if place < len(self.heads) else "no head"
-            example = f" What is {quoted(text)} under {quoted(head)} in line {number}?"
+            head = self.heads[place] if place < len(self.heads) else ""
+            under = f"under {quoted(head)}" if head else "without a head"
+            example = f" What is {quoted(text)} {under} in line {number}?"
         raise Trouble(f"{where}no column is one for scores. The heads are {heads}.{example} Heads "
                       f"for scores are {SCORES_WANTED}. Call the columns so, or take out what is "
                       "no score")
