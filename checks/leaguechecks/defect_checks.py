@@ -5,6 +5,9 @@ from __future__ import annotations
 import tempfile
 from pathlib import Path
 
+from leaguelib.feeds import read_sheet
+from leaguelib.wording import days_of
+
 from .counting import Counter, called, said, sound_end
 from .mistake import FEED, SHEET
 
@@ -71,6 +74,7 @@ def check_defects(counter: Counter) -> None:
             run, 0, "result,2,3,1"))
         check_words(counter, sheet, file)
     check_modes(counter)
+    check_days(counter)
 
 
 def two_clubs() -> bytes:
@@ -107,3 +111,13 @@ def check_modes(counter: Counter) -> None:
             ("scores", SHEET.replace("line,1\n", "") + "ask\n", 3, "has no `line`")):
         run = called("lint", "--mode", mode, "-", data=data.encode("utf-8"))
         counter.check(f"lint --mode {mode}: {says}", sound_end(run) + said(run, status, says))
+
+
+def check_days(counter: Counter) -> None:
+    """Matches that were added to a list have no day, whatever stands above them."""
+    sheet = ("league,D,9\nclub,A,1\nclub,B,1\n# 2024-08-01\nmatch,A,B\n# added, to make 2 rounds "
+             "of all pairs: no date\nmatch,B,A\n# 2024-08-15\nmatch,A,B\n# no date\nmatch,B,A\n"
+             "line,1\nseason\n").encode("utf-8")
+    found = days_of(sheet, read_sheet(sheet))
+    counter.check("an added match has no day",
+                  [] if found == {1: "2024-08-01", 3: "2024-08-15"} else [str(found)])

@@ -7,8 +7,6 @@ from __future__ import annotations
 from leaguelib.common import Trouble
 from leaguelib.dates import plain_date
 from leaguelib.matches import read_matches
-from leaguelib.wording import days_of
-from leaguelib.feeds import read_sheet
 
 from .counting import Counter
 
@@ -203,7 +201,6 @@ def check_lists(counter: Counter) -> None:
                       + last_faults(text))
     check_scores(counter)
     check_crosses(counter)
-    check_days(counter)
 
 
 def check_scores(counter: Counter) -> None:
@@ -240,13 +237,3 @@ def check_crosses(counter: Counter) -> None:
             counter.check(f"cross table {text!r}", [trouble.message])
             continue
         counter.check(f"cross table {text!r}", [] if found == CROSS_MATCHES else [str(found)])
-
-
-def check_days(counter: Counter) -> None:
-    """Matches that were added to a list have no day, whatever stands above them."""
-    sheet = ("league,D,9\nclub,A,1\nclub,B,1\n# 2024-08-01\nmatch,A,B\n# added, to make 2 rounds "
-             "of all pairs: no date\nmatch,B,A\n# 2024-08-15\nmatch,A,B\n# no date\nmatch,B,A\n"
-             "line,1\nseason\n").encode("utf-8")
-    found = days_of(sheet, read_sheet(sheet))
-    counter.check("an added match has no day",
-                  [] if found == {1: "2024-08-01", 3: "2024-08-15"} else [str(found)])

@@ -97,13 +97,13 @@ def check_commands(counter: Counter, work: Path) -> None:
         [] if run.stdout == b"result,1,2,1\n" else [run.stdout.decode()]))
     run = called("feed", sheet, data=b"Wolves 2-1 Anchor\nSpurs 1-0 Anchor\n")
     counter.check("feed: all clubs are named once", sound_end(run) + said(
-        run, 2, "line 2, `Spurs 1-0 Anchor`: no club is called `Spurs`\nleague: the clubs are Anchor, "
-                "Köln, Dock United. Other names") + (
+        run, 2, "line 2, `Spurs 1-0 Anchor`: no club is called `Spurs`\nleague: the clubs are "
+                "Anchor, Köln, Dock United. Other names") + (
         [] if run.stderr.count(b"Dock United") == 1 else ["more than once"]))
     run = called("feed", sheet, data=b"Wolves 2-1 Ancor\n")
     counter.check("feed: two mistakes in a line", sound_end(run) + said(
-        run, 2, "no club is called `Wolves`\nleague: standard input, line 1, `Wolves 2-1 Ancor`: no "
-                "club is called `Ancor`; the nearest name is `Anchor`"))
+        run, 2, "no club is called `Wolves`\nleague: standard input, line 1, `Wolves 2-1 Ancor`: "
+                "no club is called `Ancor`; the nearest name is `Anchor`"))
     run = called("feed", sheet, "--aliases", work / "nothing", data=b"")
     counter.check("feed: aliases that are not there", sound_end(run) + said(
         run, 4, "cannot be read"))

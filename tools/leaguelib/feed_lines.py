@@ -1,5 +1,5 @@
-"""Lines of a feed for lines by names and for lists of matches: each is made and tested, and what was
-passed over is counted.
+"""Lines of a feed for lines by names and for lists of matches: each is made and tested, and what
+was passed over is counted.
 """
 
 from __future__ import annotations

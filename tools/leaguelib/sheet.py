@@ -86,7 +86,7 @@ def run(arguments: argparse.Namespace) -> int:
 
 
 def _names_of_lines(arguments: argparse.Namespace, lines: list[int], clubs: int) -> LineNames:
-    """The names of the lines; raises `Trouble` where a line that stands in a comment does not fit."""
+    """The names of the lines; raises `Trouble` where a line or a name does not fit."""
     for places in lines[MOST_LINES:]:
         if not 0 < places < clubs:
             raise common.Trouble(f"the line {places} would be refused: with {clubs} clubs a line "
