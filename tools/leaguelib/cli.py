@@ -25,6 +25,7 @@ PARTS = {
     "places": "the best and the worst place still possible for each club",
     "board": "write an answer as a page for the browser",
     "live": "keep a log and have each line answered at once",
+    "many": "ask many leagues, and write what changed when, for a database",
     "sheet": "make a sheet from a list of fixtures",
     "feed": "turn results by names into a feed",
     "lint": "look for mistakes in a sheet and a feed",

@@ -1,0 +1,93 @@
+"""What is kept of many leagues while they are asked: one file a league, put there whole or not at
+all, so that a run that was broken off goes on where it stopped, and no league is counted twice.
+"""
+
+from __future__ import annotations
+
+import fcntl
+import hashlib
+import json
+import os
+import tempfile
+from pathlib import Path
+from typing import Iterable
+
+from . import common
+from .many_league import Part, part_of
+
+
+class Journal:
+    """A folder of parts. One run at a time works on it; a second one is turned away."""
+
+    def __init__(self, folder: str) -> None:
+        self.folder = Path(folder).resolve()
+        self.parts = self.folder / "parts"
+        self.tasks = self.folder / "tasks"
+        try:
+            self.parts.mkdir(parents=True, exist_ok=True)
+            self.tasks.mkdir(exist_ok=True)
+            self._lock = open(self.folder / "lock", "ab")  # held until this run ends
+        except OSError as fault:
+            raise self._trouble(fault) from fault
+
+    def hold(self) -> None:
+        """Takes the journal for this run; raises `Trouble` where another run has it."""
+        try:
+            fcntl.flock(self._lock, fcntl.LOCK_EX | fcntl.LOCK_NB)
+        except BlockingIOError as fault:
+            raise common.Trouble(f"{self.folder}: another run works with this journal. Wait for it, "
+                                 "or name another one by --journal.", common.CANNOT_WRITE) from fault
+        except OSError:
+            pass  # a file system without locks
+        for path in [*self.parts.glob(".new-*"), *self.tasks.iterdir()]:
+            path.unlink()
+
+    def path_of(self, league: str) -> Path:
+        """Where the part of a league is kept."""
+        name = hashlib.sha256(league.encode("utf-8", "surrogateescape")).hexdigest()[:32]
+        return self.parts / f"{name}.json"
+
+    def put(self, part: Part) -> None:
+        """Keeps a part; one that was there before goes away at once."""
+        try:
+            handle, path = tempfile.mkstemp(prefix=".new-", dir=self.parts)
+            with open(handle, "w", encoding="ascii") as file:
+                json.dump(part.as_object(), file)
+                file.flush()
+                os.fsync(file.fileno())
+            os.replace(path, self.path_of(part.league))
+        except OSError as fault:
+            raise self._trouble(fault) from fault
+
+    def get(self, league: str) -> Part | None:
+        """The part of a league, or none where none is kept, or what is kept is no part."""
+        try:
+            with open(self.path_of(league), encoding="ascii") as file:
+                part = part_of(json.load(file))
+        except FileNotFoundError:
+            return None
+        except (OSError, ValueError, TypeError):
+            return None
+        return part if part.league == league else None
+
+    def drop(self, leagues: Iterable[str]) -> None:
+        """Takes the parts of these leagues away."""
+        for league in leagues:
+            self.path_of(league).unlink(missing_ok=True)
+
+    def put_tasks(self, lines: Iterable[str], most: int) -> list[Path]:
+        """Writes tasks into files of so many lines each, and gives the files."""
+        for path in self.tasks.iterdir():
+            path.unlink()
+        paths: list[Path] = []
+        for number, line in enumerate(lines):
+            if number % most == 0:
+                paths.append(self.tasks / f"{len(paths) + 1}.json")
+            with open(paths[-1], "a", encoding="ascii") as file:
+                file.write(f"{line}\n")
+        return paths
+
+    def _trouble(self, fault: OSError) -> common.Trouble:
+        return common.Trouble(f"{self.folder}: the journal cannot be written: {fault.strerror}. "
+                              "Make room, or name another folder by --journal.",
+                              common.CANNOT_WRITE)
