@@ -42,7 +42,8 @@ class Engine:
 
     def run(self, by: str, tasks: list[Task]) -> None:
         """Has all leagues answered; those that are lost are handed out again, but not for ever."""
-        write_shipped(self.settings.program, str(self.journal.folder / SHIPPED))
+        # Dask imports what it is given, and so gets no main part
+        write_shipped(self.settings.program, str(self.journal.folder / SHIPPED), by != "dask")
         waiting = {task.name: task for task in tasks}
         for _ in range(TRIES):
             if waiting:
@@ -110,7 +111,7 @@ def run_slurm(engine: Engine, waiting: dict[str, Task]) -> None:
                       f"cd {place} && exec python3 {SHIPPED} many --worker --journal {place} \\\n"
                       "    \"tasks/$SLURM_ARRAY_TASK_ID.json\"\n", "utf-8")
     array = f"1-{len(paths)}" + (f"%{engine.jobs}" if engine.jobs else "")
-    command = [submit, "--wait", "--parsable", "--requeue", f"--array={array}",
+    command = [submit, "--wait", "--parsable", "--no-requeue", f"--array={array}",
                "--job-name=futmax", "--output=/dev/null", *engine.words, str(script)]
     with subprocess.Popen(command, stdin=subprocess.DEVNULL, stdout=subprocess.DEVNULL) as run:
         while True:

@@ -27,12 +27,13 @@ sys.exit(many_ship.run_shipped())
 DAY = (1980, 1, 1, 0, 0, 0)
 
 
-def shipped_bytes(program: str) -> bytes:
-    """The one file; the same bytes where the tools and the program are the same."""
-    home = Path(__file__).resolve().parent
-    members = [("__main__.py", MAIN.encode()), (MEMBER, common.read_bytes(program))]
-    members += [(f"leaguelib/{path.name}", path.read_bytes()) for path in sorted(home.iterdir())
-                if path.is_file()]
+def shipped_bytes(program: str, has_main: bool = True) -> bytes:
+    """The one file; the same bytes where the tools and the program are the same.
+
+    Without its main part it is a package that other Pythons import, for Dask.
+    """
+    members = [("__main__.py", MAIN.encode())] if has_main else []
+    members += [(MEMBER, common.read_bytes(program)), *_modules()]
     data = io.BytesIO()
     data.write(b"#!/usr/bin/env python3\n")
     with zipfile.ZipFile(data, "a", zipfile.ZIP_DEFLATED) as archive:
@@ -41,11 +42,21 @@ def shipped_bytes(program: str) -> bytes:
     return data.getvalue()
 
 
-def write_shipped(program: str, path: str) -> None:
-    """Writes the one file, or has this one copied where it is such a file itself."""
+def _modules() -> list[tuple[str, bytes]]:
+    """The modules of the command, from their folder or from the one file."""
+    if archive_path():
+        with zipfile.ZipFile(archive_path()) as archive:
+            return [(name, archive.read(name)) for name in archive.namelist()
+                    if name.startswith("leaguelib/")]
+    home = Path(__file__).resolve().parent
+    return [(f"leaguelib/{path.name}", path.read_bytes()) for path in sorted(home.iterdir())
+            if path.is_file()]
+
+
+def write_shipped(program: str, path: str, has_main: bool = True) -> None:
+    """Writes the one file."""
     try:
-        data = Path(archive_path()).read_bytes() if archive_path() else shipped_bytes(program)
-        Path(path).write_bytes(data)
+        Path(path).write_bytes(shipped_bytes(program, has_main))
         os.chmod(path, 0o755)
     except OSError as fault:
         raise common.Trouble(f"{path}: cannot be written: {fault.strerror}",
