@@ -221,7 +221,8 @@ def dates_of(data: bytes, sheet: Sheet) -> dict[int, str]:
     dates: dict[int, str] = {}
     date = ""
     for number, raw in lines_of(data):
-        found = DATE_COMMENT.match(raw.decode("utf-8", "replace"))
+        is_comment = raw.startswith(b"#")
+        found = DATE_COMMENT.match(raw.decode("utf-8", "replace")) if is_comment else None
         if found:
             date = "" if found.group(1) == "no date" else plain_date(found.group(1))
         elif raw.startswith(b"# added"):

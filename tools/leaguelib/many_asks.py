@@ -14,7 +14,6 @@ from dataclasses import dataclass
 
 from .bookkeeper import DATE_COMMENT, dates_of
 from .feeds import Input
-from .records import lines_of
 from .texts import Entry
 
 DAYS, MATCHDAYS, ASKS, END = "days", "matchdays", "asks", "end"
@@ -64,9 +63,9 @@ def moments_of(data: bytes, league: Input, when: str, every: int = 0) -> list[Mo
 
 
 def front_of(data: bytes) -> bytes:
-    """The sheet: all lines up to `season`."""
+    """The sheet of an input that was read: all lines up to `season`."""
     front = []
-    for _, raw in lines_of(data):
+    for raw in data.split(b"\n"):
         front.append(raw + b"\n")
         if raw.startswith((b"season", b'"season')):
             break
@@ -82,15 +81,17 @@ def _dated(data: bytes, league: Input, keeps_order: bool) -> tuple[list[Dated], 
     """The events with their dates, in the order that they are told; and whether they have dates."""
     of_fixtures = dates_of(data, league.sheet)
     wanted = {entry.line: entry for entry in league.entries if entry.is_event}
-    first = min(wanted, default=0)
+    last_event = max(wanted, default=0)
     own, events, has_own = "", [], False
     last_fixture = max((fixture.line for fixture in league.sheet.fixtures), default=0)
-    for number, raw in lines_of(data):
-        if raw.startswith(b"#") and number > last_fixture:
-            found = DATE_COMMENT.match(raw.decode("utf-8", "replace"))
+    for number, raw in enumerate(data.split(b"\n"), 1):
+        if number <= last_fixture:
+            continue
+        if raw.startswith(b"#"):
+            found = DATE_COMMENT.match(raw.rstrip(b"\r").decode("utf-8", "replace"))
             own = found.group(1) if found else own
-            has_own = has_own or (bool(FULL_DATE.match(own)) and number < max(wanted, default=0))
-        elif number >= first and number in wanted:
+            has_own = has_own or (bool(FULL_DATE.match(own)) and number < last_event)
+        elif number in wanted:
             entry = wanted[number]
             date = own or (of_fixtures.get(entry.fixture, "") if entry.kind == "result" else "")
             events.append(Dated(entry, raw, date if FULL_DATE.match(date) else ""))

@@ -163,26 +163,24 @@ def _changes(program: str, data: bytes) -> Iterator[list[tuple[int, str, str]]]:
 
 
 def rows_of(program: str, data: bytes) -> Iterator[bytes]:
-    """The rows of a run with one worker, without finishes, read while it goes on.
+    """The rows of a run with one worker, without finishes; raises `Trouble` where it ends badly.
 
-    Raises `Trouble` where the run does not end well.
+    What the program writes goes to a file that has no name, and is read piece by piece: the program
+    never waits for its reader, and no answer is ever in memory whole.
     """
-    with tempfile.TemporaryFile() as source:
+    with tempfile.TemporaryFile() as source, tempfile.TemporaryFile() as sink:
         source.write(data)
         source.seek(0)
         try:
-            run = subprocess.Popen([program, "verdicts", "--workers", "1"], stdin=source,
-                                   stdout=subprocess.PIPE)
+            run = subprocess.run([program, "verdicts", "--workers", "1"], stdin=source,
+                                 stdout=sink, check=False)
         except (OSError, ValueError) as fault:
             reason = getattr(fault, "strerror", None) or str(fault)
             raise common.Trouble(f"{program} cannot be run: {reason}",
                                  common.NO_PROGRAM) from fault
-    rest, last = b"\n", b""
-    with run:
-        while True:
-            block = run.stdout.read1(BLOCK)
-            if not block:
-                break
+        sink.seek(0)
+        rest, last = b"\n", b""
+        for block in iter(lambda: sink.read(BLOCK), b""):
             whole, sign, after = (rest + block).rpartition(b"\n")
             rest = sign + after
             for last in ROW.findall(whole):
