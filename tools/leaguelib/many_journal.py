@@ -48,13 +48,14 @@ class Journal:
         return self.parts / f"{name}.json"
 
     def put(self, part: Part) -> None:
-        """Keeps a part; one that was there before goes away at once."""
+        """Keeps a part; one that was there before goes away at once.
+
+        What a broken machine leaves of a file is no part, and its league is asked again.
+        """
         try:
             handle, path = tempfile.mkstemp(prefix=".new-", dir=self.parts)
             with open(handle, "w", encoding="ascii") as file:
                 json.dump(part.as_object(), file)
-                file.flush()
-                os.fsync(file.fileno())
             os.replace(path, self.path_of(part.league))
         except OSError as fault:
             raise self._trouble(fault) from fault
