@@ -26,8 +26,10 @@ from .ways import way_of, way_text
 from .wording import counted, paragraph, shown
 
 USUAL_STEPS = 100
-# with so many matches open at most, scores are asked for with the greatest budget
+# with so many matches open at most, scores are asked for with the greatest budget, and trials with
+# that of the sheet; with more of them a trial has a small one, and a way may be longer then
 LAST_OPEN = 20
+TRIAL_BUDGET = 300
 
 
 @dataclass
@@ -50,6 +52,12 @@ class Why:
         rows = view.given.data.split(b"\n")[:view.ask.line]
         front = b"".join(raw + b"\n" for raw in rows)
         return with_lines_of(with_asks(front, view.league, [view.ask.position]), [places])
+
+    def trial_data(self, places: int) -> bytes:
+        """The input with which trials of this line begin."""
+        data = trial_data(self.data_for(places))
+        few = len(self.points.open) <= LAST_OPEN
+        return data if few else with_budget(data, min(TRIAL_BUDGET, self.view.sheet.budget))
 
     def proof_of(self, verdict: Verdict) -> Verdict | None:
         """The verdict with its proof, where the program's check accepted it."""
@@ -129,7 +137,7 @@ def _open_texts(why: Why, verdict: Verdict) -> list[str]:
     now, left = why.points.now[club], why.points.left[club]
     parts = []
     score = why.score_of(club, verdict.places)
-    with Trial(why.path, trial_data(why.data_for(verdict.places)), view.sheet, view.season,
+    with Trial(why.path, why.trial_data(verdict.places), view.sheet, view.season,
                verdict.places) as trial:
         if score is not None:
             words = score_words(score, now, left)
