@@ -8,20 +8,20 @@ from dataclasses import dataclass, field
 
 HOME = frozenset(
     "dom loc home hometeam homeclub homename hometeamname homeside team1 teama club1 heim "
-    "heimmannschaft heimteam heimverein heimelf gastgeber mannschaft1 verein1 "
-    "local equipolocal equipo1 locales anfitrion domicile equipedomicile equipeadomicile adomicile recevant receveur hote equipe1 "
-    "casa incasa squadracasa squadradicasa squadraincasa squadra1 padronidicasa mandante "
-    "timemandante equipamandante timedacasa timecasa equipacasa equipadacasa visitado visitada "
-    "equipavisitada time1 equipa1".split())
+    "heimmannschaft heimteam heimverein heimelf gastgeber mannschaft1 verein1 local equipolocal "
+    "equipo1 locales anfitrion domicile equipedomicile equipeadomicile adomicile recevant "
+    "receveur hote equipe1 casa incasa squadracasa squadradicasa squadraincasa squadra1 "
+    "padronidicasa mandante timemandante equipamandante timedacasa timecasa equipacasa "
+    "equipadacasa visitado visitada equipavisitada time1 equipa1".split())
 AWAY = frozenset(
-    "ext vis away awayteam awayclub awayname awayteamname awayside visitor visitors visitingteam "
-    "team2 teamb club2 gast gastmannschaft gastteam gastverein auswarts auswaerts "
-    "auswartsmannschaft auswaertsmannschaft auswartsteam auswaertsteam gaste gaeste mannschaft2 verein2 visitante "
-    "visitantes equipovisitante equipo2 forastero exterieur equipeexterieur equipeaexterieur "
-    "equipealexterieur alexterieur aexterieur visiteur visiteurs equipevisiteuse equipe2 ospite "
-    "ospiti squadraospite trasferta intrasferta fuoricasa squadraintrasferta squadratrasferta "
-    "squadra2 fora timevisitante equipavisitante timedefora timefora equipafora forasteiro time2 "
-    "equipa2".split())
+    "ext vis away awayteam awayclub awayname awayteamname awayside visitor visitors "
+    "visitingteam team2 teamb club2 gast gastmannschaft gastteam gastverein auswarts auswaerts "
+    "auswartsmannschaft auswaertsmannschaft auswartsteam auswaertsteam gaste gaeste mannschaft2 "
+    "verein2 visitante visitantes equipovisitante equipo2 forastero exterieur equipeexterieur "
+    "equipeaexterieur equipealexterieur alexterieur aexterieur visiteur visiteurs "
+    "equipevisiteuse equipe2 ospite ospiti squadraospite trasferta intrasferta fuoricasa "
+    "squadraintrasferta squadratrasferta squadra2 fora timevisitante equipavisitante timedefora "
+    "timefora equipafora forasteiro time2 equipa2".split())
 PAIR = frozenset("match fixture game teams spiel begegnung paarung spielpaarung partie partido "
                  "encuentro partita incontro gara rencontre affiche jogo partida".split())
 SCORE = frozenset(
