@@ -98,6 +98,8 @@ REFUSED = (
      "line 2: `Gull` has `1–1` against itself"),
     ("the columns stand in another order", CROSS.replace("GUL\tTER", "TER\tGUL"),
      "column 1 is `TER` and row 1 `Gull`"),
+    ("columns that nothing divides", CROSS.replace("\t", " "), "line 1: this looks like a cross "
+     "table, and its columns cannot be told apart. Paste it with its tabs"),
     ("a row is missing", CROSS.rsplit("Ebb", 1)[0], "2 rows and 3 columns"),
     ("a cell that is no score", CROSS.replace("1–0", "won"), "this is no score"),
     ("three columns of names", "Gull\tTern\tThe Quay\t2-1\nEbb\tDock\tThe Pier\t1-0\n",
@@ -226,7 +228,7 @@ def check_crosses(counter: Counter) -> None:
     names = CROSS.replace("GUL\tTER\tEBB", "Gull\tTern\tEbb")
     turned = "x\tEbb\tGull\tTern\nGull\t\t—\t4–1\nTern\t3–1\t1–0\t—\nEbb\t—\t0–4\tppd\n"
     texts = [CROSS, names, CROSS.split("\n", 1)[1], CROSS.replace("Home \\ Away", ""),
-             turned.replace("x\t", "Home \\ Away\t"),
+             turned.replace("x\t", "Home \\ Away\t"), CROSS.replace("ppd\t—", "ppd"),
              "Results\n\n" + CROSS + "Source: the league\n"]
     texts += [text.replace("\t", sign) for text in texts[:4] for sign in ",;"]
     for text in texts:

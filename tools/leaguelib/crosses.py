@@ -25,6 +25,7 @@ MOST_CLUBS = 60
 CORNER = re.compile(r"^(?:home|heim|local|domicile|dom|casa|mandante|h)\s*[\\/|–-]+\s*"
                     r"(?:away|gast|ausw[aä]rts|visitante|exterieur|ext[ée]rieur|ext|ospite|"
                     r"trasferta|fora|a)\.?$", re.IGNORECASE)
+CORNER_IN_FRONT = re.compile(CORNER.pattern.rstrip("$") + r"(?=\s)", re.IGNORECASE)
 SELF = frozenset("xX#×*✕■●") | frozenset(DASHES)
 
 
@@ -44,7 +45,7 @@ def cross_of(lines: list[str]) -> Cross | None:
     filled = [(number, line) for number, line in enumerate(lines, 1) if line.strip()]
     for sign in SIGNS:
         rows = [(number, line, cells_of(line, sign)) for number, line in filled
-                if line.count(sign) > 1]
+                if line.count(sign) > (sign == ",")]
         if len(rows) < 3:
             continue
         kept = {number for number, _, _ in rows}
@@ -53,6 +54,16 @@ def cross_of(lines: list[str]) -> Cross | None:
         if found:
             return found
     return None
+
+
+def test_divided(lines: list[str], file: str) -> None:
+    """Raises `Trouble` where a text begins like a cross table and nothing divides its columns."""
+    for number, line in enumerate(lines[:5], 1):
+        if CORNER_IN_FRONT.match(line.strip()):
+            where = f"{file}, line {number}" if file else f"line {number}"
+            raise Trouble(f"{where}: this looks like a cross table, and its columns cannot be told "
+                          "apart. Paste it with its tabs, or put commas or semicolons between the "
+                          f"columns: {quoted(line)}")
 
 
 def _with_heads(rows: list, passed: list[tuple[int, str]]) -> Cross | None:

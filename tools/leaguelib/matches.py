@@ -10,7 +10,7 @@ import json
 from dataclasses import replace
 
 from .common import Trouble
-from .crosses import cross_of, read_cross
+from .crosses import cross_of, read_cross, test_divided
 from .dates import plain_date, slashed_order
 from .files import examine, without_mark
 from .headless import plan_of, read_headless
@@ -83,6 +83,7 @@ def read_text(text: str, file: str, needs_scores: bool = False) -> MatchList:
     cross = cross_of(lines)
     if cross is not None:
         return read_cross(lines, cross, file)
+    test_divided(lines, file)
     plan = plan_of(lines, file)
     if plan is not None:
         return read_headless(lines, plan, file, order)
