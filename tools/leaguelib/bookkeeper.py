@@ -9,15 +9,14 @@ from .cleaning import KINDS, OTHER_WORDS
 from .dates import is_same_day
 from .feeds import FeedReader, InputReader
 from .match_lines import match_of_line, parts_of
-from .matches import Match, plain_date
+from .matches import Match
 from .names import UnknownName, club_of
-from .records import (Record, Refused, count_lines, lines_of, record_of, records_of,
-                      row_text)
+from .records import Record, Refused, count_lines, record_of, records_of, row_text
 from .refusals import advise
+from .sheet_dates import dates_of
 from .texts import Fixture, Sheet
 from .words import words_for
 
-DATE_COMMENT = re.compile(r"^#\s*(\d{4}-\d{2}-\d{2}|[A-Z][a-z]{2}[/ ]\d{1,2}|no date)\s*$")
 FIRST_WORD = re.compile(r"^(correct|correction|fix|annul|annulled|void|cancel|deduct|result)"
                         r"\s*:?\s+(\S.*)$", re.IGNORECASE)
 DEDUCTION = re.compile(r"^(?:(\d+)\s+points?\s+from\s+(.+)|(.+?)\s+[-−]?(\d+)(?:\s+points?)?)$",
@@ -213,20 +212,3 @@ class Bookkeeper:
             advice = advise(record, refused, self.reader)
             hint = " Write: " + " / ".join(advice.instead) if advice.instead else ""
             raise Unclear(advice.message + hint) from refused
-
-
-def dates_of(data: bytes, sheet: Sheet) -> dict[int, str]:
-    """The dates of the fixtures, from the comments above them that hold a date alone."""
-    starts = {fixture.line: fixture.number for fixture in sheet.fixtures}
-    dates: dict[int, str] = {}
-    date = ""
-    for number, raw in lines_of(data):
-        is_comment = raw.startswith(b"#")
-        found = DATE_COMMENT.match(raw.decode("utf-8", "replace")) if is_comment else None
-        if found:
-            date = "" if found.group(1) == "no date" else plain_date(found.group(1))
-        elif raw.startswith(b"# added"):
-            date = ""
-        elif number in starts and date:
-            dates[starts[number]] = date
-    return dates

@@ -12,8 +12,8 @@ from __future__ import annotations
 import re
 from dataclasses import dataclass
 
-from .bookkeeper import DATE_COMMENT, dates_of
 from .feeds import Input
+from .sheet_dates import DATE_COMMENT, dates_of
 from .texts import Entry
 
 DAYS, MATCHDAYS, ASKS, END = "days", "matchdays", "asks", "end"

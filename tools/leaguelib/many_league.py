@@ -16,7 +16,6 @@ from dataclasses import asdict, dataclass, field
 from typing import Iterator
 
 from . import common
-from .asking import with_budget
 from .feeds import Input, InputReader
 from .given import Given
 from .line_names import asked_lines
@@ -124,6 +123,7 @@ def _ask(part: Part, data: bytes, league: Input, settings: Settings) -> None:
     feed = asked_feed(moments)
     sheet = front_of(data)
     if settings.budget is not None:
+        from .asking import with_budget  # pylint: disable=import-outside-toplevel
         sheet = with_budget(sheet, settings.budget)
     lines = asked_lines(data, league.sheet)
     runs = line_runs(lines) if lines != league.sheet.lines else [None]
