@@ -1,10 +1,14 @@
 """Whether a report of `futmax verdicts --proofs` proves what it says: `league check SHEET FEED
-REPORT`. The last file is the report; or one input has it behind the record `proofs`.
+REPORT`. The last file is the report; or one input has it behind the record `proofs`. Beside futmax
+the second checker is asked, and where the two differ the command says so.
 """
 
 from __future__ import annotations
 
 import argparse
+import subprocess
+import sys
+from pathlib import Path
 
 from . import common
 from .asking import futmax_statuses, run_mode
@@ -37,15 +41,31 @@ def run(arguments: argparse.Namespace) -> int:
     if stop is None and (len(row) != 3 or row[0] != "accepted"):
         raise common.Trouble("futmax check ended with status 0 and did not say that it accepts: "
                              "it may be of another version. Build it anew.", common.OWN_FAULT)
+    is_heard = is_second_agreed(given, done)
     if arguments.rows:
         common.write_text(done.output.decode("utf-8", "surrogateescape"))
     elif arguments.json:
         common.write_text(line_of(_object(given, stop, row)))
     elif stop is None:
-        common.write_text(_accepted_text(done))
+        common.write_text(_accepted_text(done, is_heard))
     if stop is not None:
         raise common.Trouble(stop.message, stop.status)
     return common.DONE
+
+
+def is_second_agreed(given: Given, done: Run) -> bool:
+    """Whether the second checker, which shares nothing with futmax, was asked and says the same."""
+    path = Path(__file__).resolve().parents[1] / "second_checker"
+    if not path.is_file() or done.status not in (0, 2, 3, 7, 8):
+        return False
+    second = subprocess.run([sys.executable, str(path)], input=given.data, stdout=subprocess.PIPE,
+                            stderr=subprocess.DEVNULL, check=False)
+    rows = [text.decode("utf-8", "replace").strip() for text in (done.output, second.stdout)]
+    if rows[0] != rows[1] or done.status != second.returncode:
+        raise common.Trouble(f"futmax says `{rows[0]}`, and the second checker says `{rows[1]}`. "
+                             "One of them is wrong: believe neither, and report the input.",
+                             common.OWN_FAULT)
+    return True
 
 
 def given_report(paths: list[str]) -> Given:
@@ -76,7 +96,7 @@ def _object(given: Given, stop: Stop | None, row: list[str]) -> dict:
     return stop.object_for(given)
 
 
-def _accepted_text(done: Run) -> str:
+def _accepted_text(done: Run, is_heard: bool) -> str:
     """What an accepted report has shown."""
     row = fields_of(done.output.splitlines()[-1])
     unsettled = int(row[2])
@@ -85,4 +105,6 @@ def _accepted_text(done: Run) -> str:
     if unsettled:
         text += (f" {counted(unsettled, 'row')} of them {'is' if unsettled == 1 else 'are'} "
                  "unsettled and say nothing of the club.")
+    if is_heard:
+        text += " The second checker, which shares nothing with futmax, says the same."
     return paragraph(text) + "\n"
