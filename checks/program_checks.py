@@ -169,6 +169,7 @@ class ScreenTests(unittest.TestCase):
 
     def test_points_and_points_to_come(self) -> None:
         text = league("explain", *self.FILES, "--ask", "4").stdout.decode()
+        self.assertIn(f"at the ask in {self.FILES[1]}, line 411", " ".join(text.split()))
         for row in csv.reader((SHIRE / "wanted-tables.csv").read_text("utf-8").splitlines()[64:84]):
             _, best, _, club, played, points, difference, _ = row
             wanted = [best, *club.split(), played, points, "3", f"{int(difference):+d}"]

@@ -12,7 +12,11 @@ from pathlib import Path
 HOME = Path(__file__).resolve().parent.parent
 sys.path.insert(0, str(HOME / "tools"))
 from leaguelib.feeds import read_input  # noqa: E402
+from leaguelib.proof_words import from_place, up_to_place  # noqa: E402
+from leaguelib.proofs import sum_text  # noqa: E402
 from leaguelib.reasons import Points, short_reason  # noqa: E402
+from leaguelib.standing import Standing  # noqa: E402
+from leaguelib.zones import Zone  # noqa: E402
 
 NUMBER = re.compile(r"(Club [A-F]) \((at most )?(-?\d+)\)")
 
@@ -57,6 +61,23 @@ class Drawn:
         """The points of each club in every outcome of the open matches."""
         return [self.points(dict(zip(self.open, gains)))
                 for gains in itertools.product(((3, 0), (1, 1), (0, 3)), repeat=len(self.open))]
+
+
+class WordTests(unittest.TestCase):
+    """One point is no points, and no place is better than the first."""
+
+    def test_one_point_and_the_ends_of_the_table(self) -> None:
+        league = read_input(b"league,L,9\nclub,A,1\nclub,B,1\nclub,C,1\nmatch,A,B\nmatch,A,C\n"
+                            b"season\nresult,1,1,1\nresult,2,0,1\nask\n")
+        zone = Zone(league.sheet, league.season_at(0), 1)
+        self.assertEqual(Standing(zone).judge(3), ("above", "C ends on 3 points and A on 1"))
+        self.assertEqual(Standing(Zone(zone.sheet, zone.season, 3)).judge(1),
+                         ("below", "A ends on 1 point and C on 3"))
+        self.assertIn("A has 1 point now", sum_text(zone, [1], True))
+        self.assertIn("A has 1 and C has 3 points now", sum_text(zone, [1, 3], True))
+        self.assertEqual([up_to_place(1), up_to_place(2)], ["place 1", "place 2 or higher"])
+        self.assertEqual([from_place(3, 3), from_place(2, 3)],
+                         ["place 3", "place 2 or further down"])
 
 
 class ReasonTests(unittest.TestCase):

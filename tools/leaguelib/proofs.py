@@ -161,8 +161,8 @@ def _low_text(zone: Zone, clubs: list[int]) -> str:
     each = "" if len(clubs) == 1 else "Each of "
     return (f"{each}{names_of(zone, clubs)}, not being ahead of {club}, ends with at most as many "
             f"points as {club}. "
-            f"{_sum_text(zone, [zone.club], True)} {_bound_text(zone, clubs, most, 'at most')} "
-            f"But {_sum_text(zone, clubs, False)} {zone.points(clubs, False)} is more than "
+            f"{sum_text(zone, [zone.club], True)} {_bound_text(zone, clubs, most, 'at most')} "
+            f"But {sum_text(zone, clubs, False)} {zone.points(clubs, False)} is more than "
             f"{len(clubs) * most}.")
 
 
@@ -173,8 +173,8 @@ def _high_text(zone: Zone, clubs: list[int]) -> str:
     hold(zone.points(clubs, True) < len(clubs) * least)
     each = "" if len(clubs) == 1 else "Each of "
     return (f"{each}{names_of(zone, clubs)}, being ahead of {club}, ends with at least as many "
-            f"points as {club}. {_sum_text(zone, [zone.club], False)} "
-            f"{_bound_text(zone, clubs, least, 'at least')} But {_sum_text(zone, clubs, True)} "
+            f"points as {club}. {sum_text(zone, [zone.club], False)} "
+            f"{_bound_text(zone, clubs, least, 'at least')} But {sum_text(zone, clubs, True)} "
             f"{zone.points(clubs, True)} is less than {len(clubs) * least}.")
 
 
@@ -186,7 +186,7 @@ def _bound_text(zone: Zone, clubs: list[int], bound: int, word: str) -> str:
             f"which is {len(clubs) * bound}.")
 
 
-def _sum_text(zone: Zone, clubs: list[int], most: bool) -> str:
+def sum_text(zone: Zone, clubs: list[int], most: bool) -> str:
     """Points now, and what the open matches give at least or at most."""
     word, together = "at most" if most else "at least", " together" if len(clubs) > 1 else ""
     names = {zone.name(club) for club in clubs}
