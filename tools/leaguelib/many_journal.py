@@ -39,8 +39,9 @@ class Journal:
                                  "or name another one by --journal.", common.CANNOT_WRITE) from fault
         except OSError:
             pass  # a file system without locks
-        for path in [*self.parts.glob(".new-*"), *self.tasks.iterdir()]:
+        for path in self.parts.glob(".new-*"):
             path.unlink()
+        self._drop_tasks()
 
     def path_of(self, league: str) -> Path:
         """Where the part of a league is kept."""
@@ -78,8 +79,7 @@ class Journal:
 
     def put_tasks(self, lines: Iterable[str], most: int) -> list[Path]:
         """Writes tasks into files of so many lines each, and gives the files."""
-        for path in self.tasks.iterdir():
-            path.unlink()
+        self._drop_tasks()
         paths: list[Path] = []
         for number, line in enumerate(lines):
             if number % most == 0:
@@ -87,6 +87,11 @@ class Journal:
             with open(paths[-1], "a", encoding="ascii") as file:
                 file.write(f"{line}\n")
         return paths
+
+    def _drop_tasks(self) -> None:
+        """Takes tasks of an earlier run away, and nothing else that may stand there."""
+        for path in self.tasks.glob("[0-9]*.json"):
+            path.unlink()
 
     def _trouble(self, fault: OSError) -> common.Trouble:
         return common.Trouble(f"{self.folder}: the journal cannot be written: {fault.strerror}. "
