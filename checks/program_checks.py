@@ -184,7 +184,7 @@ class ScreenTests(unittest.TestCase):
         for words in (["--ask", "5"], ["--ask", "5", "--since", "matchday 38"]):
             text = league("explain", *self.FILES, *words).stdout.decode()
             told = text[text.index("What changed since"):text.index("Why: ")]
-            self.assertIn("10 results", told.replace("\n", " "))
+            self.assertIn("10 results", " ".join(told.split()))
             self.assertEqual(self.changes_in(" ".join(told.split())), wanted)
 
     def changes_in(self, text: str) -> set[tuple[str, str, str]]:
