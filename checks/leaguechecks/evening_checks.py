@@ -168,6 +168,24 @@ def _check_in_play(counter: Counter, evening: Evening) -> None:
         counter.check(f"evening: `{form}`", _missing(
             run, "match 2: Köln 1-0 Dock United in play, no result",
             "match 2: Köln - Dock United has no score in play"))
+    for mark in ("67'", "45+2'", "(HT)", "HT", "half time", "ht", "(67.)", "90+4", "live"):
+        run = evening.run(f"Köln 1-0 Dock United {mark}\nask\n")
+        counter.check(f"evening: a score with {mark}", _missing(
+            run, "match 2: Köln 1-0 Dock United in play, no result", "answer 1, after 0 events, "
+            "however the open matches end, with at most 2 goals a side, and however lots are "
+            "drawn:") + ([] if evening.kept() == "# in play: 2,1,0\nask\n" else [evening.kept()]))
+    for line in ("67' Köln 1-0 Dock United", "HT: Köln 1-0 Dock United", "Köln 1-0 HT Dock United"):
+        run = evening.run(line + "\n")
+        counter.check(f"evening: `{line}`", _missing(
+            run, "match 2: Köln 1-0 Dock United in play, no result"))
+    for mark in ("abandoned", "(postponed)"):
+        run = evening.run(f"Köln 1-0 Dock United {mark}\n")
+        counter.check(f"evening: a match that is {mark}", said(
+            run, 2, f"refused, not sent: `{mark.strip('()')}` marks the match as open: 1-0 is no "
+                    "result. Leave the line out until the match is played"))
+    run = evening.run("Köln - Dock United (postponed)\n")
+    counter.check("evening: postponed without a score", said(
+        run, 2, "refused, not sent: `postponed` marks the match as open. Leave the line out"))
     evening.sheet.write_text(SHEET.replace("Anchor", "An~chor"), "utf-8")
     run = evening.run("An~chor 2-1 Köln\n")
     counter.check("evening: a name with a tilde", _missing(

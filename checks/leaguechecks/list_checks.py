@@ -51,10 +51,11 @@ REFUSED_HEADS = (
 SCORES = ("2-1", "2:1", "2–1", "2‑1", "2−1", " 2 - 1 ", "2 : 1", "2-1 (1-0)", "2:1 (1:0)", "2–1[a]",
           "2-1*", "2-1 FT", "2 x 1", "2-1 awd.", "2-1 (awarded)", "2-1 (aet)", "2-1 n.V.")
 OPEN = ("", "-", "–", "- : -", "-:-", "v", "vs", "P-P", "postp.", "Postponed", "abd", "?", "n/a",
-        "TBD", "verlegt", "aplazado", "20:45", "15:00", "2-1 abandoned")
+        "TBD", "verlegt", "aplazado", "20:45", "15:00", "2-1 abandoned", "2-1 67'", "2-1 (HT)", "HT 2-1", "2-1 half time")
 NO_SCORES = (("2", "the goals of one side are missing"), ("100-1", "from 0 to 99"),
              ("2-Jan", "a spreadsheet makes one of a score"), ("2-1-0", "more than one score"),
              ("soon", "this is no score"), ("4-3 pen.", "penalties"),
+             ("2-1 HT 1-0", "what stands behind the score is not understood: `ht`"),
              ("2-1 (abc)", "what stands behind the score is not understood: `(abc)`"))
 LINES = (
     ("Germany 5-1 Scotland", "Germany", "Scotland", (5, 1), ""),
@@ -75,6 +76,16 @@ LINES = (
     ("Gull P-P Tern", "Gull", "Tern", None, ""), ("Gull 20:45 Tern", "Gull", "Tern", None, ""),
     ("Gull v Tern 3-1 (3-1) @ The Quay", "Gull", "Tern", (3, 1), ""),
     ("Gull  3-1 a.e.t. (1-1, 1-0)  Tern", "Gull", "Tern", (3, 1), ""),
+    ("Gull 2-1 Tern 67'", "Gull", "Tern", None, ""),
+    ("Gull 2-1 Tern 45+2'", "Gull", "Tern", None, ""),
+    ("Gull 2-1 Tern (HT)", "Gull", "Tern", None, ""),
+    ("Gull 2-1 Tern HT", "Gull", "Tern", None, ""),
+    ("Gull 2-1 (HT) Tern", "Gull", "Tern", None, ""),
+    ("67' Gull 2-1 Tern", "Gull", "Tern", None, ""),
+    ("Gull - Tern 2-1 half time", "Gull", "Tern", None, ""),
+    ("Gull - Tern HT 2-1", "Gull", "Tern", None, ""),
+    ("Gull 1-0 Hannover 96", "Gull", "Hannover 96", (1, 0), ""),
+    ("AZ '67 1-0 Gull", "AZ '67", "Gull", (1, 0), ""),
 )
 NO_LINES = (("Gull - Tern 100-1", "goals are whole numbers from 0 to 99"),
             ("Gull 2-1 Tern 3-2", "more than one score stands in it"),

@@ -8,11 +8,12 @@ from . import common
 from .cleaning import KINDS, OTHER_WORDS
 from .dates import is_same_day
 from .feeds import FeedReader, InputReader
-from .match_lines import match_of_line, parts_of
+from .match_lines import parts_of
 from .matches import Match
-from .names import UnknownName, club_of
+from .names import UnknownName, club_of, shown
 from .records import Record, Refused, count_lines, record_of, records_of, row_text
 from .refusals import advise
+from .score_texts import Told
 from .sheet_dates import dates_of
 from .texts import Fixture, Sheet
 from .words import words_for
@@ -120,22 +121,24 @@ class Bookkeeper:
             kind, rest = MEANINGS.get(word, word), found.group(2)
         if kind == "deduct":
             return self._deduction(rest)
-        match = match_of_line(rest)
-        if not isinstance(match, Match):
-            why = parts_of(rest).why
+        parts = parts_of(rest)
+        if parts.match is None:
+            why = parts.why
             reason = why if why and "cannot be read" not in why else "this is not understood"
             raise Unclear(f"{reason}. A result is written like `Germany 5-1 Scotland`; "
                           f"{self.forms} has the other forms")
-        return self._line_of_match(kind, match)
+        if kind != "void" and parts.told.word:
+            raise Unclear(_why_open(parts.told))
+        return self.line_of_match(kind, parts.match)
 
     def line_of_listed(self, match: Match) -> str | None:
         """The line for a match of a list, none where its score stands already."""
         fixture = self.fixture_of("result", match)
         if self.feed.season.scores.get(fixture.number) == match.score:
             return None
-        return self._line_of_match("result", match)
+        return self.line_of_match("result", match)
 
-    def _line_of_match(self, kind: str, match: Match) -> str:
+    def line_of_match(self, kind: str, match: Match) -> str:
         """The line for a match by names."""
         if kind != "void" and match.score is None:
             raise Unclear("the score is missing, as in `Germany 5-1 Scotland`")
@@ -212,3 +215,11 @@ class Bookkeeper:
             advice = advise(record, refused, self.reader)
             hint = " Write: " + " / ".join(advice.instead) if advice.instead else ""
             raise Unclear(advice.message + hint) from refused
+
+
+def _why_open(told: Told) -> str:
+    """Why a match with such a mark gets no result."""
+    remark = f": {told.remark}" if told.remark else ""
+    until = "has ended" if told.in_play is not None else "is played"
+    return (f"{shown(told.word.strip('()[]'))} marks the match as open{remark}. Leave the line out "
+            f"until the match {until}")

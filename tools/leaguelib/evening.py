@@ -8,8 +8,10 @@ next line takes back the one before it.
 from __future__ import annotations
 
 import re
+from dataclasses import replace
 
 from .bookkeeper import Bookkeeper, Unclear
+from .match_lines import Parts, parts_of
 from .records import record_of, row_text
 from .texts import Entry, Fixture
 from .wording import counted, shown
@@ -57,9 +59,14 @@ class Evening:
     def line_of(self, text: str) -> str | None:
         """The line of the log for a line as it was typed; none where there is nothing in it."""
         plain = TILDE.sub(" ", text).strip()
-        if plain == text.strip():
+        parts = Parts(None) if self.book.is_order(plain) else parts_of(plain)
+        if parts.match is not None and parts.told.in_play is not None:
+            line = self.book.line_of_match("result",
+                                           replace(parts.match, score=parts.told.in_play))
+        elif plain == text.strip():
             return self.book.line_of(text)
-        line = self.book.line_of(plain)
+        else:
+            line = self.book.line_of(plain)
         record = record_of(1, line.encode("utf-8", "surrogateescape")) if line else None
         if record is None or record.kind != "result":
             raise Unclear("a score in play is written like `Germany ~1-0 Scotland`")

@@ -11,7 +11,7 @@ from .dates import MONTH, TIME, WEEKDAY, front_date, with_year
 from .match_list import Match, MatchList, Passed, Wrong
 from .names import shown
 from .score_texts import (GOALS, HALF_TIME, MARK, Told, is_clock, mark_of, plain_signs, read_score,
-                     with_marks)
+                          running_mark, still_running, with_marks)
 
 ROUND_WORDS = (r"(?:matchday|match day|round|gameweek|game week|week|gw|md|day|spieltag|runde|"
                r"jornada|fecha|journée|giornata|rodada|ronda|tour)")
@@ -66,11 +66,13 @@ def parts_of(line: str, is_month_first: bool = False) -> Parts:
         if not TIME.sub("", rest):
             return Parts(None, date=date)
     rest = TIME.sub("", WEEKDAY.sub("", rest, count=1), count=1)
+    running, rest = running_mark(rest)
     body, marks = _without_tails(VENUE.sub("", rest).strip())
     match, between = _names_of(body)
     if match is None:
         return Parts(None, date=date, why=_why_no_match(rest))
     told = _told(match.score, between + marks)
+    told = still_running(told, running) if running else told
     if told.why:
         return Parts(None, date=date, why=told.why)
     return Parts(replace(match, score=told.score, date=date), told, date)

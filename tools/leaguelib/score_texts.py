@@ -34,19 +34,51 @@ FINISHED = frozenset("ft full-time fulltime ended finished final beendet end fin
 GOAL_DASH = re.compile(rf"(?<=[\d?])(\s?)[{re.escape(DASHES)}](?=\s?[\d?])")
 MARK = r"(?:%s)\.?" % "|".join(sorted(map(re.escape, AFTER_TIME | PENALTIES | AWARDED | FINISHED),
                                       key=len, reverse=True))
+MINUTE = (r"(?:\d{1,3}(?:\s?\+\s?\d{1,2})?\s?(?:['’‘′´`]|min(?:s|utes?)?\b\.?)"
+          r"(?:\s?\+\s?\d{1,2}\s?['’‘′´`]?)?|\d{2,3}\+\d{1,2})")
+BREAK = (r"(?:half[- ]?time|h\.?/?t\.?|halbzeit|hz|mi-temps|descanso|interval?lo|live|in[- ]play|"
+         r"(?:1st|2nd|first|second)[- ]half)")
+RUNNING = re.compile(
+    rf"\s*(?:[(\[]\s*(?:{MINUTE}|\d{{1,3}}\.|{BREAK})\s*[)\]]"
+    rf"|(?:^|(?<=\s)){MINUTE}(?=[\s:,]|$):?"
+    rf"|(?:^|(?<=\s)){BREAK}(?:\s*$|:(?=\s)|(?=\s+\d{{1,2}}\s?[-:]\s?\d{{1,2}}\s*$))"
+    rf"|^(?:half[- ]?time|ht)(?=\s)|(?<=\d)\s+{BREAK}(?=\s+[^\W\d]))", re.IGNORECASE)
 
 
 @dataclass(frozen=True)
 class Told:
     """What a place for a score tells: the goals, if any, and what has to be said about it.
 
-    `why` says why it cannot be read; nothing where it can. `word` is what marks a match as open.
+    `why` says why it cannot be read; nothing where it can. `word` is what marks a match as open,
+    and `in_play` the goals so far of one that has not ended.
     """
 
     score: tuple[int, int] | None = None
     remark: str = ""
     why: str = ""
     word: str = ""
+    in_play: tuple[int, int] | None = None
+
+
+def running_mark(text: str) -> tuple[str, str]:
+    """What says that a match is in play, like 67' or HT, and the text without it.
+
+    What stands among scorers in brackets says nothing of the match.
+    """
+    for found in RUNNING.finditer(text):
+        front = text[:found.start()]
+        if front.count("(") == front.count(")"):
+            return found.group().strip(" :"), f"{front} {text[found.end():].lstrip(':')}".strip()
+    return "", text
+
+
+def still_running(told: Told, mark: str) -> Told:
+    """What is told of a match in play: its goals so far are no result."""
+    if told.why or told.score is None:
+        return told if told.why else Told(word=mark)
+    home, away = told.score
+    return Told(word=mark, remark=f"{home}-{away} is a score in play and no result",
+                in_play=told.score)
 
 
 def plain_signs(text: str) -> str:
@@ -59,6 +91,9 @@ def plain_signs(text: str) -> str:
 def read_score(text: str) -> Told:
     """What a field for a score tells."""
     line = FOOTNOTE.sub("", folded(plain_signs(text)).strip()).strip()
+    mark, rest = running_mark(line)
+    if mark and SCORE.match(rest) and len(re.findall(GOALS, rest)) == 1:
+        return still_running(read_score(rest), mark)
     line = "".join("-" if sign in DASHES else sign for sign in line)
     line = line.replace("∶", ":").replace("：", ":")
     if line in NO_SIGNS:
