@@ -61,22 +61,22 @@ class Evening:
         return self.log.read_text("utf-8")
 
 
-def _lines(run: subprocess.CompletedProcess) -> list[str]:
+def lines_of(run: subprocess.CompletedProcess) -> list[str]:
     return run.stdout.decode("utf-8").splitlines()
 
 
-def _missing(run: subprocess.CompletedProcess, *wanted: str) -> list[str]:
+def missing(run: subprocess.CompletedProcess, *wanted: str) -> list[str]:
     """Which of these lines standard output has not, in this order."""
-    rest = iter(_lines(run))
+    rest = iter(lines_of(run))
     faults = [f"no line: {line}" for line in wanted if line not in rest]
-    return sound_end(run) + faults + (_lines(run) if faults else [])
+    return sound_end(run) + faults + (lines_of(run) if faults else [])
 
 
 def _check_echo(counter: Counter, evening: Evening) -> None:
     """Each line is echoed; a refused one is quoted, with its number."""
     run = evening.run("Anchor 2-1 Köln\n\ncorrect Anchor 2-2 Köln\nannul Anchor - Köln\n"
                       "deduct Dock United 1\n")
-    counter.check("evening: each line is echoed", _missing(
+    counter.check("evening: each line is echoed", missing(
         run, "match 1: Anchor 2-1 Köln noted", "match 1: Anchor 2-2 Köln noted (it had 2-1)",
         "match 1: Anchor - Köln is open again (it had 2-2)",
         "Dock United: 1 point deducted in all (before: 0)"))
@@ -93,17 +93,17 @@ def _check_echo(counter: Counter, evening: Evening) -> None:
 def _check_answers(counter: Counter, evening: Evening) -> None:
     """An ask says what changed since the last one, be it in the log of another evening."""
     run = evening.run("Anchor 2-1 Köln\nask\nask\nKöln 0-0 Dock United\nask\nrows\n")
-    counter.check("evening: what changed", _missing(
+    counter.check("evening: what changed", missing(
         run, "answer 1, after 1 event, however the open matches end, with at most 2 goals a side, "
              "and however lots are drawn:",
         "  The first place - possible: Anchor, Köln and Dock United",
         "answer 2, after 1 event:", "  nothing changed since the last ask",
         "answer 3, after 2 events:", "  Köln, the first place: possible → lost",
         "verdict,1,Anchor,possible", "verdict,1,Köln,lost", "verdict,1,Dock United,possible"))
-    counter.check("evening: one change alone", [] if sum("→" in it for it in _lines(run)) == 1
-                  else _lines(run))
+    counter.check("evening: one change alone", [] if sum("→" in it for it in lines_of(run)) == 1
+                  else lines_of(run))
     run = evening.run("ask\n", "result,1,2,1\nask\nresult,2,0,0\n")
-    counter.check("evening: since the last ask of the log", _missing(
+    counter.check("evening: since the last ask of the log", missing(
         run, "2 events of the log replayed", "answer 1, after 2 events:",
         "  Köln, the first place: possible → lost"))
 
@@ -123,7 +123,7 @@ def _check_undo(counter: Counter, evening: Evening) -> None:
          "taken back: Köln: 0 points deducted in all (before: 2)"),
     ):
         run = evening.run(typed + "\nundo\n")
-        faults = _missing(run, echo)
+        faults = missing(run, echo)
         if evening.kept().splitlines()[-2:] != ["# undo", kept]:
             faults.append(evening.kept())
         counter.check(f"evening: undo of {name}", faults)
@@ -140,7 +140,7 @@ def _check_undo(counter: Counter, evening: Evening) -> None:
 def _check_in_play(counter: Counter, evening: Evening) -> None:
     """A score in play is no result: an ask does not count it, and the table shows both."""
     run = evening.run("Anchor 2-1 Köln\nask\nKöln ~0-0 Dock United\nask\ntable\n")
-    counter.check("evening: in play", _missing(
+    counter.check("evening: in play", missing(
         run, "match 2: Köln 0-0 Dock United in play, no result", "answer 2, after 1 event:",
         "  nothing changed since the last ask",
         "  1 score in play is not counted; `table` shows how it stands with them",
@@ -155,40 +155,22 @@ def _check_in_play(counter: Counter, evening: Evening) -> None:
     wanted = "result,1,2,1\nask\n# in play: 2,0,0\nask\n"
     counter.check("evening: it is a comment of the log", [] if log == wanted else [log])
     run = evening.run("table\nKöln 1-0 Dock United\ntable\nundo\ntable\n", log)
-    counter.check("evening: a later evening has it too", _missing(
+    counter.check("evening: a later evening has it too", missing(
         run, "as it stands, if Köln – Dock United 0:0 were the end:",
         "match 2: Köln 1-0 Dock United noted",
         "taken back: match 2: Köln - Dock United is open again (it had 1-0)",
         "as it stands, if Köln – Dock United 0:0 were the end:"))
-    counts = sum(line.startswith("as it stands") for line in _lines(run))
-    counter.check("evening: a result ends it", [] if counts == 2 else _lines(run))
+    counts = sum(line.startswith("as it stands") for line in lines_of(run))
+    counter.check("evening: a result ends it", [] if counts == 2 else lines_of(run))
     for form in ("~Köln 1-0 Dock United", "Köln 1-0~ Dock United", "Köln 1-0 Dock United ~",
                  "~ result,2,1,0"):
         run = evening.run(form + "\nundo\n")
-        counter.check(f"evening: `{form}`", _missing(
+        counter.check(f"evening: `{form}`", missing(
             run, "match 2: Köln 1-0 Dock United in play, no result",
             "match 2: Köln - Dock United has no score in play"))
-    for mark in ("67'", "45+2'", "(HT)", "HT", "half time", "ht", "(67.)", "90+4", "live"):
-        run = evening.run(f"Köln 1-0 Dock United {mark}\nask\n")
-        counter.check(f"evening: a score with {mark}", _missing(
-            run, "match 2: Köln 1-0 Dock United in play, no result", "answer 1, after 0 events, "
-            "however the open matches end, with at most 2 goals a side, and however lots are "
-            "drawn:") + ([] if evening.kept() == "# in play: 2,1,0\nask\n" else [evening.kept()]))
-    for line in ("67' Köln 1-0 Dock United", "HT: Köln 1-0 Dock United", "Köln 1-0 HT Dock United"):
-        run = evening.run(line + "\n")
-        counter.check(f"evening: `{line}`", _missing(
-            run, "match 2: Köln 1-0 Dock United in play, no result"))
-    for mark in ("abandoned", "(postponed)"):
-        run = evening.run(f"Köln 1-0 Dock United {mark}\n")
-        counter.check(f"evening: a match that is {mark}", said(
-            run, 2, f"refused, not sent: `{mark.strip('()')}` marks the match as open: 1-0 is no "
-                    "result. Leave the line out until the match is played"))
-    run = evening.run("Köln - Dock United (postponed)\n")
-    counter.check("evening: postponed without a score", said(
-        run, 2, "refused, not sent: `postponed` marks the match as open. Leave the line out"))
     evening.sheet.write_text(SHEET.replace("Anchor", "An~chor"), "utf-8")
     run = evening.run("An~chor 2-1 Köln\n")
-    counter.check("evening: a name with a tilde", _missing(
+    counter.check("evening: a name with a tilde", missing(
         run, "match 1: An~chor 2-1 Köln noted"))
     evening.sheet.write_text(SHEET, "utf-8")
     run = evening.run("~ Köln - Dock United\n")
@@ -198,7 +180,7 @@ def _check_in_play(counter: Counter, evening: Evening) -> None:
 def _check_tonight(counter: Counter, evening: Evening) -> None:
     """What a match decides with each of its scores: `checks/page` has it worked out by hand."""
     run = evening.run("tonight\n", "result,1,2,1\n")
-    counter.check("evening: tonight", _missing(
+    counter.check("evening: tonight", missing(
         run, "of 2 matches, each by itself, whatever its score up to 2 goals a side and however "
              "the other open matches end:",
         "  Köln - Dock United, if it is a draw: Köln, the first place: lost",
@@ -206,15 +188,15 @@ def _check_tonight(counter: Counter, evening: Evening) -> None:
         "  Dock United - Anchor, if it is a draw: Köln, the first place: lost",
         "  Dock United - Anchor, if Anchor win: Anchor, the first place: clinched; Köln, the first "
         "place: lost; Dock United, the first place: lost"))
-    counter.check("evening: no more than that", [] if sum("the first place" in it for it in _lines(run)) == 4
-                  else _lines(run))
+    counter.check("evening: no more than that", [] if sum("the first place" in it for it in lines_of(run)) == 4
+                  else lines_of(run))
 
 
 def _check_lines(counter: Counter, evening: Evening) -> None:
     """Lines go by their names, and one that only a comment has is asked as well."""
     evening.sheet.write_text(SHEET.replace("line,1", "# line 1: Cup\nline,1\n# line 2"), "utf-8")
     run = evening.run("Anchor 2-1 Köln\nask\nKöln 0-0 dock\nask\n")
-    counter.check("evening: names of lines", _missing(
+    counter.check("evening: names of lines", missing(
         run, "  Cup (the first place) - possible: Anchor, Köln and Dock United",
         "  A place among the first 2 - possible: Anchor, Köln and Dock United",
         "match 2: Köln 0-0 Dock United noted", "  Köln, Cup (the first place): possible → lost",
@@ -227,7 +209,7 @@ def _check_words(counter: Counter, evening: Evening) -> None:
     run = evening.run("rows\n")
     counter.check("evening: rows of nothing", said(run, 2, "nothing was asked so far"))
     run = evening.run("help\nquit\nAnchor 2-1 Köln\n")
-    counter.check("evening: help", _missing(
+    counter.check("evening: help", missing(
         run, "undo                          take the last line back"))
     faults = [] if evening.kept() == "" else [evening.kept()]
     counter.check("evening: quit ends it", faults + said(run, 0, "log.csv keeps 0 events"))

@@ -78,8 +78,6 @@ LINES = (
     ("Gull  3-1 a.e.t. (1-1, 1-0)  Tern", "Gull", "Tern", (3, 1), ""),
     ("Gull 2-1 Tern 67'", "Gull", "Tern", None, ""),
     ("Gull 2-1 Tern 45+2'", "Gull", "Tern", None, ""),
-    ("Gull 2-1 Tern (HT)", "Gull", "Tern", None, ""),
-    ("Gull 2-1 Tern HT", "Gull", "Tern", None, ""),
     ("Gull 2-1 (HT) Tern", "Gull", "Tern", None, ""),
     ("67' Gull 2-1 Tern", "Gull", "Tern", None, ""),
     ("Gull - Tern 2-1 half time", "Gull", "Tern", None, ""),

@@ -10,11 +10,11 @@ from .dates import is_same_day
 from .feeds import FeedReader, InputReader
 from .match_lines import parts_of
 from .matches import Match
-from .names import UnknownName, club_of, shown
+from .names import UnknownName, club_of
 from .records import Record, Refused, count_lines, record_of, records_of, row_text
 from .refusals import advise
-from .score_texts import Told
 from .sheet_dates import dates_of
+from .slips import played_text, why_open
 from .texts import Fixture, Sheet
 from .words import words_for
 
@@ -128,7 +128,7 @@ class Bookkeeper:
             raise Unclear(f"{reason}. A result is written like `Germany 5-1 Scotland`; "
                           f"{self.forms} has the other forms")
         if kind != "void" and parts.told.word:
-            raise Unclear(_why_open(parts.told))
+            raise Unclear(why_open(parts.told))
         return self.line_of_match(kind, parts.match)
 
     def line_of_listed(self, match: Match) -> str | None:
@@ -143,12 +143,28 @@ class Bookkeeper:
         if kind != "void" and match.score is None:
             raise Unclear("the score is missing, as in `Germany 5-1 Scotland`")
         fixture = self.fixture_of(kind, match)
+        if kind == "result" and fixture.number in self.feed.season.scores:
+            raise Unclear(played_text(self.sheet, self.feed.season, fixture)
+                          + self._correction(fixture, match.score))
         date = self.dates.get(fixture.number, "")
         if match.date and date and not is_same_day(match.date, date):
             self.notes.append(f"the sheet has {fixture.home} - {fixture.away} on {date}, and not "
                               f"on {match.date}; it was taken all the same")
         goals = [] if kind == "void" else [str(goal) for goal in match.score or ()]
         return self._tested(",".join([kind, str(fixture.number), *goals]))
+
+    def _correction(self, fixture: Fixture, score: tuple[int, int]) -> str:
+        """How another score is put in place of the one that stands; the line was tried."""
+        if self.feed.season.scores[fixture.number] == score:
+            return ": this line can be left out"
+        typed = f"correct {fixture.home} {score[0]}-{score[1]} {fixture.away}"
+        line, notes = f"fix,{fixture.number},{score[0]},{score[1]}", list(self.notes)
+        try:
+            is_taken = self.line_of(typed) == line
+        except Unclear:
+            is_taken = False
+        self.notes = notes
+        return f"; `{typed if is_taken else line}` would replace it"
 
     def _deduction(self, text: str) -> str:
         """The line for points deducted."""
@@ -215,11 +231,3 @@ class Bookkeeper:
             advice = advise(record, refused, self.reader)
             hint = " Write: " + " / ".join(advice.instead) if advice.instead else ""
             raise Unclear(advice.message + hint) from refused
-
-
-def _why_open(told: Told) -> str:
-    """Why a match with such a mark gets no result."""
-    remark = f": {told.remark}" if told.remark else ""
-    until = "has ended" if told.in_play is not None else "is played"
-    return (f"{shown(told.word.strip('()[]'))} marks the match as open{remark}. Leave the line out "
-            f"until the match {until}")

@@ -12,7 +12,9 @@ from dataclasses import replace
 
 from .bookkeeper import Bookkeeper, Unclear
 from .match_lines import Parts, parts_of
+from .match_list import Match
 from .records import record_of, row_text
+from .slips import played_text
 from .texts import Entry, Fixture
 from .wording import counted, shown
 
@@ -60,18 +62,27 @@ class Evening:
         """The line of the log for a line as it was typed; none where there is nothing in it."""
         plain = TILDE.sub(" ", text).strip()
         parts = Parts(None) if self.book.is_order(plain) else parts_of(plain)
-        if parts.match is not None and parts.told.in_play is not None:
-            line = self.book.line_of_match("result",
-                                           replace(parts.match, score=parts.told.in_play))
-        elif plain == text.strip():
+        score = parts.told.in_play
+        if plain == text.strip() and score is None:
             return self.book.line_of(text)
-        else:
-            line = self.book.line_of(plain)
+        if parts.match is not None and (score or parts.told.score) is not None:
+            self._test_open(parts.match)
+        line = self.book.line_of(plain) if score is None else (
+            self.book.line_of_match("result", replace(parts.match, score=score)))
         record = record_of(1, line.encode("utf-8", "surrogateescape")) if line else None
         if record is None or record.kind != "result":
             raise Unclear("a score in play is written like `Germany ~1-0 Scotland`")
         entry = self.book.feed.read(record)
         return in_play_line(entry.fixture, entry.score)
+
+    def _test_open(self, match: Match) -> None:
+        """Raises `Unclear` where a match has a result, and so no score in play."""
+        fixture, season = self.book.fixture_of("result", match), self.book.feed.season
+        if fixture.number not in season.scores:
+            return
+        is_last = bool(self._back) and self._back[-1] == f"void,{fixture.number}"
+        way = "undo" if is_last else f"annul {fixture.home} - {fixture.away}"
+        raise Unclear(f"{played_text(self.book.sheet, season, fixture)}; `{way}` takes it back")
 
     def back(self) -> list[str]:
         """The lines of the log that take the last one back; none where there is none."""

@@ -1,0 +1,71 @@
+"""Slips of an evening: a score in play that is typed as a final, the wrong one of two matches, a
+score that can hardly be. The league is that of `evening_checks.py`.
+"""
+
+from __future__ import annotations
+
+import tempfile
+from pathlib import Path
+
+from .counting import Counter, said
+from .evening_checks import SHEET, Evening, missing
+
+
+def check_slips(counter: Counter) -> None:
+    """All slips."""
+    with tempfile.TemporaryDirectory() as work:
+        evening = Evening(Path(work))
+        _check_marks(counter, evening)
+        _check_played(counter, evening)
+
+
+def _check_marks(counter: Counter, evening: Evening) -> None:
+    """What stands beside a score and says that it is in play, or that the match is open."""
+    for mark in ("67'", "45+2'", "(HT)", "HT", "half time", "ht", "(67.)", "90+4", "live"):
+        run = evening.run(f"Köln 1-0 Dock United {mark}\nask\n")
+        counter.check(f"evening: a score with {mark}", missing(
+            run, "match 2: Köln 1-0 Dock United in play, no result", "answer 1, after 0 events, "
+            "however the open matches end, with at most 2 goals a side, and however lots are "
+            "drawn:") + ([] if evening.kept() == "# in play: 2,1,0\nask\n" else [evening.kept()]))
+    for line in ("67' Köln 1-0 Dock United", "HT: Köln 1-0 Dock United", "Köln 1-0 HT Dock United"):
+        run = evening.run(line + "\n")
+        counter.check(f"evening: `{line}`", missing(
+            run, "match 2: Köln 1-0 Dock United in play, no result"))
+    for mark in ("abandoned", "(postponed)"):
+        run = evening.run(f"Köln 1-0 Dock United {mark}\n")
+        counter.check(f"evening: a match that is {mark}", said(
+            run, 2, f"refused, not sent: `{mark.strip('()')}` marks the match as open: 1-0 is no "
+                    "result. Leave the line out until the match is played"))
+    run = evening.run("Köln - Dock United (postponed)\n")
+    counter.check("evening: postponed without a score", said(
+        run, 2, "refused, not sent: `postponed` marks the match as open. Leave the line out"))
+
+
+def _check_played(counter: Counter, evening: Evening) -> None:
+    """A line for a match that has a result: what may be meant comes before what destroys it."""
+    evening.sheet.write_text(SHEET.replace("line,1", "match,Köln,Anchor\nline,1"), "utf-8")
+    log = "result,1,2,1\n"
+    replaces = "Anchor - Köln (match 1) has the result 2-1 already; `correct Anchor 0-1 Köln` " \
+               "would replace it"
+    open_first = "refused, not sent: open is Köln - Anchor (match 4): did you mean that? "
+    for name, typed, before, says in (
+        ("the return match is open", "Anchor 0-1 Köln", log, open_first + replaces),
+        ("no other match is open", "Anchor 0-1 Köln", log + "result,4,0,0\n",
+         "refused, not sent: " + replaces),
+        ("the same result", "Anchor 2-1 Köln", log + "result,4,0,0\n", "refused, not sent: Anchor "
+         "- Köln (match 1) has the result 2-1 already: this line can be left out"),
+        ("in play after a final typed too early", "Köln ~0-1 Anchor", log + "result,4,0,1\n",
+         "Köln - Anchor (match 4) has the result 0-1 already; `undo` takes it back"),
+        ("in play of the other match", "Anchor 0-1 Köln 67'", log, open_first + "Anchor - Köln "
+         "(match 1) has the result 2-1 already; `undo` takes it back"),
+        ("in play of an old result", "Anchor ~0-1 Köln", log + "result,4,0,1\n", "refused, not "
+         "sent: Anchor - Köln (match 1) has the result 2-1 already; `annul Anchor - Köln` takes "
+         "it back"),
+    ):
+        run = evening.run(typed + "\n", before)
+        counter.check(f"evening: {name}", said(run, 2, says) + (
+            [] if evening.kept() == before else [evening.kept()]))
+    run = evening.run("correct Anchor 0-1 Köln\n", log)
+    counter.check("evening: what was offered is taken", missing(
+        run, "match 1: Anchor 0-1 Köln noted (it had 2-1)"))
+    evening.sheet.write_text(SHEET, "utf-8")

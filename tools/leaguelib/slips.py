@@ -1,0 +1,28 @@
+"""What to say of a line that was likely typed by a slip: a match that has a result already, or a
+mark behind the score.
+"""
+
+from __future__ import annotations
+
+from .names import shown
+from .score_texts import Told
+from .texts import Fixture, Season, Sheet
+
+
+def played_text(sheet: Sheet, season: Season, fixture: Fixture) -> str:
+    """What to say of a match that has a result: first which match of the two clubs is open."""
+    still = [one for one in season.open_fixtures(sheet)
+             if {one.home, one.away} == {fixture.home, fixture.away}]
+    home, away = season.scores[fixture.number]
+    front = "".join(f"open is {one.home} - {one.away} (match {one.number}): did you mean that? "
+                    for one in still[:1])
+    return (f"{front}{fixture.home} - {fixture.away} (match {fixture.number}) has the result "
+            f"{home}-{away} already")
+
+
+def why_open(told: Told) -> str:
+    """Why a match with such a mark gets no result."""
+    remark = f": {told.remark}" if told.remark else ""
+    until = "has ended" if told.in_play is not None else "is played"
+    return (f"{shown(told.word.strip('()[]'))} marks the match as open{remark}. Leave the line out "
+            f"until the match {until}")
