@@ -167,7 +167,7 @@ def _check_in_play(counter: Counter, evening: Evening) -> None:
         run = evening.run(form + "\nundo\n")
         counter.check(f"evening: `{form}`", missing(
             run, "match 2: Köln 1-0 Dock United in play, no result",
-            "match 2: Köln - Dock United has no score in play"))
+            "taken back: match 2: Köln - Dock United has no score in play"))
     evening.sheet.write_text(SHEET.replace("Anchor", "An~chor"), "utf-8")
     run = evening.run("An~chor 2-1 Köln\n")
     counter.check("evening: a name with a tilde", missing(

@@ -17,6 +17,7 @@ def check_slips(counter: Counter) -> None:
         evening = Evening(Path(work))
         _check_marks(counter, evening)
         _check_played(counter, evening)
+        _check_undo(counter, evening)
 
 
 def _check_marks(counter: Counter, evening: Evening) -> None:
@@ -69,3 +70,25 @@ def _check_played(counter: Counter, evening: Evening) -> None:
     counter.check("evening: what was offered is taken", missing(
         run, "match 1: Anchor 0-1 Köln noted (it had 2-1)"))
     evening.sheet.write_text(SHEET, "utf-8")
+
+
+def _check_undo(counter: Counter, evening: Evening) -> None:
+    """Behind a refused line `undo` takes nothing back; once more, it takes the line before."""
+    log = "result,1,2,1\n"
+    run = evening.run("Ancor 1-0 Köln\nundo\n", log)
+    counter.check("slips: undo of a refused line", said(
+        run, 2, "the last line was refused, so there is nothing of it to take back; `undo` again "
+                "takes back match 1: Anchor 2-1 Köln noted") + (
+        [] if evening.kept() == log else [evening.kept()]))
+    run = evening.run("Ancor 1-0 Köln\nundo\nundo\n", log)
+    counter.check("slips: undo once more", missing(
+        run, "taken back: match 1: Anchor - Köln is open again (it had 2-1)"))
+    run = evening.run("Ancor 1-0 Köln\nKöln ~1-1 Dock United\nundo\n", log)
+    counter.check("slips: undo of a line behind a refused one", missing(
+        run, "taken back: match 2: Köln - Dock United has no score in play"))
+    run = evening.run("Ancor 1-0 Köln\nundo\n")
+    counter.check("slips: undo of a refused line alone", missing(
+        run, "the last line was refused, so there is nothing of it to take back"))
+    run = evening.run("Köln ~1-0 Dock United\nKöln ~1-1 Dock United\nundo\n")
+    counter.check("slips: undo of the second score in play", missing(
+        run, "taken back: match 2: Köln 1-0 Dock United in play, no result"))

@@ -49,6 +49,7 @@ class Evening:
         self.book.forms = "`help`"
         self._in_play: dict[int, Score] = {}
         self._back: list[str] = []
+        self._told: list[str] = []
         self._is_undoing = False
 
     @property
@@ -88,6 +89,11 @@ class Evening:
         """The lines of the log that take the last one back; none where there is none."""
         return [UNDO, self._back[-1]] if self._back else []
 
+    def nothing_back(self) -> str:
+        """What to say of an `undo` behind a line that was refused."""
+        front = "the last line was refused, so there is nothing of it to take back"
+        return front + (f"; `undo` again takes back {self._told[-1]}" if self._told else "")
+
     def take(self, line: str) -> str:
         """Takes a line of the log that changes something, and gives it in words.
 
@@ -107,20 +113,22 @@ class Evening:
         entry = self.book.feed.read(record)
         before = self._before(entry)
         self.book.feed.take(record)
-        if entry.is_event:
-            self._note_back(self._line_back(entry, before))
         if entry.kind == "void" and not self._is_undoing:
             self._in_play.pop(entry.fixture, None)
         words = self._words(entry, before)
+        if entry.is_event:
+            self._note_back(self._line_back(entry, before), words)
         self._is_undoing = self._is_undoing and not entry.is_event
         return words
 
-    def _note_back(self, line: str) -> None:
+    def _note_back(self, line: str, words: str) -> None:
         """Remembers how the line is taken back, or forgets it where it took one back itself."""
         if self._is_undoing and self._back:
             self._back.pop()
+            self._told.pop()
         else:
             self._back.append(line)
+            self._told.append(words)
 
     def _take_in_play(self, found: re.Match) -> str:
         """Takes a score in play; one of a match that is not open, or not there, is passed over."""
@@ -128,13 +136,17 @@ class Evening:
         if not 1 <= number <= len(self.book.sheet.fixtures):
             return ""
         fixture = self.book.sheet.fixture(number)
-        self._note_back(in_play_line(number, self._in_play.get(number)))
-        self._is_undoing = False
+        back = in_play_line(number, self._in_play.get(number))
+        taken = "taken back: " if self._is_undoing else ""
         if found.group(2) is None:
             self._in_play.pop(number, None)
-            return f"match {number}: {_names(fixture)} has no score in play"
-        self._in_play[number] = (int(found.group(2)), int(found.group(3)))
-        return f"match {number}: {_scored(fixture, self._in_play[number])} in play, no result"
+            words = f"match {number}: {_names(fixture)} has no score in play"
+        else:
+            self._in_play[number] = (int(found.group(2)), int(found.group(3)))
+            words = f"match {number}: {_scored(fixture, self._in_play[number])} in play, no result"
+        self._note_back(back, words)
+        self._is_undoing = False
+        return taken + words
 
     def _before(self, entry: Entry) -> Score | int | None:
         """What stands before an event: the score of its match, or the points of its club."""

@@ -37,9 +37,8 @@ class Live:
         self.session = self._session(arguments, sheet)
         self.voice = Rows() if arguments.rows else Speaker(self.book, names_in(sheet))
         self.prompt = Prompt()
-        self.answers = 0
-        self.typed = 0
-        self.refused = 0
+        self.answers = self.typed = self.refused = 0
+        self.is_refused = False
 
     def _session(self, arguments: argparse.Namespace, sheet: bytes) -> Session:
         """The program as it is to be run."""
@@ -109,10 +108,14 @@ class Live:
         word = text.strip().lower()
         if word in ENDS:
             return True
+        was_refused, self.is_refused = self.is_refused, False
+        if word == "undo" and was_refused:
+            self.voice.tell(self.evening.nothing_back())
+            return False
         commands = {"undo": self._undo, "ask": self._answer}
         if isinstance(self.voice, Speaker):
-            commands.update({"table": self._table, "rows": self._all_rows, "help": self._help,
-                             "tonight": self._tonight})
+            commands.update({"table": self._table, "rows": self._all_rows, "tonight": self._tonight,
+                             "help": lambda: self.voice.tell(HELP.rstrip("\n"))})
         try:
             if word in commands:
                 commands[word]()
@@ -120,6 +123,7 @@ class Live:
                 self._keep(self.evening.line_of(text))
         except Unclear as unclear:
             self.refused += 1
+            self.is_refused = True
             self.voice.refused(f"line {self.typed}, {quoted(text.strip())}: refused, not sent: "
                                f"{unclear.message}")
         return False
@@ -241,9 +245,6 @@ class Live:
                      for number, (home, away) in in_play.items()]
             before, after = self.asker.words(events), self.asker.words(events + ended)
             self.voice.as_it_stands(in_play, self.asker.table(events + ended), before, after)
-
-    def _help(self) -> None:
-        self.voice.tell(HELP.rstrip("\n"))
 
     def _tell_restart(self, reason: str) -> None:
         self.voice.tell(f"{reason}. It was started again, with "
