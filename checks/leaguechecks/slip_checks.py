@@ -7,7 +7,7 @@ from __future__ import annotations
 import tempfile
 from pathlib import Path
 
-from .counting import Counter, said
+from .counting import Counter, league, said
 from .evening_checks import SHEET, Evening, missing
 
 
@@ -18,6 +18,7 @@ def check_slips(counter: Counter) -> None:
         _check_marks(counter, evening)
         _check_played(counter, evening)
         _check_undo(counter, evening)
+        _check_limit(counter, evening)
 
 
 def _check_marks(counter: Counter, evening: Evening) -> None:
@@ -92,3 +93,26 @@ def _check_undo(counter: Counter, evening: Evening) -> None:
     run = evening.run("Köln ~1-0 Dock United\nKöln ~1-1 Dock United\nundo\n")
     counter.check("slips: undo of the second score in play", missing(
         run, "taken back: match 2: Köln 1-0 Dock United in play, no result"))
+
+
+def _check_limit(counter: Counter, evening: Evening) -> None:
+    """A score above the sheet's goal limit of 2 is said, and so is a log that is not there."""
+    for typed, above in (("Anchor 12-1 Köln", "12-1"), ("result,1,0,3", "0-3"),
+                         ("Anchor ~3-0 Köln", "3-0"),
+                         ("result,1,1,1\ncorrect Anchor 1-3 Köln", "1-3")):
+        run = evening.run(typed + "\n")
+        counter.check(f"slips: {typed}", missing(
+            run, f"Anchor {above} Köln is above the goal limit 2 of the sheet: is this meant? It "
+                 "was taken all the same"))
+    run = evening.run("Anchor 2-1 Köln\n")
+    counter.check("slips: within the limit", said(run, 0, "noted") + (
+        ["said all the same"] if "goal limit" in run.stdout.decode("utf-8") else []))
+    run = league("feed", evening.sheet, data="Anchor 12-1 Köln\n".encode("utf-8"))
+    counter.check("slips: above the limit in feed", said(
+        run, 0, "line 1: Anchor 12-1 Köln is above the goal limit 2 of the sheet"))
+    evening.log.unlink()
+    run = league(*evening.words(), data=b"quit\n")
+    counter.check("slips: a new log", missing(
+        run, f"{evening.log} is not there: a new log is begun"))
+    run = league(*evening.words(), data=b"quit\n")
+    counter.check("slips: a log that is there", missing(run, "0 events of the log replayed"))

@@ -14,7 +14,7 @@ from .names import UnknownName, club_of
 from .records import Record, Refused, count_lines, record_of, records_of, row_text
 from .refusals import advise
 from .sheet_dates import dates_of
-from .slips import played_text, why_open
+from .slips import above_limit, played_text, why_open
 from .texts import Fixture, Sheet
 from .words import words_for
 
@@ -221,6 +221,7 @@ class Bookkeeper:
         if record is None:
             raise Unclear("this line has no field")
         self.test(record)
+        self.notes += above_limit(self.sheet, self.feed.read(record))
         return line
 
     def test(self, record: Record) -> None:

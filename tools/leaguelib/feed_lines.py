@@ -61,7 +61,7 @@ def all_made(book: Bookkeeper, files: list[tuple[str, bytes]]) -> Made:
     made.notes += taken.notes[:MOST_NOTES]
     if len(taken.notes) > MOST_NOTES:
         made.notes.append(f"and {len(taken.notes) - MOST_NOTES} more matches on another day than "
-                          "in the sheet")
+                          "in the sheet, or above its goal limit")
     for found in lists:
         made.notes += found.notes + [text for text in [found.passed_text()] if text]
     for one in given:

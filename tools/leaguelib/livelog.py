@@ -25,6 +25,7 @@ class LiveLog:
     def __init__(self, path: str) -> None:
         self.path = path
         self.notes: list[str] = []
+        self.is_new = not os.path.exists(path)
         self.known = b""
         self._refused: set[int] = set()
         self._stamp: tuple[int, ...] = ()

@@ -22,8 +22,6 @@ from .session import Ended, Session
 from .voices import HELP, Rows, Speaker, events_text, words_of_answer
 from .wording import days_of
 
-ENDS = ("quit", "exit")
-
 
 class Live:
     """A session with its log: every line is tested, kept, sent, and answered where it asks."""
@@ -66,7 +64,9 @@ class Live:
         self.session.start()
         if isinstance(self.voice, Speaker):
             self._look_back(last_ask)
-        if self.session.events or isinstance(self.voice, Speaker):
+        if self.log.is_new:
+            self.voice.tell(f"{self.log.path} is not there: a new log is begun")
+        elif self.session.events or isinstance(self.voice, Speaker):
             self.voice.tell(f"{events_text(len(self.session.events))} of the log replayed")
         if self.prompt.is_shown:
             self.voice.tell("`help` tells what can be typed")
@@ -106,7 +106,7 @@ class Live:
     def take(self, text: str) -> bool:
         """Takes a line as it was typed; whether it ends the evening."""
         word = text.strip().lower()
-        if word in ENDS:
+        if word in ("quit", "exit"):
             return True
         was_refused, self.is_refused = self.is_refused, False
         if word == "undo" and was_refused:
@@ -227,20 +227,19 @@ class Live:
 
     def _tonight(self) -> None:
         """What each of the next matches can decide by itself."""
-        sheet = self.book.sheet
-        fixtures = next_matches(sheet, self.book.feed.season, days_of(self.asker.data, sheet))
+        sheet, season = self.book.sheet, self.book.feed.season
+        fixtures = next_matches(sheet, season, days_of(self.asker.data, sheet))
         if not fixtures:
             raise Unclear("no match is open, or so many that the next ones need dates in the "
                           "sheet, twelve a day at most")
-        runs = self.asker.inputs(self.session.events)
-        self.voice.tonight(fixtures, outlook(self.asker.path, sheet, runs, fixtures))
+        self.voice.tonight(fixtures, outlook(self.asker.path, sheet,
+                                             self.asker.inputs(self.session.events), fixtures))
 
     def _table(self) -> None:
         """The table, and how it stands with the scores in play."""
         events = self.session.events
         self.voice.table(self.asker.table(events))
-        in_play = self.evening.in_play
-        if in_play:
+        if in_play := self.evening.in_play:
             ended = [f"result,{number},{home},{away}\n".encode()
                      for number, (home, away) in in_play.items()]
             before, after = self.asker.words(events), self.asker.words(events + ended)

@@ -6,7 +6,7 @@ from __future__ import annotations
 
 from .names import shown
 from .score_texts import Told
-from .texts import Fixture, Season, Sheet
+from .texts import Entry, Fixture, Season, Sheet
 
 
 def played_text(sheet: Sheet, season: Season, fixture: Fixture) -> str:
@@ -18,6 +18,15 @@ def played_text(sheet: Sheet, season: Season, fixture: Fixture) -> str:
                     for one in still[:1])
     return (f"{front}{fixture.home} - {fixture.away} (match {fixture.number}) has the result "
             f"{home}-{away} already")
+
+
+def above_limit(sheet: Sheet, entry: Entry) -> list[str]:
+    """What to say of a score above the goal limit; nothing where it is within."""
+    if entry.kind not in ("result", "fix") or max(entry.score) <= sheet.goal_limit:
+        return []
+    fixture, (home, away) = sheet.fixture(entry.fixture), entry.score
+    return [f"{fixture.home} {home}-{away} {fixture.away} is above the goal limit "
+            f"{sheet.goal_limit} of the sheet: is this meant? It was taken all the same"]
 
 
 def why_open(told: Told) -> str:
