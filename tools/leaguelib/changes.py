@@ -11,6 +11,7 @@ from .wording import counted, listed, shown
 
 ARROW = "→"
 FEW = 6
+SHORT = {"clinched": "in", "lost": "out", "possible": "open", "unsettled": "not settled"}
 
 Words = dict[tuple[int, str], str]
 
@@ -45,7 +46,7 @@ def changes_between(before: Words, now: Words) -> list[Change]:
 def change_text(change: Change, names: LineNames) -> str:
     """A change in words."""
     return (f"{shown(change.club)}, {names.place(change.places)}: "
-            f"{change.before} {ARROW} {change.now}")
+            f"{SHORT[change.before]} {ARROW} {SHORT[change.now]}")
 
 
 def summary(words: Words, names: LineNames) -> list[str]:
@@ -53,7 +54,8 @@ def summary(words: Words, names: LineNames) -> list[str]:
     texts = []
     for places in dict.fromkeys(places for places, _ in words):
         text = names.place(places)
-        parts = [f"{word}: {_clubs(clubs)}" for word, clubs in clubs_by_word(words, places).items()]
+        parts = [f"{SHORT[word]}: {_clubs(clubs)}"
+                 for word, clubs in clubs_by_word(words, places).items()]
         texts.append(f"{text[0].upper()}{text[1:]} - " + "; ".join(parts))
     return texts
 

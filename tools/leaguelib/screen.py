@@ -5,12 +5,12 @@ come.
 from __future__ import annotations
 
 from .answers import Place, Verdict
+from .changes import SHORT
 from .line_names import LineNames
 from .objects import to_come
 from .texts import Season, Sheet
 from .wording import WIDTH, counted, listed, paragraph, rules_phrase, shown
 
-SHORT = {"clinched": "in", "lost": "out", "possible": "open", "unsettled": "not settled"}
 HEADS = ["place", "club", "played", "points", "to come", "difference"]
 MOST_LISTED = 6
 Marks = dict[int, dict[str, str]]

@@ -7,7 +7,7 @@ import sys
 from . import common
 from .answers import Place, read_report
 from .bookkeeper import Bookkeeper
-from .changes import Words, change_text, changes_between, summary, words_of
+from .changes import SHORT, Words, change_text, changes_between, summary, words_of
 from .line_names import LineNames
 from .outlook import Outlook
 from .records import row_text
@@ -120,7 +120,7 @@ class Speaker:
             home, away = shown(one.fixture.home), shown(one.fixture.away)
             outcome = {"home": f"if {home} win", "draw": "if it is a draw",
                        "away": f"if {away} win"}[one.outcome]
-            told = [f"{shown(change.club)}, {self.names.place(change.places)}: {change.now}"
+            told = [f"{shown(change.club)}, {self.names.place(change.places)}: {SHORT[change.now]}"
                     for change in one.changes]
             lines.append(f"  {home} - {away}, {outcome}: {'; '.join(told)}")
         self.tell("\n".join(lines if found else [*lines, "  none decides anything"]))
