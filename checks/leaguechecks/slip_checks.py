@@ -19,6 +19,7 @@ def check_slips(counter: Counter) -> None:
         _check_played(counter, evening)
         _check_undo(counter, evening)
         _check_limit(counter, evening)
+        _check_counts(counter, evening)
 
 
 def _check_marks(counter: Counter, evening: Evening) -> None:
@@ -116,3 +117,20 @@ def _check_limit(counter: Counter, evening: Evening) -> None:
         run, f"{evening.log} is not there: a new log is begun"))
     run = league(*evening.words(), data=b"quit\n")
     counter.check("slips: a log that is there", missing(run, "0 events of the log replayed"))
+
+
+def _check_counts(counter: Counter, evening: Evening) -> None:
+    """What is passed over is told in the singular and in the plural."""
+    results, still = "Anchor 2-1 Köln\nKöln 0-0 Dock United\n", "Dock United - Anchor\n"
+    cross = "Home\tANC\tKÖL\tDOC\nAnchor\t\t2-1\t\nKöln\t\t\t0-0\nDock United\t\t\t\n"
+    for lines, says in (
+        (results[:16] * 2, "passed over: 1 result that stands already (line 2"),
+        (results * 2, "passed over: 2 results that stand already (line 3"),
+        (results + still, "passed over: 1 match without a score (line 3"),
+        (results + still * 2, "passed over: 2 matches without a score (line 3"),
+        (results + "Dock United - Anchor postp.\n" * 2, "2 matches without a score (postp.) ("),
+        ("Results\n\n" + cross, "1 line beside the cross table (line 1"),
+        ("Results\n\n" + cross + "Source: the league\n", "2 lines beside the cross table ("),
+    ):
+        run = league("feed", evening.sheet, data=lines.encode("utf-8"))
+        counter.check(f"slips: {says}", said(run, 0, says))

@@ -11,6 +11,11 @@ from .names import shown
 MOST_QUOTED = 3
 MOST_WRONG = 10
 MOST_SHOWN = 120
+PLURALS = {"heading": "headings", "line with a date": "lines with a date",
+           "line of scorers": "lines of scorers", "row of heads": "rows of heads",
+           "line beside the cross table": "lines beside the cross table",
+           "match without a score": "matches without a score",
+           "result that stands already": "results that stand already"}
 
 
 @dataclass(frozen=True)
@@ -76,11 +81,12 @@ class MatchList:
 
 def plural(why: str, number: int) -> str:
     """What was passed over, for one line or several."""
-    words = {"heading": "headings", "line with a date": "lines with a date",
-             "line of scorers": "lines of scorers",
-             "match without a score": "matches without a score",
-             "row of heads": "rows of heads"}
-    return why if number == 1 else words.get(why, why)
+    if number == 1:
+        return why
+    for one, many in PLURALS.items():
+        if why.startswith(one):
+            return many + why[len(one):]
+    return why
 
 
 def quoted(text: str) -> str:
