@@ -31,7 +31,8 @@ MEANT = (
     ("Koeln", "1. FC Köln"), ("FC Bayern", "Bayern München"), ("Bayern Muenchen", "Bayern München"),
     ("M'gladbach", "Borussia Mönchengladbach"), ("Milan", "AC Milan"),
     ("FC Internazionale", "Inter"), ("Real Madrid CF", "Real Madrid"), ("sao bento", "São Bento"),
-    ("Spurs", "Tottenham Hotspur FC"),
+    ("Spurs", "Tottenham Hotspur FC"), ("Man U", "Manchester United FC"),
+    ("Newcastle U", "Newcastle United FC"),
     ("the seagulls", "Brighton & Hove Albion FC"),
 )
 NOT_MEANT = (
@@ -39,6 +40,8 @@ NOT_MEANT = (
     ("United", "`Manchester United FC` or `Newcastle United FC`"),
     ("Inter Milano", "`AC Milan` or `Inter`"), ("Arsenl", "the nearest name is `Arsenal FC`"),
     ("Real Madrid B", "no club is called"), ("Bayern München II", "no club is called"),
+    ("Man V", "no club is called"), ("M U", "no club is called"), ("Man C", "no club is called"),
+    ("Reals", "no club is called"), ("Uniteds", "no club is called"),
     ("Ar", "no club is called"), ("", "no club is called"), ("Wolves", "(--aliases)"),
     ("Gooners", "`Gooners` is an alias of `Harbour Town`, and no club is called"),
 )
@@ -56,6 +59,9 @@ def check_names(counter: Counter) -> None:
         for typed, club in MEANT:
             found = club_of(typed, CLUBS, aliases)
             counter.check(f"name {typed!r}", [] if found == club else [found])
+        wolves = (*CLUBS, "Wolverhampton Wanderers FC")
+        found = club_of("Wolves", wolves)
+        counter.check("name 'Wolves'", [] if found == wolves[-1] else [found])
         for typed, says in NOT_MEANT:
             counter.check(f"no name {typed!r}", unknown_faults(typed, aliases, says))
         check_alias_files(counter, file)

@@ -61,7 +61,7 @@ def club_of(name: str, names: Iterable[str], aliases: Mapping[str, str] | None =
     alias = (aliases or {}).get(plain_form(typed))
     if alias is not None:
         return _club_of_alias(typed, alias, every)
-    for is_meant in (_is_same, _is_same_club, _is_part, _has_part):
+    for is_meant in (_is_same, _is_same_club, _is_part, _has_part, _is_shortened):
         found = [other for other in every if is_meant(typed, other)]
         if len(found) == 1:
             return found[0]
@@ -151,6 +151,31 @@ def _is_short_for(word: str, whole: str) -> bool:
         return False
     letters = iter(whole)
     return (word[0], word[-1]) == (whole[0], whole[-1]) and all(sign in letters for sign in word)
+
+
+def _is_shortened(typed: str, name: str) -> bool:
+    """Whether the typed words are short for the name's in a way that only speech has: `Wolves` for
+    Wolverhampton, `Man U` for Manchester United. A letter for another team, as in `Athletic B`, is
+    none.
+    """
+    words, core = core_words(typed), core_words(name)
+    if max(map(len, words), default=0) < 3 or OTHER_TEAMS & set(words):
+        return False
+    place = 0
+    for word in words:
+        while place < len(core) and not (_is_short_for(word, core[place])
+                                         or _is_spoken_for(word, core[place])):
+            place += 1
+        place += 1
+    return place <= len(core)
+
+
+def _is_spoken_for(word: str, whole: str) -> bool:
+    """Whether a word is a letter that begins the other, or five letters of its begin and an `s`."""
+    if len(word) == 1:
+        return whole.startswith(word)
+    return len(word) > 5 and word.endswith("s") and whole.startswith(word[:-1]) and (
+        word[:-1] != whole)
 
 
 def same_name(name: str, names: Iterable[str]) -> str | None:
