@@ -210,7 +210,7 @@ def _check_words(counter: Counter, evening: Evening) -> None:
     counter.check("evening: rows of nothing", said(run, 2, "nothing was asked so far"))
     run = evening.run("help\nquit\nAnchor 2-1 Köln\n")
     counter.check("evening: help", missing(
-        run, "undo                          take the last line back"))
+        run, "quit                          end the evening; the log keeps everything"))
     faults = [] if evening.kept() == "" else [evening.kept()]
     counter.check("evening: quit ends it", faults + said(run, 0, "log.csv keeps 0 events"))
     run = evening.run("", more=("--mode", "table"))

@@ -88,6 +88,10 @@ def _check_undo(counter: Counter, evening: Evening) -> None:
     run = evening.run("Ancor 1-0 Köln\nKöln ~1-1 Dock United\nundo\n", log)
     counter.check("slips: undo of a line behind a refused one", missing(
         run, "taken back: match 2: Köln - Dock United has no score in play"))
+    run = evening.run("Anchor 0-1 Köln\nAnchor ~0-1 Köln\nundo\nAnchor ~0-1 Köln\n")
+    counter.check("slips: undo where a refused line offers it", missing(
+        run, "taken back: match 1: Anchor - Köln is open again (it had 0-1)",
+        "match 1: Anchor 0-1 Köln in play, no result"))
     run = evening.run("Ancor 1-0 Köln\nundo\n")
     counter.check("slips: undo of a refused line alone", missing(
         run, "the last line was refused, so there is nothing of it to take back"))

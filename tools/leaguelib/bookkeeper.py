@@ -27,11 +27,12 @@ MEANINGS = {"correct": "fix", "correction": "fix", "annul": "void", "annulled": 
 
 
 class Unclear(Exception):
-    """A line that cannot be turned into a line of the feed, and why."""
+    """A line that cannot be turned into a line of the feed, and why; whether `undo` is offered."""
 
-    def __init__(self, message: str) -> None:
+    def __init__(self, message: str, offers_undo: bool = False) -> None:
         super().__init__(message)
         self.message = message
+        self.offers_undo = offers_undo
 
 
 class Bookkeeper:

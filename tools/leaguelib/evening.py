@@ -83,7 +83,8 @@ class Evening:
             return
         is_last = bool(self._back) and self._back[-1] == f"void,{fixture.number}"
         way = "undo" if is_last else f"annul {fixture.home} - {fixture.away}"
-        raise Unclear(f"{played_text(self.book.sheet, season, fixture)}; `{way}` takes it back")
+        raise Unclear(f"{played_text(self.book.sheet, season, fixture)}; `{way}` takes it back",
+                      offers_undo=is_last)
 
     def back(self) -> list[str]:
         """The lines of the log that take the last one back; none where there is none."""

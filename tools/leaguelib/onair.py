@@ -123,7 +123,7 @@ class Live:
                 self._keep(self.evening.line_of(text))
         except Unclear as unclear:
             self.refused += 1
-            self.is_refused = True
+            self.is_refused = not unclear.offers_undo
             self.voice.refused(f"line {self.typed}, {quoted(text.strip())}: refused, not sent: "
                                f"{unclear.message}")
         return False

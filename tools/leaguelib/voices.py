@@ -17,10 +17,11 @@ from .wording import counted, limit_phrase, listed, score_text, shown
 HELP = """\
 Arsenal 2-1 Chelsea           the match has ended so
 Arsenal ~1-0 Chelsea          a score in play: no result, not counted by an ask
+Arsenal 1-0 Chelsea 67'       a score in play as well, as with HT or half time
 correct Arsenal 2-2 Chelsea   another score for a match that has one
 annul Arsenal - Chelsea       the match counts as not played
 deduct Chelsea 3              three points are deducted in all
-undo                          take the last line back
+undo                          take the last line back; behind a refused line only say which
 ask                           what has changed since the last ask
 rows                          every row of the last answer
 table                         the table, and how it stands with the scores in play
