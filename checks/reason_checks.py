@@ -11,6 +11,8 @@ from pathlib import Path
 
 HOME = Path(__file__).resolve().parent.parent
 sys.path.insert(0, str(HOME / "tools"))
+from leaguelib.answers import Score  # noqa: E402
+from leaguelib.enough import score_words  # noqa: E402
 from leaguelib.feeds import read_input  # noqa: E402
 from leaguelib.proof_words import from_place, up_to_place  # noqa: E402
 from leaguelib.proofs import sum_text  # noqa: E402
@@ -156,3 +158,56 @@ class ReasonTests(unittest.TestCase):
                 found = short_reason(points, [], club, places, True)
                 self.assertEqual(found is not None and found.kind == "points",
                                  behind >= len(now) - places)
+
+
+class ScoreWordTests(unittest.TestCase):
+    """Sentences on qualification scores name only totals that the matches left can bring."""
+
+    def told(self, possible: str, guaranteed: str, now: int, left: int, own: bool = False) -> str:
+        """The sentences."""
+        return score_words(Score(1, "A", possible, guaranteed), now, left, own)
+
+    def test_only_totals_that_can_be_reached_are_named(self) -> None:
+        tried = 0
+        for left, now in itertools.product(range(2, 6), (0, 7, 80)):
+            results = itertools.product((0, 1, 3), repeat=left)
+            totals = {now + sum(it) for it in results}
+            ends = range(now - 2, now + 3 * left + 2)
+            for low, high in itertools.combinations_with_replacement(ends, 2):
+                number = str(low) if low == high else f"{low}..{high}"
+                text = self.told(str(now), number, now, left)
+                if high <= max(totals):  # the program says `none` where no total can do
+                    text += self.told(number, str(max(totals) + 1), now, left)
+                for found in re.findall(r"(\d+) points are enough|fewer than (\d+)|down to (\d+)|"
+                                        r"whether (\d+) can", text):
+                    tried += 1
+                    self.assertIn(int("".join(found)), totals, text)
+                for need in re.findall(r"(\d+) points? from", text):
+                    self.assertIn(now + int(need), totals, text)
+                for least in re.findall(r"fewer than (\d+)", text):
+                    self.assertGreater(int(least), now, text)
+        self.assertGreater(tried, 500)
+
+    def test_sentences_worked_by_hand(self) -> None:
+        for words, wanted in (
+                (("84", "86..87", 80, 2), "Whether all 6 points to come, 86 in all, are enough by "
+                                          "themselves is not settled."),
+                (("82", "91", 80, 4), "92 points are enough, whatever else happens: 12 points from "
+                                      "4 matches, 4 wins."),
+                (("85", "87", 80, 2), "With fewer than 86 they are out: 6 points from 2 matches "
+                                      "are needed at least, 2 wins."),
+                (("83", "87", 83, 2), "Even without another point they can be in."),
+                (("81..84", "87..88", 83, 1), "Whether a defeat is too little is not settled."),
+                (("81..84", "89..90", 83, 2), "Whether the 83 points they have can do is not "
+                                              "settled.")):
+            text = self.told(*words)
+            self.assertIn(wanted.lower(), text.lower())
+
+    def test_why_a_win_is_not_enough(self) -> None:
+        """The goals count where the club's own matches alone can do; else nothing is said of why."""
+        self.assertTrue(self.told("83", "84", 80, 1, True).startswith(
+            "a win is not enough by itself: the goals count."))
+        self.assertTrue(self.told("83", "84", 80, 1).startswith(
+            "even a win is not enough by itself. "))
+        self.assertIn("they have 86, and the goals count.", self.told("83", "87", 80, 2, True))
+        self.assertIn("they have 86. ", self.told("83", "87", 80, 2))

@@ -7,21 +7,35 @@ from .objects import range_of
 from .wording import counted
 
 
-def score_words(score: Score, now: int, left: int) -> str:
-    """What the two scores say of a club with so many points now, and so many matches to play."""
+def score_words(score: Score, now: int, left: int, own_goals: bool = False) -> str:
+    """What the two scores say of a club with so many points now, and so many matches to play.
+
+    With `own_goals` it is known that wins by enough goals bring it in, however the others end.
+    """
     possible, guaranteed = range_of(score.possible), range_of(score.guaranteed)
     if possible is None:
         return "out, with any number of points."
     if guaranteed["most"] <= max(0, now):
         return "in, with any number of points."
     if left == 1:
-        parts = [_enough_in_one(guaranteed, now), _too_little_in_one(possible, now)]
+        parts = [_enough_in_one(guaranteed, now, own_goals), _too_little_in_one(possible, now)]
     else:
-        parts = [_enough(guaranteed, now, left), _too_few(possible, now, left)]
+        parts = [_enough(guaranteed, now, left, own_goals), _too_few(possible, now, left)]
     return " ".join(part for part in parts if part)
 
 
-def _enough_in_one(found: dict, now: int) -> str:
+def next_total(points: int, now: int, left: int) -> int:
+    """The least total from so many points on that a club can end with; or one more than the most.
+
+    All sums of 3, 1 and 0 can be reached but one: a point less than all matches won.
+    """
+    most = now + 3 * left
+    if points > most:
+        return most + 1
+    return most if left and points == most - 1 else max(points, now)
+
+
+def _enough_in_one(found: dict, now: int, own_goals: bool) -> str:
     """Which result of the last match is enough."""
     least, most = found["least"] - now, found["most"] - now
     if most <= 1:
@@ -30,7 +44,8 @@ def _enough_in_one(found: dict, now: int) -> str:
         more = " Whether a draw is enough too is not settled." if least <= 1 else ""
         return "a win is enough, whatever else happens." + more
     if least > 3:
-        return "even a win is not enough by itself: the others count too."
+        return ("a win is not enough by itself: the goals count." if own_goals else
+                "even a win is not enough by itself.")
     return "whether a win is enough by itself is not settled."
 
 
@@ -44,28 +59,40 @@ def _too_little_in_one(found: dict, now: int) -> str:
     return sure if sure or least == most else "Whether a defeat is too little is not settled."
 
 
-def _enough(found: dict, now: int, left: int) -> str:
+def _enough(found: dict, now: int, left: int, own_goals: bool) -> str:
     """With how many points the club is in for sure."""
-    least, most = found["least"], found["most"]
-    need = most - now
-    if least > now + 3 * left:
+    least, most = (next_total(found[end], now, left) for end in ("least", "most"))
+    all_won = now + 3 * left
+    if not left:
+        return "it hangs on the others alone." if least > now else (
+            "whether it hangs on the others is not settled.")
+    if least > all_won:
+        why = ", and the goals count" if own_goals else ""
         return (f"no number of points is enough by itself: with all {3 * left} to come they have "
-                f"{now + 3 * left}, and the others count too." if left else
-                "it hangs on the others alone.")
+                f"{all_won}{why}.")
+    if most > all_won:
+        return (f"whether all {3 * left} points to come, {all_won} in all, are enough by "
+                "themselves is not settled.")
     if least != most:
-        return (f"{most} points are enough, whatever else happens; whether fewer are, down to "
-                f"{least}, is not settled.")
-    return f"{most} points are enough, whatever else happens: {results_text(need, left)}."
+        down = f", down to {least}," if least > now else ""
+        return (f"{most} points are enough, whatever else happens; whether fewer are{down} is not "
+                "settled.")
+    return f"{most} points are enough, whatever else happens: {results_text(most - now, left)}."
 
 
 def _too_few(found: dict, now: int, left: int) -> str:
     """With how few points the club is out for sure."""
-    least, most = found["least"], found["most"]
+    least, most = (next_total(found[end], now, left) for end in ("least", "most"))
     if most <= now:
         return "Even without another point they can be in." if left else ""
+    if least <= now:
+        return (f"Whether the {counted(now, 'point')} they have can do is not settled."
+                if now > 0 else "Whether they can be in without another point is not settled.")
+    needed = needed_text(least - now, left)
     if least != most:
-        return f"With fewer than {least} they are out; between {least} and {most} is not settled."
-    return f"With fewer than {least} they are out: {needed_text(least - now, left)}."
+        return (f"With fewer than {least} they are out: {needed}; whether {least} can do is not "
+                "settled.")
+    return f"With fewer than {least} they are out: {needed}."
 
 
 def results_text(need: int, left: int) -> str:

@@ -22,7 +22,7 @@ from .texts import MOST_BUDGET
 from .trial import Trial, trial_data
 from .unless import can_draw_be_enough, unless_text
 from .view import View
-from .ways import way_of, way_text
+from .ways import Way, way_of, way_text
 from .wording import counted, paragraph, shown
 
 USUAL_STEPS = 100
@@ -139,14 +139,23 @@ def _open_texts(why: Why, verdict: Verdict) -> list[str]:
     score = why.score_of(club, verdict.places)
     with Trial(why.path, why.trial_data(verdict.places), view.sheet, view.season,
                verdict.places) as trial:
+        ways = {claim: way_of(trial, club, example)
+                for claim, example in verdict.examples.items()}
         if score is not None:
-            words = score_words(score, now, left)
+            words = score_words(score, now, left, _is_own(view, club, ways.get("inside")))
             if left == 1 and can_draw_be_enough(score, now):
                 own = next(it for it in why.points.open if club in (it.home, it.away))
                 words += " " + unless_text(trial, club, own)
             parts.append(paragraph(plain(words.strip()), 2))
         for claim, verb in (("inside", "They are in"), ("outside", "They are out")):
-            if claim in verdict.examples:
-                way = way_of(trial, club, verdict.examples[claim])
-                parts.append(paragraph(way_text(view.sheet, view.season, way, verb), 2))
+            if claim in ways:
+                parts.append(paragraph(way_text(view.sheet, view.season, ways[claim], verb), 2))
     return parts
+
+
+def _is_own(view: View, club: str, way: Way | None) -> bool:
+    """Whether a way holds for sure by the club's own matches alone."""
+    if way is None or not way.is_for_sure:
+        return False
+    fixtures = [view.sheet.fixture(number) for number in way.scores]
+    return bool(fixtures) and all(club in (it.home, it.away) for it in fixtures)
