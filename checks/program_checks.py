@@ -276,6 +276,27 @@ class RefusalTests(unittest.TestCase):
             self.assertEqual(faults_of(value, SCHEMA, SCHEMA), [])
             self.assertGreaterEqual(value["line"], line)
 
+    def test_a_file_that_is_no_fitting_report(self) -> None:
+        """What is wrong with the whole report stands in front of the line that is refused."""
+        sheet, feed = files_of(HOME / "examples" / "tiny")
+        whole, ask = sheet.read_bytes() + feed.read_bytes(), b"ask\n"
+        rows, twice = (subprocess.run([PROGRAM, "verdicts", *words], check=True, input=data,
+                                      capture_output=True).stdout
+                       for words, data in (([], whole), (["--proofs"], whole + ask)))
+        for report, says in ((rows, "made without --proofs: run `futmax verdicts --proofs`"),
+                             (league("ask", sheet, feed).stdout, "This is no report of proofs"),
+                             (twice, "2 asks in the report, 1 in the feed"),
+                             (b"", "The report is empty")):
+            with tempfile.TemporaryDirectory() as folder:
+                path = Path(folder) / "report.txt"
+                path.write_bytes(report)
+                done = league("check", sheet, feed, path)
+                self.assertEqual(done.returncode, 7)
+                self.assertIn(says, done.stderr.decode())
+        done = league("check", sheet, feed)
+        self.assertEqual(done.returncode, 1)
+        self.assertIn(f"{feed}, the last file, is a feed", done.stderr.decode())
+
     def test_half_files_and_bytes_of_any_kind(self) -> None:
         sheet, feed = files_of(HOME / "examples" / "harbour-cup")
         whole = sheet.read_bytes() + feed.read_bytes() + b"proofs\nask,5\n"

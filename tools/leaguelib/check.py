@@ -16,6 +16,7 @@ from .files import Joined
 from .given import Given, add_file_arguments, ended, given_of, read_all
 from .objects import line_of
 from .records import fields_of
+from .report_faults import fault_of, kind_of
 from .running import Run
 from .stopped import Stop, stop_of
 from .wording import counted, paragraph
@@ -37,6 +38,8 @@ def run(arguments: argparse.Namespace) -> int:
     with futmax_statuses():
         done = run_mode(common.program_path(arguments.program), "check", given.data)
     stop = stop_of(done, given)
+    if stop is not None and stop.status == 7:
+        stop.message = fault_of(given.data) + stop.message
     row = fields_of(done.output.splitlines()[-1]) if done.output else []
     if stop is None and (len(row) != 3 or row[0] != "accepted"):
         raise common.Trouble("futmax check ended with status 0 and did not say that it accepts: "
@@ -78,6 +81,10 @@ def given_report(paths: list[str]) -> Given:
         raise common.Trouble("there is no report: name it as the last file, as in `league check "
                              "SHEET FEED REPORT`.", common.BAD_WORDS)
     name, report = files[-1]
+    if kind_of(report) in ("sheet", "feed"):
+        raise common.Trouble(f"there is no report: {name}, the last file, is a {kind_of(report)}. "
+                             "Name the report behind it, as in `league check SHEET FEED REPORT`.",
+                             common.BAD_WORDS)
     front = given_of(files[:-1], adds_ask=bool(report.strip()))
     data = ended(front.data)
     first = data.count(b"\n") + 2

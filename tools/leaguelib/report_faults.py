@@ -1,0 +1,55 @@
+"""What is wrong with a report as a whole, where `futmax check` refused a line of it: it is another
+file, it belongs to another feed, or it was made without proofs.
+"""
+
+from __future__ import annotations
+
+from .records import Refused, fields_of
+from .wording import counted
+
+FEED_KINDS = ("result", "fix", "void", "deduct")
+MAKE = "`futmax verdicts --proofs` on sheet and feed makes one"
+
+
+def kind_of(data: bytes) -> str:
+    """What a file looks like by its first record: sheet, feed, report, or nothing of these."""
+    for fields in _rows(data):
+        if fields[0] == "league":
+            return "sheet"
+        if fields[0] in FEED_KINDS or fields == ["ask"]:
+            return "feed"
+        return "report" if fields[0] == "ask" and len(fields) == 2 else ""
+    return ""
+
+
+def fault_of(data: bytes) -> str:
+    """A sentence on the report behind the record `proofs`; nothing where none fits."""
+    front, _, report = data.partition(b"\nproofs\n")
+    if not report.strip():
+        return f"The report is empty: {MAKE}. "
+    if kind_of(report) != "report":
+        return ("This is no report of proofs, as `league ask` and others write none: "
+                f"{MAKE}. ")
+    asks = sum(fields == ["ask"] for fields in _rows(front))
+    rows = _rows(report)
+    found = sum(fields[0] == "ask" for fields in rows)
+    if found != asks:
+        return (f"{counted(found, 'ask')} in the report, {asks} in the feed: they do not belong "
+                "together. ")
+    claims = any(fields[0] == "verdict" and fields[-1] in ("clinched", "lost") for fields in rows)
+    if claims and b'["tree"' not in report:
+        return "The report was made without --proofs: run `futmax verdicts --proofs`. "
+    return ""
+
+
+def _rows(data: bytes) -> list[list[str]]:
+    """The rows of names and numbers in a file, without comments, empty lines and lines of proofs."""
+    rows = []
+    for raw in data.split(b"\n"):
+        try:
+            fields = [] if raw[:1] in (b"", b"#", b"[") else fields_of(raw.rstrip(b"\r"))
+        except Refused:
+            fields = [raw[:40].decode("utf-8", "replace")]
+        if fields and fields != [""]:
+            rows.append(fields)
+    return rows
