@@ -17,6 +17,7 @@ does where no other club has it.
 from __future__ import annotations
 
 import argparse
+import os
 
 from . import common
 from .aliases import add_alias_argument, read_aliases
@@ -25,6 +26,7 @@ from .feed_lines import Made, all_made
 from .match_lines import HINT
 from .match_list import MOST_WRONG
 from .names import ALL_CLUBS
+from .records import records_of
 from .several import file_name
 
 
@@ -48,7 +50,7 @@ def run(arguments: argparse.Namespace) -> int:
     paths = arguments.lines or ["-"]
     if [arguments.sheet, *paths].count("-") > 1:
         raise common.Trouble("standard input can be read once: say `-` once", common.BAD_WORDS)
-    log = common.read_bytes(arguments.log) if arguments.log else b""
+    log = _log_so_far(arguments)
     book = Bookkeeper(common.read_bytes(arguments.sheet), log, file_name(arguments.sheet),
                       arguments.log or "the feed", read_aliases(arguments.aliases))
     made = all_made(book, [(file_name(path), common.read_bytes(path)) for path in paths])
@@ -57,8 +59,10 @@ def run(arguments: argparse.Namespace) -> int:
     if made.wrong or made.refused:
         _tell_wrong(made)
         return common.TO_MEND
-    if arguments.ask:
+    if arguments.ask and (made.lines or not _ends_with_ask(log)):
         made.lines.append("ask")
+    elif arguments.ask:
+        common.say(f"league: nothing is new, and {arguments.log} ends with an `ask` already")
     text = "".join(line + "\n" for line in made.lines)
     if arguments.append:
         gap = "" if log.endswith(b"\n") or not log else "\n"
@@ -66,6 +70,22 @@ def run(arguments: argparse.Namespace) -> int:
     else:
         common.write_text(text)
     return common.DONE
+
+
+def _log_so_far(arguments: argparse.Namespace) -> bytes:
+    """The feed so far; nothing where --append begins it, which is said."""
+    if not arguments.log:
+        return b""
+    if arguments.append and not os.path.exists(arguments.log):
+        common.say(f"league: {arguments.log} is not there: a new feed is begun")
+        return b""
+    return common.read_bytes(arguments.log)
+
+
+def _ends_with_ask(log: bytes) -> bool:
+    """Whether the last record of a feed that was read already is an ask."""
+    kinds = [record.kind for record in records_of(log)]
+    return kinds[-1:] == ["ask"]
 
 
 def _tell_wrong(made: Made) -> None:
