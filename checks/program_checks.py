@@ -213,6 +213,14 @@ class ScreenTests(unittest.TestCase):
         done = league("explain", *self.FILES, "--since", "yesterday")
         self.assertEqual(done.returncode, 1)
 
+    def test_a_day_that_the_feed_tells(self) -> None:
+        """The comment right above a result; a match of an unknown day is counted, and said."""
+        data = (b"league,Days,1\nclub,A,1\nclub,B,1\nmatch,A,B\nmatch,B,A\nline,1\nseason\n"
+                b"result,1,1,0\n# 2024-04-13\nresult,2,0,0\n")
+        done = league("explain", "--since", "2024-04-10", data=data)
+        self.assertIn("since 2024-04-10 (1 result from then on; 1 match played on days that are "
+                      "not known counts as earlier)", " ".join(done.stdout.decode().split()))
+
     def test_lines_have_names_and_may_be_more_than_four(self) -> None:
         sheet, feed = files_of(HOME / "examples" / "orchard-league")
         data = sheet.read_bytes().replace(b"season\n", b"# line 4: Orchard Cup\n# line 2\n"

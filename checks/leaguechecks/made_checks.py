@@ -148,8 +148,21 @@ def check_log(counter: Counter, sheet: Path, log: Path) -> None:
     table = "HomeTeam,AwayTeam,FTHG,FTAG\nAnchor,Köln,2,1\nKöln,Dock United,0,0\n"
     runs = [called(*words, data=text.encode("utf-8"))
             for text in (table, table, "Köln 1-1 Dock United\n", "correct Köln 1-1 Dock United\n")]
-    wanted = ("# first day\nresult,1,2,1\nask\nresult,2,0,0\nask\nask\n"
-              "fix,2,1,1\nask\n")
+    wanted = "# first day\nresult,1,2,1\nask\nresult,2,0,0\nask\nfix,2,1,1\nask\n"
     statuses = [run.returncode for run in runs]
     counter.check("feed: a log that grows", [log.read_text("utf-8"), str(statuses)]
                   if log.read_text("utf-8") != wanted or statuses != [0, 0, 2, 0] else [])
+    counter.check("feed: a table read again brings no second ask",
+                  said(runs[1], 0, "ends with an `ask` already"))
+    log.unlink()
+    run = called(*words, data=table.encode("utf-8"))
+    counter.check("feed: --append begins a feed, and says so",
+                  said(run, 0, "is not there: a new feed is begun") + (
+                      [] if log.read_text("utf-8") == "result,1,2,1\nresult,2,0,0\nask\n" else
+                      [log.read_text("utf-8")]))
+    log.unlink()
+    dated = "Date,HomeTeam,AwayTeam,FTHG,FTAG\n13/04/2024,Anchor,Köln,2,1\n"
+    called(*words, data=dated.encode("utf-8"))
+    counter.check("feed: the date of a match that the sheet does not tell is kept above it",
+                  [] if log.read_text("utf-8") == "# 2024-04-13\nresult,1,2,1\nask\n" else
+                  [log.read_text("utf-8")])

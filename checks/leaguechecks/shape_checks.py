@@ -6,7 +6,8 @@ import tempfile
 from pathlib import Path
 
 from .counting import Counter, called, sound_end
-from .shapes import CLUBS, SHAPES, football_data, games_of, wanted_feed, wanted_sheet
+from .shapes import (CLUBS, SHAPES, Game, football_data, games_of, wanted_feed,
+                     wanted_sheet)
 
 WORDS = ["--name", "Coast League", "--lines", "1", "--order", "head_first", "--no-comments"]
 
@@ -30,9 +31,25 @@ def check_shapes(counter: Counter) -> None:
                 [] if run.returncode in (0, 3) else [run.stderr.decode()]))
             run = called("feed", sheet, *files)
             counter.check(f"feed of {name}", sound_end(run) + differing(
-                run.stdout, wanted_feed(games), is_ordered) + (
-                [] if run.returncode == 0 else [run.stderr.decode()]))
+                without_dates(run.stdout), wanted_feed(games), is_ordered) + (
+                [] if run.returncode == 0 else [run.stderr.decode()]) + wrong_dates(
+                run.stdout, games))
         check_played_alone(counter, folder)
+
+
+def without_dates(data: bytes) -> bytes:
+    """A feed without the dates above its results."""
+    return b"".join(line for line in data.splitlines(keepends=True) if not line.startswith(b"# 20"))
+
+
+def wrong_dates(data: bytes, games: list[Game]) -> list[str]:
+    """The dates above results that are not those of the games; the sheet tells none of them."""
+    lines, faults = data.decode("utf-8").splitlines(), []
+    for above, line in zip(lines, lines[1:]):
+        game = games[int(line.split(",")[1]) - 1] if line.startswith("result,") else None
+        if game and above.startswith("#") and above != f"# {game.day.isoformat()}":
+            faults.append(f"{above} above {line}")
+    return faults[:3]
 
 
 def differing(data: bytes, wanted: list[str], is_ordered: bool) -> list[str]:

@@ -66,10 +66,15 @@ class Board:
         return next((change for change in self.changes or []
                      if (change.places, change.club) == (verdict.places, verdict.club)), None)
 
-    def last_day(self) -> str:
-        """The day of the last match played, where dates are known."""
+    def last_text(self) -> str:
+        """The day of the last match played, where dates are known; how many are not, if some."""
         days = [self.days.get(number, "") for number in self.season.scores]
-        return max((day for day in days if ISO_DATE.match(day)), default="")
+        known = [day for day in days if ISO_DATE.match(day)]
+        unknown = len(days) - len(known)
+        if not known:
+            return ""
+        return (f", the last on {max(known)}" if not unknown else
+                f", {unknown} of them on days that are not known")
 
 
 def add_arguments(parser: argparse.ArgumentParser) -> None:

@@ -127,11 +127,17 @@ def _take_match(made: Made, book: Bookkeeper, found: MatchList, match: Match) ->
             found.passed.append(Passed("result that stands already", match.line, match.text))
         else:
             book.enter(line)
-            made.lines.append(line)
+            made.lines += [*_date_above(book, match, line), line]
     except Unclear as unclear:
         for reason in _reasons(book, match, unclear.message):
             made.wrong.append(f"{match.place}, {quoted(match.text)}: {reason}")
     made.notes += [f"{match.place}: {note}" for note in book.take_notes()]
+
+
+def _date_above(book: Bookkeeper, match: Match, line: str) -> list[str]:
+    """The date of a match as a comment, where the list tells it and the sheet does not."""
+    is_told = int(line.split(",")[1]) in book.dates
+    return [f"# {match.date}"] if FULL_DATE.match(match.date) and not is_told else []
 
 
 def _reasons(book: Bookkeeper, match: Match, first: str) -> list[str]:

@@ -55,10 +55,8 @@ def _state(board: Board) -> list[str]:
     """How many matches are played and open, when the page was made, and what counts first."""
     still = len(board.season.open_fixtures(board.sheet))
     played = counted(len(board.season.scores), "match", "matches")
-    last = board.last_day()
-    until = f", the last on {last}" if last else ""
     rules = safe(rules_phrase(board.sheet, board.season))
-    return [f"<p>{played} played{until}; {still or 'none'} open. {rules} "
+    return [f"<p>{played} played{board.last_text()}; {still or 'none'} open. {rules} "
             f'<span class="quiet">Page of {safe(board.made)}.</span></p>',
             *([f"<p>{safe(board.note)}</p>"] if board.note else [])]
 

@@ -14,7 +14,7 @@ from .line_names import LineNames, names_in
 from .running import ask_lines, report_of
 from .screen import Marks, limit_text, line_texts, marks_of, state_text, table_text
 from .texts import Season, Sheet
-from .wording import days_of, paragraph
+from .wording import counted, days_of, paragraph
 
 
 @dataclass
@@ -84,8 +84,11 @@ def _since_day(view: View, path: str, since: str) -> list[str]:
     earlier = Given(given.whole, b"\n".join(lines), given.paths, given.has_own_ask)
     outcome = ask_mode(path, "verdicts", earlier, [view.ask.position])
     before = marks_of(outcome.asked[0].answer.verdicts)
+    unknown = sum(number not in days for number in view.season.scores)
+    note = (f"; {counted(unknown, 'match', 'matches')} played on days that are not known "
+            f"{'counts' if unknown == 1 else 'count'} as earlier" if unknown else "")
     return change_texts(view.names, before, view.marks, view.table,
-                        f"{since} ({events_text(told)} from then on)")
+                        f"{since} ({events_text(told)} from then on{note})")
 
 
 def first_screen(view: View) -> str:
