@@ -14,7 +14,12 @@ from .mistake import SHEET
 EXAMPLES = sorted(path.parent for path in HOME.glob("examples/*/sheet.csv"))
 LIST = "Anchor - Köln\nKöln - Dock United\nDock United - Anchor\n"
 MADE = ["--name", "Cup", "--lines", "1", "--order", "head_first"]
+DIVISIONS = ("Div,Date,HomeTeam,AwayTeam\nE0,13/04/2024,A,B\nE0,20/04/2024,B,A\n"
+             "E1,13/04/2024,C,D\nE1,20/04/2024,D,C\n")
 SHEETS = (
+    ("two divisions in one file", DIVISIONS, MADE, 2, "the column `Div` has 2 divisions that share "
+     "no club: `E0` (2 clubs), `E1` (2 clubs)"),
+    ("two divisions that are meant", DIVISIONS, MADE + ["--as-is"], 0, "match,D,C"),
     ("a complete list", LIST, MADE, 0, "match,Dock United,Anchor"),
     ("no order", LIST, MADE[:4], 1, "Premier League"),
     ("no lines", LIST, MADE[:2] + MADE[4:], 1, "--lines 1,4,17"),

@@ -44,6 +44,7 @@ KNOWN = frozenset(
     "attendance zuschauer publico affluence spettatori day weekday wochentag tag status notes note "
     "notiz bemerkung tv channel sender matchnumber matchno matchid gameid number nr no num id "
     "spielnummer spielnr index link url report matchreport".split())
+DIVISIONS = frozenset("div division league liga competition".split())
 SEASONS = frozenset("season saison temporada stagione epoca".split())
 # what bookmakers offer, as football-data has it behind the matches
 ODDS = re.compile(r"^(?:b365|bw|bfe?d?|bmgm|bv|cl|lb|ps?|wh|1xb|iw|vc|max|avg|gb|bs|sb|sj|sy|so|"

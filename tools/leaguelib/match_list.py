@@ -53,7 +53,8 @@ class MatchList:
     """The matches of a list, its title where it has one, and what has to be said about it.
 
     `notes` are what looks odd, `passed` what was passed over and holds nothing that counts. Where
-    it `is_cross`, each pair stands in it twice, however often they meet.
+    it `is_cross`, each pair stands in it twice, however often they meet. `divisions` has the clubs
+    of each value of a column like `Div`, by its head.
     """
 
     matches: list[Match] = field(default_factory=list)
@@ -62,6 +63,22 @@ class MatchList:
     passed: list[Passed] = field(default_factory=list)
     file: str = ""
     is_cross: bool = False
+    divisions: dict[str, dict[str, set[str]]] = field(default_factory=dict)
+
+    def note_division(self, head: str, value: str, clubs: set[str]) -> None:
+        """Notes that these clubs play in a division that a column with this head names."""
+        self.divisions.setdefault(head, {}).setdefault(value, set()).update(clubs)
+
+    def test_divisions(self) -> None:
+        """Raises `Trouble` where a column names several divisions that share no club."""
+        for head, found in self.divisions.items():
+            clubs = [club for names in found.values() for club in names]
+            if len(found) > 1 and len(clubs) == len(set(clubs)):
+                values = ", ".join(f"{shown(value)} ({len(names)} clubs)"
+                                   for value, names in found.items())
+                raise Trouble(f"the column {quoted(head)} has {len(found)} divisions that share no "
+                              f"club: {values}. A sheet is one league: keep the rows of one of "
+                              "them under the heads, or say --as-is if they are one league")
 
     def add(self, match: Match) -> None:
         """Takes a match."""

@@ -55,6 +55,9 @@ def joined(lists: list[MatchList]) -> MatchList:
     for found in lists:
         whole.notes += found.notes
         whole.passed += found.passed
+        for head, values in found.divisions.items():
+            for value, clubs in values.items():
+                whole.note_division(head, value, clubs)
         waiting = defaultdict(list)
         for place, match in enumerate(matches):
             waiting[match.home, match.away].append(place)

@@ -63,6 +63,8 @@ def run(arguments: argparse.Namespace) -> int:
     found = read_lists(arguments.lists, read_aliases(arguments.aliases))
     if not found.matches:
         raise common.Trouble("the list has no matches")
+    if not arguments.as_is:
+        found.test_divisions()
     if arguments.rounds is not None and not 1 <= arguments.rounds <= 20:
         raise common.Trouble("--rounds is a number from 1 to 20", common.BAD_WORDS)
     name = arguments.name or found.title
