@@ -204,7 +204,7 @@ class ScoreWordTests(unittest.TestCase):
             self.assertIn(wanted.lower(), text.lower())
 
     def test_why_a_win_is_not_enough(self) -> None:
-        """The goals count where the club's own matches alone can do; else nothing is said of why."""
+        """The goals count where the club's own matches alone can do; else no reason is said."""
         self.assertTrue(self.told("83", "84", 80, 1, True).startswith(
             "a win is not enough by itself: the goals count."))
         self.assertTrue(self.told("83", "84", 80, 1).startswith(

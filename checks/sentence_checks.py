@@ -2,17 +2,72 @@
 itself: each sentence is held against every finish that is left.
 """
 
+import csv
 import itertools
+import random
 import re
+import sys
 import unittest
 from pathlib import Path
+from types import SimpleNamespace
 
-from program_checks import EXAMPLES, asks_of, files_of, league
-from reference import League, Sums, blocks_of, reach
+from program_checks import EXAMPLES, HOME, SHIRE, asks_of, files_of, league
+from reference import League, Sums, blocks_of, reach, take
+
+sys.path.insert(0, str(HOME / "tools"))
+from leaguelib.feeds import read_input  # noqa: E402
+from leaguelib.idle_matches import idle_matches  # noqa: E402
 
 WAY = re.compile(r"They are (in|out), for example, if (?:this ends|these end) (.*?)"
                  r"(; the other (?:match does|\d+ matches do) not matter)?\.(?= They|$)")
 MOST_FINISHES = 10_000
+
+
+def drawn_season(chance: random.Random) -> list[str]:
+    """A league of six with five matches open and a goal at most in each."""
+    names = "ABCDEF"
+    pairs = chance.sample(list(itertools.combinations(names, 2)), 12)
+    results = [f"result,{number},{chance.randint(0, 1)},{chance.randint(0, 1)}"
+               for number in range(1, 8)]
+    return [f"league,Drawn,1,2000,{chance.choice(('head_first', 'overall_first'))}",
+            *[f"club,{name},1" for name in names], *[f"match,{a},{b}" for a, b in pairs],
+            "line,1", "season", f"deduct,{chance.choice(names)},{chance.randint(0, 3)}", *results]
+
+
+class IdleTests(unittest.TestCase):
+    """Matches that points show not to matter: with any scores of theirs a club keeps its places."""
+
+    def test_idle_matches_change_nothing(self) -> None:
+        tried = 0
+        for number in range(150):
+            chance = random.Random(number)
+            lines, season = drawn_season(chance), League()
+            for fields in csv.reader(lines):
+                take(season, fields)
+            given = read_input("".join(line + "\n" for line in lines).encode())
+            trial = SimpleNamespace(sheet=given.sheet, season=given.season_at(0))
+            scores = {it + 1: (chance.randint(0, 1), chance.randint(0, 1))
+                      for it in season.open_fixtures()}
+            for club, name in enumerate(season.clubs):
+                idle = idle_matches(trial, name, scores, scores)
+                told = [{it - 1: score for it, score in scores.items() if it not in without}
+                        for without in ((), idle)]
+                places = [reach(League(**{**vars(season), "scores": {**season.scores, **one}}),
+                                blocks_of)[club] for one in told]
+                self.assertEqual(*places)
+                tried += bool(idle)
+        self.assertGreater(tried, 100)
+
+    def test_a_long_example_names_the_matches_that_matter(self) -> None:
+        """Juniper Hill and Oakhurst cannot come to the 73 points with which Castle Rovers is in."""
+        sheet, feed = files_of(SHIRE)
+        rows = [row for row in feed.read_text("utf-8").splitlines() if row.startswith("result")]
+        data = sheet.read_text("utf-8") + "\n".join(rows[:350]) + "\n"
+        text = league("explain", "--why", "Castle Rovers", "--line", "1",
+                      data=data.encode()).stdout.decode()
+        way = next(it for it in WAY.findall(" ".join(text.split())) if it[0] == "in")
+        self.assertNotIn("Juniper Hill", way[1])
+        self.assertLess(way[1].count(":"), 15)
 
 
 class SentenceTests(unittest.TestCase):

@@ -43,7 +43,7 @@ def fault_of(data: bytes) -> str:
 
 
 def _rows(data: bytes) -> list[list[str]]:
-    """The rows of names and numbers in a file, without comments, empty lines and lines of proofs."""
+    """The rows of names and numbers in a file, without comments and lines of proofs."""
     rows = []
     for raw in data.split(b"\n"):
         try:

@@ -49,7 +49,7 @@ def _decisive(trial: Trial, club: str, own: int) -> tuple[Fixture, tuple[int, in
         found = trial.example(club, {own: draw}, "outside")
         if found is None or trial.word(club, {own: draw, **found}) != "lost":
             continue
-        kept = dropped(trial, club, {**found, own: draw}, "lost", keeps=own)
+        kept = dropped(trial, club, {**found, own: draw}, "lost", keeps=(own,))
         others: Scores = {number: it for number, it in kept.items() if number != own}
         if len(others) == 1:
             number, score = next(iter(others.items()))

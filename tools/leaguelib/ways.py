@@ -1,15 +1,18 @@
 """How an open place can still be reached or missed: the matches that matter, with the least goals.
 
 Every way is tried by the program before it is told. Where the other matches are said not to matter,
-the program has said `clinched` or `lost` with the scores that are told and nothing else.
+the program has said `clinched` or `lost` with the scores that are told and nothing else, but for
+matches of clubs that cannot end level with the club on points.
 """
 
 from __future__ import annotations
 
 from dataclasses import dataclass
+from typing import Container
 
 from .answers import Example
 from .asking import FEW_OPEN
+from .idle_matches import idle_matches
 from .texts import Fixture, Season, Sheet
 from .trial import Scores, Trial
 from .wording import counted, listed, score_text
@@ -42,7 +45,9 @@ def way_of(trial: Trial, club: str, example: Example) -> Way:
             return _shortened(trial, club, scores, target)
     scores, is_for_sure = _whole(trial, club, example, target)
     if not is_for_sure:
-        return Way(scores, False, 0)
+        idle = idle_matches(trial, club, scores, scores)
+        return Way({number: score for number, score in scores.items() if number not in idle},
+                   False, len(idle))
     return _shortened(trial, club, scores, target)
 
 
@@ -60,8 +65,14 @@ def _shortened(trial: Trial, club: str, scores: Scores, target: str) -> Way:
     fixtures = {number: trial.sheet.fixture(number) for number in scores}
     order = sorted(scores, key=lambda number: club in (fixtures[number].home,
                                                        fixtures[number].away))
-    kept = dropped(trial, club, {number: scores[number] for number in order}, target)
+    # these stay told while the program is asked, which may not settle it without them
+    beside = {number: scores[number] for number in idle_matches(trial, club, scores, order)}
+    kept = dropped(trial, club, {number: scores[number] for number in order}, target, beside)
     kept = _with_least_goals(trial, club, kept, target)
+    idle = idle_matches(trial, club, kept, beside)
+    kept = {number: score for number, score in kept.items() if number not in idle}
+    if beside and not idle:
+        kept = dropped(trial, club, kept, target)
     others = len(trial.season.open_fixtures(trial.sheet)) - len(kept)
     return Way(dict(sorted(kept.items())), True, others)
 
@@ -113,15 +124,16 @@ def _plain(scores: Scores) -> Scores:
             for number, (home, away) in scores.items()}
 
 
-def dropped(trial: Trial, club: str, scores: Scores, target: str, keeps: int = 0) -> Scores:
+def dropped(trial: Trial, club: str, scores: Scores, target: str,
+            keeps: Container[int] = ()) -> Scores:
     """The scores without those that are not needed, in halves, quarters and so on.
 
-    The fixture `keeps` stays in any case.
+    The fixtures of `keeps` stay in any case.
     """
     kept = dict(scores)
     size = max(1, len(kept) // 2)
     while True:
-        numbers = [number for number in kept if number != keeps]
+        numbers = [number for number in kept if number not in keeps]
         for at in range(0, len(numbers), size):
             fewer = {number: score for number, score in kept.items()
                      if number not in numbers[at:at + size]}
