@@ -82,7 +82,7 @@ LINES = (
     ("67' Gull 2-1 Tern", "Gull", "Tern", None, ""),
     ("Gull - Tern 2-1 half time", "Gull", "Tern", None, ""),
     ("Gull - Tern HT 2-1", "Gull", "Tern", None, ""),
-    ("Gull 1-0 Hannover 96", "Gull", "Hannover 96", (1, 0), ""),
+    ("Gull 1-0 Live Oak", "Gull", "Live Oak", (1, 0), ""),
     ("AZ '67 1-0 Gull", "AZ '67", "Gull", (1, 0), ""),
 )
 NO_LINES = (("Gull - Tern 100-1", "goals are whole numbers from 0 to 99"),

@@ -42,7 +42,7 @@ RUNNING = re.compile(
     rf"\s*(?:[(\[]\s*(?:{MINUTE}|\d{{1,3}}\.|{BREAK})\s*[)\]]"
     rf"|(?:^|(?<=\s)){MINUTE}(?=[\s:,]|$):?"
     rf"|(?:^|(?<=\s)){BREAK}(?:\s*$|:(?=\s)|(?=\s+\d{{1,2}}\s?[-:]\s?\d{{1,2}}\s*$))"
-    rf"|^(?:half[- ]?time|ht)(?=\s)|(?<=\d)\s+{BREAK}(?=\s+[^\W\d]))", re.IGNORECASE)
+    rf"|^(?:half[- ]?time|ht)(?=\s)|(?<=\d)\s+(?!live){BREAK}(?=\s+[^\W\d]))", re.IGNORECASE)
 
 
 @dataclass(frozen=True)
