@@ -14,19 +14,22 @@ from dataclasses import dataclass, field
 
 from . import common
 from .answers import Place, Verdict
-from .asking import Asked, ask_mode, budget_note, position_of, with_asks, with_budget
+from .asking import (Asked, ask_mode, budget_note, position_of, run_mode, with_asks,
+                     with_budget)
 from .changes import Change, changes_between, words_of
+from .enough import score_words
 from .feeds import Input
 from .front import add_budget_argument
 from .given import Given, add_file_arguments, gather
 from .line_names import LineNames, asked_lines, names_in
 from .lines import line_runs, with_lines_of
+from .news import plain
 from .outlook import ISO_DATE, Outlook, next_matches, outlook
 from .page import page_text
 from .progress import Progress, add_progress_argument
 from .proved import own_report
 from .reasons import Points, short_reason
-from .running import front_of
+from .running import front_of, report_of
 from .stopped import league_in
 from .texts import Season, Sheet
 from .view import table_at
@@ -34,6 +37,8 @@ from .wording import days_of
 
 MONTHS = ("January", "February", "March", "April", "May", "June", "July", "August", "September",
           "October", "November", "December")
+# with so many matches open at most, the page tells how many points are enough
+FEW_OPEN = 20
 
 Mark = tuple[int, str]
 
@@ -42,7 +47,8 @@ Mark = tuple[int, str]
 class Board:
     """What a page shows of one ask; `changes` is none where no ask stands before it.
 
-    `reasons` are short ones in words, `proved` the verdicts whose proofs were accepted.
+    `reasons` are short ones in words, `proved` the verdicts whose proofs were accepted, `enough`
+    tells of open places how many points are enough.
     """
 
     sheet: Sheet
@@ -56,6 +62,7 @@ class Board:
     outlook: list[Outlook] | None = None
     reasons: dict[Mark, str] = field(default_factory=dict)
     proved: dict[Mark, Verdict] = field(default_factory=dict)
+    enough: dict[Mark, str] = field(default_factory=dict)
     days: dict[int, str] = field(default_factory=dict)
     made: str = ""
     note: str = ""
@@ -126,7 +133,9 @@ def board_of(path: str, given: Given, league: Input, position: int,
         board.changes = changes_between(words_of(before.answer.verdicts),
                                         words_of(now.answer.verdicts))
         board.events_since = season.events - before.season.events
-    _add_reasons(board, path, _front(given, league, position, True), league, now)
+    front = _front(given, league, position, True)
+    _add_reasons(board, path, front, league, now)
+    _add_scores(board, path, front)
     return board
 
 
@@ -158,6 +167,24 @@ def _add_reasons(board: Board, path: str, front: bytes, league: Input, now: Aske
             mark = (verdict.places, verdict.club)
             if verdict.proofs and board.verdicts[mark].word == verdict.word:
                 board.proved[mark] = verdict
+
+
+def _add_scores(board: Board, path: str, front: bytes) -> None:
+    """Adds how many points are enough for places that are open, where few matches are."""
+    still = {mark for mark, it in board.verdicts.items() if it.word == "possible"}
+    if not still or len(board.season.open_fixtures(board.sheet)) > FEW_OPEN:
+        return
+    points = Points(board.sheet, board.season)
+    for lines in line_runs(sorted({places for places, _ in still})):
+        try:
+            told = report_of(run_mode(path, "scores", with_lines_of(front, lines)))
+        except common.Trouble:
+            # a program that does not know this mode: the page is whole without it
+            return
+        for score in told.answers[-1].scores if told.answers else []:
+            if (score.places, score.club) in still:
+                words = score_words(score, points.now[score.club], points.left[score.club])
+                board.enough[score.places, score.club] = plain(words)
 
 
 def _add_outlook(board: Board, path: str, front: bytes, is_wanted: bool) -> None:

@@ -31,18 +31,21 @@ def reasons(board: Board) -> list[str]:
 
 def _reason(board: Board, verdict: Verdict) -> list[str]:
     """What stands behind a mark: a sentence and a proof, or finishes."""
+    mark = (verdict.places, verdict.club)
     if verdict.word in ("clinched", "lost"):
         return _decided(board, verdict)
     if verdict.word == "unsettled":
         return [f"<p>{safe(' '.join(text.lstrip(' -').split()))}</p>"
                 for text in unsettled_texts(board.sheet, verdict, board.budget)]
+    enough = [f"<p>{safe(board.enough[mark])}</p>"] if mark in board.enough else []
     still = len(board.season.open_fixtures(board.sheet))
     if still > MOST_TOLD:
-        return [f"<p>{name_of(verdict.club)} can still reach it and can still miss it: there is "
+        return [*enough, f"<p>{name_of(verdict.club)} can still reach it and can still miss it: there is "
                 f"a way for each in which the {still} open matches can end. "
                 "<code>league explain</code> tells one.</p>"]
-    return [part for claim, verb in (("inside", "reaches"), ("outside", "misses"))
-            if claim in verdict.examples for part in _finish(board, verdict, claim, verb)]
+    return [*enough, *(part for claim, verb in (("inside", "reaches"), ("outside", "misses"))
+                       if claim in verdict.examples
+                       for part in _finish(board, verdict, claim, verb))]
 
 
 def _decided(board: Board, verdict: Verdict) -> list[str]:
