@@ -21,7 +21,7 @@ def quietly(*words: str) -> bool:
 
 
 def why_not() -> str:
-    """Why no host can be made here; nothing where it can."""
+    """Why no host can be made here; nothing if it can."""
     for command in ("ip", "unshare", "mount"):
         if shutil.which(command) is None:
             return f"{command} is not there"

@@ -209,7 +209,7 @@ class ScreenTests(unittest.TestCase):
     def test_a_day_that_the_sheet_does_not_tell(self) -> None:
         done = league("explain", *self.FILES, "--since", "2024-05-19")
         self.assertEqual(done.returncode, 2)
-        self.assertIn(b"tell no dates", done.stderr)
+        self.assertIn(b"have no dates", done.stderr)
         done = league("explain", *self.FILES, "--since", "yesterday")
         self.assertEqual(done.returncode, 1)
 
@@ -285,7 +285,7 @@ class RefusalTests(unittest.TestCase):
             self.assertGreaterEqual(value["line"], line)
 
     def test_a_file_that_is_no_fitting_report(self) -> None:
-        """What is wrong with the whole report stands in front of the line that is refused."""
+        """What is wrong with the whole report stands before the line that is refused."""
         sheet, feed = files_of(HOME / "examples" / "tiny")
         whole, ask = sheet.read_bytes() + feed.read_bytes(), b"ask\n"
         rows, twice = (subprocess.run([PROGRAM, "verdicts", *words], check=True, input=data,

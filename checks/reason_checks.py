@@ -117,7 +117,7 @@ class ReasonTests(unittest.TestCase):
         return True
 
     def numbers_are_right(self, drawn: Drawn, text: str) -> None:
-        """Each number behind a name is what the club has, or can get at most."""
+        """Each number after a name is what the club has, or can get at most."""
         now = drawn.points({})
         for club, most, number in NUMBER.findall(text):
             left = sum(club in drawn.matches[number] for number in drawn.open)

@@ -139,7 +139,7 @@ def is_shown(league: League, scores: Scores, club: int, line: int, is_inside: bo
 
 
 def can_be(search: Search, club: int, line: int, is_inside: bool) -> bool | None:
-    """Whether a club can end on that side of the line; none where it was not found out."""
+    """Whether a club can end on that side of the line; none if it was not found out."""
     if not search.open:
         return is_shown(search.league, search.league.scores, club, line, is_inside)
     chance = random.Random(1)

@@ -143,7 +143,7 @@ def compared(league: League, choices: list, club: int, rival: int, among, values
 
 
 def surely_level(league: League, choices: list, club: int, group: set, among, values):
-    """The clubs of a group that are surely level with the club; none where one is neither."""
+    """The clubs of a group that are surely level with the club; none if one is neither."""
     level = set()
     own = [spread(league, choices, club, among, value) for value in values]
     for other in group:
@@ -278,7 +278,7 @@ class Report:
         return number, line[0], line[1:]
 
     def tree(self, question: Question, is_spent: bool) -> None:
-        """A tree behind its head."""
+        """A tree after its head."""
         splits, leaves = ("split",), ("leaf",)
         if is_spent:
             splits, leaves = ("split", "new_split"), ("leaf", "new_leaf")
@@ -297,7 +297,7 @@ class Report:
             raise Stop(number, "no_proof")
 
     def example(self, question: Question) -> None:
-        """An example behind its head."""
+        """An example after its head."""
         league = question.league
         scores = dict(league.scores)
         for fixture in league.open_fixtures():
@@ -319,7 +319,7 @@ class Report:
             raise Stop(number, "no_proof")
 
     def item(self, league: League, line: int, club: int) -> None:
-        """A row, and what stands behind it."""
+        """A row, and what stands after it."""
         inside, outside = (Question(league, line, club, claim) for claim in CLAIMS)
         words = ("clinched", "lost", "possible", "unsettled")
         _, row = self.expect("row", lambda it: len(it) == 4 and it[3] in words

@@ -10,7 +10,7 @@ SAID = ("$schema", "$defs", "title", "description")
 
 
 def faults_of(value: object, schema: dict, root: dict, where: str = "$") -> list[str]:
-    """What is wrong with a value, and where; nothing where it fits."""
+    """What is wrong with a value, and where; nothing if it fits."""
     faults: list[str] = []
     for word, wanted in schema.items():
         if word not in SAID:

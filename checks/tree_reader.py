@@ -1,4 +1,5 @@
-"""What one piece of the search has to find in a zone, by a plain reading of docs/definitions.md.
+"""What one piece of the search has to find in a zone, by a plain reading of docs/definitions.md
+and, for which cut is chosen, of the page of flow_bound.
 
 It shares no line with the program: reasons are those of `report_reader.py`, the ranking is that of
 `reference.py`. Fixtures and clubs count from 0, a zone is a list of tests with whether they hold.

@@ -1,1 +1,1 @@
-"""The checks of the command `league`, which checks/league runs."""
+"""The checks of the command `league`, which checks/league_writing runs."""

@@ -23,7 +23,7 @@ class Counter:
         self.failed = 0
 
     def check(self, name: str, faults: list[str]) -> None:
-        """Counts a check; it has passed where nothing is at fault."""
+        """Counts a check; it has passed if nothing is at fault."""
         if not faults:
             self.passed += 1
             return
@@ -72,7 +72,7 @@ def sound_end(run: subprocess.CompletedProcess) -> list[str]:
 
 
 def same(run: subprocess.CompletedProcess, wanted: bytes) -> list[str]:
-    """Nothing where a command wrote these bytes."""
+    """Nothing if a command wrote these bytes."""
     if run.stdout == wanted:
         return []
     return [f"status {run.returncode}: " + run.stderr.decode("utf-8", "replace")[:300],
@@ -80,7 +80,7 @@ def same(run: subprocess.CompletedProcess, wanted: bytes) -> list[str]:
 
 
 def said(run: subprocess.CompletedProcess, status: int, says: str) -> list[str]:
-    """Nothing where a command ended so, and said this."""
+    """Nothing if a command ended so, and said this."""
     text = (run.stdout + run.stderr).decode("utf-8", "replace")
     faults = [] if run.returncode == status else [f"status {run.returncode}, not {status}"]
     if says.lower() not in text.lower():

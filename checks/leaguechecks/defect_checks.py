@@ -30,7 +30,7 @@ CASES = (
     ("one match that is added", "Anchor 2-1 Köln\n", ["--rounds", "2"], 3, "1 match was added that",
      0, "result,1,2,1\n"),
     ("a question behind a sentence", "Anchor 2-1 Köln\nDock 1-0 Anchor\nKöln 1-0 Docks\n", [], 2,
-     "stands once: is it `Docks`?\n", 2, "no club is called `Docks`"),
+     "appears once: is it `Docks`?\n", 2, "no club is called `Docks`"),
     ("a row without a name", "Home,Away,HG,AG\nAnchor,,2,1\n", [], 2,
      "line 2: the away side's name is missing: `Anchor,,2,1`", 2, "nothing was written"),
     ("half time behind a score", "Home,Away,Result\nAnchor,Köln,3-1 (1-0)\nKöln,Anchor,\n", [], 0,
@@ -84,7 +84,7 @@ def two_clubs() -> bytes:
 
 
 def check_words(counter: Counter, sheet: Path, file: Path) -> None:
-    """A file behind an option, and several of them."""
+    """A file after an option, and several of them."""
     sheet.write_bytes(two_clubs())
     file.write_text("Anchor 2-1 Köln\n", "utf-8")
     for words in ([sheet, "--ask", file], ["--ask", sheet, file], [sheet, file, "--ask"]):
@@ -95,7 +95,7 @@ def check_words(counter: Counter, sheet: Path, file: Path) -> None:
     counter.check("sheet: the list behind the options", sound_end(run) + said(
         run, 0, "match,Anchor,Köln"))
     run = called("feed", "-", "-")
-    counter.check("feed: standard input twice", sound_end(run) + said(run, 1, "say `-` once"))
+    counter.check("feed: standard input twice", sound_end(run) + said(run, 1, "give `-` once"))
 
 
 def check_modes(counter: Counter) -> None:

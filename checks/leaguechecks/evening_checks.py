@@ -1,8 +1,8 @@
 """An evening with `league live` in words: what is echoed, what an ask says, what is taken back.
 
 The league has three clubs and three matches, and two goals a side at most; the program is
-`slow_program.py`, which tries every finish. What is expected was worked out by hand: behind
-Anchor 2-1 Köln all three can still be first; behind Köln 0-0 Dock United, Köln has a point and no
+`slow_program.py`, which tries every finish. What is expected was worked out by hand: after
+Anchor 2-1 Köln all three can still be first; after Köln 0-0 Dock United, Köln has a point and no
 match, and Anchor or Dock United gets two more at least in the last match.
 """
 

@@ -46,13 +46,13 @@ FEED_RECORDS = (
             ("points taken away in all",)),
     Mistake("points deducted from a number", in_feed("deduct,1,3"), "fault,11,unknown_club",
             ("club 1 of the sheet is `Anchor`",), ("deduct,Anchor,3",)),
-    Mistake("a number behind ask", in_feed("ask,1"), "fault,11,wrong_width", ("stands alone",),
+    Mistake("a number behind ask", in_feed("ask,1"), "fault,11,wrong_width", ("has no fields",),
             ("ask",)),
     Mistake("ask in capitals", in_feed("ASK"), "fault,11,unknown_record", ("small letters",),
             ("ask",)),
     Mistake("a match behind season", in_feed("match,Anchor,Köln"), "fault,11,unknown_record",
             ("before `season`",)),
-    Mistake("season twice", in_feed("season"), "fault,11,unknown_record", ("stands once",)),
+    Mistake("season twice", in_feed("season"), "fault,11,unknown_record", ("comes once",)),
 )
 
 SILENT = (

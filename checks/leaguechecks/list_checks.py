@@ -55,8 +55,8 @@ OPEN = ("", "-", "–", "- : -", "-:-", "v", "vs", "P-P", "postp.", "Postponed",
 NO_SCORES = (("2", "the goals of one side are missing"), ("100-1", "from 0 to 99"),
              ("2-Jan", "a spreadsheet makes one of a score"), ("2-1-0", "more than one score"),
              ("soon", "this is no score"), ("4-3 pen.", "penalties"),
-             ("2-1 HT 1-0", "what stands behind the score is not understood: `ht`"),
-             ("2-1 (abc)", "what stands behind the score is not understood: `(abc)`"))
+             ("2-1 HT 1-0", "what follows the score is not understood: `ht`"),
+             ("2-1 (abc)", "what follows the score is not understood: `(abc)`"))
 LINES = (
     ("Germany 5-1 Scotland", "Germany", "Scotland", (5, 1), ""),
     ("2024-06-14 21:00 Germany 5-1 Scotland", "Germany", "Scotland", (5, 1), "2024-06-14"),
@@ -86,8 +86,8 @@ LINES = (
     ("AZ '67 1-0 Gull", "AZ '67", "Gull", (1, 0), ""),
 )
 NO_LINES = (("Gull - Tern 100-1", "goals are whole numbers from 0 to 99"),
-            ("Gull 2-1 Tern 3-2", "more than one score stands in it"),
-            ("Gull - Tern (2-1)", "in brackets alone"), ("Gull 2-1", "cannot be read as a match"),
+            ("Gull 2-1 Tern 3-2", "it has more than one score"),
+            ("Gull - Tern (2-1)", "the only score is in brackets"), ("Gull 2-1", "cannot be read as a match"),
             ("Gull v Tern 4-3 pen.", "penalties"), ("good evening", "cannot be read as a match"))
 # each worked out by hand from a calendar: the date and what it is
 DATES = (("2024-08-15", "2024-08-15"), ("15/08/24", "2024-08-15"), ("15.08.2024", "2024-08-15"),
@@ -112,9 +112,9 @@ REFUSED = (
     ("a row is missing", CROSS.rsplit("Ebb", 1)[0], "2 rows and 3 columns"),
     ("a cell that is no score", CROSS.replace("1–0", "won"), "this is no score"),
     ("three columns of names", "Gull\tTern\tThe Quay\t2-1\nEbb\tDock\tThe Pier\t1-0\n",
-     "not clear in which columns the two clubs stand"),
+     "not clear which columns have the two clubs"),
     ("four numbers", "Gull,Tern,2,1,1,0\nTern,Gull,0,0,0,0\n",
-     "not clear in which columns the goals stand"),
+     "not clear which columns have the goals"),
     ("a name is missing", "HomeTeam,AwayTeam,FTHG,FTAG\n,Tern,2,1\n",
      "line 2: the home side's name is missing: `,Tern,2,1`"),
     ("a name and a score are wrong", "HomeTeam,AwayTeam,FTHG,FTAG\nGull,,2,x1\n",
@@ -122,10 +122,10 @@ REFUSED = (
      "0 to 99: `Gull,,2,x1`"),
     ("a name of digits", "HomeTeam,AwayTeam,FTHG,FTAG\nGull,2,1,0\n", "`2` is no name of a club"),
     ("dates in two orders", "8/15/2024 Gull 2-1 Tern\n15/8/2024 Tern 2-1 Gull\n",
-     "some dates have the month in front"),
+     "some dates have the month first"),
     ("a score in a name", "Date,Home,Away\n1.8.24,Gull,Tern 2-1\n",
-     "line 2: a score stands in the away side's name"),
-    ("two names in one", "Home,Away,HG,AG\nGull v Ebb,Tern,2,1\n", "two names stand in the home"),
+     "line 2: there is a score in the away side's name"),
+    ("two names in one", "Home,Away,HG,AG\nGull v Ebb,Tern,2,1\n", "there are two names in the home"),
     ("a score that a spreadsheet made a time", "Home,Away,Result\nGull,Tern,03:00\n",
      "a spreadsheet makes one of a score like 3:0"),
     ("such a score in a line", "Gull 03:00 Tern\n", "a spreadsheet makes one of a score like 3:0"),
@@ -159,7 +159,7 @@ PASTES = (
 
 def faults_of(text: str, home: str, away: str, score: tuple[int, int] | None,
               date: str = "") -> list[str]:
-    """Nothing where a list has this match first."""
+    """Nothing if a list has this match first."""
     try:
         match = read_matches(text.encode("utf-8")).matches[0]
     except (Trouble, IndexError) as trouble:
@@ -169,14 +169,14 @@ def faults_of(text: str, home: str, away: str, score: tuple[int, int] | None,
 
 
 def last_faults(text: str) -> list[str]:
-    """Nothing where the second match of a list, and its last, is open."""
+    """Nothing if the second match of a list, and its last, is open."""
     found = [(match.home, match.away, match.score, match.date)
              for match in read_matches(text.encode("utf-8")).matches[1:]]
     return [] if found == [("Tern", "Gull", None, "2024-08-22")] else [str(found)]
 
 
 def refusal_faults(text: str, says: str) -> list[str]:
-    """Nothing where a list is refused with these words."""
+    """Nothing if a list is refused with these words."""
     try:
         return [f"taken: {read_matches(text.encode('utf-8')).matches}"]
     except Trouble as trouble:

@@ -28,7 +28,7 @@ class Running:
         evening.log.write_text("", "utf-8")
         words = [sys.executable, str(LEAGUE), *map(str, evening.words())]
         self.input, end = pty.openpty() if has_terminal else (None, subprocess.PIPE)
-        # what runs behind `&` in a shell passes Ctrl-C over, and so would the command
+        # what runs after `&` in a shell passes Ctrl-C over, and so would the command
         self.process = subprocess.Popen(
             words, stdin=end, stdout=end, stderr=subprocess.STDOUT,
             preexec_fn=lambda: signal.signal(signal.SIGINT, signal.SIG_DFL))
@@ -51,7 +51,7 @@ class Running:
             log.write(text)
 
     def hears(self, wanted: str) -> None:
-        """Waits until the command has said this behind what it was heard to say before."""
+        """Waits until the command has said this after what it was heard to say before."""
         until = time.monotonic() + PATIENCE
         while wanted not in self.said:
             ready, _, _ = select.select([self.output], [], [], max(0.0, until - time.monotonic()))
@@ -153,8 +153,8 @@ def _cut(running: Running, log: Path) -> None:
     running.type("Anchor 2-1 Köln")
     running.hears("noted\n")
     log.write_text("result,2,1,1\n", "utf-8")
-    running.hears("another program changed or removed what stood there already. Nothing is lost: "
-                  f"all that was taken is in {log}.evening")
+    running.hears("another program changed or removed lines of it. Nothing is lost: all that was "
+                  f"taken is in {log}.evening")
     running.type("Köln 0-0 Dock United")
     running.hears("match 2: Köln 0-0 Dock United noted")
     running.ends(0)
@@ -173,7 +173,7 @@ def _stopped(running: Running, log: Path) -> None:
 
 
 def _terminal(running: Running) -> None:
-    """The prompt stands in front of each line, also behind a line of another program."""
+    """The prompt stands before each line, also after a line of another program."""
     running.hears("\r\n> ")
     running.type("Anchor 2-1 Köln")
     running.hears("noted\r\n> ")

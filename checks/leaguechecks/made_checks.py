@@ -45,7 +45,7 @@ SHEETS = (
     ("openfootball with dates in brackets", "= Cup\n[2024-06-14]\n(1) 21:00  Anchor v Köln  5-1 "
      "(3-0)  @ Harbour\n    (Gull 1', 2'; Tern 3')\n(2) Köln v Anchor\n", MADE[2:], 0,
      "# 2024-06-14\nmatch,Anchor,Köln\nmatch,Köln,Anchor\n"),
-    ("a line twice", LIST, MADE[:3] + ["1,1"] + MADE[4:], 2, "stands already"),
+    ("a line twice", LIST, MADE[:3] + ["1,1"] + MADE[4:], 2, "is there twice"),
     ("a line in words", LIST, MADE[:3] + ["top"] + MADE[4:], 1, "--lines 1,4,17"),
     ("five lines", LIST, MADE[:3] + ["1,2,3,4,5"] + MADE[4:], 2, "refused"),
     ("a name that is no text", LIST, ["--name", b"\xff"] + MADE[2:], 2, "1 to 40 bytes"),
@@ -65,7 +65,7 @@ FEEDS = (
     ("a misspelt club", "Ancor 2-1 Köln\n", 2, "nearest name is `Anchor`"),
     ("a name without its accent", "Anchor 2-1 Koln\n", 0, "result,1,2,1\n"),
     ("home and away exchanged", "Köln 1-2 Anchor\n", 2, "Anchor - Köln, fixture 1"),
-    ("a result twice", "Anchor 2-1 Köln\nAnchor 2-1 Köln\n", 0, "1 result that stands already "
+    ("a result twice", "Anchor 2-1 Köln\nAnchor 2-1 Köln\n", 0, "1 result that is there already "
      "(line 2 `Anchor 2-1 Köln`)"),
     ("a result twice, another score", "Anchor 2-1 Köln\nAnchor 2-2 Köln\n", 2, "already"),
     ("no score", "Anchor - Köln\n", 0, "1 match without a score (line 1 `Anchor - Köln`)"),

@@ -1,7 +1,7 @@
 """An everyday mistake in a sheet or a feed: an input, the row with which the program ends, and what
 `league lint` has to say about it, among it the line to write instead.
 
-`fault` is the row of the program, nothing where it takes the input. `writes` are the lines that
+`fault` is the row of the program, nothing if it takes the input. `writes` are the lines that
 lint offers in place of the wrong one; `LEAVE_OUT` where it says that the line can be left out.
 """
 
@@ -38,7 +38,7 @@ def in_league(line: str) -> str:
 
 
 def in_clubs(line: str) -> str:
-    """An input with this line behind three clubs, and a whole sheet and feed behind it."""
+    """An input with this line after three clubs, and a whole sheet and feed after it."""
     return CLUBS + line + "\n" + MATCHES + "line,1\nseason\nask\n"
 
 
@@ -49,5 +49,5 @@ def in_matches(line: str) -> str:
 
 
 def in_feed(line: str) -> str:
-    """An input with this line behind a result of the first fixture."""
+    """An input with this line after a result of the first fixture."""
     return FEED + line + "\nask\n"

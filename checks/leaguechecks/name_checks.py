@@ -69,7 +69,7 @@ def check_names(counter: Counter) -> None:
 
 
 def unknown_faults(typed: str, aliases: dict[str, str], says: str) -> list[str]:
-    """Nothing where a name is refused with these words."""
+    """Nothing if a name is refused with these words."""
     try:
         return [f"taken for {club_of(typed, CLUBS, aliases)}"]
     except UnknownName as unknown:
@@ -80,7 +80,7 @@ def check_alias_files(counter: Counter, file: Path) -> None:
     """Alias files that cannot be read."""
     for text, says in (("Spurs\n", "line 1: a line is OTHER NAME,CLUB: `Spurs`"),
                        ("a,b,c\n", "line 1: a line is OTHER NAME,CLUB"),
-                       ("a,b\na,c\n", "line 2: `a` stands already, for `b`: `a,c`"),
+                       ("a,b\na,c\n", "line 2: `a` is there already, for `b`: `a,c`"),
                        ("PK\x03\x04", "workbook")):
         file.write_text(text, "utf-8")
         try:

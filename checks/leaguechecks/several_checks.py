@@ -22,7 +22,7 @@ SECOND = (
     ("another score", "Date,Home,Away,Score\n2024-08-15,Gull,Tern,2-2\n", ["--as-is"], 2,
      "Gull - Tern is 2-1 in one, line 2, and 2-2 in two, line 2. Take one of the two out"),
     ("another day, open there", "Date,Home,Away\n2024-08-16,Gull,Tern\n", ["--as-is"], 3,
-     "stands under 2024-08-15 in one, line 2 and under 2024-08-16 in two, line 2"),
+     "is under 2024-08-15 in one, line 2 and under 2024-08-16 in two, line 2"),
     ("another day, and played on both", "Date,Home,Away,Score\n2025-02-15,Gull,Tern,2-1\n",
      ["--as-is"], 0, "match,Gull,Tern\n# 2024-08-22\nmatch,Tern,Ebb\n# 2025-02-15\n"
      "match,Gull,Tern\n"),
@@ -54,7 +54,7 @@ def check_several(counter: Counter) -> None:
 
 def check_alone(counter: Counter) -> None:
     """Cross tables of which one half is empty, JSON, and standard input named twice."""
-    for more, status, says in (([], 3, "say --rounds 1"), (["--rounds", "2"], 0, "6 matches"),
+    for more, status, says in (([], 3, "give --rounds 1"), (["--rounds", "2"], 0, "6 matches"),
                                (["--rounds", "1"], 0, "match,Gull,Tern\nmatch,Gull,Ebb\nmatch,Tern,"
                                                       "Ebb\nline,1\n")):
         run = called("sheet", "-", *WORDS, *more, data=HALF.encode("utf-8"))
@@ -62,7 +62,7 @@ def check_alone(counter: Counter) -> None:
     run = called("sheet", "-", *WORDS, data=b'[{"team1":"Gull","team2":"Tern","score":[2,1]}]')
     counter.check("a list in JSON", sound_end(run) + said(run, 2, "this is JSON"))
     run = called("sheet", "-", "-", *WORDS, data=PLAYED.encode("utf-8"))
-    counter.check("sheet: standard input twice", sound_end(run) + said(run, 1, "say `-` once"))
+    counter.check("sheet: standard input twice", sound_end(run) + said(run, 1, "give `-` once"))
     run = called("sheet", "-", *WORDS, "--as-is", "--no-comments", "--relegated",
                  data=PLAYED.encode("utf-8"))
     counter.check("sheet: names without comments", sound_end(run) + said(run, 1, "--no-comments"))

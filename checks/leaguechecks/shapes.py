@@ -18,7 +18,7 @@ FIRST_DAY = datetime.date(2023, 8, 12)
 
 @dataclass(frozen=True)
 class Game:
-    """A match of the league; `score` is none where it is to come."""
+    """A match of the league; `score` is none if it is to come."""
 
     round: int
     day: datetime.date
@@ -97,7 +97,7 @@ def openfootball_old(games: list[Game], title: str = "Coast League 2023/24") -> 
 
 
 def openfootball_new(games: list[Game], title: str = "Coast League 2023/24") -> bytes:
-    """A text of openfootball with the score behind the names."""
+    """A text of openfootball with the score after the names."""
     lines = [f"= {title}", "", f"# Teams      {len({game.home for game in games})}", ""]
     for game in games:
         if f"▪ Matchday {game.round}" not in lines:

@@ -128,13 +128,13 @@ def _check_counts(counter: Counter, evening: Evening) -> None:
     results, still = "Anchor 2-1 Köln\nKöln 0-0 Dock United\n", "Dock United - Anchor\n"
     cross = "Home\tANC\tKÖL\tDOC\nAnchor\t\t2-1\t\nKöln\t\t\t0-0\nDock United\t\t\t\n"
     for lines, says in (
-        (results[:16] * 2, "passed over: 1 result that stands already (line 2"),
-        (results * 2, "passed over: 2 results that stand already (line 3"),
-        (results + still, "passed over: 1 match without a score (line 3"),
-        (results + still * 2, "passed over: 2 matches without a score (line 3"),
+        (results[:16] * 2, "skipped: 1 result that is there already (line 2"),
+        (results * 2, "skipped: 2 results that are there already (line 3"),
+        (results + still, "skipped: 1 match without a score (line 3"),
+        (results + still * 2, "skipped: 2 matches without a score (line 3"),
         (results + "Dock United - Anchor postp.\n" * 2, "2 matches without a score (postp.) ("),
-        ("Results\n\n" + cross, "1 line beside the cross table (line 1"),
-        ("Results\n\n" + cross + "Source: the league\n", "2 lines beside the cross table ("),
+        ("Results\n\n" + cross, "1 line outside the cross table (line 1"),
+        ("Results\n\n" + cross + "Source: the league\n", "2 lines outside the cross table ("),
     ):
         run = league("feed", evening.sheet, data=lines.encode("utf-8"))
         counter.check(f"slips: {says}", said(run, 0, says))

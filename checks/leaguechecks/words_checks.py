@@ -22,7 +22,7 @@ def options_of(part: str) -> set[str]:
 
 
 def completed(part: str) -> set[str]:
-    """The options that bash offers behind a part."""
+    """The options that bash offers after a part."""
     script = (f'. "{COMPLETION}"; COMP_WORDS=(league {part} --); COMP_CWORD=2; _league; '
               'printf "%s\\n" "${COMPREPLY[@]}"')
     run = subprocess.run(["bash", "-c", script], capture_output=True, check=False)

@@ -130,7 +130,7 @@ class Work:
         return time.monotonic() - self.began
 
     def end(self, log):
-        """Ends it where it still runs, and puts what was said behind the rest."""
+        """Ends it where it still runs, and puts what was said after the rest."""
         if self.process.poll() is None:
             self.process.terminate()
             self.process.wait()

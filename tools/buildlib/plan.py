@@ -23,7 +23,7 @@ def places():
 
 
 def told_seconds():
-    """What the proof of each crate took, as the table tells; nothing where it cannot be read."""
+    """What the proof of each crate took, as the table tells; nothing if it cannot be read."""
     told, at = {}, None
     try:
         with open(f"{HOME}/docs/CONTRIBUTING.md", encoding="utf-8") as lines:
@@ -42,7 +42,7 @@ def told_seconds():
 
 
 def built_at(crate):
-    """When the library of a crate was built, in nanoseconds; 0 where there is none."""
+    """When the library of a crate was built, in nanoseconds; 0 if there is none."""
     try:
         return os.stat(f"{HOME}/crates/{crate}/out/rlib/stamp").st_mtime_ns
     except OSError:
@@ -56,7 +56,7 @@ def stands(crate, below):
 
 
 def in_layers(needed):
-    """The crates, each behind those below it."""
+    """The crates, each after those below it."""
     found, more = [], [""]
     while more:
         more = [it for it in needed if it not in found and set(found).issuperset(needed[it])]

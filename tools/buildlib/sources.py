@@ -14,7 +14,7 @@ PARTS = ("src", "specs", "proofs")
 
 
 def crate_lines():
-    """The lines of crates.txt that name a crate: its name, the crates behind it, the line."""
+    """The lines of crates.txt that name a crate: its name, the crates after it, the line."""
     with open(f"{HOME}/crates.txt", encoding="utf-8") as lines:
         for line in lines:
             head, _, below = line.split("#")[0].partition(":")

@@ -58,7 +58,7 @@ def _take(aliases: dict[str, str], columns: list[str]) -> str:
         return "a line is OTHER NAME,CLUB"
     form = plain_form(columns[0])
     if aliases.get(form, columns[1]) != columns[1]:
-        return f"{shown(columns[0])} stands already, for {shown(aliases[form])}"
+        return f"{shown(columns[0])} is there already, for {shown(aliases[form])}"
     aliases[form] = columns[1]
     return ""
 

@@ -40,7 +40,7 @@ class ProofLine:
 
 @dataclass
 class Proof:
-    """The tree behind a row: `kind` is `tree` or `spent`, `lines` what follows the opening line."""
+    """The tree after a row: `kind` is `tree` or `spent`, `lines` what follows the opening line."""
 
     kind: str
     claim: str
@@ -86,7 +86,7 @@ class Score:
 
 @dataclass
 class Answer:
-    """What stands behind one `ask` row; `epoch` is the number of events before it."""
+    """What stands after one `ask` row; `epoch` is the number of events before it."""
 
     epoch: int
     line: int = 0
@@ -155,9 +155,9 @@ class _ReportReader:
             self._take_answer_row(record)
 
     def _take_answer_row(self, record: Record) -> None:
-        """Takes a row that stands behind an `ask`."""
+        """Takes a row that stands after an `ask`."""
         if not self.report.answers:
-            raise BadAnswer(record.line, "a row stands before the first `ask` row")
+            raise BadAnswer(record.line, "there is a row before the first `ask` row")
         answer, fields = self.report.answers[-1], record.fields
         if record.kind == "verdict":
             if fields[3] not in WORDS:
@@ -172,7 +172,7 @@ class _ReportReader:
             answer.table.append(Place(numbers[0], numbers[1], fields[3], *numbers[2:]))
 
     def take_proof_line(self, line: int, raw: bytes) -> None:
-        """Takes a line that is a JSON array; the trees behind a score are passed over."""
+        """Takes a line that is a JSON array; the trees after a score are passed over."""
         if self.is_behind_score:
             return
         try:
@@ -189,7 +189,7 @@ class _ReportReader:
     def _take_parts(self, line: int, parts: list) -> None:
         word = parts[0]
         if self.verdict is None:
-            raise BadAnswer(line, "a proof line stands behind no verdict row")
+            raise BadAnswer(line, "a proof line does not follow a verdict row")
         if word == "finish":
             self.proof = None
             self.example = Example(str(parts[1]))

@@ -1,8 +1,8 @@
 """Who is in, out and open at an ask, by files or from standard input.
 
-Files are a sheet and one feed or several, in whichever order; the end of a feed without an `ask`
-counts as one. Where a row is unsettled it is asked again with a greater budget. The same input has
-the same words.
+Files are a sheet and one feed or several, in any order; the end of a feed without an `ask` counts
+as one. If a row is unsettled it is asked again with a greater budget. The same input has the same
+words.
 """
 
 from __future__ import annotations

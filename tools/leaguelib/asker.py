@@ -24,7 +24,7 @@ class Asker:
         self.runs = ([own] if own else []) + [run for run in line_runs(beyond) if run]
 
     def words(self, events: list[bytes]) -> Words:
-        """The words of an ask behind these events, settled as far as budgets do it."""
+        """The words of an ask after these events, settled as far as budgets do it."""
         return self.more({}, events)
 
     def more(self, words: Words, events: list[bytes]) -> Words:
@@ -56,7 +56,7 @@ class Asker:
         return words_of(self._ask("verdicts", sheet, events).verdicts)
 
     def table(self, events: list[bytes]) -> list[Place]:
-        """The table behind these events."""
+        """The table after these events."""
         return self._ask("table", self.data, events).table
 
     def _ask(self, mode: str, sheet: bytes, events: list[bytes]) -> Answer:

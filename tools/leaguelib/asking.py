@@ -56,7 +56,7 @@ class Outcome:
 
 
 def run_mode(path: str, mode: str, data: bytes, *words: str) -> Run:
-    """Runs a mode of the program with one worker; trees behind scores are left out."""
+    """Runs a mode of the program with one worker; trees after scores are left out."""
     run = run_program(path, [mode, *ONE_WORKER, *words], data)
     if mode != "scores":
         return run
@@ -115,7 +115,7 @@ def _over_lines(path: str, mode: str, data: bytes, given: Given,
 
 
 def _bare(answers: list[Answer]) -> list[Asked]:
-    """Answers in front of a line that was refused."""
+    """Answers before a line that was refused."""
     return [Asked(position, 0, Season(), answer, 0) for position, answer in enumerate(answers)]
 
 
@@ -126,12 +126,12 @@ def _disagreement(given: Given) -> Stop:
     except Refused as refused:
         return Stop(common.OWN_FAULT, refused.code, refused.line,
                     f"{given.origin(refused.line)}: futmax takes this line and these tools refuse "
-                    f"it as `{refused.code}`: it may be of another version. Build it anew.")
+                    f"it as `{refused.code}`: it may be of another version. Build it again.")
     raise AssertionError("the input was read")
 
 
 def league_of(data: bytes) -> Input | None:
-    """The sheet and feed of an input, or none where the program refuses it as well."""
+    """The sheet and feed of an input, or none if the program refuses it as well."""
     try:
         return read_input(data, True)
     except Refused:
@@ -193,7 +193,7 @@ def _again(path: str, mode: str, given: Given, league: Input, ask: Asked) -> Ask
 
 
 def budget_note(ask: Asked) -> str:
-    """What to say where a row was unsettled; nothing where none was."""
+    """What to say where a row was unsettled; nothing if none was."""
     if not ask.is_asked_again and not ask.unsettled:
         return ""
     again = f"asked again with the budget {ask.budget:,}" if ask.is_asked_again else (
@@ -203,6 +203,6 @@ def budget_note(ask: Asked) -> str:
     rows = "1 row is" if ask.unsettled == 1 else f"{ask.unsettled} rows are"
     advice = "wait for the next results" if ask.budget >= MOST_BUDGET else (
         f"--budget N takes up to {MOST_BUDGET:,}")
-    says = "a range stands in place of a number" if ask.answer.scores else (
+    says = "a range replaces the number" if ask.answer.scores else (
         "nothing is said for or against the club")
     return f"{rows} unsettled ({again}): {says}; {advice}."

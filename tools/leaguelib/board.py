@@ -1,7 +1,7 @@
 """Writes an answer as one page for the browser: the table, a mark a line and club, what is new.
 
-The page stands alone: it loads nothing, it is whole without its script, and it prints on one or two
-sheets of paper. What changed is told since the ask before. With --tonight the page also tells what
+The page is self-contained: it loads nothing, it is whole without its script, and it prints on one
+or two sheets of paper. It says what changed since the ask before. With --tonight it also says what
 the next matches can decide: futmax is asked about every score of each of them.
 """
 
@@ -45,7 +45,7 @@ Mark = tuple[int, str]
 
 @dataclass
 class Board:
-    """What a page shows of one ask; `changes` is none where no ask stands before it.
+    """What a page shows of one ask; `changes` is none if no ask stands before it.
 
     `reasons` are short ones in words, `proved` the verdicts whose proofs were accepted, `enough`
     tells of open places how many points are enough.
@@ -90,9 +90,9 @@ def add_arguments(parser: argparse.ArgumentParser) -> None:
     parser.add_argument("--ask", type=int, metavar="N",
                         help="look at the Nth ask of the feed, from 1; otherwise at the last")
     parser.add_argument("-o", "--output", metavar="FILE", default="-",
-                        help="where the page is written; otherwise to standard output")
+                        help="file for the page; otherwise standard output")
     parser.add_argument("--tonight", action="store_true",
-                        help="tell what each match of the next day can decide by itself")
+                        help="also say what each match of the next day can decide by itself")
     add_budget_argument(parser)
     add_progress_argument(parser)
 
@@ -140,7 +140,7 @@ def board_of(path: str, given: Given, league: Input, position: int,
 
 
 def _test_names(board: Board) -> None:
-    """Ends the command where the program names clubs or lines that the sheet has not."""
+    """Ends the command if the program names clubs or lines that the sheet has not."""
     clubs = {club.name for club in board.sheet.clubs}
     wanted = {(places, club) for places in board.lines for club in clubs}
     if {place.club for place in board.table} != clubs or not set(board.verdicts) <= wanted:
@@ -192,7 +192,7 @@ def _add_outlook(board: Board, path: str, front: bytes, is_wanted: bool) -> None
     fixtures = next_matches(board.sheet, board.season, board.days)
     if not fixtures:
         common.say("league: --tonight: no match is open, or so many that the next ones need dates "
-                   "in the sheet, twelve a day at most; nothing is told of them")
+                   "in the sheet, twelve a day at most; they are left out")
         return
     runs = [with_lines_of(front, run) for run in line_runs(board.lines)]
     board.outlook = outlook(path, board.sheet, runs, fixtures, is_wanted)

@@ -64,16 +64,16 @@ class Bookkeeper:
         try:
             for record in records_of(data):
                 if self.reader.feed_reader is not None:
-                    raise common.Trouble(f"{name}, line {record.line}: a line stands behind "
-                                         f"`season`; "
-                                         "the sheet ends there, and the feed has a file of its own")
+                    raise common.Trouble(f"{name}, line {record.line}: a line comes after "
+                                         f"`season`; the sheet ends there, and the feed is a file "
+                                         f"of its own")
                 fields = record.fields
                 self.reader.take(record)
             fields = []
             self.reader.test_end(count_lines(data))
         except Refused as refused:
             words = words_for(refused, fields, self.reader.sheet)
-            raise common.Trouble(f"{name}, line {refused.line}: {words} (`league lint` tells "
+            raise common.Trouble(f"{name}, line {refused.line}: {words} (`league lint` says "
                                  f"more)") \
                 from refused
 
@@ -85,7 +85,7 @@ class Bookkeeper:
                 self.feed.take(record)
         except Refused as refused:
             words = words_for(refused, fields, self.reader.sheet)
-            raise common.Trouble(f"{name}, line {refused.line}: {words} (`league lint` tells "
+            raise common.Trouble(f"{name}, line {refused.line}: {words} (`league lint` says "
                                  f"more)") \
                 from refused
 
@@ -109,7 +109,7 @@ class Bookkeeper:
         return "," in line and (word in KINDS or word in OTHER_WORDS)
 
     def line_of(self, text: str) -> str | None:
-        """The line of the feed for a line by names, tested; none where it is empty or a comment."""
+        """The line of the feed for a line by names, tested; none if it is empty or a comment."""
         line = text.strip()
         if not line or line.startswith("#"):
             return None
@@ -133,7 +133,7 @@ class Bookkeeper:
         return self.line_of_match(kind, parts.match)
 
     def line_of_listed(self, match: Match) -> str | None:
-        """The line for a match of a list, none where its score stands already."""
+        """The line for a match of a list, none if its score stands already."""
         fixture = self.fixture_of("result", match)
         if self.feed.season.scores.get(fixture.number) == match.score:
             return None
@@ -179,7 +179,7 @@ class Bookkeeper:
         return self._tested(row_text("deduct", self.club(name.strip()), points).rstrip("\n"))
 
     def club(self, name: str) -> str:
-        """The club that a name means; raises `Unclear` where none is meant, or several may be."""
+        """The club that a name means; raises `Unclear` if none is meant, or several may be."""
         if name not in self.meant:
             try:
                 self.meant[name] = club_of(name, [club.name for club in self.sheet.clubs],
@@ -213,11 +213,11 @@ class Bookkeeper:
             date = self.dates.get(one.number)
             state = "played" if one.number in self.feed.season.scores else "open"
             choices.append(f"`{kind},{one.number}{goals}` ({date + ', ' if date else ''}{state})")
-        return (f"{match.home} - {match.away} stands {len(found)} times in the sheet.{dated} Write "
-                f"the date in front, or one of these: {', '.join(choices)}")
+        return (f"{match.home} - {match.away} comes {len(found)} times in the sheet.{dated} "
+                f"Write the date before it, or one of these: {', '.join(choices)}")
 
     def _tested(self, line: str) -> str:
-        """The line, where the program takes it; raises `Unclear` where it does not."""
+        """The line, where the program takes it; raises `Unclear` if it does not."""
         record = record_of(1, line.encode("utf-8", "surrogateescape"))
         if record is None:
             raise Unclear("this line has no field")

@@ -1,6 +1,6 @@
 """Whether a report of `futmax verdicts --proofs` proves what it says: `league check SHEET FEED
-REPORT`. The last file is the report; or one input has it behind the record `proofs`. Beside futmax
-the second checker is asked, and where the two differ the command says so.
+REPORT`. The last file is the report; or one input has it after the record `proofs`. The second
+checker is asked too, and if the two differ the command says so.
 """
 
 from __future__ import annotations
@@ -43,7 +43,7 @@ def run(arguments: argparse.Namespace) -> int:
     row = fields_of(done.output.splitlines()[-1]) if done.output else []
     if stop is None and (len(row) != 3 or row[0] != "accepted"):
         raise common.Trouble("futmax check ended with status 0 and did not say that it accepts: "
-                             "it may be of another version. Build it anew.", common.OWN_FAULT)
+                             "it may be of another version. Build it again.", common.OWN_FAULT)
     is_heard = is_second_agreed(given, done)
     if arguments.rows:
         common.write_text(done.output.decode("utf-8", "surrogateescape"))
@@ -85,7 +85,7 @@ def given_report(paths: list[str]) -> Given:
     name, report = files[-1]
     if kind_of(report) in ("sheet", "feed"):
         raise common.Trouble(f"there is no report: {name}, the last file, is a {kind_of(report)}. "
-                             "Name the report behind it, as in `league check SHEET FEED REPORT`.",
+                             "Name the report after it, as in `league check SHEET FEED REPORT`.",
                              common.BAD_WORDS)
     front = given_of(files[:-1], adds_ask=bool(report.strip()))
     data = ended(front.data)

@@ -102,12 +102,12 @@ def _without_spaces(fields: list[str], text: str) -> tuple[list[str], str]:
         changed.pop()
     hidden = any(sign in part for part in fields for sign in SPACES[2:])
     if hidden:
-        return changed, "a sign that cannot be seen stands beside a field: type the field anew"
-    return changed, "no space may stand beside a comma, nor at the line's begin or end"
+        return changed, "there is an invisible character beside a field: type the field again"
+    return changed, "leave out spaces beside a comma and at the beginning or end of the line"
 
 
 def _without_comment(fields: list[str], text: str) -> tuple[list[str], str]:
-    """A comment behind the record."""
+    """A comment after the record."""
     for number, part in enumerate(fields):
         found = re.search(r"\s*(#|//).*$", part)
         if number > 0 and found:

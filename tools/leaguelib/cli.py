@@ -1,7 +1,7 @@
 """The words of the command `league`: which part is called, and with which status it ends.
 
 A part is a module with `add_arguments(parser)` and `run(arguments) -> int`, and with `STATUSES`
-where its statuses are not those of the other parts. A part raises `Trouble` where it cannot go on.
+where its statuses are not those of the other parts. A part raises `Trouble` if it cannot go on.
 Parts whose module is not there are left out.
 """
 
@@ -50,12 +50,12 @@ class Parser(argparse.ArgumentParser):
     def __init__(self, **words: object) -> None:
         super().__init__(formatter_class=argparse.RawDescriptionHelpFormatter, **words)
         self.add_argument("--version", action="version", version=f"league {common.version()}",
-                          help="tell the version, and end")
+                          help="print the version and exit")
 
     def error(self, message: str) -> None:
         """Ends with the usage, the reason, and the status for words that do not fit."""
         self.print_usage(sys.stderr)
-        common.say(f"{self.prog}: {message}\n`{self.prog} --help` tells the words that fit.")
+        common.say(f"{self.prog}: {message}\n`{self.prog} --help` lists the options.")
         self.exit(common.BAD_WORDS)
 
 
@@ -68,8 +68,8 @@ def parts() -> dict[str, str]:
 def make_parser() -> Parser:
     """The parser of the command itself: it knows the parts by their names alone."""
     parser = Parser(prog="league", epilog=EXAMPLES + common.STATUS_TABLE,
-                    description="Asks the program futmax, says its answers in words, and makes and "
-                                "tests what it reads.")
+                    description="Asks the program futmax, explains its answers, and prepares and "
+                                "checks its input.")
     words = parser.add_subparsers(dest="part", metavar="PART", required=True,
                                   parser_class=argparse.ArgumentParser)
     for name, summary in parts().items():
@@ -90,7 +90,7 @@ def read_words(given: list[str]) -> argparse.Namespace:
     part.add_arguments(parser)
     parser.set_defaults(run=part.run, part=chosen)
     rest = given[1:]
-    # files may stand before and behind the options; what follows `--` is taken as it stands
+    # files may stand before and after the options; what follows `--` is taken as it stands
     return parser.parse_args(rest) if "--" in rest else parser.parse_intermixed_args(rest)
 
 

@@ -21,9 +21,9 @@ INTERRUPTED = 130
 
 STATUS_TABLE = """\
 exit statuses:
-  0    done, and nothing to mend
-  1    the words do not fit
-  2    something in the input has to be mended; the messages say what
+  0    done, and nothing to fix
+  1    wrong arguments
+  2    something in the input must be fixed; the messages say what
   3    the input can be used, and something in it looks wrong (lint, sheet)
   4    a file, or standard input, cannot be read
   5    the output cannot be written
@@ -36,12 +36,12 @@ exit statuses:
 FUTMAX_STATUSES = """\
 exit statuses, those of futmax:
   0    every ask is answered; or the report is accepted
-  1    the words do not fit
+  1    wrong arguments
   2    a line of the sheet is refused
   3    a line of the feed is refused; answers before it are good
   4    a file, or standard input, cannot be read
   5    the output cannot be written
-  6    memory ran out
+  6    out of memory
   7    the report is no proof
   8    a line has more than 1,024 bytes, or the input more than 67,108,864
   70   the program futmax is not there or cannot be run, or a fault of league itself
@@ -128,7 +128,7 @@ def program_path(given: str | None = None) -> str:
     for folder in os.environ.get("PATH", "").split(os.pathsep):
         if folder and os.access(os.path.join(folder, "futmax"), os.X_OK):
             return os.path.join(folder, "futmax")
-    raise Trouble("the program futmax is not built yet: run ./futmax once, or say --program PATH",
+    raise Trouble("the program futmax is not built yet: run ./futmax once, or give --program PATH",
                   NO_PROGRAM)
 
 

@@ -39,7 +39,7 @@ class Cross:
 
 
 def cross_of(lines: list[str]) -> Cross | None:
-    """The cross table that the lines are, with a row of heads or without; none where they are not
+    """The cross table that the lines are, with a row of heads or without; none if they are not
     one for sure.
     """
     filled = [(number, line) for number, line in enumerate(lines, 1) if line.strip()]
@@ -57,7 +57,7 @@ def cross_of(lines: list[str]) -> Cross | None:
 
 
 def test_divided(lines: list[str], file: str) -> None:
-    """Raises `Trouble` where a text begins like a cross table and nothing divides its columns."""
+    """Raises `Trouble` if a text begins like a cross table and nothing divides its columns."""
     for number, line in enumerate(lines[:5], 1):
         if CORNER_IN_FRONT.match(line.strip()):
             where = f"{file}, line {number}" if file else f"line {number}"
@@ -67,7 +67,7 @@ def test_divided(lines: list[str], file: str) -> None:
 
 
 def _with_heads(rows: list, passed: list[tuple[int, str]]) -> Cross | None:
-    """The cross table behind a row of heads whose first cell says which side is which."""
+    """The cross table after a row of heads whose first cell says which side is which."""
     for place, (_, _, cells) in enumerate(rows[:3]):
         is_corner = bool(CORNER.match(" ".join(cells[0].split())))
         if not is_corner and not _has_shape(rows[place + 1:], len(cells) - 1):
@@ -111,7 +111,7 @@ def read_cross(lines: list[str], cross: Cross, file: str) -> MatchList:
     names = [cells[0] for _, cells in cross.rows]
     order = _order(cross, names, file)
     for number, line in cross.passed:
-        found.passed.append(Passed("line beside the cross table", number, line))
+        found.passed.append(Passed("line outside the cross table", number, line))
     for row, (number, cells) in enumerate(cross.rows):
         for place, away in enumerate(order):
             cell = cells[place + 1] if place + 1 < len(cells) else ""
@@ -132,7 +132,7 @@ def read_cross(lines: list[str], cross: Cross, file: str) -> MatchList:
 
 
 def _order(cross: Cross, names: list[str], file: str) -> list[int]:
-    """The row of each column's club; raises `Trouble` where rows and columns do not fit."""
+    """The row of each column's club; raises `Trouble` if rows and columns do not fit."""
     where = f"{file}: " if file else ""
     width = max(len(cells) for _, cells in cross.rows) - 1
     heads = [head for head in cross.heads if head] if cross.heads else [""] * width
@@ -140,7 +140,7 @@ def _order(cross: Cross, names: list[str], file: str) -> list[int]:
         raise Trouble(f"{where}this is a cross table of {len(names)} rows and {len(heads)} "
                       "columns; each club has one of both")
     if len(set(names)) != len(names) or not all(names):
-        raise Trouble(f"{where}in this cross table a club's row stands twice, or has no name")
+        raise Trouble(f"{where}in this cross table a club has two rows, or a row has no name")
     forms = [plain_form(name) for name in names]
     places = [forms.index(plain_form(head)) if plain_form(head) in forms else -1 for head in heads]
     if sorted(places) == list(range(len(names))):

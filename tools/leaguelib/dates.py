@@ -1,6 +1,6 @@
 """Dates as lists of matches have them, in six languages, written as YYYY-MM-DD.
 
-A date without its year is kept as `Aug/17` until a full date in front of it tells the year.
+A date without its year is kept as `Aug/17` until a full date before it tells the year.
 """
 
 from __future__ import annotations
@@ -56,7 +56,7 @@ SLASHED = re.compile(r"(?<![\d/])(\d{1,2})/(\d{1,2})/(?:\d{4}|\d{2})(?![\d/])")
 
 @dataclass(frozen=True)
 class Front:
-    """A date at the front of a text, and what stands behind it."""
+    """A date at the front of a text, and what stands after it."""
 
     date: str
     rest: str
@@ -70,7 +70,7 @@ def folded(text: str) -> str:
 
 
 def front_date(text: str, is_month_first: bool = False) -> Front | None:
-    """The date with which a text begins, a weekday before it or not; none where it has none."""
+    """The date with which a text begins, a weekday before it or not; none if it has none."""
     line = folded(text)
     start = 1 if line.startswith(("[", "(")) else 0
     weekday = WEEKDAY_IN_FRONT.match(line, start)
@@ -90,7 +90,7 @@ def front_date(text: str, is_month_first: bool = False) -> Front | None:
 
 
 def _date_of(found: re.Match, is_month_first: bool) -> str:
-    """The date of a form that was found; nothing where its numbers are no date."""
+    """The date of a form that was found; nothing if its numbers are no date."""
     parts = found.groupdict()
     if parts.get("word"):
         month = _month_of(parts["word"])
@@ -110,7 +110,7 @@ def _date_of(found: re.Match, is_month_first: bool) -> str:
 
 
 def _month_of(word: str) -> int:
-    """The number of a month by its name; 0 where it is none."""
+    """The number of a month by its name; 0 if it is none."""
     name = word.rstrip(".")
     return next((OTHER_MONTHS[name[:size]] for size in (4, 3) if name[:size] in OTHER_MONTHS), 0)
 
@@ -154,7 +154,7 @@ def is_same_day(first: str, second: str) -> bool:
 
 def slashed_order(text: str) -> str:
     """The order of dates like 8/15/2024 in a list: `day`, `month` or `both`, told by numbers
-    above 12; nothing where no date tells it."""
+    above 12; nothing if no date tells it."""
     pairs = [(int(first), int(second)) for first, second in SLASHED.findall(text)]
     days = any(first > 12 >= second for first, second in pairs)
     months = any(second > 12 >= first for first, second in pairs)

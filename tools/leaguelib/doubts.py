@@ -14,9 +14,9 @@ MANY_GOALS = 15
 
 @dataclass(frozen=True)
 class Doubt:
-    """A sentence on something that looks wrong, and its line; 0 where it is about the whole.
+    """A sentence on something that looks wrong, and its line; 0 if it is about the whole.
 
-    What is minor is told only where nothing is refused.
+    What is minor is told only if nothing is refused.
     """
 
     line: int
@@ -77,7 +77,7 @@ def pair_doubts(sheet: Sheet) -> Iterator[Doubt]:
                        f"{some_pairs(fewer)}. Is a match missing?")
     if more:
         yield Doubt(_last_line(sheet, more[0]), f"{most}, and these meet more often: "
-                       f"{some_pairs(more)}. Does a match stand twice?")
+                       f"{some_pairs(more)}. Is a match listed twice?")
     if usual % 2 == 0 and not fewer and not more:
         uneven = [pair for pair in every if directed[pair] != directed[pair[::-1]]]
         if uneven:
@@ -136,8 +136,8 @@ def feed_doubts(sheet: Sheet, entries: list[Entry]) -> Iterator[Doubt]:
         yield Doubt(0, "the feed has no `ask`, so the program answers nothing. Write `ask` as the "
                        "last line")
     elif entries[-1].kind != "ask":
-        yield Doubt(entries[-1].line, "what stands behind the last `ask` is never answered. Write "
-                                      "`ask` once more at the end")
+        yield Doubt(entries[-1].line, "what comes after the last `ask` is never answered. Write "
+                                      "`ask` again at the end")
     yield from _goal_doubts(sheet, entries)
     season = Season()
     for entry in entries:

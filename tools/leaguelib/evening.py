@@ -31,7 +31,7 @@ def in_play_line(fixture: int, score: Score | None) -> str:
 
 
 def kind_of(line: str) -> str:
-    """The first field of a line of the log; nothing where futmax passes it over."""
+    """The first field of a line of the log; nothing if futmax passes it over."""
     record = record_of(1, line.encode("utf-8", "surrogateescape"))
     return record.kind if record else ""
 
@@ -60,7 +60,7 @@ class Evening:
                 if number not in scores}
 
     def line_of(self, text: str) -> str | None:
-        """The line of the log for a line as it was typed; none where there is nothing in it."""
+        """The line of the log for a line as it was typed; none if there is nothing in it."""
         plain = TILDE.sub(" ", text).strip()
         parts = Parts(None) if self.book.is_order(plain) else parts_of(plain)
         score = parts.told.in_play
@@ -77,7 +77,7 @@ class Evening:
         return in_play_line(entry.fixture, entry.score)
 
     def _test_open(self, match: Match) -> None:
-        """Raises `Unclear` where a match has a result, and so no score in play."""
+        """Raises `Unclear` if a match has a result, and so no score in play."""
         fixture, season = self.book.fixture_of("result", match), self.book.feed.season
         if fixture.number not in season.scores:
             return
@@ -87,18 +87,18 @@ class Evening:
                       offers_undo=is_last)
 
     def back(self) -> list[str]:
-        """The lines of the log that take the last one back; none where there is none."""
+        """The lines of the log that take the last one back; none if there is none."""
         return [UNDO, self._back[-1]] if self._back else []
 
     def nothing_back(self) -> str:
-        """What to say of an `undo` behind a line that was refused."""
+        """What to say of an `undo` after a line that was refused."""
         front = "the last line was refused, so there is nothing of it to take back"
         return front + (f"; `undo` again takes back {self._told[-1]}" if self._told else "")
 
     def take(self, line: str) -> str:
         """Takes a line of the log that changes something, and gives it in words.
 
-        Empty where nothing is said of it; raises `Unclear` where futmax would refuse it.
+        Empty if nothing is said of it; raises `Unclear` if futmax would refuse it.
         """
         text = line.strip()
         if text == UNDO:

@@ -1,10 +1,9 @@
 """Says an answer on one screen: who is in, out and open, and what changed since the ask before.
 
-The reasons stand behind --why: the shortest first, by points alone, by clubs that cannot pass, by
-matches between rivals, by clubs that can be level at the most; then the steps of the program's
-proof. The answer is that of the program; or a report that stands elsewhere (--answer), or behind
-the record `proofs` of the input. A proof is put into words only where the program's mode `check`
-has accepted the report that it stands in.
+--why gives the reasons: the shortest first, by points alone, by clubs that cannot pass, by matches
+between rivals, by clubs that can be level at the most; then the steps of the program's proof. The
+answer is the program's, or a report made elsewhere (--answer, or after the record `proofs` of the
+input). A proof is put into words only if the program's mode `check` has accepted its report.
 """
 
 from __future__ import annotations
@@ -30,7 +29,7 @@ from .wording import listed, paragraph
 
 __all__ = ["add_arguments", "run", "own_report"]
 NO_CHECK = ("This report was not checked, since the program here has no mode `check`: what "
-            "follows is what it says. Its proofs are not told.")
+            "follows is what it says. Its proofs are left out.")
 
 
 def add_arguments(parser: argparse.ArgumentParser) -> None:
@@ -49,9 +48,9 @@ def add_arguments(parser: argparse.ArgumentParser) -> None:
     parser.add_argument("--answer", metavar="FILE",
                         help="explain this report instead of running the program")
     parser.add_argument("--proof", action="store_true",
-                        help="tell the steps of the proof also where a shorter reason holds")
+                        help="give the steps of the proof even if a shorter reason holds")
     parser.add_argument("--steps", type=int, metavar="N", default=USUAL_STEPS,
-                        help=f"tell proofs of at most N lines ({USUAL_STEPS})")
+                        help=f"give proofs of at most N lines ({USUAL_STEPS})")
     add_alias_argument(parser)
     add_budget_argument(parser)
     add_progress_argument(parser)
@@ -91,7 +90,7 @@ def _text(arguments: argparse.Namespace, view: View, path: str, proved: Told | N
             view.ask.answer.verdicts = [it for it in view.ask.answer.verdicts
                                         if it.places == arguments.line]
         return first_screen(view) + "\n" + paragraph(
-            "Why: `league explain --why CLUB` behind the same files.") + "\n"
+            "Why: `league explain --why CLUB` and the same files.") + "\n"
     wanted = lines if arguments.line is None else [arguments.line]
     why = Why(view, path, proved, arguments.steps, arguments.proof)
     texts = [limit_text(sheet, view.season) + "\n"]
@@ -129,7 +128,7 @@ def _given_report(arguments: argparse.Namespace, given: Given,
     found = refusal_of_report(path, ended(front), report_bytes)
     report = _read(report_bytes)
     if found not in ("accepted", "unknown"):
-        raise common.Trouble(f"the checker refuses this report: {found}. Nothing of it is told.")
+        raise common.Trouble(f"the checker refuses this report: {found}. Nothing of it is shown.")
     outcome = _outcome_of(league, report, position_of(league, arguments.ask))
     shown = Given(given.whole, ended(front), given.paths, given.has_own_ask)
     view = viewed(shown, outcome, path, arguments.since)
@@ -146,7 +145,7 @@ def _read(data: bytes) -> Report:
 
 
 def _outcome_of(league: Input, report: Report, position: int) -> Outcome:
-    """A report as an outcome: the ask that is looked at, behind the one before it."""
+    """A report as an outcome: the ask that is looked at, after the one before it."""
     lines = ask_lines(league)
     if len(report.answers) != len(lines):
         raise common.Trouble(f"the report has {len(report.answers)} answers and the feed "
@@ -159,7 +158,7 @@ def _outcome_of(league: Input, report: Report, position: int) -> Outcome:
 
 
 def _test_names(sheet: Sheet, season: Season, ask: Asked) -> None:
-    """Ends the command where a report names clubs or matches that the sheet has not."""
+    """Ends the command if a report names clubs or matches that the sheet has not."""
     numbers = {fixture.number for fixture in season.open_fixtures(sheet)}
     for verdict in ask.answer.verdicts:
         fits = sheet.club_named(verdict.club) and 0 < verdict.places < len(sheet.clubs)

@@ -1,6 +1,6 @@
 """Turns results, corrections, annulments and deductions by names into lines of the feed. Each line
-is tested before it is written; where one is not clear, nothing at all is written, and nothing is
-guessed. Lines are written like these, with a date in front or not:
+is tested before it is written; if one is not clear, nothing at all is written, and nothing is
+guessed. Lines are written like these, with or without a date before them:
 
     Germany 5-1 Scotland              a result
     correct Germany 4-1 Scotland      another score for a match that has one
@@ -10,8 +10,8 @@ guessed. Lines are written like these, with a date in front or not:
 
 Lines of the feed itself (`result,1,5,1`) are taken too, and so is every list that `league sheet`
 takes, one or several: a table, a cross table, a text of openfootball, lines copied from a page.
-What is passed over, like headings and matches without a score, is said. A part of a club's name
-does where no other club has it.
+What is skipped, like headings and matches without a score, is reported. A part of a club's name is
+enough if no other club has it.
 """
 
 from __future__ import annotations
@@ -37,10 +37,10 @@ def add_arguments(parser: argparse.ArgumentParser) -> None:
                         help="the lines by names, in one file or several; standard input if left "
                              "out")
     add_alias_argument(parser)
-    parser.add_argument("--log", metavar="FEED", help="the feed so far; new lines go behind it")
+    parser.add_argument("--log", metavar="FEED", help="the feed so far; new lines go after it")
     parser.add_argument("--append", action="store_true",
                         help="write the new lines to the end of the feed so far")
-    parser.add_argument("--ask", action="store_true", help="write an `ask` behind the last line")
+    parser.add_argument("--ask", action="store_true", help="write an `ask` after the last line")
 
 
 def run(arguments: argparse.Namespace) -> int:
@@ -49,7 +49,7 @@ def run(arguments: argparse.Namespace) -> int:
         raise common.Trouble("--append needs --log FEED", common.BAD_WORDS)
     paths = arguments.lines or ["-"]
     if [arguments.sheet, *paths].count("-") > 1:
-        raise common.Trouble("standard input can be read once: say `-` once", common.BAD_WORDS)
+        raise common.Trouble("standard input can be read once: give `-` once", common.BAD_WORDS)
     log = _log_so_far(arguments)
     book = Bookkeeper(common.read_bytes(arguments.sheet), log, file_name(arguments.sheet),
                       arguments.log or "the feed", read_aliases(arguments.aliases))
@@ -73,7 +73,7 @@ def run(arguments: argparse.Namespace) -> int:
 
 
 def _log_so_far(arguments: argparse.Namespace) -> bytes:
-    """The feed so far; nothing where --append begins it, which is said."""
+    """The feed so far; nothing if --append begins it, which is said."""
     if not arguments.log:
         return b""
     if arguments.append and not os.path.exists(arguments.log):

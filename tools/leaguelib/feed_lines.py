@@ -83,7 +83,7 @@ def in_order(lists: list[MatchList]) -> list[tuple[MatchList, Match]]:
 def _given(book: Bookkeeper, file: str, data: bytes) -> list[Given]:
     """A file as lines; it is a list where no line is meant for the feed alone.
 
-    Such lines among the rows of a table are taken behind it.
+    Such lines among the rows of a table are taken after it.
     """
     notes: list[str] = []
     lines = lines_in(text_of(data, notes))
@@ -111,7 +111,7 @@ def _has_heads(lines: list[str]) -> bool:
 
 
 def _read(made: Made, given: Given, needs_scores: bool) -> list[MatchList]:
-    """The list that a file is; nothing where it cannot be read, which is noted."""
+    """The list that a file is; nothing if it cannot be read, which is noted."""
     try:
         return [read_text("\n".join(given.lines), given.file, needs_scores)]
     except common.Trouble as trouble:
@@ -124,7 +124,7 @@ def _take_match(made: Made, book: Bookkeeper, found: MatchList, match: Match) ->
     try:
         line = book.line_of_listed(match)
         if line is None:
-            found.passed.append(Passed("result that stands already", match.line, match.text))
+            found.passed.append(Passed("result that is there already", match.line, match.text))
         else:
             book.enter(line)
             made.lines += [*_date_above(book, match, line), line]

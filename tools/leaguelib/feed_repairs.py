@@ -29,8 +29,8 @@ def score_repairs(fields: list[str], sheet: Sheet, season: Season) -> Iterator[C
         if any(part in ("", "-", "x", "X", "?", "P", "tbd", "TBD", "n/a") for part in plain[2:]):
             yield Candidate("the score is missing: leave the line out until the match was played")
     if len(plain) > 4:
-        yield Candidate("a result has a fixture and the two scores: what stands behind them (half "
-                        "time, scorers) is left out", [line_text(*plain[:4])])
+        yield Candidate("a result has a fixture and the two scores: what follows them (half time, "
+                        "scorers) is left out", [line_text(*plain[:4])])
     if len(plain) == 4:
         yield from _known_already(plain, season)
 
@@ -120,4 +120,4 @@ def deduct_repairs(fields: list[str], sheet: Sheet) -> Iterator[Candidate]:
 
 def ask_repairs() -> Iterator[Candidate]:
     """What a refused `ask` was meant to be."""
-    yield Candidate("`ask` stands alone: each ask answers for every line and club", ["ask"])
+    yield Candidate("`ask` has no fields: each ask answers for every line and club", ["ask"])

@@ -1,4 +1,4 @@
-"""Feeds and whole inputs: the records behind `season`, tested in the order of docs/formats.md."""
+"""Feeds and whole inputs: the records after `season`, tested in the order of docs/formats.md."""
 
 from __future__ import annotations
 
@@ -83,9 +83,9 @@ class FeedReader:
 
 @dataclass
 class Input:
-    """A whole input: the sheet, the entries of the feed, and the lines behind `proofs`, if any.
+    """A whole input: the sheet, the entries of the feed, and the lines after `proofs`, if any.
 
-    `report_line` is the number of the first line behind `proofs`; 0 where there is none.
+    `report_line` is the number of the first line after `proofs`; 0 if there is none.
     """
 
     sheet: Sheet
@@ -93,7 +93,7 @@ class Input:
     report_line: int = 0
 
     def season_at(self, ask: int) -> Season:
-        """The season at an ask of the feed, counted from 0; behind the last ask, the end."""
+        """The season at an ask of the feed, counted from 0; after the last ask, the end."""
         season = Season()
         asks = 0
         for entry in self.entries:
@@ -136,14 +136,14 @@ class InputReader:
         return None
 
     def test_end(self, lines: int) -> None:
-        """Raises `Refused` where the input may not end behind so many lines."""
+        """Raises `Refused` if the input may not end after so many lines."""
         if self.feed_reader is None:
             code = "no_league" if self.sheet is None else "no_season"
             raise Refused(lines + 1, code, 0, "sheet")
 
 
 def read_input(data: bytes, takes_proofs: bool = False) -> Input:
-    """Reads a sheet and the feed behind it, or raises `Refused` at the line the program refuses."""
+    """Reads a sheet and the feed after it, or raises `Refused` at the line the program refuses."""
     reader = InputReader(takes_proofs)
     entries: list[Entry] = []
     for record in records_of(data):
@@ -158,7 +158,7 @@ def read_input(data: bytes, takes_proofs: bool = False) -> Input:
 
 
 def read_sheet(data: bytes) -> Sheet:
-    """Reads a file that holds a sheet; lines behind `season` are not looked at."""
+    """Reads a file that holds a sheet; lines after `season` are not looked at."""
     reader = SheetReader()
     for record in records_of(data):
         reader.take(record)

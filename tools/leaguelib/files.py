@@ -1,4 +1,4 @@
-"""Files that are no plain text as the program reads it, and several files one behind the other."""
+"""Files that are no plain text as the program reads it, and several files one after the other."""
 
 from __future__ import annotations
 
@@ -63,7 +63,7 @@ def _converted(data: bytes, encoding: str, messages: list[str]) -> bytes:
 
 @dataclass
 class Joined:
-    """Several files one behind the other, as `cat` joins them, and where each begins.
+    """Several files one after the other, as `cat` joins them, and where each begins.
 
     A start is the name of a file, the line of the whole in which its first own line stands, and the
     number of that line in the file: 2 where its first line is glued to the last of the file before.
@@ -80,12 +80,12 @@ class Joined:
             return f"line {line}"
         name, first, number = found[-1]
         if line > self.lines:
-            return f"{name}, behind line {self.lines - first + number}"
+            return f"{name}, after line {self.lines - first + number}"
         return f"{name}, line {line - first + number}"
 
 
 def joined(files: list[tuple[str, bytes]]) -> Joined:
-    """The files one behind the other; a line that two files share belongs to the first."""
+    """The files one after the other; a line that two files share belongs to the first."""
     starts: list[tuple[str, int, int]] = []
     parts: list[bytes] = []
     lines = 0

@@ -29,7 +29,7 @@ class Finding:
 class Outcome:
     """All that was found in an input; `refused` is the line at which the program stops.
 
-    `league_line` is the line of the first `league` record, wherever it stands; 0 where none does.
+    `league_line` is the line of the first `league` record, wherever it stands; 0 if none does.
     """
 
     findings: list[Finding] = field(default_factory=list)
@@ -48,7 +48,7 @@ class Outcome:
 
 
 def outcome_text(outcome: Outcome, whole: Joined) -> str:
-    """What was found, as text for people; nothing where nothing was found."""
+    """What was found, as text for people; nothing if nothing was found."""
     parts = _finding_texts(outcome.findings, whole)
     if outcome.more:
         lines = "1 more line" if outcome.more == 1 else f"{outcome.more} more lines"

@@ -28,8 +28,8 @@ def add_front_arguments(parser: argparse.ArgumentParser) -> None:
     forms.add_argument("--rows", action="store_true",
                        help="the rows as futmax writes them, without finishes and trees")
     parser.add_argument("--ask", type=int, metavar="N",
-                        help="the Nth ask of the feed alone, from 1; otherwise sentences tell the "
-                             "last one, and --json and --rows all of them")
+                        help="the Nth ask of the feed alone, from 1; otherwise sentences answer "
+                             "the last one, and --json and --rows all of them")
     add_progress_argument(parser)
 
 
@@ -84,7 +84,7 @@ def wanted_asks(given: Given, mode: str, wanted: int | None,
 
 
 def _for_programs(given: Given, outcome: Outcome, arguments: argparse.Namespace) -> str:
-    """The answer as rows, or as objects with the fault behind them."""
+    """The answer as rows, or as objects with the fault after them."""
     if arguments.rows:
         return "".join(rows_of(ask.answer) for ask in outcome.asked)
     sheet = outcome.league.sheet if outcome.league else None

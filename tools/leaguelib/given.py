@@ -1,4 +1,4 @@
-"""What a part is given: files read one behind the other, the sheet in front, with an ask at the end
+"""What a part is given: files read one after the other, the sheet in front, with an ask at the end
 where the feed has none; and where each line of the whole stands.
 """
 
@@ -20,7 +20,7 @@ STANDARD_INPUT = "standard input"
 class Given:
     """An input as futmax gets it, and the files that it came from.
 
-    `report_line` is the first line of a report behind the record `proofs`, and 0 where none is.
+    `report_line` is the first line of a report after the record `proofs`, and 0 if none is.
     """
 
     whole: Joined
@@ -44,14 +44,14 @@ class Given:
         return name, line - first + number
 
     def quoted(self, line: int) -> str:
-        """The line of the whole as a message shows it; nothing where there is no such line."""
+        """The line of the whole as a message shows it; nothing if there is no such line."""
         text = self.text_of(line)
         if not text:
             return ""
         return shown(text if len(text) <= MOST_QUOTED else text[:MOST_QUOTED] + "..")
 
     def text_of(self, line: int) -> str:
-        """The line of the whole, without its end; nothing where there is no such line."""
+        """The line of the whole, without its end; nothing if there is no such line."""
         rows = self.data.split(b"\n") if line > 0 else []
         if line > len(rows) or not rows:
             return ""
@@ -64,7 +64,7 @@ def add_file_arguments(parser: argparse.ArgumentParser) -> None:
                         help="sheet and feed, in one file or several; `-` is standard input (the "
                              "default). The end of a feed without an `ask` counts as one")
     parser.add_argument("--program", metavar="PATH",
-                        help="the program futmax, where it is not found by itself")
+                        help="the program futmax, if it is not found by itself")
 
 
 def read_all(paths: list[str]) -> list[tuple[str, bytes]]:
@@ -108,12 +108,12 @@ def _begins_a_sheet(data: bytes) -> bool:
 
 
 def ended(data: bytes) -> bytes:
-    """The bytes with a line end behind the last line."""
+    """The bytes with a line end after the last line."""
     return data if data.endswith(b"\n") or not data else data + b"\n"
 
 
 def _look(data: bytes) -> tuple[bool, bool, int]:
-    """Whether there is a `season` and an `ask` behind it, and the first line behind `proofs`."""
+    """Whether there is a `season` and an `ask` after it, and the first line after `proofs`."""
     has_season = has_ask = False
     for number, raw in enumerate(data.split(b"\n"), 1):
         kind = (fields_of(raw.rstrip(b"\r")) or [""])[0] if raw[:1] in b'sap"' else ""

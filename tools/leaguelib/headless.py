@@ -18,7 +18,7 @@ from .match_list import Match, MatchList, Wrong
 from .score_texts import OPEN_WORDS, Told, is_clock, read_goals, read_score
 from .match_tables import SIGNS, cells_of, pass_line
 
-ADVICE = ("Put a row of heads in front, like Date,HomeTeam,AwayTeam,FTHG,FTAG, with a head for "
+ADVICE = ("Put a row of heads before it, like Date,HomeTeam,AwayTeam,FTHG,FTAG, with a head for "
           "each column")
 MOST_NAMES = 8
 
@@ -55,7 +55,7 @@ def kind_of(cell: str) -> str:
 
 
 def plan_of(lines: list[str], file: str) -> Plan | None:
-    """The plan of the columns; none where the lines are no table, and `Trouble` where they are one
+    """The plan of the columns; none if the lines are no table, and `Trouble` where they are one
     and their columns are not clear.
     """
     filled = [line for line in lines if line.strip() and not line.startswith("#")]
@@ -94,13 +94,13 @@ def _name_columns(rows: list[list[str]], names: list[int], where: str) -> tuple[
              > min(len(values[first]), len(values[second]))]
     if len(pairs) == 1:
         return pairs[0]
-    raise Trouble(f"{where}this table has no heads, and it is not clear in which columns the two "
-                  f"clubs stand. {ADVICE}")
+    raise Trouble(f"{where}this table has no heads, and it is not clear which columns have the "
+                  f"two clubs. {ADVICE}")
 
 
 def _goals(rows: list[list[str]], kinds: list[Counter], home: int, away: int,
            where: str) -> tuple[int, int] | None:
-    """The columns of goals; none where nothing stands there that may be goals."""
+    """The columns of goals; none if nothing stands there that may be goals."""
     scores = [place for place, kind in enumerate(kinds) if kind["score"]]
     if len(scores) == 1:
         return scores[0], scores[0]
@@ -112,8 +112,8 @@ def _goals(rows: list[list[str]], kinds: list[Counter], home: int, away: int,
     if not scores and not numbers:
         marks = [place for place, kind in enumerate(kinds) if kind["open"] and place > home]
         return (marks[0], marks[0]) if len(marks) == 1 else None
-    raise Trouble(f"{where}this table has no heads, and it is not clear in which columns the goals "
-                  f"stand. {ADVICE}")
+    raise Trouble(f"{where}this table has no heads, and it is not clear which columns have the "
+                  f"goals. {ADVICE}")
 
 
 def read_headless(lines: list[str], plan: Plan, file: str, is_month_first: bool) -> MatchList:
@@ -145,7 +145,7 @@ def read_headless(lines: list[str], plan: Plan, file: str, is_month_first: bool)
 
 
 def _why_no_names(cells: list[str], plan: Plan) -> str:
-    """What is wrong with the names of a row; nothing where two names stand there."""
+    """What is wrong with the names of a row; nothing if two names stand there."""
     if len(cells) > plan.width:
         return "this row has more columns than the others"
     for place, side in ((plan.home, "home"), (plan.away, "away")):

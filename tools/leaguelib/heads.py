@@ -46,7 +46,7 @@ KNOWN = frozenset(
     "spielnummer spielnr index link url report matchreport".split())
 DIVISIONS = frozenset("div division league liga competition".split())
 SEASONS = frozenset("season saison temporada stagione epoca".split())
-# what bookmakers offer, as football-data has it behind the matches
+# what bookmakers offer, as football-data has it after the matches
 ODDS = re.compile(r"^(?:b365|bw|bfe?d?|bmgm|bv|cl|lb|ps?|wh|1xb|iw|vc|max|avg|gb|bs|sb|sj|sy|so|"
                   r"bb(?:mx|av)?)c?(?:[hda]|25|ahh?|aha)$|^(?:bb)?ahc?h?$|^bb\w{2,5}$")
 
@@ -149,7 +149,7 @@ def is_head_row(cells: list[str]) -> bool:
 
 
 def missing_side(cells: list[str]) -> str:
-    """What to say where the cells have a head for one side alone; nothing where they have not."""
+    """What to say where the cells have a head for one side alone; nothing if they have not."""
     columns = columns_of(cells)
     others = [plain_head(cell) in DATE | SCORE | KNOWN for cell in cells]
     if (columns.home < 0) == (columns.away < 0) or (not any(others) and not columns.has_score):

@@ -16,7 +16,7 @@ from .zones import Zone, match_points
 def idle_matches(trial: Trial, club: str, scores: Scores, candidates: Iterable[int]) -> list[int]:
     """Those of the candidates that can end as they like, with the other scores told.
 
-    Matches without a told score may end as they like already. None where one of them is the
+    Matches without a told score may end as they like already. None if one of them is the
     club's own, as its points are not known then.
     """
     sheet = trial.sheet

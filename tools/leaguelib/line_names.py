@@ -39,7 +39,7 @@ class LineNames:
         return f"{self.inside[places]} ({count})"
 
     def outside(self, places: int) -> str:
-        """What those are that miss the line, like `relegated`; nothing where nothing was said."""
+        """What those are that miss the line, like `relegated`; nothing if nothing was said."""
         return self.below.get(places, "")
 
 
@@ -63,7 +63,7 @@ def asked_lines(data: bytes, sheet: Sheet) -> list[int]:
 
 
 def comment_lines(data: bytes) -> list[tuple[int, int]]:
-    """The numbers of the comments `# line K` behind the last club, and their K."""
+    """The numbers of the comments `# line K` after the last club, and their K."""
     found: list[tuple[int, int]] = []
     for number, text in _comments(data, has_clubs=True):
         if text == "club":
@@ -103,7 +103,7 @@ def add_name_arguments(parser: argparse.ArgumentParser) -> None:
 
 
 def told_names(words: list[str], lines: list[int], is_relegated: bool) -> LineNames:
-    """The names that the command line tells; raises `Trouble` where one does not fit."""
+    """The names that the command line tells; raises `Trouble` if one does not fit."""
     names = LineNames()
     for word in words:
         number, sign, name = word.partition("=")

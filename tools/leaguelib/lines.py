@@ -16,7 +16,7 @@ from .texts import MOST_LINES
 
 
 def line_runs(lines: list[int], most: int = MOST_LINES) -> list[list[int]]:
-    """The lines in runs of at most so many; one run without a line where there is none."""
+    """The lines in runs of at most so many; one run without a line if there is none."""
     return [lines[at:at + most] for at in range(0, len(lines), most)] or [[]]
 
 
@@ -46,7 +46,7 @@ def with_lines_of(data: bytes, lines: list[int]) -> bytes:
 def joined_answer(answers: list[Answer]) -> Answer:
     """One answer of the runs over one input: the rows of each line, from the first line on.
 
-    Raises `ValueError` where the answers stand behind different events.
+    Raises `ValueError` if the answers stand after different events.
     """
     if len({answer.epoch for answer in answers}) != 1:
         raise ValueError("these are answers to different asks")

@@ -21,7 +21,7 @@ class LineSource:
         self._has_ended = False
 
     def wait(self) -> str | None:
-        """The next line without its end, or none where there is no further one."""
+        """The next line without its end, or none if there is no further one."""
         while b"\n" not in self._rest and not self._has_ended:
             ready, _, _ = select.select([self._file], [], [], GLANCE_SECONDS)
             if not ready:
@@ -37,7 +37,7 @@ class LineSource:
 
 
 class Prompt:
-    """What stands in front of a line that is typed; nothing where nobody types."""
+    """What stands before a line that is typed; nothing if nobody types."""
 
     TEXT = "> "
 

@@ -1,5 +1,5 @@
 """Looks for mistakes in a sheet and a feed: says what the program would refuse, line by line, with
-what to write instead, and what it would take though it looks wrong. Files are read one behind the
+what to write instead, and what it would take though it looks wrong. Files are read one after the
 other, as `cat` joins them; `-` is standard input.
 """
 
@@ -26,9 +26,9 @@ MOST_REFUSED = 10_000
 def add_arguments(parser: argparse.ArgumentParser) -> None:
     """The words of `league lint`."""
     parser.add_argument("files", nargs="+", metavar="FILE", help="sheet, feed; or both in one file")
-    parser.add_argument("--quiet", action="store_true", help="say nothing where nothing is wrong")
+    parser.add_argument("--quiet", action="store_true", help="say nothing if nothing is wrong")
     parser.add_argument("--sheet-only", action="store_true",
-                        help="the files hold a sheet alone: do not miss a feed")
+                        help="the files hold a sheet alone: expect no feed")
     parser.add_argument("--mode", default="verdicts",
                         choices=("verdicts", "table", "scores", "check"),
                         help="the mode in which futmax is to be run (verdicts)")
@@ -64,7 +64,7 @@ def looked_at(files: list[tuple[str, bytes]], is_sheet_only: bool = False,
 
 
 def look(data: bytes, is_sheet_only: bool = False, mode: str = "verdicts") -> Outcome:
-    """Looks at a whole input in UTF-8; in the mode `check` the report behind `proofs` is not."""
+    """Looks at a whole input in UTF-8; in the mode `check` the report after `proofs` is not."""
     takes_proofs = mode == "check"
     outcome = Outcome(refused=refusal_of(data, takes_proofs), league_line=_league_line(data))
     reader = InputReader(takes_proofs)
@@ -87,13 +87,13 @@ def look(data: bytes, is_sheet_only: bool = False, mode: str = "verdicts") -> Ou
         if reader.feed_reader is not None and not is_sheet_only:
             outcome.doubts.extend(feed_doubts(reader.sheet, entries))
             if takes_proofs and not any(entry.kind == "proofs" for entry in entries):
-                outcome.doubts.append(Doubt(0, "the input has no `proofs`, behind which the report "
-                                               "stands that the mode `check` looks at"))
+                outcome.doubts.append(Doubt(0, "the input has no `proofs`; the report for the "
+                                               "mode `check` comes after it"))
     return outcome
 
 
 def _league_line(data: bytes) -> int:
-    """The line of the first `league` record; 0 where none stands in the input."""
+    """The line of the first `league` record; 0 if none stands in the input."""
     place = 0 if data.startswith(b"league,") else data.find(b"\nleague,") + 1
     return data.count(b"\n", 0, place) + 1 if place or data.startswith(b"league,") else 0
 
@@ -148,19 +148,19 @@ def _advice_on_first(record: Record, league_line: int) -> Advice | None:
         return Advice("This looks like the first row of a fixture list. futmax takes no header "
                       "row: leave the line out. `league sheet` makes a sheet of a fixture list.")
     if league_line and record.kind in FEED_KINDS:
-        return Advice("This is a line of a feed, and the sheet stands behind it: the sheet comes "
+        return Advice("This is a line of a feed, and the sheet comes after it: put the sheet "
                       "first, as in `league lint SHEET FEED`.")
     if league_line and record.kind in KINDS:
-        return Advice("The first record has to be `league`, and it stands further down, in line "
+        return Advice("The first record must be `league`, and it comes further down, in line "
                       f"{league_line}: move it to the top.")
     if record.kind in FEED_KINDS:
-        return Advice("This is a line of a feed, and the sheet is missing in front of it: "
-                      "`league lint SHEET FEED` reads both.")
+        return Advice("This is a line of a feed, and the sheet is missing before it: `league lint "
+                      "SHEET FEED` reads both.")
     return None
 
 
 def _take_late_club(record: Record, reader: InputReader) -> None:
-    """Takes a club that stands too late, so that the matches behind it are understood."""
+    """Takes a club that stands too late, so that the matches after it are understood."""
     try:
         reader.sheet_reader.take_club(record)
     except (Refused, IndexError):

@@ -59,7 +59,7 @@ class LiveLog:
         self._write(line.encode("utf-8", "surrogateescape") + b"\n")
 
     def grown(self) -> list[str]:
-        """The whole lines that stand behind those taken so far, whoever wrote them."""
+        """The whole lines that stand after those taken so far, whoever wrote them."""
         stamp = self._stamp_now()
         if stamp == self._stamp:
             return []
@@ -150,13 +150,13 @@ class LiveLog:
         self.path = beside
         self._write(self.known)
         self._stamp = self._stamp_now()
-        self.notes.append(f"{old}: another program changed or removed what stood there already. "
-                          f"Nothing is lost: all that was taken is in {beside}, which is the log "
+        self.notes.append(f"{old}: another program changed or removed lines of it. Nothing is "
+                          f"lost: all that was taken is in {beside}, which is the log "
                           "from now on")
 
 
 def _free_name(path: str) -> str:
-    """The name, or with a number behind it where it is taken."""
+    """The name, or with a number after it where it is taken."""
     names = (path + (str(number) if number > 1 else "") for number in itertools.count(1))
     return next(name for name in names if not os.path.exists(name))
 

@@ -1,7 +1,7 @@
 """Asks many leagues after each day or matchday, and writes a row for each change of a word: date,
 league, line, club, word. WHERE is a folder with a folder for each league, or a list with a league a
 line, `SHEET FEED` or `NAME,SHEET,FEED`. A run that was broken off goes on where it stopped; a
-league that cannot be answered is told, and the others go on. docs/many.md tells more.
+league that cannot be answered is reported, and the others go on. docs/many.md says more.
 """
 
 from __future__ import annotations
@@ -34,19 +34,19 @@ def add_arguments(parser: argparse.ArgumentParser) -> None:
                         help="a folder of leagues, or a list of them; `-` is a list on standard "
                              "input")
     parser.add_argument("--at", choices=(DAYS, MATCHDAYS, ASKS, END), default=DAYS,
-                        help="when is asked: after each day (the default; matchdays where no dates "
+                        help="when is asked: after each day (the default; matchdays if no dates "
                              "are known), after each matchday, at the feed's own asks, at the end")
     parser.add_argument("--every", type=int, default=0, metavar="N",
                         help="ask after every N events instead")
     parser.add_argument("--budget", type=int, metavar="N",
                         help=f"this budget, 1 to {MOST_BUDGET}, in place of those of the sheets")
-    parser.add_argument("-o", "--output", metavar="FILE", help="where the rows are written")
+    parser.add_argument("-o", "--output", metavar="FILE", help="file for the rows")
     parser.add_argument("--json", action="store_true", help="JSON lines in place of CSV")
     parser.add_argument("--db", metavar="FILE",
                         help="put the leagues into this database of SQLite; without -o no rows are "
                              "written elsewhere")
     parser.add_argument("--journal", metavar="FOLDER",
-                        help="where finished leagues are kept; else beside the output")
+                        help="folder for finished leagues; otherwise beside the output")
     parser.add_argument("--jobs", type=int, metavar="N",
                         help="how many at a time (as many as processors)")
     parser.add_argument("--by", choices=tuple(ENGINES), help="an engine for other machines")
@@ -56,13 +56,13 @@ def add_arguments(parser: argparse.ArgumentParser) -> None:
     parser.add_argument("--word", action="append", default=[], metavar="WORD",
                         help="a word for the engine's own command, like --word=--partition=short")
     parser.add_argument("--batch", type=int, default=BATCH, metavar="N",
-                        help="how many leagues an engine gets at a time, where it counts files "
+                        help="how many leagues an engine gets at a time, if it counts files "
                              f"({BATCH})")
     parser.add_argument("--ship", metavar="FILE",
                         help="only write this command and the program as one file")
     parser.add_argument("--worker", action="store_true", help=argparse.SUPPRESS)
     parser.add_argument("--program", metavar="PATH",
-                        help="the program futmax, where it is not found by itself")
+                        help="the program futmax, if it is not found by itself")
     add_progress_argument(parser)
 
 
@@ -89,7 +89,7 @@ def run(arguments: argparse.Namespace) -> int:
 
 
 def _test_words(arguments: argparse.Namespace) -> None:
-    """Ends the command where words do not fit together."""
+    """Ends the command if words do not fit together."""
     wrong = ""
     if arguments.where is None and not arguments.ship:
         wrong = "WHERE is missing: a folder of leagues, or a list of them."
@@ -111,7 +111,7 @@ def _work(arguments: argparse.Namespace) -> int:
 
 
 def _journal_place(arguments: argparse.Namespace) -> str | None:
-    """Where the journal is kept; none where it need not outlast the run."""
+    """Where the journal is kept; none if it need not outlast the run."""
     if arguments.journal:
         return arguments.journal
     beside = arguments.output or arguments.db
@@ -171,8 +171,8 @@ def _tell(tasks: list[Task], journal: Journal) -> int:
     if not statuses:
         return common.DONE
     count = f"{len(tasks):,} leagues" if len(tasks) > 1 else "1 league"
-    common.say(f"league: {len(statuses):,} of {count} not answered; the others are. Mend them, and "
-               "run it again: what is answered is kept where there is a journal.")
+    common.say(f"league: {len(statuses):,} of {count} not answered; the others are. Fix them, and "
+               f"run it again: with a journal what is answered is kept.")
     if common.NO_PROGRAM in statuses:
         return common.NO_PROGRAM
     return statuses[0] if len(set(statuses)) == 1 else common.TO_MEND

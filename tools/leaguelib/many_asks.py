@@ -22,7 +22,7 @@ FULL_DATE = re.compile(r"^\d{4}-\d{2}-\d{2}$")
 
 @dataclass
 class Moment:
-    """Where is asked: behind these lines of the feed, and what the moment is called."""
+    """Where is asked: after these lines of the feed, and what the moment is called."""
 
     label: str
     lines: list[bytes]

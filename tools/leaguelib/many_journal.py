@@ -31,7 +31,7 @@ class Journal:
             raise self._trouble(fault) from fault
 
     def hold(self) -> None:
-        """Takes the journal for this run; raises `Trouble` where another run has it."""
+        """Takes the journal for this run; raises `Trouble` if another run has it."""
         try:
             fcntl.flock(self._lock, fcntl.LOCK_EX | fcntl.LOCK_NB)
         except BlockingIOError as fault:
@@ -62,7 +62,7 @@ class Journal:
             raise self._trouble(fault) from fault
 
     def get(self, league: str) -> Part | None:
-        """The part of a league, or none where none is kept, or what is kept is no part."""
+        """The part of a league, or none if none is kept, or what is kept is no part."""
         try:
             with open(self.path_of(league), encoding="ascii") as file:
                 part = part_of(json.load(file))

@@ -98,7 +98,7 @@ def answered_input(name: str, given: Given, settings: Settings) -> Part:
 
 
 def _read(part: Part, given: Given) -> Input | None:
-    """The sheet and feed; none where a line is refused, which is noted."""
+    """The sheet and feed; none if a line is refused, which is noted."""
     reader = InputReader()
     data, entries, fields = given.whole.data, [], []
     try:
@@ -163,7 +163,7 @@ def _changes(program: str, data: bytes) -> Iterator[list[tuple[int, str, str]]]:
 
 
 def rows_of(program: str, data: bytes) -> Iterator[bytes]:
-    """The rows of a run with one worker, without finishes; raises `Trouble` where it ends badly.
+    """The rows of a run with one worker, without finishes; raises `Trouble` if it ends badly.
 
     What the program writes goes to a file that has no name, and is read piece by piece: the program
     never waits for its reader, and no answer is ever in memory whole.

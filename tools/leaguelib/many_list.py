@@ -29,7 +29,7 @@ class Task:
     paths: tuple[str, ...]
 
     def read(self) -> Given:
-        """Sheet and feed as one input; raises `Trouble` where a file cannot be read."""
+        """Sheet and feed as one input; raises `Trouble` if a file cannot be read."""
         return given_of([(plain(path), common.read_bytes(path)) for path in self.paths],
                         adds_ask=False)
 
@@ -40,11 +40,11 @@ def plain(name: str) -> str:
 
 
 def tasks_in(where: str) -> list[Task]:
-    """The leagues of a folder or of a list; raises `Trouble` where there are none."""
+    """The leagues of a folder or of a list; raises `Trouble` if there are none."""
     is_folder = where != "-" and os.path.isdir(where)
     tasks = _in_folder(where) if is_folder else _in_list(where)
     if not tasks and is_folder:
-        raise common.Trouble(f"{plain(where)}: no league stands here. A league is a folder with "
+        raise common.Trouble(f"{plain(where)}: there is no league here. A league is a folder with "
                              f"{SHEET} and {FEED}, or a file that begins with a `league` record.")
     if not tasks:
         raise common.Trouble(f"{plain(where)}: this list names no league. Write `SHEET FEED`, a "
@@ -132,10 +132,10 @@ def _name_of(file: str) -> str:
 
 
 def _test_names(places: list[tuple[str, str]]) -> None:
-    """Raises `Trouble` where two leagues have one name, as their rows could not be told apart."""
+    """Raises `Trouble` if two leagues have one name, as their rows could not be told apart."""
     seen: dict[str, str] = {}
     for name, place in places:
         if name in seen:
-            raise common.Trouble(f"{place}: a league {name} stands in {seen[name]} already. Give "
+            raise common.Trouble(f"{place}: a league {name} is in {seen[name]} already. Give "
                                  "each a name of its own: `NAME,SHEET,FEED`.")
         seen[name] = place

@@ -24,7 +24,7 @@ class Worker:
         self.process: subprocess.Popen | None = None
 
     def answer(self, line: str) -> Part | None:
-        """The part for a task, or none where the worker ended over it."""
+        """The part for a task, or none if the worker ended over it."""
         if self.process is None:
             self.process = subprocess.Popen(self.command, stdin=subprocess.PIPE,
                                             stdout=subprocess.PIPE)

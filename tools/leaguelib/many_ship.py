@@ -64,7 +64,7 @@ def write_shipped(program: str, path: str, has_main: bool = True) -> None:
 
 
 def archive_path() -> str:
-    """The one file that this module was read from; nothing where it was read from a folder."""
+    """The one file that this module was read from; nothing if it was read from a folder."""
     return getattr(__spec__.loader, "archive", "")
 
 

@@ -22,7 +22,7 @@ TRIES = 3
 
 
 def line_of(task: Task, settings: Settings, has_files: bool) -> str:
-    """A task as a worker takes it; raises `Trouble` where its files cannot be read."""
+    """A task as a worker takes it; raises `Trouble` if its files cannot be read."""
     value = {"league": task.name, "settings": asdict(replace(settings, program=""))}
     if has_files:
         value["files"] = [[plain(path), common.read_bytes(path).decode("latin-1")]

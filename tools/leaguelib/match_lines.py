@@ -41,8 +41,8 @@ TIGHT = re.compile(r"^([^–—]*[^\s–—])[–—]([^\s–—][^–—]*?)(?:
 TAILS = re.compile(r"\s+(\([^()]*\)|\[[^\[\]]*\]|[-–—]\s?:\s?[-–—]|[?*_]\s?[:-]\s?[?*_]|\S+)$")
 VENUE = re.compile(r"\s+@\s.*$")
 MOST_TAILS = 6
-HINT = ("A match is written like `Germany - Scotland` or `Germany 5-1 Scotland`, with a date in "
-        "front or not. Where the columns of a table have no heads, put a row in front like "
+HINT = ("A match is written like `Germany - Scotland` or `Germany 5-1 Scotland`, with or without "
+        "a date before it. If the columns of a table have no heads, put a row above them like "
         "HomeTeam,AwayTeam,FTHG,FTAG.")
 
 
@@ -79,7 +79,7 @@ def parts_of(line: str, is_month_first: bool = False) -> Parts:
 
 
 def _without_tails(text: str) -> tuple[str, list[str]]:
-    """The line without what may stand behind names and score, and what stood there."""
+    """The line without what may stand after names and score, and what stood there."""
     marks: list[str] = []
     for _ in range(MOST_TAILS):
         found = TAILS.search(text)
@@ -146,7 +146,7 @@ def _told(score: tuple[int, int] | None, marks: list[str]) -> Told:
     if any(one.why for one in bare):
         return next(one for one in bare if one.why)
     if any(HALF_TIME.match(mark) and not is_clock(mark) for mark in marks):
-        return Told(why="a score stands in brackets alone: is it half time? Write the score that "
+        return Told(why="the only score is in brackets: is it half time? Write the score that "
                         "counts without brackets")
     told = [read_score(mark.strip("()[]")) for mark in marks]
     return next((one for one in told if one.word), Told())
@@ -158,14 +158,14 @@ def _why_no_match(text: str) -> str:
         return "after extra time or penalties, and the two names cannot be told apart"
     goals = re.findall(r"(?<!\d)" + GOALS + r"(?!\d)", text)
     if len(goals) > 1:
-        return "cannot be read as a match, since more than one score stands in it"
+        return "cannot be read as a match, since it has more than one score"
     if re.search(r"\d\s?[-:]\s?\d{3}|\d{3}\s?[-:]\s?\d", text):
         return "cannot be read as a match: goals are whole numbers from 0 to 99"
     return "cannot be read as a match"
 
 
 def why_no_name(name: str, side: str) -> str:
-    """What is wrong with a field for a name; nothing where it can be one."""
+    """What is wrong with a field for a name; nothing if it can be one."""
     if not name:
         return f"the {side} side's name is missing"
     if not re.search(r"[^\W\d_]", name):
@@ -173,7 +173,7 @@ def why_no_name(name: str, side: str) -> str:
     found = NO_NAME.search(plain_signs(name))
     if not found:
         return ""
-    what = "a score stands" if re.search(r"\d", found.group()) else "two names stand"
+    what = "there is a score" if re.search(r"\d", found.group()) else "there are two names"
     return f"{what} in the {side} side's name"
 
 
@@ -238,7 +238,7 @@ def note_told(found: MatchList, told: Told, number: int, line: str) -> None:
         found.passed.append(Passed(f"match without a score{word}{remark}", number, line))
     elif told.remark == "after extra time":
         where = f"{found.file}, line {number}" if found.file else f"line {number}"
-        found.notes.append(f"{where}: after extra time; the score was taken as it stands. Look "
+        found.notes.append(f"{where}: after extra time; the score was taken as it is. Check "
                            f"whether it counts so: {line.strip()}")
 
 

@@ -13,16 +13,16 @@ MOST_WRONG = 10
 MOST_SHOWN = 120
 PLURALS = {"heading": "headings", "line with a date": "lines with a date",
            "line of scorers": "lines of scorers", "row of heads": "rows of heads",
-           "line beside the cross table": "lines beside the cross table",
+           "line outside the cross table": "lines outside the cross table",
            "match without a score": "matches without a score",
-           "result that stands already": "results that stand already"}
+           "result that is there already": "results that are there already"}
 
 
 @dataclass(frozen=True)
 class Match:
     """A match by names, its score and date where they are known, and where it stands.
 
-    `text` is the line as it stands in the file; `file` is empty where it was typed.
+    `text` is the line as it stands in the file; `file` is empty if it was typed.
     """
 
     home: str
@@ -70,7 +70,7 @@ class MatchList:
         self.divisions.setdefault(head, {}).setdefault(value, set()).update(clubs)
 
     def test_divisions(self) -> None:
-        """Raises `Trouble` where a column names several divisions that share no club."""
+        """Raises `Trouble` if a column names several divisions that share no club."""
         for head, found in self.divisions.items():
             clubs = [club for names in found.values() for club in names]
             if len(found) > 1 and len(clubs) == len(set(clubs)):
@@ -78,14 +78,14 @@ class MatchList:
                                    for value, names in found.items())
                 raise Trouble(f"the column {quoted(head)} has {len(found)} divisions that share no "
                               f"club: {values}. A sheet is one league: keep the rows of one of "
-                              "them under the heads, or say --as-is if they are one league")
+                              f"them under the heads, or give --as-is if they are one league")
 
     def add(self, match: Match) -> None:
         """Takes a match."""
         self.matches.append(match)
 
     def passed_text(self) -> str:
-        """What was passed over, in a sentence; nothing where nothing was."""
+        """What was passed over, in a sentence; nothing if nothing was."""
         counts = Counter(one.why for one in self.passed)
         parts = []
         for why, number in counts.items():
@@ -93,7 +93,7 @@ class MatchList:
             lines = "; ".join(f"line {one.line} {quoted(one.text)}" for one in first)
             more = ", .." if number > len(first) else ""
             parts.append(f"{number} {plural(why, number)} ({lines}{more})")
-        return f"{self.file or 'the list'}: passed over: " + ", ".join(parts) if parts else ""
+        return f"{self.file or 'the list'}: skipped: " + ", ".join(parts) if parts else ""
 
 
 def plural(why: str, number: int) -> str:

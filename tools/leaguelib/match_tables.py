@@ -33,7 +33,7 @@ class Head:
 
 
 def head_of(lines: list[str]) -> Head | None:
-    """The row of heads among the first lines; raises `Trouble` where one side alone has a head."""
+    """The row of heads among the first lines; raises `Trouble` if one side alone has a head."""
     front = [number for number, line in enumerate(lines) if line.strip()][:FRONT_LINES]
     for number in front:
         for sign in sorted(SIGNS, key=lines[number].count, reverse=True):
@@ -108,7 +108,7 @@ class TableReader:
                              line, self.found.file))
 
     def _names(self, cell) -> tuple[str, str] | None:
-        """The two names of a row; none where one column has both and cannot be read."""
+        """The two names of a row; none if one column has both and cannot be read."""
         if self.columns.pair < 0:
             return cell(self.columns.home), cell(self.columns.away)
         match = match_of_line(cell(self.columns.pair))
@@ -139,7 +139,7 @@ class TableReader:
                 self.others.add(place)
 
     def test_scores(self, needs_scores: bool) -> None:
-        """Raises `Trouble` where scores may stand under a head that is not known."""
+        """Raises `Trouble` if scores may stand under a head that is not known."""
         goals = {place: one for place, one in self.goals.items() if place not in self.others}
         loose = {**self.loose, **(goals if len(goals) > 1 else {})}
         if self.columns.has_score or not (loose or (needs_scores and self.found.matches)):
@@ -168,7 +168,7 @@ def pass_line(found: MatchList, wrong: Wrong, number: int, line: str) -> None:
 
 
 def _why_no_names(names: tuple[str, str] | None) -> str:
-    """What is wrong with the names of a row; nothing where both are there."""
+    """What is wrong with the names of a row; nothing if both are there."""
     if names is None or not any(names):
         return "the names of the two clubs are missing"
     return why_no_name(names[0], "home") or why_no_name(names[1], "away")

@@ -43,12 +43,12 @@ def lines_in(text: str) -> list[str]:
 
 
 def is_month_first(text: str, file: str) -> bool:
-    """Whether dates like 8/15/2024 have the month first; raises `Trouble` where both stand."""
+    """Whether dates like 8/15/2024 have the month first; raises `Trouble` if both stand."""
     order = slashed_order(text)
     if order == "both":
         where = f"{file}: " if file else ""
-        raise Trouble(f"{where}some dates have the month in front, like 8/15/2024, and others the "
-                      "day, like 15/8/2024. Write all in one way, best as 2024-08-15")
+        raise Trouble(f"{where}some dates have the month first, like 8/15/2024, and others the "
+                      f"day, like 15/8/2024. Write all in one way, best as 2024-08-15")
     return order == "month"
 
 
@@ -91,7 +91,7 @@ def read_text(text: str, file: str, needs_scores: bool = False) -> MatchList:
 
 
 def _test_form(text: str, file: str) -> None:
-    """Raises `Trouble` where the text is JSON, of which no line is a match."""
+    """Raises `Trouble` if the text is JSON, of which no line is a match."""
     if text.lstrip()[:1] in ("{", "["):
         try:
             json.loads(text)

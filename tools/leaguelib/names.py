@@ -51,7 +51,7 @@ def plain_form(name: str) -> str:
 def club_of(name: str, names: Iterable[str], aliases: Mapping[str, str] | None = None) -> str:
     """The club that a name means: the name itself, an alias, another spelling, or a part of it.
 
-    `aliases` has names by the plain form of another name. Raises `UnknownName` where no club is
+    `aliases` has names by the plain form of another name. Raises `UnknownName` if no club is
     meant, or where more than one may be.
     """
     every = list(names)
@@ -70,7 +70,7 @@ def club_of(name: str, names: Iterable[str], aliases: Mapping[str, str] | None =
                               found)
     near = nearest_name(typed, every)
     hint = f"the nearest name is {shown(near)}" if near else (
-        ", ".join(every) + ". Other names can stand in a file (--aliases)")
+        ", ".join(every) + ". Other names can be in a file (--aliases)")
     sign = "; " if near else ALL_CLUBS
     raise UnknownName(f"no club is called {shown(typed)}{sign}{hint}", [near] if near else [])
 
@@ -96,7 +96,7 @@ def words_in(name: str) -> list[str]:
 
 
 def core_words(name: str) -> list[str]:
-    """The words of a name without those that many clubs have, like FC; all where none is left."""
+    """The words of a name without those that many clubs have, like FC; all if none is left."""
     every = words_in(name)
     return [word for word in every if word not in CLUB_WORDS] or every
 
@@ -179,14 +179,14 @@ def _is_spoken_for(word: str, whole: str) -> bool:
 
 
 def same_name(name: str, names: Iterable[str]) -> str | None:
-    """The one name that is the same but for case, accents, spaces or points; none where two are."""
+    """The one name that is the same but for case, accents, spaces or points; none if two are."""
     form = plain_form(name)
     found = [other for other in names if form and plain_form(other) == form]
     return found[0] if len(found) == 1 else None
 
 
 def nearest_name(name: str, names: Iterable[str]) -> str | None:
-    """The name that looks most like this one, or none where none looks like it."""
+    """The name that looks most like this one, or none if none looks like it."""
     forms: dict[str, str] = {}
     for other in names:
         forms.setdefault(plain_form(other), other)

@@ -70,7 +70,7 @@ def _date(year: int, month: int, day: int) -> date | None:
 
 
 def read_day(text: str) -> date | int:
-    """The day of --since; raises `Trouble` where it is none."""
+    """The day of --since; raises `Trouble` if it is none."""
     found = day_of(text)
     if found is None:
         raise common.Trouble(f"--since takes a date like 2024-05-19, or the number of a matchday, "
@@ -80,14 +80,14 @@ def read_day(text: str) -> date | int:
 
 def later_lines(league: Input, days: dict[int, str], since: date | int, ask_line: int) -> set[int]:
     """The lines of the events since a day, up to an ask: of matches on that day or later, and the
-    deductions behind the first of them. Raises `Trouble` where the sheet tells no such days.
+    deductions after the first of them. Raises `Trouble` if the sheet tells no such days.
     """
     read = {number: day_of(text) for number, text in days.items()}
     fitting = {number: day for number, day in read.items() if isinstance(day, type(since))}
     if not fitting:
         kind = "dates" if isinstance(since, date) else "matchdays"
-        raise common.Trouble(f"the comments of the sheet tell no {kind}, so nothing is known of "
-                             "that day; leave out --since.")
+        raise common.Trouble(f"the comments of the sheet have no {kind}, so nothing is known of "
+                             f"that day; leave out --since.")
     later: set[int] = set()
     for entry in league.entries:
         if entry.line >= ask_line or not entry.is_event:

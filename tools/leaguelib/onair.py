@@ -56,7 +56,7 @@ class Live:
                 self.evening.take(line)
             except Unclear as unclear:
                 raise common.Trouble(f"{self.log.path}, line {number}: {unclear.message} "
-                                     "(`league lint` tells more)") from unclear
+                                     "(`league lint` says more)") from unclear
             if kind_of(line) == "ask":
                 last_ask = len(self.session.events)
             elif is_event(line):
@@ -69,7 +69,7 @@ class Live:
         elif self.session.events or isinstance(self.voice, Speaker):
             self.voice.tell(f"{events_text(len(self.session.events))} of the log replayed")
         if self.prompt.is_shown:
-            self.voice.tell("`help` tells what can be typed")
+            self.voice.tell("`help` lists what can be typed")
 
     def _look_back(self, last_ask: int | None) -> None:
         """Has the words of the last ask of the log, with which the next one is compared."""
@@ -206,7 +206,7 @@ class Live:
         return lines is not None
 
     def _lines_of_answer(self) -> list[bytes] | None:
-        """The lines of an answer, or none where the program dies twice at this ask."""
+        """The lines of an answer, or none if the program dies twice at this ask."""
         for _ in range(2):
             try:
                 with Progress("the answer"):

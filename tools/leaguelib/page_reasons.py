@@ -30,7 +30,7 @@ def reasons(board: Board) -> list[str]:
 
 
 def _reason(board: Board, verdict: Verdict) -> list[str]:
-    """What stands behind a mark: a sentence and a proof, or finishes."""
+    """What stands after a mark: a sentence and a proof, or finishes."""
     mark = (verdict.places, verdict.club)
     if verdict.word in ("clinched", "lost"):
         return _decided(board, verdict)
@@ -40,9 +40,10 @@ def _reason(board: Board, verdict: Verdict) -> list[str]:
     enough = [f"<p>{safe(board.enough[mark])}</p>"] if mark in board.enough else []
     still = len(board.season.open_fixtures(board.sheet))
     if still > MOST_TOLD:
-        return [*enough, f"<p>{name_of(verdict.club)} can still reach it and can still miss it: there is "
+        return [*enough, f"<p>{name_of(verdict.club)} can still reach it and can still miss it: "
+                         f"there is "
                 f"a way for each in which the {still} open matches can end. "
-                "<code>league explain</code> tells one.</p>"]
+                "<code>league explain</code> shows one.</p>"]
     return [*enough, *(part for claim, verb in (("inside", "reaches"), ("outside", "misses"))
                        if claim in verdict.examples
                        for part in _finish(board, verdict, claim, verb))]
@@ -59,9 +60,9 @@ def _decided(board: Board, verdict: Verdict) -> list[str]:
         claim = "outside" if verdict.word == "clinched" else "inside"
         steps = proof_steps(board.sheet, board.season, board.proved[mark], claim, USUAL_STEPS)
         items = [f"<li>{safe(' '.join(step.split()))}</li>" for step in steps]
-        return [*parts, "<p>Points alone do not tell it. The steps of the proof:</p>",
+        return [*parts, "<p>Points alone do not show it. The steps of the proof:</p>",
                 "<ul>", *items, "</ul>"]
-    return [*parts, "<p>Points alone do not tell it, and no proof of it was checked here.</p>"]
+    return [*parts, "<p>Points alone do not show it, and no proof of it was checked here.</p>"]
 
 
 def _finish(board: Board, verdict: Verdict, claim: str, verb: str) -> list[str]:

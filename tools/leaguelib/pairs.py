@@ -28,18 +28,17 @@ class Gaps:
         """What to say where pairs meet too often."""
         return (f"if each pair meets {times(self.rounds)}, these stand too often in the list "
                 f"(home - "
-                f"away): {some_pairs(self.extra)}. Leave out what stands double, or exchange "
-                f"home and "
-                "away where they are wrong, or say --rounds N for how often each pair meets, or "
+                f"away): {some_pairs(self.extra)}. Leave out duplicates, or exchange home and "
+                f"away if they are wrong, or give --rounds N for how often each pair meets, or "
                 "--as-is if the list is meant so")
 
     def missing_text(self, are_played: bool) -> str:
         """What to say where pairs meet too seldom, or where every match was played."""
         if are_played and not self.missing:
             return ("all matches of this list have a score: are there matches to come? Each pair "
-                    f"meets {times(self.rounds)} in it. Say --rounds N for how often each pair "
-                    "meets in the season, and what is missing is added as open matches; or say "
-                    "--as-is if the list is the whole season")
+                    f"meets {times(self.rounds)} in it. Give --rounds N for how often each pair "
+                    f"meets in the season, and what is missing is added as open matches; or give "
+                    f"--as-is if the list is the whole season")
         number = len(self.missing)
         front = f"the list is not complete: each pair meets {times(self.rounds)}, but for "
         if are_played:
@@ -47,9 +46,9 @@ class Gaps:
                      "be a list of results, without the matches to come. Missing "
                      f"{'is' if number == 1 else 'are'} ")
         names = some([f"{home} - {away}" for home, away in self.missing])
-        return (f"{front}{number} match{'' if number == 1 else 'es'}: {names}. Add them; or say "
-                "--rounds N for how often each pair meets, and they are added as open matches; "
-                "or say --as-is if the list is meant so")
+        return (f"{front}{number} match{'' if number == 1 else 'es'}: {names}. Add them; or give "
+                f"--rounds N for how often each pair meets, and they are added as open matches; "
+                f"or give --as-is if the list is meant so")
 
     def notes(self) -> list[str]:
         """What to say about matches that were added."""
@@ -58,7 +57,7 @@ class Gaps:
             notes.append(f"{counted(len(self.missing), 'match was', 'matches were')} added that "
                          f"the list does not have: {some_pairs(self.missing)}")
         if self.unsure:
-            notes.append("nothing tells who is at home in these; look at them: "
+            notes.append("nothing says who is at home in these; look at them: "
                          f"{some_pairs(self.unsure)}")
         return notes
 
@@ -83,8 +82,8 @@ def look_at_cross(found: MatchList, rounds: int | None) -> None:
     if rounds == 1:
         found.matches = of_one_round(found.matches)
     elif rounds is None and is_half_empty(found.matches):
-        found.notes.append("all scores of this cross table stand on one side of its diagonal; if "
-                           "each pair meets once, say --rounds 1")
+        found.notes.append("all scores of this cross table are on one side of its diagonal; if "
+                           "each pair meets once, give --rounds 1")
 
 
 def of_one_round(matches: list[Match]) -> list[Match]:
@@ -119,7 +118,7 @@ def lone_names(matches: list[Match]) -> list[str]:
     for first, second in combinations(played, 2):
         rarer, other = sorted((first, second), key=lambda name: played[name])
         if played[rarer] < most and are_alike(first, second):
-            questions.append(f"{shown(rarer)} stands {times(played[rarer])}: is it {shown(other)}?")
+            questions.append(f"{shown(rarer)} appears {times(played[rarer])}: is it {shown(other)}?")
     return questions
 
 

@@ -94,8 +94,8 @@ def _reach(sheet: Sheet, club: str, answers: list[Answer]) -> Reach:
              if verdict.club == club}
     size = len(sheet.clubs)
     if set(words) != set(range(1, size)):
-        raise common.Trouble("futmax answered other rows than were asked for: it may be of another "
-                             "version. Build it anew.", common.NO_PROGRAM)
+        raise common.Trouble("futmax answered other rows than were asked for: it may be of "
+                             "another version. Build it again.", common.NO_PROGRAM)
     best = next((place for place in range(1, size) if words[place] != "lost"), size)
     worst = next((place for place in range(1, size) if words[place] == "clinched"), size)
     unsettled = [place for place in range(1, size) if words[place] == "unsettled"]

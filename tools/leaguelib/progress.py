@@ -26,7 +26,7 @@ LINE_SECONDS = 5.0
 def add_progress_argument(parser) -> None:
     """The word that asks for progress where standard error is no terminal."""
     parser.add_argument("--progress", action="store_true",
-                        help="say on standard error how far it is, also where that is no terminal")
+                        help="report progress on standard error even if that is no terminal")
 
 
 def progress_text(task: str, done: int, total: int, seconds: float) -> str:

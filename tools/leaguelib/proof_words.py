@@ -22,7 +22,7 @@ def names_of(zone: Zone, clubs: list[int]) -> str:
 
 
 def is_are(clubs: list[int]) -> str:
-    """The verb behind so many clubs."""
+    """The verb after so many clubs."""
     return "is" if len(clubs) == 1 else "are"
 
 

@@ -70,7 +70,7 @@ def steps_of(sheet: Sheet, season: Season, verdict: Verdict, proof: Proof) -> li
 
 
 def _rivals_too_many(lines: list[list], position: int) -> list[int]:
-    """The rivals, one split behind the other, each of whom ahead would be one too many."""
+    """The rivals, one split after the other, each of whom ahead would be one too many."""
     rivals: list[int] = []
     while position + 1 < len(lines) and lines[position][1:2] == ["rival"] and (
             lines[position + 1][1:] == ["count"]):

@@ -30,7 +30,7 @@ def own_report(program: str | None, data: bytes, league: Input) -> Told:
     report = report_of(written)
     found = refusal_of_report(path, data, written.output)
     note = "" if found in ("accepted", "unknown") else (
-        f"The program's own check refuses its proofs: {found}. They are not told.")
+        f"The program's own check refuses its proofs: {found}. They are left out.")
     return Told(league, report, found == "accepted", note)
 
 

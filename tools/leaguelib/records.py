@@ -44,7 +44,7 @@ class Record:
 
     @property
     def kind(self) -> str:
-        """The first field, or nothing where a carriage return makes the line no record."""
+        """The first field, or nothing if a carriage return makes the line no record."""
         return "" if self.has_return or not self.fields else self.fields[0]
 
 
@@ -108,7 +108,7 @@ def _pieces_of(raw: bytes) -> list[bytes]:
 
 
 def _take_byte(fields: list[bytearray], state: str, byte: int) -> str:
-    """Adds one byte to the last field, and gives the state behind it."""
+    """Adds one byte to the last field, and gives the state after it."""
     is_quote = byte == 0x22
     if state == "quoted":
         if is_quote:
@@ -128,7 +128,7 @@ def _take_byte(fields: list[bytearray], state: str, byte: int) -> str:
 
 
 def record_of(number: int, raw: bytes) -> Record | None:
-    """The record of a line, or none where the line is passed over."""
+    """The record of a line, or none if the line is passed over."""
     if raw == b"" or raw.startswith(b"#"):
         return None
     has_return = b"\r" in raw
@@ -139,7 +139,7 @@ def record_of(number: int, raw: bytes) -> Record | None:
 
 
 def records_of(data: bytes) -> Iterator[Record]:
-    """The records of an input in order; raises `Refused` where a line or the input is too long."""
+    """The records of an input in order; raises `Refused` if a line or the input is too long."""
     for number, raw in lines_of(data):
         record = record_of(number, raw)
         if record is not None:

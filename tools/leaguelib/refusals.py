@@ -40,13 +40,13 @@ def advise(record: Record, refused: Refused, reader: InputReader) -> Advice:
     again = _refusal_of(cleaned.fields, record.line, reader) or refused
     reasons = cleaned.reasons + [words_for(again, cleaned.fields, reader.sheet)]
     if b"\r" in record.raw:
-        reasons = ["a carriage return stands inside the line: every record ends its line"]
+        reasons = ["there is a carriage return inside the line: every record ends its line"]
     return Advice(_sentence(reasons))
 
 
 def _first_that_fits(cleaned: Cleaned, record: Record, reader: InputReader,
                      depth: int) -> Advice | None:
-    """The first candidate whose lines are taken, also behind another candidate."""
+    """The first candidate whose lines are taken, also after another candidate."""
     for candidate in candidates(cleaned.fields, reader):
         reasons = cleaned.reasons + ([candidate.reason] if candidate.reason else [])
         if not candidate.lines:
@@ -78,8 +78,7 @@ def candidates(fields: list[str], reader: InputReader) -> Iterator[Candidate]:
         return
     if feed is None:
         if kind in FEED_KINDS:
-            yield Candidate("`season` has to stand between the sheet and the first line of the "
-                            "feed",
+            yield Candidate("`season` must come between the sheet and the first line of the feed",
                             ["season", line_text(*fields)], is_split=True)
         makers = {"club": repairs.club_repairs, "match": repairs.match_repairs,
                   "line": repairs.line_repairs}
@@ -113,9 +112,8 @@ def _glued(text: str) -> Iterator[Candidate]:
         while start > 0:
             rest = text[start:]
             if rest == kind or rest.startswith(kind + ","):
-                yield Candidate("two records stand on one line: the file before ended without a "
-                                "line "
-                                "end. Put one behind its last line", [text[:start], rest],
+                yield Candidate("there are two records on one line: the file before ended without "
+                                "a line end. Put one after its last line", [text[:start], rest],
                                 is_split=True)
             start = text.find(kind, start + 1)
 

@@ -25,7 +25,7 @@ FEED_KINDS = ("result", "fix", "void", "deduct", "ask")
 class Candidate:
     """In words what is wrong, and the lines to write instead (none: the line can be left out).
 
-    Where the line is split, the lines behind the first are looked at by themselves. A candidate
+    Where the line is split, the lines after the first are looked at by themselves. A candidate
     that is told alone has no lines to offer, and the line may not be left out.
     """
 
@@ -62,10 +62,10 @@ def league_repairs(fields: list[str]) -> Iterator[Candidate]:
     if len(fields) == 3 and fields[2] in ORDERS:
         yield Candidate(missing, [line_text(*fields[:2], 9, USUAL_BUDGET, fields[2])])
     if len(fields) > 3 and fields[3] in ORDERS:
-        yield Candidate("the order of the criteria is the fifth field, behind the budget",
+        yield Candidate("the order of the criteria is the fifth field, after the budget",
                         [line_text(*fields[:3], USUAL_BUDGET, fields[3])])
     if len(fields) == 5 and fields[3] == "":
-        yield Candidate("the budget may not stay empty where the order follows",
+        yield Candidate("the budget may not be empty if the order follows",
                         [line_text(*fields[:3], USUAL_BUDGET, fields[4])])
     if len(fields) > 4 and fields[4] not in ORDERS:
         word = fields[4].strip().lower().replace("-", "_").replace(" ", "_")
@@ -93,7 +93,7 @@ def _name_with_comma(fields: list[str]) -> Iterator[Candidate]:
     for end in range(3, len(fields)):
         if number_of(fields[end]) is not None:
             name = ", ".join(part.strip().strip('"') for part in fields[1:end])
-            yield Candidate("a name that holds a comma stands in double quotes",
+            yield Candidate("a name with a comma needs double quotes",
                             [line_text(fields[0], name, *fields[end:])])
             return
 
@@ -111,7 +111,7 @@ def club_repairs(fields: list[str], sheet: Sheet) -> Iterator[Candidate]:
                         "else, and is 1 for all unless your league has such an order",
                         [line_text(*fields, 1)])
     if len(fields) == 3 and sheet.club_named(fields[1]):
-        yield Candidate(f"the club {shown(fields[1])} stands already: this line can be left out")
+        yield Candidate(f"the club {shown(fields[1])} is there already: this line can be left out")
     if len(fields) == 3 and number_of(fields[1]) and number_of(fields[2]) is None:
         yield Candidate("the name comes first, then the rank",
                         [line_text("club", fields[2], fields[1])])
@@ -141,14 +141,14 @@ def match_repairs(fields: list[str], sheet: Sheet) -> Iterator[Candidate]:
     goals = [part for part in fields[1:] if number_of(part) is not None or SCORE.match(part)]
     if goals and len(fields) > 3:
         kept = [part for part in fields[1:] if part not in goals and not is_date(part)]
-        reason = ("a match has two names alone. Its score goes behind `season`, as "
+        reason = ("a match has only two names. Its score goes after `season`, as "
                   "`result,NUMBER,HOME_GOALS,AWAY_GOALS`; fixtures are numbered from 1")
         if len(kept) == 2:
             yield from _two_names(reason, kept, names)
     for end in range(2, len(fields)):
         pair = [", ".join(fields[1:end]), ", ".join(fields[end:])]
         if len(fields) > 3 and all(name in names for name in pair):
-            yield Candidate("a name that holds a comma stands in double quotes",
+            yield Candidate("a name with a comma needs double quotes",
                             [line_text("match", *pair)])
     if len(fields) == 3:
         yield from _by_number(fields, names)
@@ -194,7 +194,7 @@ def line_repairs(fields: list[str], sheet: Sheet) -> Iterator[Candidate]:
         yield Candidate("a line is one number: how many places count, like 4 for the first four",
                         [line_text("line", numbers[-1])])
     if numbers and number_of(fields[1]) in sheet.lines:
-        yield Candidate("this line stands already, and can be left out")
+        yield Candidate("this line is there already, and can be left out")
     most = len(sheet.clubs) - 1
     if numbers and number_of(fields[1]) == 0:
         yield Candidate(f"a line says how many places count, from 1 to {most}: 1 is the first "
@@ -207,7 +207,7 @@ def line_repairs(fields: list[str], sheet: Sheet) -> Iterator[Candidate]:
 
 def season_repairs() -> Iterator[Candidate]:
     """What a refused `season` record was meant to be."""
-    yield Candidate("`season` stands alone: the year goes into the league's name", ["season"])
+    yield Candidate("`season` has no fields: the year goes into the league's name", ["season"])
 
 
 def ended_score(fields: list[str]) -> list[str]:

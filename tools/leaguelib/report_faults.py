@@ -23,7 +23,7 @@ def kind_of(data: bytes) -> str:
 
 
 def fault_of(data: bytes) -> str:
-    """A sentence on the report behind the record `proofs`; nothing where none fits."""
+    """A sentence on the report after the record `proofs`; nothing if none fits."""
     front, _, report = data.partition(b"\nproofs\n")
     if not report.strip():
         return f"The report is empty: {MAKE}. "

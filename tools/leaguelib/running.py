@@ -11,11 +11,11 @@ from .feeds import Input, read_input
 from .records import Refused
 
 ENDINGS = {
-    1: "it does not know these words; this program may be older than these tools",
+    1: "it does not know these arguments; this program may be older than these tools",
     4: "its standard input failed",
     5: "its standard output failed",
-    6: "its memory ran out; run it with more memory",
-    70: "it could not be built; what the build says stands above",
+    6: "its out of memory; run it with more memory",
+    70: "it could not be built; see what the build says above",
 }
 
 
@@ -30,16 +30,16 @@ class Run:
 def add_input_arguments(parser) -> None:
     """The words that each part with an input and a program takes."""
     parser.add_argument("files", nargs="*", default=["-"], metavar="FILE",
-                        help="sheet and feed, in one file or several that are read one behind the "
+                        help="sheet and feed, in one file or several that are read one after the "
                              "other; `-` is standard input (the default)")
     parser.add_argument("--ask", type=int, default=None, metavar="N",
                         help="look at the Nth ask of the feed, from 1; otherwise at the last")
     parser.add_argument("--program", metavar="PATH",
-                        help="the program futmax, where it is not found by itself")
+                        help="the program futmax, if it is not found by itself")
 
 
 def read_files(paths: list[str]) -> bytes:
-    """The files one behind the other; a last line without an end gets one."""
+    """The files one after the other; a last line without an end gets one."""
     parts = [common.read_bytes(path) for path in paths]
     ended = [part if part.endswith(b"\n") or not part else part + b"\n" for part in parts[:-1]]
     return b"".join(ended) + (parts[-1] if parts else b"")

@@ -1,4 +1,4 @@
-"""What stands in the place of a score: goals, what marks a match as open, and what is behind it."""
+"""What stands in the place of a score: goals, what marks a match as open, and what is after it."""
 
 from __future__ import annotations
 
@@ -49,7 +49,7 @@ RUNNING = re.compile(
 class Told:
     """What a place for a score tells: the goals, if any, and what has to be said about it.
 
-    `why` says why it cannot be read; nothing where it can. `word` is what marks a match as open,
+    `why` says why it cannot be read; nothing if it can. `word` is what marks a match as open,
     and `in_play` the goals so far of one that has not ended.
     """
 
@@ -110,15 +110,15 @@ def read_score(text: str) -> Told:
 
 
 def with_marks(score: tuple[int, int], rest: str) -> Told:
-    """A score with what stands behind it: half time, extra time, a word on how it came about."""
+    """A score with what stands after it: half time, extra time, a word on how it came about."""
     remark = ""
     for part in re.findall(r"\([^)]*\)|\[[^\]]*\]|[^\s()\[\]]+", rest):
         word = mark_of(part)
         if HALF_TIME.match(part) or word == "finished":
             continue
         if word == "penalties":
-            return Told(why="penalties stand with the score: write the score that counts in the "
-                            "league alone")
+            return Told(why="there are penalties with the score: write only the score that counts "
+                            "in the league")
         if word == "open":
             return Told(word=part, remark=f"{score[0]}-{score[1]} is no result")
         if word == "extra time":
@@ -126,7 +126,7 @@ def with_marks(score: tuple[int, int], rest: str) -> Told:
         elif word == "awarded":
             remark = "awarded"
         else:
-            return Told(why=f"what stands behind the score is not understood: `{part}`")
+            return Told(why=f"what follows the score is not understood: `{part}`")
     return Told(score, remark)
 
 

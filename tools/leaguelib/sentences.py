@@ -29,16 +29,16 @@ def proof_steps(sheet: Sheet, season: Season, verdict: Verdict, claim: str,
     """The steps of a proof that was accepted, as paragraphs; a longer one is only counted."""
     proof = verdict.proofs[claim]
     if len(proof.lines) > most_steps:
-        return [paragraph(f"The proof has {len(proof.lines)} lines, too many to tell here. The "
+        return [paragraph(f"The proof has {len(proof.lines)} lines, too many to show here. The "
                           "checker has accepted it.", 4)]
     try:
         return steps_of(sheet, season, verdict, proof)
     except DoesNotAddUp as fault:
-        raise common.Trouble(f"the checker accepts the proof behind line {verdict.line} of the "
-                             "report, and its sums come out otherwise here. One of the two is "
+        raise common.Trouble(f"the checker accepts the proof after line {verdict.line} of the "
+                             "report, and its sums come out differently here. One of the two is "
                              "wrong: please tell the maintainers.", common.NO_PROGRAM) from fault
     except (IndexError, KeyError, TypeError, ValueError, AttributeError) as fault:
-        raise common.Trouble(f"the proof behind line {verdict.line} of the report has not the "
+        raise common.Trouble(f"the proof after line {verdict.line} of the report has not the "
                              "form of a proof.") from fault
 
 

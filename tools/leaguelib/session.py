@@ -80,7 +80,7 @@ class Session:
         return False
 
     def ask(self) -> list[bytes]:
-        """The lines of the answer to an `ask`; raises `Ended` where the program ends instead."""
+        """The lines of the answer to an `ask`; raises `Ended` if the program ends instead."""
         end: AnswerEnd = self.make_end()
         lines: list[bytes] = []
         self._write(b"ask\n")

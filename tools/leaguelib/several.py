@@ -26,7 +26,7 @@ def read_lists(paths: list[str], aliases: dict[str, str] | None = None) -> Match
     """The matches of all lists together; raises `Trouble` with what is wrong in any of them."""
     lists, wrong = [], []
     if paths.count("-") > 1:
-        raise common.Trouble("standard input can be read once: say `-` once", common.BAD_WORDS)
+        raise common.Trouble("standard input can be read once: give `-` once", common.BAD_WORDS)
     for path in paths:
         try:
             lists.append(read_matches(common.read_bytes(path), file_name(path)))
@@ -85,7 +85,7 @@ def _take(matches: list[Match], match: Match, waiting: list[int], notes: list[st
                      f"{_score(match)} in {match.place}. Take one of the two out")
         return
     if _are_of_other_days(match, other):
-        notes.append(f"{match.home} - {match.away} stands under {other.date} in {other.place} and "
+        notes.append(f"{match.home} - {match.away} is under {other.date} in {other.place} and "
                      f"under {match.date} in {match.place}; it was taken for one match")
     kept = match if match.score is not None and other.score is None else other
     matches[place] = replace(kept, date=_best_date(kept.date, other.date, match.date))

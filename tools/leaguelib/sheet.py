@@ -1,9 +1,9 @@
-"""Makes a sheet from a list of fixtures by names, or several that belong together: a table with
-the columns HomeTeam and AwayTeam, or their like in German, Spanish, French, Italian or Portuguese;
-one without heads where its columns are clear; a cross table; a text of openfootball; or lines
-`Home - Away`. A list that is not complete, or that has played matches alone, is refused, unless
---rounds says how often each pair meets (the missing matches are then added), or --as-is says that
-it is meant so.
+"""Makes a sheet from a list of fixtures by names, or several that belong together: a table with the
+columns HomeTeam and AwayTeam, or their like in German, Spanish, French, Italian or Portuguese; one
+without heads if its columns are clear; a cross table; a text of openfootball; or lines `Home -
+Away`. A list that is not complete, or that has played matches alone, is refused, unless --rounds
+says how often each pair meets (the missing matches are then added), or --as-is says that it is
+meant so.
 """
 
 from __future__ import annotations
@@ -34,15 +34,15 @@ Which criteria decide first between clubs level on points? Say --order head_firs
                  World Cup groups up to 2022
 Rules change, and a play-off or fair play may come in: look into the rules of your competition."""
 LINES_HELP = """\
-Which places count? Say --lines, like `--lines 1,4,17` for the title, the first four, and all but
-the last three of twenty; or `--lines none` where only the table is wanted."""
+Which places count? Give --lines, like `--lines 1,4,17` for the title, the first four, and all but
+the last three of twenty; or `--lines none` if only the table is wanted."""
 
 
 def add_arguments(parser: argparse.ArgumentParser) -> None:
     """The words of `league sheet`."""
     parser.add_argument("lists", nargs="+", metavar="LIST",
                         help="the list of fixtures, or several in any order; - is standard input")
-    parser.add_argument("--name", help="the league's name; else the title of the list")
+    parser.add_argument("--name", help="the league's name; otherwise the title of the list")
     parser.add_argument("--lines", help="the places that count, like 1,4,17; or none")
     add_name_arguments(parser)
     parser.add_argument("--order", choices=ORDERS, help="which criteria come first")
@@ -53,9 +53,11 @@ def add_arguments(parser: argparse.ArgumentParser) -> None:
                         help="lines NAME,RANK: the clubs in their order, with their ranks")
     add_alias_argument(parser)
     parser.add_argument("--rounds", type=int, metavar="N", help="how often each pair meets")
-    parser.add_argument("--as-is", action="store_true", help="the list is meant as it stands")
+    parser.add_argument("--as-is", action="store_true", help="the list is meant as it is")
     parser.add_argument("--no-comments", action="store_true", help="write records alone")
-    parser.add_argument("-o", "--output", default="-", metavar="FILE", help="where to write it")
+    parser.add_argument("-o", "--output", default="-", metavar="FILE", help="file for it; "
+                                                                            "otherwise standard "
+                                                                            "output")
 
 
 def run(arguments: argparse.Namespace) -> int:
@@ -88,20 +90,20 @@ def run(arguments: argparse.Namespace) -> int:
 
 
 def _names_of_lines(arguments: argparse.Namespace, lines: list[int], clubs: int) -> LineNames:
-    """The names of the lines; raises `Trouble` where a line or a name does not fit."""
+    """The names of the lines; raises `Trouble` if a line or a name does not fit."""
     for places in lines[MOST_LINES:]:
         if not 0 < places < clubs:
             raise common.Trouble(f"the line {places} would be refused: with {clubs} clubs a line "
                                  f"is a number from 1 to {clubs - 1}")
     names = told_names(arguments.line_name, lines, arguments.relegated)
     if arguments.no_comments and (names.inside or names.below or len(lines) > MOST_LINES):
-        raise common.Trouble("names of lines, and lines beyond four, stand in comments: leave "
+        raise common.Trouble("names of lines, and lines beyond four, are comments: leave "
                              "--no-comments out", common.BAD_WORDS)
     return names
 
 
 def complete(matches: list[Match], names: list[str], rounds: int | None, is_as_is: bool) -> Gaps:
-    """The matches to add to the list; raises `Trouble` where the list is not complete."""
+    """The matches to add to the list; raises `Trouble` if the list is not complete."""
     expected = rounds or usual_rounds(matches)
     gaps = gaps_in(matches, names, expected)
     if is_as_is:
@@ -136,7 +138,7 @@ def _lines(text: str | None) -> list[int]:
     if None in numbers:
         raise common.Trouble(LINES_HELP, common.BAD_WORDS)
     if len(set(numbers)) != len(numbers):
-        raise common.Trouble(f"--lines {text}: a line stands already")
+        raise common.Trouble(f"--lines {text}: a line is there twice")
     return [number for number in numbers if number is not None]
 
 
@@ -167,7 +169,7 @@ def _ranks(path: str | None, matches: list[Match]) -> dict[str, int]:
 
 def _records(name: str, order: str, arguments: argparse.Namespace, ranks: dict[str, int],
              lines: list[int], names: LineNames) -> tuple[list[str], list[str]]:
-    """The records before the matches, and those behind them."""
+    """The records before the matches, and those after them."""
     league: list[object] = ["league", name, arguments.goal_limit]
     if arguments.budget is not None or order != ORDERS[0]:
         budget = USUAL_BUDGET if arguments.budget is None else arguments.budget

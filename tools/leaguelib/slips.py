@@ -1,5 +1,5 @@
 """What to say of a line that was likely typed by a slip: a match that has a result already, or a
-mark behind the score.
+mark after the score.
 """
 
 from __future__ import annotations
@@ -21,7 +21,7 @@ def played_text(sheet: Sheet, season: Season, fixture: Fixture) -> str:
 
 
 def above_limit(sheet: Sheet, entry: Entry) -> list[str]:
-    """What to say of a score above the goal limit; nothing where it is within."""
+    """What to say of a score above the goal limit; nothing if it is within."""
     if entry.kind not in ("result", "fix") or max(entry.score) <= sheet.goal_limit:
         return []
     fixture, (home, away) = sheet.fixture(entry.fixture), entry.score

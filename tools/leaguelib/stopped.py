@@ -18,12 +18,12 @@ from .running import Run
 from .words import words_for
 
 SENTENCES = {
-    1: "futmax does not know these words (status 1). It may be older than these tools: build it "
-       "anew, or name another one by --program",
+    1: "futmax does not know these arguments (status 1). It may be older than these tools: build "
+       "it again, or name another one by --program",
     4: "futmax could not read its input (status 4). Run it again; rows so far are good",
     5: "futmax could not write its answer (status 5). Make room, and run it again",
-    6: "memory ran out (status 6). Run it with more memory, or with fewer matches open",
-    70: "futmax could not be built (status 70). What the build says stands above",
+    6: "out of memory (status 6). Run it with more memory, or with fewer matches open",
+    70: "futmax could not be built (status 70). See what the build says above",
 }
 REPORT_WORDS = {
     "no_proof": "this line does not prove what it should",
@@ -31,7 +31,7 @@ REPORT_WORDS = {
                 "does not go on with it",
     "short": "the report ends before it is whole",
 }
-REFUSED_REPORT = "Do not believe the report; let whoever made it make it anew"
+REFUSED_REPORT = "Do not believe the report; let whoever made it make it again"
 
 
 @dataclass
@@ -51,7 +51,7 @@ class Stop:
 
 
 def stop_of(run: Run, given: Given) -> Stop | None:
-    """Why a run ended before its time, or none where it ended well."""
+    """Why a run ended before its time, or none if it ended well."""
     if run.status == 0:
         return None
     rows = [row for row in run.output.splitlines() if not row.startswith(b"[")]
@@ -120,7 +120,7 @@ def answers_before(run: Run) -> bytes:
 
 
 def whole_report(run: Run):
-    """The answers of a run, also those in front of a refused line."""
+    """The answers of a run, also those before a refused line."""
     try:
         return read_report(answers_before(run))
     except BadAnswer as fault:

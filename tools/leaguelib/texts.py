@@ -1,8 +1,8 @@
 """Sheets, fixtures and seasons, read by the rules and in the order of docs/formats.md.
 
 Sheets are read here; `feeds.py` reads the feed and a whole input (`read_input`). A caller that
-wants to go on behind a refused line uses the two readers: `SheetReader.take` and `FeedReader.take`
-change nothing where they raise `Refused`. Answers of the program are read in `answers.py`.
+wants to go on after a refused line uses the two readers: `SheetReader.take` and `FeedReader.take`
+change nothing if they raise `Refused`. Answers of the program are read in `answers.py`.
 """
 
 from __future__ import annotations

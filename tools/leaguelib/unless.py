@@ -24,7 +24,7 @@ def can_draw_be_enough(score: Score, now: int) -> bool:
 
 
 def unless_text(trial: Trial, club: str, own: Fixture) -> str:
-    """Unless which result of which match a draw is enough; nothing where no one match tells it."""
+    """Unless which result of which match a draw is enough; nothing if no one match tells it."""
     decisive = _decisive(trial, club, own.number)
     if decisive is None:
         return ""
@@ -44,7 +44,7 @@ def unless_text(trial: Trial, club: str, own: Fixture) -> str:
 
 
 def _decisive(trial: Trial, club: str, own: int) -> tuple[Fixture, tuple[int, int]] | None:
-    """The one match whose score puts the club out after a draw; none where it takes more."""
+    """The one match whose score puts the club out after a draw; none if it takes more."""
     for draw in ((0, 0), (trial.sheet.goal_limit,) * 2):
         found = trial.example(club, {own: draw}, "outside")
         if found is None or trial.word(club, {own: draw, **found}) != "lost":

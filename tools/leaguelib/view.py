@@ -62,8 +62,8 @@ def viewed(given: Given, outcome: Outcome, path: str, since: str | None = None) 
     view.notes = [note] if note else []
     behind = [it for it in league.entries if it.is_event and it.line > ask_lines(league)[-1]]
     if behind and ask.position == len(ask_lines(league)) - 1:
-        view.notes.append(f"Behind the last ask stand {events_text(behind)} that no answer counts: "
-                          "write `ask` at the end of the feed.")
+        view.notes.append(f"After the last ask come {events_text(behind)} that no answer counts: "
+                          f"write `ask` at the end of the feed.")
     return view
 
 

@@ -21,7 +21,7 @@ Arsenal 1-0 Chelsea 67'       a score in play as well, as with HT or half time
 correct Arsenal 2-2 Chelsea   another score for a match that has one
 annul Arsenal - Chelsea       the match counts as not played
 deduct Chelsea 3              three points are deducted in all
-undo                          take the last line back; behind a refused line only say which
+undo                          take the last line back; after a refused line only say which
 ask                           what has changed since the last ask
 rows                          every row of the last answer
 table                         the table, and how it stands with the scores in play
@@ -52,7 +52,7 @@ class Rows:
         common.say(text)
 
     def answer(self, lines: list[bytes], mark: str) -> None:
-        """An answer as futmax wrote it, and the mark behind it."""
+        """An answer as futmax wrote it, and the mark after it."""
         sys.stdout.buffer.write(b"".join(lines) + f"# {mark}\n".encode("utf-8"))
         sys.stdout.buffer.flush()
 

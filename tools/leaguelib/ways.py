@@ -79,7 +79,7 @@ def _shortened(trial: Trial, club: str, scores: Scores, target: str) -> Way:
 
 def _rival_results(trial: Trial, club: str, example: Example) -> Scores:
     """The matches of the rivals that pass the club in the example, all won; or of those that stay
-    behind it, all lost. Where two of them meet it ends as in the example, with the least goals.
+    after it, all lost. Where two of them meet it ends as in the example, with the least goals.
     """
     sheet, is_in = trial.sheet, example.claim == "inside"
     points = _points_in(trial, example)
@@ -168,7 +168,7 @@ def _fewer_goals(score: tuple[int, int]) -> list[tuple[int, int]]:
 
 
 def way_text(sheet: Sheet, season: Season, way: Way, verb: str) -> str:
-    """A way in words, behind a verb like `They are in`."""
+    """A way in words, after a verb like `They are in`."""
     if len(way.scores) > FEW_OPEN:
         return (f"{verb}, for example, in an end that names all {len(way.scores)} open matches; "
                 "`league ask --json --examples` writes it.")

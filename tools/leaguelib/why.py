@@ -98,7 +98,7 @@ def why_text(why: Why, club: str, lines: list[int]) -> str:
 
 
 def _line_texts(why: Why, verdict: Verdict) -> list[str]:
-    """One line: the word, and behind it the reason or the ways."""
+    """One line: the word, and after it the reason or the ways."""
     title = why.view.names.place(verdict.places)
     word = SHORT[verdict.word]
     below = why.view.names.outside(verdict.places)
@@ -120,13 +120,14 @@ def _decided_texts(why: Why, verdict: Verdict) -> list[str]:
         return parts
     found = why.proof_of(verdict)
     if found is None:
-        return parts or [paragraph("Points alone do not tell it, and no proof of it was checked "
+        return parts or [paragraph("Points alone do not show it, and no proof of it was checked "
                                    "here.", 2)]
-    intro = "" if reason else "Points alone do not tell it. "
+    intro = "" if reason else "Points alone do not show it. "
     claim = "outside" if is_in else "inside"
     if len(found.proofs[claim].lines) > why.most_steps:
-        return [*parts, paragraph(f"{intro}The proof has {len(found.proofs[claim].lines):,} lines, "
-                                  "too many to tell here; the program's check accepts it.", 2)]
+        return [*parts, paragraph(f"{intro}The proof has {len(found.proofs[claim].lines):,} "
+                                  f"lines, too many to show here; the program's check accepts "
+                                  f"it.", 2)]
     return [*parts, paragraph(f"{intro}The proof, which the program's check accepts, in steps:", 2),
             *proof_steps(view.sheet, view.season, found, claim, why.most_steps)]
 

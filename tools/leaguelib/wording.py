@@ -83,10 +83,10 @@ def lots_phrase(sheet: Sheet, lots: list[int], club: str) -> str:
     others = [entry.number for entry in sheet.clubs if entry.name != club]
     own = sheet.club_named(club).number
     if lots == [own] + others:
-        return f"where only lots decide, {shown(club)} is drawn first"
+        return f"if only lots decide, {shown(club)} is drawn first"
     if lots == others + [own]:
-        return f"where only lots decide, {shown(club)} is drawn last"
-    return "where only lots decide, they are drawn in the order " + ", ".join(names)
+        return f"if only lots decide, {shown(club)} is drawn last"
+    return "if only lots decide, they are drawn in the order " + ", ".join(names)
 
 
 def days_of(data: bytes, sheet: Sheet) -> dict[int, str]:

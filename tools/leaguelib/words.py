@@ -7,7 +7,7 @@ from .records import Refused
 from .texts import Sheet
 
 FORMS = {
-    "league": "`league,NAME,GOAL_LIMIT`, and behind it, if wanted, `,BUDGET` and `,ORDER`",
+    "league": "`league,NAME,GOAL_LIMIT`, and after it, if wanted, `,BUDGET` and `,ORDER`",
     "club": "`club,NAME,RANK`",
     "match": "`match,HOME,AWAY`",
     "line": "`line,PLACES`, like `line,4`",
@@ -55,13 +55,13 @@ def _unknown_record(kind: str, where: str) -> str:
     if kind in ANSWER_WORDS or kind.startswith("["):
         return "this is a row of an answer of futmax, and no line of a sheet or a feed"
     if where == "feed" and kind in ("club", "match", "line", "league"):
-        return f"`{kind}` belongs into the sheet: move this line up, before `season`"
+        return f"`{kind}` belongs in the sheet: move this line up, before `season`"
     if where == "feed" and kind == "season":
-        return "`season` stands once, at the end of the sheet: leave this line out"
+        return "`season` comes once, at the end of the sheet: leave this line out"
     if where == "sheet" and kind == "club":
         return "clubs come before the first match and the first line: move this line up"
     if where == "sheet" and kind == "league":
-        return "`league` stands once, as the first record: leave this line out"
+        return "`league` comes once, as the first record: leave this line out"
     fitting = list(FORMS)[:5] if where == "sheet" else list(FORMS)[5:]
     near = nearest_name(kind, fitting)
     hint = f"; the nearest is `{near}`, written {FORMS[near]}" if near else ""
@@ -86,24 +86,21 @@ def _plain_words(code: str, fields: list[str], sheet: Sheet | None) -> str:
     fixtures = len(sheet.fixtures) if sheet else 0
     clubs = len(sheet.clubs) if sheet else 0
     sentences = {
-        "no_league": "the first record has to be `league,NAME,GOAL_LIMIT`, like "
+        "no_league": "the first record must be `league,NAME,GOAL_LIMIT`, like "
                      "`league,My league,9`",
-        "no_season": "the sheet has no `season` line at its end, which stands between the sheet "
-                     "and "
-                     "the results",
-        "too_few_clubs": f"two clubs at least have to stand before this line, and {clubs} "
+        "no_season": "the sheet has no `season` line at its end, between the sheet and the results",
+        "too_few_clubs": f"at least two clubs must come before this line, and {clubs} "
                          f"{'does' if clubs == 1 else 'do'}: write `club,NAME,RANK` lines above it",
-        "club_twice": "this club stands already: leave the line out",
-        "self_match": "a club cannot play against itself: one of the two names has to be another "
-                      "one",
+        "club_twice": "this club is there already: leave the line out",
+        "self_match": "a club cannot play against itself: one of the two names must be another one",
         "line_range": f"a line is a number from 1 to {clubs - 1}, one less than the number of "
                       f"clubs",
-        "line_twice": "this line stands already: leave it out",
+        "line_twice": "this line is there already: leave it out",
         "too_many": "this is one more than futmax takes: at most 24 clubs, 600 matches and 4 "
                     "lines. "
                     "For more lines, ask in two runs",
         "unknown_fixture": _unknown_fixture(fields, fixtures),
-        "bad_goals": "goals are whole numbers from 0 to 99; where the match was not played, leave "
+        "bad_goals": "goals are whole numbers from 0 to 99; if the match was not played, leave "
                      "the line out",
         "bad_points": "the points taken away are a whole number from 0 to 99, without a sign",
         "already_played": "this match has a result already; to correct it, write `fix`",

@@ -6,22 +6,23 @@ use Rattle.std.proofs.lemmas.List.Elements.{All-nil, All-cons, All-head, All-tai
 use Rattle.league_core.specs.declared.sheet.Sheet.{Sheet}
 use Rattle.league_core.specs.declared.question.Claim.TheVariants.{Inside, Outside}
 use Rattle.league_core.specs.declared.question.Question.{Question}
-use Rattle.league_core.specs.Results.{Results, are_results}
-use Rattle.league_core.specs.Seasons.{IsLeague}
-use Rattle.league_core.specs.Questions.{full_question}
-use Rattle.league_core.specs.Verdicts.{HasExample}
+use Rattle.league_core.specs.game.Results.{Results, are_results}
+use Rattle.league_core.specs.game.Seasons.{IsLeague}
+use Rattle.league_core.specs.game.Questions.{full_question}
+use Rattle.league_core.specs.game.Verdicts.{HasExample}
 use Rattle.cert_text.specs.declared.proof_line.ProofLine.{ProofLine}
 use Rattle.cert_text.specs.TreeLines.{plain_lines, with_tree_head}
 use Rattle.cert_text.specs.ExampleLines.{example_lines}
 use Rattle.verdict_run.specs.declared.word.Word.{Word}
 use Rattle.verdict_run.specs.declared.word.Word.TheVariants.{Clinched, Lost, Possible, Unsettled}
-use Rattle.verdict_run.specs.Items.{AnswerRow, IsItemShown, answer_rows, lines_shown}
+use Rattle.verdict_run.specs.Items.{AnswerRow, IsItemShown, answer_rows}
+use Rattle.verdict_run.specs.inside.ItemRanges.{lines_shown}
 use Rattle.verdict_run.proofs.ShownLemmas.{refutation_is_true}
 use Rattle.verdict_run.proofs.VerdictLemmas.{item_without}
 use Rattle.verdict_run.proofs.RowLemmas.{IsRowOf, rows_asked}
-use Rattle.question_laws.specs.Completeness.{HasRefutation}
+use Rattle.question_laws.specs.inside.Completeness.{HasRefutation}
 use Rattle.question_laws.proofs.DecidedLemmas.{question_decided}
-use Rattle.answer_laws.specs.SeasonAnswers.{AnswerItem, IsKnownItem, AreItemsOf}
+use Rattle.answer_laws.specs.inside.SeasonAnswers.{AnswerItem, IsKnownItem, AreItemsOf}
 
 -- an item about this row
 pub record HasItem (proofs : Bool) (sheet : Sheet) (season : Results) (row : AnswerRow)

@@ -6,9 +6,9 @@ use Rattle.std.specs.Cmp.{IsTotalOrder}
 use Rattle.std.specs.List.{range_with_len}
 use Rattle.std.proofs.lemmas.Bool.{or_cases, or_left, or_right, eq-eqb, eqb-true, false≢true}
 use Rattle.league_core.specs.declared.sheet.Sheet.{Sheet}
-use Rattle.league_core.specs.Results.{Results}
-use Rattle.league_core.specs.Sums.{has_club}
-use Rattle.league_core.specs.Ranking.{are_lots, order_of, ranks_before, AreRanked, IsTable}
+use Rattle.league_core.specs.game.Results.{Results}
+use Rattle.league_core.specs.game.Sums.{has_club}
+use Rattle.league_core.specs.game.Ranking.{are_lots, order_of, ranks_before, AreRanked, IsTable}
 use Rattle.league_core.proofs.OrderingLemmas.{less-is_lt}
 use Rattle.league_core.proofs.RankingLemmas.{order_of_total, ranks_before-one}
 

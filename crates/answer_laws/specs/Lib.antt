@@ -1,3 +1,2 @@
--- Reading order: what is known of each season, and of tables.
-pub mod SeasonAnswers
-pub mod TableLaws
+-- All words of this crate stand in inside/: no promise of the program rests on them.
+pub mod inside

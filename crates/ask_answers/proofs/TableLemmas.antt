@@ -10,13 +10,13 @@ use Rattle.league_core.specs.declared.sheet.Sheet.{Sheet}
 use Rattle.league_core.specs.declared.sheet.Fixture.{Fixture}
 use Rattle.league_core.specs.declared.season.Score.{Score}
 use Rattle.league_core.specs.declared.question.Claim.TheVariants.{Inside}
-use Rattle.league_core.specs.Results.{Results}
-use Rattle.league_core.specs.Sheets.{clubs_of}
-use Rattle.league_core.specs.Sums.{has_club, points_of, sum_of, goal_difference, goals}
-use Rattle.league_core.specs.LotsFor.{lots_for_claim}
-use Rattle.league_core.specs.Ranking.{IsTable}
-use Rattle.final_rank.specs.declared.span.Span.{Span}
-use Rattle.final_rank.specs.Spans.{span_of, spans_of}
+use Rattle.league_core.specs.game.Results.{Results}
+use Rattle.league_core.specs.game.Sheets.{clubs_of}
+use Rattle.league_core.specs.game.Sums.{has_club, points_of, sum_of, goal_difference, goals}
+use Rattle.league_core.specs.inside.LotsFor.{lots_for_claim}
+use Rattle.league_core.specs.game.Ranking.{IsTable}
+use Rattle.final_rank.specs.declared.span.PlaceRange.{PlaceRange}
+use Rattle.final_rank.specs.inside.Spans.{span_of, spans_of}
 use Rattle.final_rank.proofs.PlaceLemmas.{best_is, worst_is}
 use Rattle.final_rank.proofs.TierLemmas.{below_clubs}
 use Rattle.ask_answers.specs.declared.table_row.TableRow.{TableRow}
@@ -24,9 +24,9 @@ use Rattle.output_rows.specs.Rows.{ask_row}
 use Rattle.output_rows.specs.Parts.{IsMadeOf}
 use Rattle.ask_answers.specs.Tables.{count_if_played, count_played, IsTableRow, IsPlaceRow}
 use Rattle.ask_answers.specs.Tables.{IsTableText}
-use Rattle.ask_answers.specs.Items.{Adds}
+use Rattle.ask_answers.specs.inside.Items.{Adds}
 
--- numbers behind 0 are not 0
+-- numbers after 0 are not 0
 others-behind : (from count : ℕ) → 0 < from
     → filter (λ other. not (other == 0)) (range_with_len from count) ≡ range_with_len from count
 others-behind from zero some = refl
@@ -99,13 +99,14 @@ count-step club count matches scores none i inside same before =
     ∙ ap (λ ms. count_played club ms (take (i + 1) scores)) (sym (take_more matches i none inside))
 
 -- there is a span for each club
-pub span-count : (sheet : Sheet) (season : Results) (spans : List Span)
+pub span-count : (sheet : Sheet) (season : Results) (spans : List PlaceRange)
     → spans ≡ spans_of sheet season → length spans ≡ length sheet.clubs
 span-count sheet season spans are =
     ap length are ∙ length-map-range_with_len (span_of sheet season) 0 (length sheet.clubs)
 
 -- at the number of a club stands its span
-pub span-there : (sheet : Sheet) (season : Results) (spans : List Span) (club : ℕ) (none : Span)
+pub span-there : (sheet : Sheet) (season : Results) (spans : List PlaceRange) (club : ℕ)
+    (none : PlaceRange)
     → spans ≡ spans_of sheet season → club < length sheet.clubs
     → get_or spans club none ≡ span_of sheet season club
 span-there sheet season spans club none are inside =
@@ -114,7 +115,7 @@ span-there sheet season spans club none are inside =
     (omega arith)
 
 -- the sums of a club, as a row has them
-pub row-is : (sheet : Sheet) (season : Results) (club : ℕ) (span : Span) (played : ℕ)
+pub row-is : (sheet : Sheet) (season : Results) (club : ℕ) (span : PlaceRange) (played : ℕ)
     (points difference scored : ℤ) (rest others : List ℤ) (row : TableRow)
     → row ≡ record {
       best = span.best;
@@ -142,7 +143,7 @@ row-is sheet season club span played points difference scored rest others row is
       scored = ap (λ l. slice_index_or l 1 (pos 0)) sums;
     })
 
--- the rows of a table behind the row of the ask
+-- the rows of a table after the row of the ask
 pub table-is : (sheet : Sheet) (season : Results) (epoch : ℕ) (order row text : List ℕ)
     → IsTable sheet season (clubs_of sheet) order → row ≡ ask_row epoch
     → Adds row text (IsMadeOf (IsPlaceRow sheet season) order)

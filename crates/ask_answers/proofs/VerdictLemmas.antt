@@ -4,19 +4,18 @@ use Rattle.std.proofs.Common.{drop, get_or, Option, Result, ap, sym, ◌∙◌, 
 use Rattle.std.specs.Io.KnownBytes.{append_known}
 use Rattle.std.proofs.Math.Seq.{drop-cons}
 use Rattle.league_core.specs.declared.sheet.Sheet.{Sheet}
-use Rattle.port_core.specs.Ports.{AppendsFront}
+use Rattle.port_core.specs.Ports.{AppendsPrefix}
 use Rattle.cert_text.specs.declared.proof_line.ProofLine.{ProofLine}
 use Rattle.cert_text.specs.ExampleLines.{text_of_proof_lines}
 use Rattle.verdict_run.specs.declared.word.Word.{Word}
 use Rattle.verdict_run.specs.declared.word.Verdict.{Verdict}
-use Rattle.verdict_run.specs.Items.{lines_shown}
+use Rattle.verdict_run.specs.inside.ItemRanges.{lines_shown}
 use Rattle.output_rows.specs.declared.output.OutputStop.{OutputStop}
 use Rattle.output_rows.specs.Rows.{ask_row}
 use Rattle.ask_answers.specs.Rows.{verdict_row}
 use Rattle.output_rows.specs.Parts.{club_name}
-use Rattle.ask_answers.specs.Verdicts.{item_text, text_of_items}
-use Rattle.ask_answers.specs.Verdicts.{text_of_verdicts}
-use Rattle.output_rows.specs.Outputs.{Puts}
+use Rattle.ask_answers.specs.inside.Verdicts.{item_text, text_of_items, text_of_verdicts}
+use Rattle.output_rows.specs.inside.Outputs.{Puts}
 use Rattle.output_rows.proofs.OutputLemmas.{front-more, puts-behind}
 
 -- the next of the verdicts that are left
@@ -44,7 +43,7 @@ shown-short proofs word other lines shown is named short =
     short ∙ ap (λ w. lines_shown false w lines) (sym named)
     ∙ ap (λ test. lines_shown test word lines) (sym is)
 
--- the row of a verdict and what is written behind it, whole or a front of it
+-- the row of a verdict and what is written after it, whole or a prefix of it
 pub item-puts : {A : Type 0} (proofs : Bool) (sheet : Sheet) (verdict : Verdict) (name : List ℕ)
     (old now next : Option (List ℕ)) (result : Result A OutputStop)
     → name ≡ club_name sheet verdict.club
@@ -59,19 +58,19 @@ item-puts {A} proofs sheet verdict name old now next result named before puts =
     (text_of_proof_lines (lines_shown proofs verdict.word verdict.proof.items)) old now next result
     (subst P named before) puts
 
--- a front of the row of a verdict is one of its item
+-- a prefix of the row of a verdict is one of its item
 pub item-front : (proofs : Bool) (sheet : Sheet) (verdict : Verdict) (name : List ℕ)
     (old now : Option (List ℕ)) → name ≡ club_name sheet verdict.club
-    → AppendsFront old now (verdict_row verdict.line name verdict.word)
-    → AppendsFront old now (item_text proofs sheet verdict)
+    → AppendsPrefix old now (verdict_row verdict.line name verdict.word)
+    → AppendsPrefix old now (item_text proofs sheet verdict)
 item-front proofs sheet verdict name old now named front =
     let P : List ℕ → Type 0 =
-    λ t. AppendsFront old now (verdict_row verdict.line t verdict.word) in
+    λ t. AppendsPrefix old now (verdict_row verdict.line t verdict.word) in
     front-more (verdict_row verdict.line (club_name sheet verdict.club) verdict.word)
     (text_of_proof_lines (lines_shown proofs verdict.word verdict.proof.items)) old now
     (subst P named front)
 
--- the row of the ask and what is written behind it, whole or a front of it
+-- the row of the ask and what is written after it, whole or a prefix of it
 pub verdicts-put : {A : Type 0} (proofs : Bool) (sheet : Sheet) (epoch : ℕ)
     (verdicts : List Verdict) (old now next : Option (List ℕ)) (result : Result A OutputStop)
     → now ≡ append_known old (ask_row epoch)
@@ -81,9 +80,9 @@ verdicts-put {A} proofs sheet epoch verdicts old now next result before puts =
     puts-behind (ask_row epoch) (text_of_items proofs sheet verdicts) old now next result before
     puts
 
--- a front of the row of the ask is one of the answer
+-- a prefix of the row of the ask is one of the answer
 pub verdicts-front : (proofs : Bool) (sheet : Sheet) (epoch : ℕ) (verdicts : List Verdict)
-    (old now : Option (List ℕ)) → AppendsFront old now (ask_row epoch)
-    → AppendsFront old now (text_of_verdicts proofs sheet epoch verdicts)
+    (old now : Option (List ℕ)) → AppendsPrefix old now (ask_row epoch)
+    → AppendsPrefix old now (text_of_verdicts proofs sheet epoch verdicts)
 verdicts-front proofs sheet epoch verdicts old now front =
     front-more (ask_row epoch) (text_of_items proofs sheet verdicts) old now front

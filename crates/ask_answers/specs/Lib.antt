@@ -1,6 +1,4 @@
--- Read in this order. What public contracts rest on comes first, from Rows to Tables; what the
--- inner functions promise each other stands behind it.
+-- Read in this order: the row of an ask, and the table.
 pub mod Rows
-pub mod Verdicts
 pub mod Tables
-pub mod Items
+pub mod inside

@@ -5,10 +5,10 @@ use Rattle.std.specs.Prelude.{is_some, if◌then◌else◌}
 use Rattle.league_core.specs.declared.sheet.Sheet.{Sheet}
 use Rattle.league_core.specs.declared.sheet.Fixture.{Fixture}
 use Rattle.league_core.specs.declared.season.Score.{Score}
-use Rattle.league_core.specs.Results.{Results}
-use Rattle.league_core.specs.Sheets.{clubs_of}
-use Rattle.league_core.specs.Sums.{points_of, sum_of, goal_difference, goals}
-use Rattle.league_core.specs.Ranking.{IsTable}
+use Rattle.league_core.specs.game.Results.{Results}
+use Rattle.league_core.specs.game.Sheets.{clubs_of}
+use Rattle.league_core.specs.game.Sums.{points_of, sum_of, goal_difference, goals}
+use Rattle.league_core.specs.game.Ranking.{IsTable}
 use Rattle.final_rank.specs.Places.{IsBestPlace, IsWorstPlace}
 use Rattle.ask_answers.specs.declared.table_row.TableRow.{TableRow}
 use Rattle.output_rows.specs.Rows.{ask_row}

@@ -1,6 +1,6 @@
 //! The answers of an ask: the verdicts, the table.
 //!
-//! `specs/Verdicts.antt` and `specs/Tables.antt` say what the two answers are.
+//! `specs/inside/Verdicts.antt` and `specs/Tables.antt` say what the two answers are.
 #![tactic(auto)]
 
 mod rows;

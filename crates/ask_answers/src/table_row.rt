@@ -1,12 +1,12 @@
 //! What a table says of one club.
 
 ghost use Rattle.std.specs.Prelude.{◌≡◌, ◌<◌, ◌≤◌, length};
-ghost use Rattle.league_core.specs.Limits.{most_fixtures};
-ghost use Rattle.league_core.specs.Seasons.{IsLeague};
-ghost use Rattle.final_rank.specs.Spans.{span_of};
+ghost use Rattle.league_core.specs.game.Limits.{most_fixtures};
+ghost use Rattle.league_core.specs.game.Seasons.{IsLeague};
+ghost use Rattle.final_rank.specs.inside.Spans.{span_of};
 ghost use Rattle.ask_answers.specs.Tables.{IsTableRow, count_if_played, count_played, plays_in};
 
-use final_rank::Span;
+use final_rank::PlaceRange;
 use league_core::{Fixture, Score, Season, Sheet};
 use tie_criteria::{Tail, points_of, tail_of};
 
@@ -24,7 +24,7 @@ pub struct TableRow {
 }
 
 /// The row of a club, by its number from 0; `span` is the places that the season leaves it.
-pub fn row_of(sheet: &Sheet, season: &Season, span: Span, club: u8) -> TableRow
+pub fn row_of(sheet: &Sheet, season: &Season, span: PlaceRange, club: u8) -> TableRow
     requires league { IsLeague sheet.now season.now }
     requires in_range { club < length sheet.now.clubs }
     requires span { span ≡ span_of sheet.now season.now club }
@@ -39,7 +39,7 @@ pub fn row_of(sheet: &Sheet, season: &Season, span: Span, club: u8) -> TableRow
     )
 }
 
-fn joined(span: Span, played: u16, points: i32, sums: Tail) -> TableRow
+fn joined(span: PlaceRange, played: u16, points: i32, sums: Tail) -> TableRow
     ensures { result ≡ record {
       best = span.best;
       worst = span.worst;

@@ -1,13 +1,13 @@
 //! The answer of the mode `verdicts`, row by row: the word for every club and every line, and
-//! behind it what shows it.
+//! after it what shows it.
 
 ghost use Rattle.std.specs.Prelude.{All, IsTrue};
 ghost use Rattle.cert_text.specs.Ranges.{is_in_range};
 ghost use Rattle.cert_text.specs.ExampleLines.{text_of_proof_lines};
-ghost use Rattle.verdict_run.specs.Items.{AreInRange, IsInRange, lines_shown};
-ghost use Rattle.output_rows.specs.Outputs.{CountsPut, Puts};
+ghost use Rattle.verdict_run.specs.inside.ItemRanges.{AreInRange, IsInRange, lines_shown};
+ghost use Rattle.output_rows.specs.inside.Outputs.{CountsPut, Puts};
 ghost use Rattle.ask_answers.specs.Rows.{verdict_row};
-ghost use Rattle.ask_answers.specs.Verdicts.{item_text, text_of_items, text_of_verdicts};
+ghost use Rattle.ask_answers.specs.inside.Verdicts.{item_text, text_of_items, text_of_verdicts};
 
 use crate::rows::verdict_row;
 use league_core::Sheet;

@@ -1,4 +1,5 @@
 //! Worked leagues.
 
+mod kept;
 pub mod league;
 mod worked;

@@ -2,7 +2,7 @@
 //! left before, so that paths go deep.
 
 ghost use Rattle.std.specs.Prelude.{◌≤◌, IfOk};
-ghost use Rattle.league_core.specs.Seasons.{IsLeague};
+ghost use Rattle.league_core.specs.game.Seasons.{IsLeague};
 
 use crate::plain::agrees;
 use league_core::{Literal, Test};

@@ -2,11 +2,12 @@
 //! anew, and beside the cuts.
 
 ghost use Rattle.std.specs.Prelude.{◌<◌, length};
-ghost use Rattle.league_core.specs.Seasons.{IsLeague};
+ghost use Rattle.league_core.specs.game.Seasons.{IsLeague};
 
-use crate::cuts::league::cuts_over;
+use crate::cuts::league::{cuts_from, cuts_over};
 use crate::drawn::{CLUBS, MATCHES, drawn_literal, drawn_sample};
 use crate::plain::{is_option, sums_of};
+use flow_bound::FlowKeep;
 use league_core::{
     Claim, ClubSet, Listing, Literal, OutOfMemory, Question, Reason, Score, Sheet, Zone,
 };
@@ -82,7 +83,8 @@ fn some_cuts(fresh: &ZoneBox, question: &Question) -> (bool, bool)
     (low, high)
 }
 
-// A cut is found exactly where a set makes one, and over both boxes it is the same.
+// A cut is found exactly where a set makes one, and over both boxes it is the same, also from what
+// the other cut left.
 fn check_cuts(
     rt: &impl Abort,
     alloc: Global,
@@ -94,7 +96,9 @@ fn check_cuts(
     assert!(rt; (question.club as usize) < fresh.sheet().clubs.len());
     let (low, high) = cuts_over(alloc, kept, question)?.ok_or("no finish")?;
     assert!(rt; (low.is_some(), high.is_some()) == some_cuts(fresh, question));
-    assert!(rt; cuts_over(alloc, fresh, question)? == Some((low, high)));
+    let mut keep = FlowKeep::new();
+    assert!(rt; cuts_from(alloc, fresh, question, &mut keep)? == Some((low, high)));
+    assert!(rt; cuts_from(alloc, kept, question, &mut keep)? == Some((low, high)));
     Ok(())
 }
 

@@ -16,18 +16,18 @@ use Rattle.std.proofs.lemmas.List.{set-get_or}
 use Rattle.std.proofs.lemmas.List.Quantifiers.{position-Some}
 use Rattle.league_core.specs.declared.zone.Zone.{Zone}
 use Rattle.reason_core.specs.declared.done.Done.{Done}
-use Rattle.league_core.specs.Lending.{lent_zones, times_lent}
+use Rattle.league_core.specs.inside.Lending.{lent_zones, times_lent}
 use Rattle.league_core.proofs.LendingLemmas.{length-lent_zones, times_lent-le}
-use Rattle.branch_pool.specs.declared.seat.Seat.{Seat}
-use Rattle.branch_pool.specs.declared.seat.Loan.{Loan}
+use Rattle.branch_pool.specs.declared.question_state.QuestionState.{QuestionState}
+use Rattle.branch_pool.specs.declared.question_state.Loan.{Loan}
 use Rattle.branch_pool.specs.declared.ticket.Ticket.{Ticket}
-use Rattle.branch_pool.specs.States.{PoolState, present_epoch, is_workable, has_work, loan_at}
-use Rattle.branch_pool.specs.States.{free_number, with_loan}
-use Rattle.branch_pool.specs.Steps.{IsOwnTicket, IsPresent, loan_of, ComesHome, Keeps}
-use Rattle.branch_pool.specs.Steps.{loans_home, seat_given}
-use Rattle.branch_pool.specs.Seats.{LendsSeat, MayLend}
-use Rattle.branch_pool.specs.Goodness.{IsSoundPool, IsGoodSeat, IsGoodLoan, zones_due}
-use Rattle.branch_pool.specs.Calls.{next_place, is_untouched, LendsNext}
+use Rattle.branch_pool.specs.inside.States.{PoolView, present_epoch, is_workable, has_work}
+use Rattle.branch_pool.specs.inside.States.{loan_at, free_number, with_loan}
+use Rattle.branch_pool.specs.inside.Steps.{IsOwnTicket, IsPresent, loan_of, ComesHome, Keeps}
+use Rattle.branch_pool.specs.inside.Steps.{loans_home, seat_given}
+use Rattle.branch_pool.specs.inside.Seats.{LendsSeat, MayLend}
+use Rattle.branch_pool.specs.inside.Goodness.{IsSoundPool, IsGoodSeat, IsGoodLoan, zones_due}
+use Rattle.branch_pool.specs.inside.Calls.{next_place, is_untouched, LendsNext}
 use Rattle.branch_pool.proofs.SlotLemmas.{All-at, loan_at-free, loan_meets}
 use Rattle.branch_pool.proofs.SeatLemmas.{workable_within, lent_once}
 use Rattle.branch_pool.proofs.LoanLemmas.{due_here}
@@ -43,7 +43,7 @@ passes_there p xs place x at found =
     rw is at facts.1
 
 -- the question that comes next has work
-pub next_is_workable : (pool : PoolState) (place : ℕ) (seat : Seat)
+pub next_is_workable : (pool : PoolView) (place : ℕ) (seat : QuestionState)
     → next_place pool ≡ Some place → slice_get pool.seats place ≡ Some seat
     → is_workable pool.sheet seat ≡ true
 next_is_workable pool place seat next found =
@@ -58,7 +58,7 @@ next_is_workable pool place seat next found =
         found)).0
 
 -- it is one of the questions
-pub next_within : (pool : PoolState) (place : ℕ) → next_place pool ≡ Some place
+pub next_within : (pool : PoolView) (place : ℕ) → next_place pool ≡ Some place
     → place < length pool.seats
 next_within pool place next =
     by_first (position (is_untouched pool.sheet) pool.seats) refl next
@@ -68,19 +68,21 @@ next_within pool place next =
         → place < length pool.seats
     by_first None at is = within (is_workable pool.sheet) pool.seats is
       where
-        within : (p : Seat → Bool) (seats : List Seat) → position p seats ≡ Some place
+        within : (p : QuestionState → Bool) (seats : List QuestionState)
+            → position p seats ≡ Some place
             → place < length seats
         within p [] none = absurd (none-some place none)
         within p (seat ∷ seats) some = (position-Some p (seat ∷ seats) place seat some).0
     by_first (Some other) at is = within (is_untouched pool.sheet) pool.seats (at ∙ is)
       where
-        within : (p : Seat → Bool) (seats : List Seat) → position p seats ≡ Some place
+        within : (p : QuestionState → Bool) (seats : List QuestionState)
+            → position p seats ≡ Some place
             → place < length seats
         within p [] none = absurd (none-some place none)
         within p (seat ∷ seats) some = (position-Some p (seat ∷ seats) place seat some).0
 
 -- a leaf of the question that comes next may be lent
-pub may_lend : (pool : PoolState) (place : ℕ) (seat : Seat) → IsSoundPool pool
+pub may_lend : (pool : PoolView) (place : ℕ) (seat : QuestionState) → IsSoundPool pool
     → next_place pool ≡ Some place → slice_get pool.seats place ≡ Some seat
     → MayLend (free_number pool.loans) seat
 may_lend pool place seat sound next found =
@@ -108,7 +110,7 @@ out_within (first ∷ loans) (suc number) loan out =
     let within = out_within loans number loan out in omega arith
 
 -- a ticket that is out is for one of the questions, in an epoch that has been
-pub out_is_good : (pool : PoolState) (ticket : Ticket) → IsSoundPool pool
+pub out_is_good : (pool : PoolView) (ticket : Ticket) → IsSoundPool pool
     → loan_at pool.loans ticket.number ≡ Some (loan_of ticket)
     → (ticket.epoch ≤ present_epoch pool) × (ticket.place < length pool.seats)
 out_is_good pool ticket sound out =
@@ -117,7 +119,7 @@ out_is_good pool ticket sound out =
     (good.has_been, good.in_range)
 
 -- where what is out is of the present epoch, the leaf is lent with its zone
-pub out_is_lent : (pool : PoolState) (ticket : Ticket) (seat : Seat) → IsSoundPool pool
+pub out_is_lent : (pool : PoolView) (ticket : Ticket) (seat : QuestionState) → IsSoundPool pool
     → loan_at pool.loans ticket.number ≡ Some (loan_of ticket)
     → ticket.epoch ≡ present_epoch pool → slice_get pool.seats ticket.place ≡ Some seat
     → lent_zones ticket.number [] seat.tree ≡ ticket.piece.zone.literals ∷ []
@@ -127,12 +129,12 @@ out_is_lent pool ticket seat sound out epoch found =
     ∙ due_here (present_epoch pool) ticket.place (loan_of ticket) epoch refl
 
 -- what a question needs to take back a leaf
-pub record MayTakeBack (number : ℕ) (seat : Seat) : Type 0 where
+pub record MayTakeBack (number : ℕ) (seat : QuestionState) : Type 0 where
   pub out : times_lent number seat.tree ≡ 1
   pub some : 0 < seat.lent
   pub fits : seat.units + 1 < 2 ^ 32
 
-pub may_take_back : (pool : PoolState) (ticket : Ticket) (seat : Seat) → IsSoundPool pool
+pub may_take_back : (pool : PoolView) (ticket : Ticket) (seat : QuestionState) → IsSoundPool pool
     → IsOwnTicket pool ticket → ticket.epoch ≡ present_epoch pool
     → slice_get pool.seats ticket.place ≡ Some seat → MayTakeBack ticket.number seat
 may_take_back pool ticket seat sound own epoch found =
@@ -163,7 +165,7 @@ none_passes p xs none = list_any_none p xs (λ k d within. fails_before_first p 
     ]))
 
 -- where no question comes next there is no work
-pub no_next : (pool : PoolState) → next_place pool ≡ None → has_work pool ≡ false
+pub no_next : (pool : PoolView) → next_place pool ≡ None → has_work pool ≡ false
 no_next pool none =
     by_first (position (is_untouched pool.sheet) pool.seats) none
   where
@@ -174,13 +176,13 @@ no_next pool none =
     by_first (Some place) is = absurd (none-some place (sym is))
 
 -- fields that are seen as before are sound as before
-pub same_after : (pool : PoolState) (seats : List Seat) (loans : List (Option Loan))
+pub same_after : (pool : PoolView) (seats : List QuestionState) (loans : List (Option Loan))
     → IsSoundPool pool → seats ≡ pool.seats → loans ≡ pool.loans
     → IsSoundPool (record pool { seats = seats; loans = loans })
 same_after pool seats loans sound same_seats same_loans = rw (same_seats, same_loans) sound
 
 -- a leaf of the question that comes next was lent
-pub lent_after : (pool : PoolState) (ticket : Ticket) (seat new : Seat)
+pub lent_after : (pool : PoolView) (ticket : Ticket) (seat new : QuestionState)
     (loans : List (Option Loan)) (kept : Zone) → next_place pool ≡ Some ticket.place
     → slice_get pool.seats ticket.place ≡ Some seat → ticket.number ≡ free_number pool.loans
     → LendsSeat ticket.number seat new ticket.piece.zone kept
@@ -207,7 +209,7 @@ lent_after pool ticket seat new loans kept next found number lends epoch season 
 }
 
 -- a ticket of an earlier epoch came home
-pub home_after : (pool : PoolState) (ticket : Ticket) (loans : List (Option Loan))
+pub home_after : (pool : PoolView) (ticket : Ticket) (loans : List (Option Loan))
     → IsSoundPool pool
     → IsOwnTicket pool ticket → ticket.epoch ≢ present_epoch pool
     → loans ≡ loans_home pool.loans ticket.number
@@ -217,7 +219,7 @@ home_after pool ticket loans sound own other is =
     record { own = own; epoch = omega arith; after = rw is refl }
 
 -- what was done was put in place
-pub kept_after : (pool : PoolState) (ticket : Ticket) (done : Done) (seat new : Seat)
+pub kept_after : (pool : PoolView) (ticket : Ticket) (done : Done) (seat new : QuestionState)
     (loans : List (Option Loan)) → IsOwnTicket pool ticket → ticket.epoch ≡ present_epoch pool
     → slice_get pool.seats ticket.place ≡ Some seat → new ≡ seat_given ticket.number done seat
     → loans ≡ loans_home pool.loans ticket.number
@@ -229,7 +231,7 @@ kept_after pool ticket done seat new loans own epoch found is home =
     record { own = own; epoch = epoch; seat = seat; found = found; after = rw (is, home) refl }
 
 -- a ticket of the present epoch that is out is the pool's where its question and season are
-pub present_is : (pool : PoolState) (ticket : Ticket) (seat : Seat) → IsSoundPool pool
+pub present_is : (pool : PoolView) (ticket : Ticket) (seat : QuestionState) → IsSoundPool pool
     → loan_at pool.loans ticket.number ≡ Some (loan_of ticket)
     → ticket.epoch ≡ present_epoch pool → slice_get pool.seats ticket.place ≡ Some seat
     → seat.question ≡ ticket.piece.question → pool.season ≡ ticket.piece.season
@@ -243,10 +245,11 @@ present_is pool ticket seat sound out epoch found question season = record {
 }
 
 -- its question is the one at its place
-pub present_question : (pool : PoolState) (ticket : Ticket) (seat : Seat) → IsPresent pool ticket
+pub present_question : (pool : PoolView) (ticket : Ticket) (seat : QuestionState)
+    → IsPresent pool ticket
     → slice_get pool.seats ticket.place ≡ Some seat → seat.question ≡ ticket.piece.question
 present_question pool ticket seat present found =
-    ap (λ (s : Seat). s.question) (same_Some seat present.seat (sym found ∙ present.found))
+    ap (λ (s : QuestionState). s.question) (same_Some seat present.seat (sym found ∙ present.found))
     ∙ sym present.question
 
 -- what an element says of its place

@@ -7,18 +7,18 @@ use Rattle.std.proofs.lemmas.Bool.{false≢true, and_parts, and_from, cases_Bool
 use Rattle.std.proofs.lemmas.Slice.Eq.{bytes_eq-Decides}
 use Rattle.league_core.specs.declared.sheet.Sheet.{Sheet}
 use Rattle.league_core.specs.declared.question.Question.{Question}
-use Rattle.league_core.specs.Results.{Results}
-use Rattle.league_core.specs.Finishes.{IsFinishOf}
-use Rattle.league_core.specs.Splits.{IsProperNode}
+use Rattle.league_core.specs.game.Results.{Results}
+use Rattle.league_core.specs.game.Finishes.{IsFinishOf}
+use Rattle.league_core.specs.search.Splits.{IsProperNode}
 use Rattle.league_core.proofs.TreeLemmas.{NodesMeet-weaker}
-use Rattle.tree_reuse.specs.RetargetLaws.{IsKeptNode}
-use Rattle.tree_reuse.specs.Retargets.{retargeted}
+use Rattle.tree_reuse.specs.inside.RetargetLaws.{IsKeptNode}
+use Rattle.tree_reuse.specs.inside.Retargets.{retargeted}
 use Rattle.tree_reuse.proofs.RetargetLemmas.{kept_good, lent_count-retargeted}
 use Rattle.tree_reuse.proofs.RetargetLemmas.{new_count-retargeted, node_count-retargeted}
-use Rattle.branch_pool.specs.declared.seat.Example.{Example}
-use Rattle.branch_pool.specs.declared.seat.Seat.{Seat}
-use Rattle.branch_pool.specs.Steps.{may_end_as, example_kept, seat_changed}
-use Rattle.branch_pool.specs.Goodness.{IsGoodNode, IsGoodSeat, IsExampleOf}
+use Rattle.branch_pool.specs.declared.question_state.Example.{Example}
+use Rattle.branch_pool.specs.declared.question_state.QuestionState.{QuestionState}
+use Rattle.branch_pool.specs.inside.Steps.{may_end_as, example_kept, seat_changed}
+use Rattle.branch_pool.specs.inside.Goodness.{IsGoodNode, IsGoodSeat, IsExampleOf}
 
 -- the test of a finish is the definition
 pub ends_by_test : (sheet : Sheet) (season finish : Results)
@@ -59,7 +59,7 @@ example_stays sheet season question example is =
     rw (test_by_ends sheet season example.finish is.is_finish) refl
 
 -- a question in a new season
-pub seat_changed_good : (sheet : Sheet) (before season : Results) (seat : Seat)
+pub seat_changed_good : (sheet : Sheet) (before season : Results) (seat : QuestionState)
     → IsGoodSeat sheet before seat → IsGoodSeat sheet season (seat_changed sheet season seat)
 seat_changed_good sheet before season seat good =
     let proper = NodesMeet-weaker (IsGoodNode sheet before seat.question)

@@ -10,22 +10,23 @@ use Rattle.std.proofs.lemmas.List.Folds.{list_any_at}
 use Rattle.std.proofs.lemmas.List.Quantifiers.{position-Some}
 use Rattle.std.proofs.lemmas.Option.{none-some, get_or_from_slice_get}
 use Rattle.league_core.specs.declared.sheet.Sheet.{Sheet}
-use Rattle.branch_pool.specs.declared.seat.Seat.{Seat}
-use Rattle.branch_pool.specs.States.{is_workable}
-use Rattle.branch_pool.specs.Views.{HasWorkFrom}
+use Rattle.branch_pool.specs.declared.question_state.QuestionState.{QuestionState}
+use Rattle.branch_pool.specs.inside.States.{is_workable}
+use Rattle.branch_pool.specs.inside.Views.{HasWorkFrom}
 use Rattle.branch_pool.proofs.SlotLemmas.{slice_get-set_other}
 use Rattle.branch_pool.proofs.CallLemmas.{none_passes}
 use Rattle.branch_pool.proofs.NextLemmas.{skipped_from}
 
 -- nothing is said of the first place
-pub work_from_start : (sheet : Sheet) (seats : List Seat) → HasWorkFrom sheet seats 0
+pub work_from_start : (sheet : Sheet) (seats : List QuestionState) → HasWorkFrom sheet seats 0
 work_from_start sheet seats = record {
   within = omega arith;
   none = λ earlier seat before found. absurd (omega (arith, before));
 }
 
--- one question was changed, and the place is not behind it
-pub work_from_set : (sheet : Sheet) (seats : List Seat) (from place earliest : ℕ) (seat : Seat)
+-- one question was changed, and the place is not after it
+pub work_from_set : (sheet : Sheet) (seats : List QuestionState) (from place earliest : ℕ)
+    (seat : QuestionState)
     → HasWorkFrom sheet seats from → earliest ≤ from → earliest ≤ place
     → HasWorkFrom sheet (set seats place seat) earliest
 work_from_set sheet seats from place earliest seat kept one other =
@@ -39,14 +40,15 @@ work_from_set sheet seats from place earliest seat kept one other =
     }
 
 -- no question has work
-pub work_from_end : (sheet : Sheet) (seats : List Seat)
+pub work_from_end : (sheet : Sheet) (seats : List QuestionState)
     → position (is_workable sheet) seats ≡ None → HasWorkFrom sheet seats (length seats)
 work_from_end sheet seats none = record {
   within = omega arith;
   none = λ earlier seat before found. fails earlier seat before found (is_workable sheet seat) refl;
 }
   where
-    fails : (place : ℕ) (seat : Seat) → place < length seats → slice_get seats place ≡ Some seat
+    fails : (place : ℕ) (seat : QuestionState) → place < length seats
+        → slice_get seats place ≡ Some seat
         → (b : Bool) → is_workable sheet seat ≡ b → is_workable sheet seat ≡ false
     fails place seat within found false is = is
     fails place seat within found true is =
@@ -55,7 +57,7 @@ work_from_end sheet seats none = record {
         (ap (is_workable sheet) (get_or_from_slice_get seats place seat seat found) ∙ is)))
 
 -- the first question that has work
-pub work_from_first : (sheet : Sheet) (seats : List Seat) (first : ℕ)
+pub work_from_first : (sheet : Sheet) (seats : List QuestionState) (first : ℕ)
     → position (is_workable sheet) seats ≡ Some first → HasWorkFrom sheet seats first
 work_from_first sheet [] first at = absurd (none-some first at)
 work_from_first sheet (seat ∷ seats) first at =
@@ -69,7 +71,8 @@ work_from_first sheet (seat ∷ seats) first at =
     }
 
 -- the first question that has work is looked for from there on
-pub first_from : (sheet : Sheet) (seats : List Seat) (from : ℕ) → HasWorkFrom sheet seats from
+pub first_from : (sheet : Sheet) (seats : List QuestionState) (from : ℕ)
+    → HasWorkFrom sheet seats from
     → position (is_workable sheet) seats
     ≡ option_map (λ more. from + more) (position (is_workable sheet) (drop from seats))
 first_from sheet seats from kept =

@@ -8,15 +8,15 @@ use Rattle.std.proofs.lemmas.Option.{slice_get-map, slice_get-get_or}
 use Rattle.std.proofs.lemmas.List.Elements.{All-weaker, All-head}
 use Rattle.league_core.specs.declared.sheet.Sheet.{Sheet}
 use Rattle.league_core.specs.declared.zone.Literal.{Literal}
-use Rattle.league_core.specs.Results.{Results}
-use Rattle.league_core.specs.Seasons.{IsSeasonOf}
-use Rattle.league_core.specs.Codes.{has_code}
-use Rattle.league_core.specs.Questions.{IsQuestionOf}
-use Rattle.league_core.specs.Zones.{IsZoneFor}
-use Rattle.league_core.specs.Options.{has_finish}
-use Rattle.league_core.specs.Trees.{Tree, open_leaf, NodesMeet}
-use Rattle.league_core.specs.Lending.{lent_zones, put}
-use Rattle.league_core.specs.Splits.{IsProperNode, IsReasonTrue, IsUnitIfNew}
+use Rattle.league_core.specs.game.Results.{Results}
+use Rattle.league_core.specs.game.Seasons.{IsSeasonOf}
+use Rattle.league_core.specs.inside.Codes.{has_code}
+use Rattle.league_core.specs.game.Questions.{IsQuestionOf}
+use Rattle.league_core.specs.search.Zones.{IsZoneFor}
+use Rattle.league_core.specs.search.Options.{has_finish}
+use Rattle.league_core.specs.search.Trees.{Tree, open_leaf, NodesMeet}
+use Rattle.league_core.specs.inside.Lending.{lent_zones, put}
+use Rattle.league_core.specs.search.Splits.{IsProperNode, IsReasonTrue, IsUnitIfNew}
 use Rattle.league_core.proofs.HalfLemmas.{root_has_finish, nodes_have_finish}
 use Rattle.league_core.proofs.LogLemmas.{season_after_of, log_has_codes}
 use Rattle.league_core.proofs.NodeFactLemmas.{NodesMeet-lend, NodesMeet-lent}
@@ -24,26 +24,27 @@ use Rattle.league_core.proofs.TreeLemmas.{NodesMeet-weaker}
 use Rattle.reason_laws.proofs.HalfMarkLemmas.{proper_trees}
 use Rattle.reason_laws.proofs.SplitLemmas.{leaves_cover}
 use Rattle.tree_reuse.proofs.RetargetLemmas.{proper_tests}
-use Rattle.branch_pool.specs.declared.seat.Seat.{Seat}
+use Rattle.branch_pool.specs.declared.question_state.QuestionState.{QuestionState}
 use Rattle.branch_pool.specs.declared.ticket.Ticket.{Ticket}
-use Rattle.branch_pool.specs.States.{PoolState}
-use Rattle.branch_pool.specs.Steps.{TakesLeaf, pool_lent}
-use Rattle.branch_pool.specs.Goodness.{IsGoodNode, IsGoodSeat, IsSoundPool, IsCovered}
-use Rattle.branch_pool.specs.Goodness.{AreLeavesRefuted}
-use Rattle.branch_pool.specs.Goodness.{IsExampleTrue, AreUnitsTrue, IsGood}
-use Rattle.branch_pool.specs.Seats.{MayBeCarried}
-use Rattle.branch_pool.specs.Calls.{IsFit}
+use Rattle.branch_pool.specs.inside.States.{PoolView}
+use Rattle.branch_pool.specs.inside.Steps.{TakesLeaf, pool_lent}
+use Rattle.branch_pool.specs.inside.Goodness.{IsGoodNode, IsGoodSeat, IsSoundPool, IsCovered}
+use Rattle.branch_pool.specs.inside.Goodness.{AreLeavesRefuted, IsExampleTrue, AreUnitsTrue, IsGood}
+use Rattle.branch_pool.specs.inside.Seats.{MayBeCarried}
+use Rattle.branch_pool.specs.inside.Calls.{IsFit}
 use Rattle.branch_pool.proofs.SlotLemmas.{All-at}
 
 -- the splits of a good question are proper
-pub seat_proper : (sheet : Sheet) (season : Results) (seat : Seat) → IsGoodSeat sheet season seat
+pub seat_proper : (sheet : Sheet) (season : Results) (seat : QuestionState)
+    → IsGoodSeat sheet season seat
     → NodesMeet (IsProperNode sheet season seat.question) [] seat.tree
 seat_proper sheet season seat good =
     NodesMeet-weaker (IsGoodNode sheet season seat.question)
     (IsProperNode sheet season seat.question) (λ zone node fact. fact.proper) seat.tree []
     good.nodes
 
-seat_covered : (sheet : Sheet) (season : Results) (seat : Seat) → IsGoodSeat sheet season seat
+seat_covered : (sheet : Sheet) (season : Results) (seat : QuestionState)
+    → IsGoodSeat sheet season seat
     → IsCovered sheet season seat
 seat_covered sheet season seat good =
     let proper = seat_proper sheet season seat good in
@@ -54,14 +55,16 @@ seat_covered sheet season seat good =
       cover = leaves_cover sheet season seat.question seat.tree;
     }
 
-seat_refuted : (sheet : Sheet) (season : Results) (seat : Seat) → IsGoodSeat sheet season seat
+seat_refuted : (sheet : Sheet) (season : Results) (seat : QuestionState)
+    → IsGoodSeat sheet season seat
     → AreLeavesRefuted sheet season seat
 seat_refuted sheet season seat good =
     NodesMeet-weaker (IsGoodNode sheet season seat.question)
     (IsReasonTrue sheet season seat.question) (λ zone node fact. fact.refuted) seat.tree []
     good.nodes
 
-seat_units : (sheet : Sheet) (season : Results) (seat : Seat) → IsGoodSeat sheet season seat
+seat_units : (sheet : Sheet) (season : Results) (seat : QuestionState)
+    → IsGoodSeat sheet season seat
     → AreUnitsTrue sheet season seat
 seat_units sheet season seat good = record {
   nodes = NodesMeet-weaker (IsGoodNode sheet season seat.question)
@@ -72,7 +75,7 @@ seat_units sheet season seat good = record {
 }
 
 -- what is kept is a good pool
-pub sound_is_good : (pool : PoolState) → IsSoundPool pool → IsGood pool
+pub sound_is_good : (pool : PoolView) → IsSoundPool pool → IsGood pool
 sound_is_good pool sound = record {
   log = record {
     limits = sound.limits;
@@ -93,35 +96,43 @@ sound_is_good pool sound = record {
 }
 
 -- the season is one of the sheet
-pub sound_season : (pool : PoolState) → IsSoundPool pool → IsSeasonOf pool.sheet pool.season
+pub sound_season : (pool : PoolView) → IsSoundPool pool → IsSeasonOf pool.sheet pool.season
 sound_season pool sound = rw sound.season (season_after_of pool.sheet pool.log)
 
 -- each event has a code
-pub sound_codes : (pool : PoolState) → IsSoundPool pool → All (λ event. IsTrue (has_code event))
+pub sound_codes : (pool : PoolView) → IsSoundPool pool → All (λ event. IsTrue (has_code event))
     pool.log
 sound_codes pool sound = log_has_codes pool.sheet pool.log sound.limits sound.events
 
 -- there are as many seats as questions
-pub sound_places : (pool : PoolState) → IsSoundPool pool → length pool.seats ≡ length pool.questions
+pub sound_places : (pool : PoolView) → IsSoundPool pool → length pool.seats ≡ length pool.questions
 sound_places pool sound =
     sym (length-asked pool.seats) ∙ ap length sound.asked
   where
-    length-asked : (seats : List Seat)
-        → length (map (λ (seat : Seat). seat.question) seats) ≡ length seats
+    length-asked : (seats : List QuestionState)
+        → length (map (λ (seat : QuestionState). seat.question) seats) ≡ length seats
     length-asked [] = refl
     length-asked (seat ∷ seats) = ap suc (length-asked seats)
 
+-- the question of a seat is the one at its place
+pub asked_there : (pool : PoolView) (place : ℕ) (seat : QuestionState) → IsSoundPool pool
+    → slice_get pool.seats place ≡ Some seat
+    → slice_get pool.questions place ≡ Some seat.question
+asked_there pool place seat sound found =
+    ap (λ asked. slice_get asked place) (sym sound.asked)
+    ∙ slice_get-map (λ (s : QuestionState). s.question) pool.seats place
+    ∙ ap (option_map (λ (s : QuestionState). s.question)) found
+
 -- the question of a seat is one of the sheet
-pub seat_question : (pool : PoolState) (place : ℕ) (seat : Seat) → IsSoundPool pool
+pub seat_question : (pool : PoolView) (place : ℕ) (seat : QuestionState) → IsSoundPool pool
     → slice_get pool.seats place ≡ Some seat → IsQuestionOf pool.sheet seat.question
 seat_question pool place seat sound found =
     All-at (IsQuestionOf pool.sheet) pool.questions place seat.question sound.questions
-    (ap (λ asked. slice_get asked place) (sym sound.asked)
-    ∙ slice_get-map (λ (s : Seat). s.question) pool.seats place
-    ∙ ap (option_map (λ (s : Seat). s.question)) found)
+    (asked_there pool place seat sound found)
 
 -- the zone of a leaf that is lent is one for its question, and has a finish
-pub lent_zone_fits : (sheet : Sheet) (season : Results) (seat : Seat) (tree : Tree) (number : ℕ)
+pub lent_zone_fits : (sheet : Sheet) (season : Results) (seat : QuestionState) (tree : Tree)
+    (number : ℕ)
     (zone : List Literal) → IsGoodSeat sheet season seat → put number open_leaf tree ≡ seat.tree
     → lent_zones number [] tree ≡ zone ∷ []
     → IsZoneFor sheet seat.question zone × (has_finish sheet season zone ≡ true)
@@ -142,7 +153,7 @@ lent_zone_fits sheet season seat tree number zone good leaf lent = (
         (λ z out fact. tt) (rw leaf (seat_proper sheet season seat good))
 
 -- what was lent is fit for work
-pub taken_is_fit : (old : PoolState) (ticket : Ticket) (new : PoolState) → IsSoundPool old
+pub taken_is_fit : (old : PoolView) (ticket : Ticket) (new : PoolView) → IsSoundPool old
     → TakesLeaf old ticket new → IsFit new ticket
 taken_is_fit old ticket new sound takes =
     subst (λ pool. IsFit pool ticket) (sym takes.after) fit
@@ -165,7 +176,7 @@ taken_is_fit old ticket new sound takes =
     }
 
 -- each question may be carried over to another season
-pub seats_ready : (pool : PoolState) → IsSoundPool pool → All (MayBeCarried pool.sheet) pool.seats
+pub seats_ready : (pool : PoolView) → IsSoundPool pool → All (MayBeCarried pool.sheet) pool.seats
 seats_ready pool sound k d within = record {
   club = (seat_question pool k _ sound (slice_get-get_or pool.seats k d within)).club;
   tests = proper_tests pool.sheet pool.season (get_or pool.seats k d).question []

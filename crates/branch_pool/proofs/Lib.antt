@@ -10,3 +10,4 @@ pub mod NextLemmas
 pub mod FromLemmas
 pub mod RunLemmas
 pub mod WorkLemmas
+pub mod TicketLemmas

@@ -7,13 +7,13 @@ use Rattle.std.specs.List.{slice_get, All}
 use Rattle.std.proofs.lemmas.Bool.{cases_eq, eq-eqb, ne_eqb, and_right}
 use Rattle.std.proofs.lemmas.Option.{same_Some}
 use Rattle.league_core.specs.declared.zone.Literal.{Literal}
-use Rattle.league_core.specs.Trees.{Tree, open_leaf}
-use Rattle.league_core.specs.Lending.{lent_zones, put, times_lent}
+use Rattle.league_core.specs.search.Trees.{Tree, open_leaf}
+use Rattle.league_core.specs.inside.Lending.{lent_zones, put, times_lent}
 use Rattle.league_core.proofs.PutLemmas.{lent_zones-put_same, lent_zones-put_other}
-use Rattle.branch_pool.specs.declared.seat.Seat.{Seat}
-use Rattle.branch_pool.specs.declared.seat.Loan.{Loan}
-use Rattle.branch_pool.specs.States.{loan_at, with_loan}
-use Rattle.branch_pool.specs.Goodness.{zones_due, IsGoodLoan}
+use Rattle.branch_pool.specs.declared.question_state.QuestionState.{QuestionState}
+use Rattle.branch_pool.specs.declared.question_state.Loan.{Loan}
+use Rattle.branch_pool.specs.inside.States.{loan_at, with_loan}
+use Rattle.branch_pool.specs.inside.Goodness.{zones_due, IsGoodLoan}
 use Rattle.branch_pool.proofs.SlotLemmas.{loan_at-with_same, loan_at-with_other, loan_at-home_same}
 use Rattle.branch_pool.proofs.SlotLemmas.{slice_get-set_same, slice_get-set_other, loan_meets}
 
@@ -42,13 +42,13 @@ not_due_at epoch place loan other =
 -- ---- seats and loans that agree
 
 -- what is lent and what is out agree in an epoch
-abbrev pub Agree : ℕ → List Seat → List (Option Loan) → Type 0
+abbrev pub Agree : ℕ → List QuestionState → List (Option Loan) → Type 0
 Agree epoch seats loans =
-    (number place : ℕ) (seat : Seat) → slice_get seats place ≡ Some seat
+    (number place : ℕ) (seat : QuestionState) → slice_get seats place ≡ Some seat
     → lent_zones number [] seat.tree ≡ zones_due epoch place (loan_at loans number)
 
 -- the seat at the place that was written is the new one
-the_new : (seats : List Seat) (at place : ℕ) (seat new there : Seat)
+the_new : (seats : List QuestionState) (at place : ℕ) (seat new there : QuestionState)
     → slice_get seats at ≡ Some seat → place ≡ at → slice_get (set seats at new) place ≡ Some there
     → there ≡ new
 the_new seats at place seat new there found here is =
@@ -56,14 +56,14 @@ the_new seats at place seat new there found here is =
     (sym is ∙ ap (slice_get (set seats at new)) here ∙ slice_get-set_same seats at seat new found)
 
 -- one at another place is as it was
-an_old : (seats : List Seat) (at place : ℕ) (new there : Seat)
+an_old : (seats : List QuestionState) (at place : ℕ) (new there : QuestionState)
     → place ≢ at → slice_get (set seats at new) place ≡ Some there
     → slice_get seats place ≡ Some there
 an_old seats at place new there apart is = sym (slice_get-set_other seats at place new apart) ∙ is
 
 -- one more is lent, and out
-pub Agree-lent : (epoch : ℕ) (seats : List Seat) (loans : List (Option Loan)) (number : ℕ)
-    (seat new : Seat) (loan : Loan) → Agree epoch seats loans → number ≤ length loans
+pub Agree-lent : (epoch : ℕ) (seats : List QuestionState) (loans : List (Option Loan)) (number : ℕ)
+    (seat new : QuestionState) (loan : Loan) → Agree epoch seats loans → number ≤ length loans
     → loan_at loans number ≡ None → slice_get seats loan.place ≡ Some seat
     → loan.epoch ≡ epoch → put number open_leaf new.tree ≡ seat.tree
     → lent_zones number [] new.tree ≡ loan.zone.literals ∷ []
@@ -96,7 +96,7 @@ Agree-lent epoch seats loans number seat new loan agree few free found now leaf 
 
     lent_here : place ≡ loan.place → lent_zones number [] there.tree ≡ loan.zone.literals ∷ []
     lent_here here =
-        ap (λ (s : Seat). lent_zones number [] s.tree)
+        ap (λ (s : QuestionState). lent_zones number [] s.tree)
         (the_new seats loan.place place seat new there found here is) ∙ lent
 
     nothing_there : place ≢ loan.place → lent_zones number [] there.tree ≡ []
@@ -114,7 +114,7 @@ Agree-lent epoch seats loans number seat new loan agree few free found now leaf 
     other_here : other ≢ number → place ≡ loan.place
         → lent_zones other [] there.tree ≡ zones_due epoch place (loan_at loans other)
     other_here different here =
-        ap (λ (s : Seat). lent_zones other [] s.tree)
+        ap (λ (s : QuestionState). lent_zones other [] s.tree)
         (the_new seats loan.place place seat new there found here is)
         ∙ sym (lent_zones-put_other number other open_leaf new.tree [] (ne_eqb other number
         different) refl)
@@ -122,8 +122,8 @@ Agree-lent epoch seats loans number seat new loan agree few free found now leaf 
         ∙ agree other place seat (ap (slice_get seats) here ∙ found)
 
 -- a leaf came back, and its number came home
-pub Agree-given : (epoch : ℕ) (seats : List Seat) (loans : List (Option Loan)) (number : ℕ)
-    (seat new : Seat) (loan : Loan) (leaf : Tree) → Agree epoch seats loans
+pub Agree-given : (epoch : ℕ) (seats : List QuestionState) (loans : List (Option Loan)) (number : ℕ)
+    (seat new : QuestionState) (loan : Loan) (leaf : Tree) → Agree epoch seats loans
     → loan_at loans number ≡ Some loan → slice_get seats loan.place ≡ Some seat
     → new.tree ≡ put number leaf seat.tree → ((n : ℕ) → times_lent n leaf ≡ 0)
     → Agree epoch (set seats loan.place new) (set loans number None)
@@ -160,7 +160,7 @@ Agree-given epoch seats loans number seat new loan leaf agree out found is_put n
 
     taken : place ≡ loan.place → lent_zones number [] there.tree ≡ []
     taken here =
-        ap (λ (s : Seat). lent_zones number [] s.tree)
+        ap (λ (s : QuestionState). lent_zones number [] s.tree)
         (the_new seats loan.place place seat new there found here is)
         ∙ ap (lent_zones number []) is_put
         ∙ lent_zones-put_same number leaf seat.tree [] (none number)
@@ -174,7 +174,7 @@ Agree-given epoch seats loans number seat new loan leaf agree out found is_put n
     other_here : other ≢ number → place ≡ loan.place
         → lent_zones other [] there.tree ≡ zones_due epoch place (loan_at loans other)
     other_here different here =
-        ap (λ (s : Seat). lent_zones other [] s.tree)
+        ap (λ (s : QuestionState). lent_zones other [] s.tree)
         (the_new seats loan.place place seat new there found here is)
         ∙ ap (lent_zones other []) is_put
         ∙ lent_zones-put_other number other leaf seat.tree [] (ne_eqb other number different) (none
@@ -182,7 +182,7 @@ Agree-given epoch seats loans number seat new loan leaf agree out found is_put n
         ∙ agree other place seat (ap (slice_get seats) here ∙ found)
 
 -- a number of an earlier epoch came home
-pub Agree-home : (epoch : ℕ) (seats : List Seat) (loans : List (Option Loan)) (number : ℕ)
+pub Agree-home : (epoch : ℕ) (seats : List QuestionState) (loans : List (Option Loan)) (number : ℕ)
     (loan : Loan) → Agree epoch seats loans → loan_at loans number ≡ Some loan
     → loan.epoch < epoch → Agree epoch seats (set loans number None)
 Agree-home epoch seats loans number loan agree out earlier other place there is =
@@ -201,9 +201,9 @@ Agree-home epoch seats loans number loan agree out earlier other place there is 
     ]
 
 -- what was lent in earlier epochs is not due in a new one, where nothing is lent
-pub Agree-left : (epoch later places : ℕ) (seats : List Seat) (loans : List (Option Loan))
+pub Agree-left : (epoch later places : ℕ) (seats : List QuestionState) (loans : List (Option Loan))
     → All (λ out. IfSome out (IsGoodLoan epoch places)) loans → epoch < later
-    → ((number place : ℕ) (seat : Seat) → slice_get seats place ≡ Some seat
+    → ((number place : ℕ) (seat : QuestionState) → slice_get seats place ≡ Some seat
     → lent_zones number [] seat.tree ≡ [])
     → Agree later seats loans
 Agree-left epoch later places seats loans all is_later none number place seat is =

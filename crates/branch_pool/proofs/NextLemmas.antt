@@ -15,9 +15,9 @@ use Rattle.std.proofs.lemmas.List.Sums.{fails_before_first, passes_at_first}
 use Rattle.std.proofs.lemmas.List.Sums.{position_or_len_is, prefix_len-le-length}
 use Rattle.std.proofs.lemmas.Option.{none-some, slice_get-get_or, get_or_from_slice_get}
 use Rattle.league_core.specs.declared.sheet.Sheet.{Sheet}
-use Rattle.branch_pool.specs.declared.seat.Seat.{Seat}
-use Rattle.branch_pool.specs.States.{PoolState, is_workable}
-use Rattle.branch_pool.specs.Calls.{next_place, is_untouched}
+use Rattle.branch_pool.specs.declared.question_state.QuestionState.{QuestionState}
+use Rattle.branch_pool.specs.inside.States.{PoolView, is_workable}
+use Rattle.branch_pool.specs.inside.Calls.{next_place, is_untouched}
 use Rattle.branch_pool.proofs.CallLemmas.{none_passes}
 
 -- where a list has an element that passes, and where it has none
@@ -95,12 +95,12 @@ narrower_from p q (x ∷ xs) k narrower at =
     (ap p (sym (get_or_from_slice_get (x ∷ xs) j y x found)) ∙ facts.2 j early))
 
 -- an untouched question has work
-untouched_is_workable : (sheet : Sheet) (seat : Seat) → is_workable sheet seat ≡ false
+untouched_is_workable : (sheet : Sheet) (seat : QuestionState) → is_workable sheet seat ≡ false
     → is_untouched sheet seat ≡ false
 untouched_is_workable sheet seat none = ap (λ works. works && (seat.lent == 0)) none
 
 -- the question that comes next, where the first with work is known
-pub next_from : (pool : PoolState) (first : ℕ)
+pub next_from : (pool : PoolView) (first : ℕ)
     → position (is_workable pool.sheet) pool.seats ≡ Some first
     → next_place pool ≡ option_or (option_map (λ more. first + more)
     (position (is_untouched pool.sheet) (drop first pool.seats))) (Some first)
@@ -134,7 +134,7 @@ none_narrower p q (x ∷ xs) narrower none =
     by_case (inr past) = position-missing q (x ∷ xs) past
 
 -- where no question has work none comes next
-pub next_none : (pool : PoolState) → position (is_workable pool.sheet) pool.seats ≡ None
+pub next_none : (pool : PoolView) → position (is_workable pool.sheet) pool.seats ≡ None
     → next_place pool ≡ None
 next_none pool none =
     ap (λ untouched. option_or untouched (position (is_workable pool.sheet) pool.seats))

@@ -13,27 +13,26 @@ use Rattle.std.proofs.lemmas.Option.{same_Some, none-some, get_or_from_slice_get
 use Rattle.std.proofs.lemmas.List.Sums.{sum_by-cons, sum_by-set}
 use Rattle.league_core.specs.declared.sheet.Sheet.{Sheet}
 use Rattle.league_core.specs.declared.question.Question.{Question}
-use Rattle.league_core.specs.Sheets.{IsWithinLimits}
-use Rattle.league_core.specs.Questions.{IsQuestionOf}
-use Rattle.league_core.specs.Trees.{Tree, has_open, is_refuted}
-use Rattle.league_core.specs.Lending.{lent_count}
+use Rattle.league_core.specs.game.Sheets.{IsWithinLimits}
+use Rattle.league_core.specs.game.Questions.{IsQuestionOf}
+use Rattle.league_core.specs.search.Trees.{Tree, has_open, is_refuted}
+use Rattle.league_core.specs.inside.Lending.{lent_count}
 use Rattle.league_core.proofs.LendingLemmas.{length-lent_zones, lent_count-none, settled_is_refuted}
 use Rattle.reason_core.specs.declared.done.Done.{Done}
 use Rattle.reason_core.specs.declared.done.Done.TheVariants.{Refuted, Split, Won, Undone}
-use Rattle.branch_pool.specs.declared.seat.Example.{Example}
-use Rattle.branch_pool.specs.declared.seat.Seat.{Seat}
-use Rattle.branch_pool.specs.declared.seat.Loan.{Loan}
-use Rattle.branch_pool.specs.declared.seat.TheConstants.{MOST_QUESTIONS}
+use Rattle.branch_pool.specs.declared.question_state.Example.{Example}
+use Rattle.branch_pool.specs.declared.question_state.QuestionState.{QuestionState}
+use Rattle.branch_pool.specs.declared.question_state.Loan.{Loan}
 use Rattle.branch_pool.specs.declared.ticket.Answer.TheVariants as answer
 use Rattle.branch_pool.specs.declared.ticket.Ticket.{Ticket}
-use Rattle.branch_pool.specs.States.{PoolState, pool_begun, has_work, out_count, is_workable}
-use Rattle.branch_pool.specs.States.{loan_at, present_epoch}
-use Rattle.branch_pool.specs.Steps.{TakesLeaf, Keeps, seat_lent, seat_given}
-use Rattle.branch_pool.specs.Goodness.{IsSoundPool, IsGood, IsGoodSeat, zones_due}
-use Rattle.branch_pool.specs.Calls.{pool_answer, answer_of}
-use Rattle.branch_pool.specs.Runs.{Step, take_step, give_step, change_step, start_step, shut_step}
-use Rattle.branch_pool.specs.Runs.{recall_step, MakesStep, Move, AreSteps, pool_after, IsWorked}
-use Rattle.branch_pool.specs.Runs.{WorksNext, seat_left, work_left}
+use Rattle.branch_pool.specs.inside.States.{PoolView, pool_begun, has_work, out_count, is_workable}
+use Rattle.branch_pool.specs.inside.States.{most_questions, loan_at, present_epoch}
+use Rattle.branch_pool.specs.inside.Steps.{TakesLeaf, Keeps, seat_lent, seat_given}
+use Rattle.branch_pool.specs.inside.Goodness.{IsSoundPool, IsGood, IsGoodSeat, zones_due}
+use Rattle.branch_pool.specs.inside.Calls.{pool_answer, answer_of}
+use Rattle.branch_pool.specs.inside.Runs.{Step, take_step, give_step, change_step, start_step}
+use Rattle.branch_pool.specs.inside.Runs.{shut_step, recall_step, MakesStep, Move, AreSteps}
+use Rattle.branch_pool.specs.inside.Runs.{pool_after, IsWorked, WorksNext, seat_left, work_left}
 use Rattle.branch_pool.proofs.SlotLemmas.{All-at, set_twice, slice_get-set_same}
 use Rattle.branch_pool.proofs.SeatLemmas.{workable_within}
 use Rattle.branch_pool.proofs.GoodLemmas.{sound_is_good}
@@ -44,7 +43,7 @@ use Rattle.branch_pool.proofs.StepLemmas.{opened_sound, shut_sound, recalled_sou
 -- ---- steps
 
 -- each step keeps the pool sound
-pub step_sound : (old : PoolState) (step : Step) (new : PoolState) → IsSoundPool old
+pub step_sound : (old : PoolView) (step : Step) (new : PoolView) → IsSoundPool old
     → MakesStep old step new → IsSoundPool new
 step_sound old (take_step ticket) new sound leads = taken_sound old ticket new sound leads
 step_sound old (give_step ticket done gave) new sound leads =
@@ -57,7 +56,7 @@ step_sound old recall_step new sound leads = subst IsSoundPool (sym leads) (reca
     sound)
 
 -- and so do all of a list
-pub steps_sound : (pool : PoolState) (moves : List Move) → IsSoundPool pool → AreSteps pool moves
+pub steps_sound : (pool : PoolView) (moves : List Move) → IsSoundPool pool → AreSteps pool moves
     → IsSoundPool (pool_after pool moves)
 steps_sound pool [] sound steps = sound
 steps_sound pool (move ∷ moves) sound steps =
@@ -66,7 +65,7 @@ steps_sound pool (move ∷ moves) sound steps =
 -- from its beginning on a pool is good
 pub steps_are_good : (sheet : Sheet) (questions : List Question) (moves : List Move)
     → IsWithinLimits sheet → All (IsQuestionOf sheet) questions
-    → length questions ≤ MOST_QUESTIONS → AreSteps (pool_begun sheet questions) moves
+    → length questions ≤ most_questions → AreSteps (pool_begun sheet questions) moves
     → IsGood (pool_after (pool_begun sheet questions) moves)
 steps_are_good sheet questions moves limits of_sheet few steps =
     sound_is_good (pool_after (pool_begun sheet questions) moves)
@@ -75,15 +74,16 @@ steps_are_good sheet questions moves limits of_sheet few steps =
     steps)
 
 -- a turn of work keeps the pool sound
-pub turn_sound : (old new : PoolState) → IsSoundPool old → WorksNext old new → IsSoundPool new
+pub turn_sound : (old new : PoolView) → IsSoundPool old → WorksNext old new → IsSoundPool new
 turn_sound old new sound works =
     kept_sound works.between works.ticket works.done new
-    (taken_sound old works.ticket works.between sound works.taken) works.given works.kept
+    (taken_sound old works.ticket works.between sound works.taken.takes) works.given works.kept
 
 -- ---- less and less is left
 
 -- a list in which one element counts for less counts for less
-sum_less : (f : Seat → ℕ) (seats : List Seat) (place : ℕ) (seat new : Seat)
+sum_less : (f : QuestionState → ℕ) (seats : List QuestionState) (place : ℕ)
+    (seat new : QuestionState)
     → slice_get seats place ≡ Some seat → f new < f seat
     → sum_by f (set seats place new) < sum_by f seats
 sum_less f seats place seat new found less =
@@ -93,7 +93,7 @@ sum_less f seats place seat new found less =
     omega (arith, both, less)
 
 -- a question of which a leaf was worked on has less left
-turn_less : (sheet : Sheet) (seat : Seat) (tree : Tree) (number : ℕ) (done : Done)
+turn_less : (sheet : Sheet) (seat : QuestionState) (tree : Tree) (number : ℕ) (done : Done)
     → is_workable sheet seat ≡ true → IsWorked done
     → seat_left sheet.budget (seat_given number done (seat_lent tree seat))
     < seat_left sheet.budget seat
@@ -119,7 +119,7 @@ turn_less sheet seat tree number done workable worked = by_example seat.example 
     by_example None is Undone did = absurd did
 
 -- a turn of work leaves less to do
-pub turns_leave_less : (old new : PoolState) → IsSoundPool old → WorksNext old new
+pub turns_leave_less : (old new : PoolView) → IsSoundPool old → WorksNext old new
     → work_left new < work_left old
 turns_leave_less old new sound works = rw (same_sheet, seats_are)
     (sum_less (seat_left old.sheet.budget) old.seats ticket.place taken.seat
@@ -131,18 +131,18 @@ turns_leave_less old new sound works = rw (same_sheet, seats_are)
     ticket = works.ticket
 
     taken : TakesLeaf old works.ticket works.between
-    taken = works.taken
+    taken = works.taken.takes
 
     kept : Keeps works.between works.ticket works.done new
     kept = works.kept
 
     same_sheet : new.sheet ≡ old.sheet
-    same_sheet = ap (λ (p : PoolState). p.sheet) kept.after
-        ∙ ap (λ (p : PoolState). p.sheet) taken.after
+    same_sheet = ap (λ (p : PoolView). p.sheet) kept.after
+        ∙ ap (λ (p : PoolView). p.sheet) taken.after
 
     between_seats : works.between.seats
         ≡ set old.seats ticket.place (seat_lent taken.tree taken.seat)
-    between_seats = ap (λ (p : PoolState). p.seats) taken.after
+    between_seats = ap (λ (p : PoolView). p.seats) taken.after
 
     same_seat : kept.seat ≡ seat_lent taken.tree taken.seat
     same_seat = same_Some kept.seat (seat_lent taken.tree taken.seat)
@@ -153,7 +153,7 @@ turns_leave_less old new sound works = rw (same_sheet, seats_are)
     seats_are : new.seats ≡ set old.seats ticket.place
         (seat_given ticket.number works.done (seat_lent taken.tree taken.seat))
     seats_are =
-        ap (λ (p : PoolState). p.seats) kept.after
+        ap (λ (p : PoolView). p.seats) kept.after
         ∙ ap (λ seats. set seats ticket.place (seat_given ticket.number works.done kept.seat))
         between_seats
         ∙ set_twice old.seats ticket.place (seat_lent taken.tree taken.seat)
@@ -185,12 +185,12 @@ none_at p (first ∷ xs) (suc i) x none found =
     none_at p xs i x (or_parts (p first) (list_any p xs) none).1 found
 
 -- where nothing is out and there is no work, no question is not answered yet
-pub no_work_answers : (pool : PoolState) (place : ℕ) → IsSoundPool pool → out_count pool.loans ≡ 0
+pub no_work_answers : (pool : PoolView) (place : ℕ) → IsSoundPool pool → out_count pool.loans ≡ 0
     → has_work pool ≡ false → pool_answer pool place ≢ Some answer.NotYet
 no_work_answers pool place sound none idle not_yet =
     by_seat (slice_get pool.seats place) refl not_yet
   where
-    lends_nothing : (seat : Seat) → slice_get pool.seats place ≡ Some seat
+    lends_nothing : (seat : QuestionState) → slice_get pool.seats place ≡ Some seat
         → lent_count seat.tree ≡ 0
     lends_nothing seat found = lent_count-none seat.tree (λ number.
         sym (length-lent_zones number seat.tree [])
@@ -198,7 +198,8 @@ no_work_answers pool place sound none idle not_yet =
         ∙ ap (λ out. length (zones_due (present_epoch pool) place out))
         (nothing_out pool.loans number none))
 
-    settled : (seat : Seat) → slice_get pool.seats place ≡ Some seat → (kept : Option Example)
+    settled : (seat : QuestionState) → slice_get pool.seats place ≡ Some seat
+        → (kept : Option Example)
         → seat.example ≡ kept → (refuted : Bool) → is_refuted seat.tree ≡ refuted → (spent : Bool)
         → (seat.units == pool.sheet.budget) ≡ spent
         → answer_of pool.sheet seat ≡ answer.NotYet → ⊥
@@ -225,7 +226,7 @@ no_work_answers pool place sound none idle not_yet =
               (settled_is_refuted seat.tree closed nothing)
         ]
 
-    by_seat : (found : Option Seat) → slice_get pool.seats place ≡ found
+    by_seat : (found : Option QuestionState) → slice_get pool.seats place ≡ found
         → option_map (answer_of pool.sheet) found ≡ Some answer.NotYet → ⊥
     by_seat None at is = none-some answer.NotYet is
     by_seat (Some seat) at is =

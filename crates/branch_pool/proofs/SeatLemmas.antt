@@ -10,9 +10,10 @@ use Rattle.league_core.specs.declared.sheet.Sheet.{Sheet}
 use Rattle.league_core.specs.declared.question.Question.{Question}
 use Rattle.league_core.specs.declared.zone.Literal.{Literal}
 use Rattle.league_core.specs.declared.tree.TreeNode.TheVariants.{Open, Lent}
-use Rattle.league_core.specs.Results.{Results}
-use Rattle.league_core.specs.Trees.{Tree, open_leaf, NodesMeet, new_count, node_count, has_open}
-use Rattle.league_core.specs.Lending.{lent_count, times_lent, lent_zones, put}
+use Rattle.league_core.specs.game.Results.{Results}
+use Rattle.league_core.specs.search.Trees.{Tree, open_leaf, NodesMeet, new_count, node_count}
+use Rattle.league_core.specs.search.Trees.{has_open}
+use Rattle.league_core.specs.inside.Lending.{lent_count, times_lent, lent_zones, put}
 use Rattle.league_core.proofs.LendingLemmas.{length-lent_zones, times_lent-le}
 use Rattle.league_core.proofs.LendingLemmas.{lent_count-all_opened, new_count-all_opened}
 use Rattle.league_core.proofs.LendingLemmas.{node_count-all_opened}
@@ -21,14 +22,14 @@ use Rattle.league_core.proofs.NodeFactLemmas.{NodesMeet-put, NodesMeet-lend, Nod
 use Rattle.reason_core.specs.declared.piece.Piece.{Piece}
 use Rattle.reason_core.specs.declared.done.Done.{Done}
 use Rattle.reason_core.specs.declared.done.Done.TheVariants.{Refuted, Split, Won, Undone}
-use Rattle.reason_core.specs.Dones.{IsFor, IsTrueDone}
-use Rattle.tree_reuse.specs.declared.halves.TheConstants.{MOST_KEPT}
-use Rattle.branch_pool.specs.declared.seat.Example.{Example}
-use Rattle.branch_pool.specs.declared.seat.Seat.{Seat}
-use Rattle.branch_pool.specs.States.{is_workable, new_seat}
-use Rattle.branch_pool.specs.Steps.{seat_lent, seat_given, seat_recalled, leaf_given, units_given}
-use Rattle.branch_pool.specs.Steps.{example_given}
-use Rattle.branch_pool.specs.Goodness.{IsGoodNode, IsGoodSeat, IsExampleOf}
+use Rattle.reason_core.specs.inside.Dones.{IsFor, IsTrueDone}
+use Rattle.branch_pool.specs.declared.question_state.Example.{Example}
+use Rattle.branch_pool.specs.declared.question_state.QuestionState.{QuestionState}
+use Rattle.branch_pool.specs.inside.States.{is_workable, new_seat}
+use Rattle.branch_pool.specs.inside.Steps.{seat_lent, seat_given, seat_recalled, leaf_given}
+use Rattle.branch_pool.specs.inside.Steps.{units_given, example_given}
+use Rattle.branch_pool.specs.inside.Goodness.{IsGoodNode, IsGoodSeat, IsExampleOf}
+use Rattle.tree_reuse.specs.inside.Retargets.{most_kept}
 
 -- an open leaf is good in any zone, and so is a lent one
 pub open_is_good : (sheet : Sheet) (season : Results) (question : Question) (zone : List Literal)
@@ -50,7 +51,7 @@ lent_once number tree zone one =
     sym (length-lent_zones number tree []) ∙ ap length one
 
 -- there is work within the budget
-pub workable_within : (sheet : Sheet) (seat : Seat) → is_workable sheet seat ≡ true
+pub workable_within : (sheet : Sheet) (seat : QuestionState) → is_workable sheet seat ≡ true
     → (has_open seat.tree ≡ true) × (seat.units + seat.lent < sheet.budget)
 workable_within sheet seat workable =
     let parts = and_parts _ _ workable in
@@ -58,7 +59,8 @@ workable_within sheet seat workable =
     (more.1, ltb-true (seat.units + seat.lent) sheet.budget parts.1)
 
 -- a question of which a leaf was lent
-pub seat_lent_good : (sheet : Sheet) (season : Results) (seat : Seat) (tree : Tree) (number : ℕ)
+pub seat_lent_good : (sheet : Sheet) (season : Results) (seat : QuestionState) (tree : Tree)
+    (number : ℕ)
     (zone : List Literal) → IsGoodSeat sheet season seat → is_workable sheet seat ≡ true
     → put number open_leaf tree ≡ seat.tree → lent_zones number [] tree ≡ zone ∷ []
     → IsGoodSeat sheet season (seat_lent tree seat)
@@ -80,7 +82,7 @@ seat_lent_good sheet season seat tree number zone good workable leaf lent =
       within = omega (arith, within);
       few =
           let before : node_count (put number open_leaf tree)
-          ≤ MOST_KEPT + 2 * seat.units = rw leaf good.few in
+          ≤ most_kept + 2 * seat.units = rw leaf good.few in
           omega (arith, nodes, once, before);
       example = good.example;
     }
@@ -133,7 +135,8 @@ given_example sheet piece None (Won own finish lots) is_for sound kept = rw is_f
 given_example sheet piece None Undone is_for sound kept = tt
 
 -- a question of which a leaf came back with what was done
-pub seat_given_good : (sheet : Sheet) (season : Results) (seat : Seat) (number : ℕ) (piece : Piece)
+pub seat_given_good : (sheet : Sheet) (season : Results) (seat : QuestionState) (number : ℕ)
+    (piece : Piece)
     (done : Done) → IsGoodSeat sheet season seat → IsFor done piece → IsTrueDone sheet done
     → piece.season ≡ season → piece.question ≡ seat.question
     → lent_zones number [] seat.tree ≡ piece.zone.literals ∷ []
@@ -175,7 +178,7 @@ seat_given_good sheet season seat number piece done good is_for sound same_seaso
 -- ---- all come back, and the beginning
 
 -- a question with each lent leaf open again
-pub seat_recalled_good : (sheet : Sheet) (season : Results) (seat : Seat)
+pub seat_recalled_good : (sheet : Sheet) (season : Results) (seat : QuestionState)
     → IsGoodSeat sheet season seat → IsGoodSeat sheet season (seat_recalled seat)
 seat_recalled_good sheet season seat good = record {
   nodes = NodesMeet-all_opened (IsGoodNode sheet season seat.question) seat.tree []

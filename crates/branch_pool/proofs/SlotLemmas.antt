@@ -8,8 +8,8 @@ use Rattle.std.specs.List.{slice_get, All, position_or_len}
 use Rattle.std.proofs.lemmas.List.Recursion.{is_position_or_len}
 use Rattle.std.proofs.lemmas.Option.{get_or_from_slice_get, none-some, slice_get_within}
 use Rattle.std.proofs.lemmas.List.Elements.{All-nil, All-cons, All-head, All-tail}
-use Rattle.branch_pool.specs.declared.seat.Loan.{Loan}
-use Rattle.branch_pool.specs.States.{loan_at, free_number, with_loan}
+use Rattle.branch_pool.specs.declared.question_state.Loan.{Loan}
+use Rattle.branch_pool.specs.inside.States.{loan_at, free_number, with_loan}
 
 -- ---- numbers
 
@@ -162,7 +162,7 @@ still_there f (z ∷ xs) (first ∷ ys) (suc i) d within so_far =
     let tail : ys ≡ map f (take i xs) ++ drop i xs = cc in
     still_there f xs ys i d (omega arith) tail
 
--- what stands behind a place does not see what is written there
+-- what comes after a place does not see what is written there
 pub drop_written : {X : Type 0} (xs : List X) (i : ℕ) (x : X)
     → drop (i + 1) (set xs i x) ≡ drop (i + 1) xs
 drop_written {X} xs i x = rw add-one (behind xs i)
@@ -172,7 +172,7 @@ drop_written {X} xs i x = rw add-one (behind xs i)
     behind (first ∷ ys) zero = refl
     behind (first ∷ ys) (suc j) = behind ys j
 
--- lists that agree behind a place agree behind the next
+-- lists that agree after a place agree after the next
 pub drop_more : {X Y : Type 0} (f : Y → X) (xs : List X) (ys : List Y) (i : ℕ)
     → drop i xs ≡ map f (drop i ys) → drop (i + 1) xs ≡ map f (drop (i + 1) ys)
 drop_more {X} {Y} f xs ys i same =

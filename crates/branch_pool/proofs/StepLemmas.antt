@@ -13,30 +13,29 @@ use Rattle.std.proofs.lemmas.List.Elements.{All-nil, All-set, All-map, All-weake
 use Rattle.league_core.specs.declared.sheet.Sheet.{Sheet}
 use Rattle.league_core.specs.declared.season.Event.{Event}
 use Rattle.league_core.specs.declared.question.Question.{Question}
-use Rattle.league_core.specs.Sheets.{IsWithinLimits}
-use Rattle.league_core.specs.Limits.{most_events}
-use Rattle.league_core.specs.Results.{Results}
-use Rattle.league_core.specs.Seasons.{IsEventOf, event_applied, unplayed_season}
-use Rattle.league_core.specs.Questions.{IsQuestionOf}
-use Rattle.league_core.specs.Lending.{lent_zones}
+use Rattle.league_core.specs.game.Sheets.{IsWithinLimits}
+use Rattle.league_core.specs.game.Limits.{most_events}
+use Rattle.league_core.specs.game.Results.{Results}
+use Rattle.league_core.specs.game.Seasons.{IsEventOf, event_applied, unplayed_season}
+use Rattle.league_core.specs.game.Questions.{IsQuestionOf}
+use Rattle.league_core.specs.inside.Lending.{lent_zones}
 use Rattle.league_core.proofs.LogLemmas.{AreEventsOf-push}
 use Rattle.league_core.proofs.LendingLemmas.{lent_zones-all_opened, lent_zones_absent}
-use Rattle.tree_reuse.specs.Retargets.{retargeted}
+use Rattle.tree_reuse.specs.inside.Retargets.{retargeted}
 use Rattle.tree_reuse.proofs.RetargetLemmas.{times_lent-retargeted}
 use Rattle.reason_core.specs.declared.done.Done.{Done}
-use Rattle.branch_pool.specs.declared.seat.Seat.{Seat}
-use Rattle.branch_pool.specs.declared.seat.Loan.{Loan}
-use Rattle.branch_pool.specs.declared.seat.TheConstants.{MOST_QUESTIONS}
+use Rattle.branch_pool.specs.declared.question_state.QuestionState.{QuestionState}
+use Rattle.branch_pool.specs.declared.question_state.Loan.{Loan}
 use Rattle.branch_pool.specs.declared.ticket.Ticket.{Ticket}
 use Rattle.branch_pool.specs.declared.ticket.Gave.{Gave}
 use Rattle.branch_pool.specs.declared.ticket.Gave.TheVariants.{Kept, Stale}
-use Rattle.branch_pool.specs.States.{PoolState, pool_begun, new_seat, loan_at, present_epoch}
-use Rattle.branch_pool.specs.Steps.{TakesLeaf, pool_lent, loan_of, seat_lent, Keeps, ComesHome}
-use Rattle.branch_pool.specs.Steps.{IsPresent}
-use Rattle.branch_pool.specs.Steps.{Gives, leaf_given}
-use Rattle.branch_pool.specs.Steps.{MayBeGiven, seat_given, pool_changed, seat_changed}
-use Rattle.branch_pool.specs.Steps.{pool_opened, pool_shut, pool_recalled, seat_recalled}
-use Rattle.branch_pool.specs.Goodness.{IsSoundPool, IsGoodSeat, IsGoodLoan}
+use Rattle.branch_pool.specs.inside.States.{PoolView, pool_begun, new_seat, loan_at, present_epoch}
+use Rattle.branch_pool.specs.inside.States.{most_questions}
+use Rattle.branch_pool.specs.inside.Steps.{TakesLeaf, pool_lent, loan_of, seat_lent, Keeps}
+use Rattle.branch_pool.specs.inside.Steps.{ComesHome, IsPresent, Gives, leaf_given, MayBeGiven}
+use Rattle.branch_pool.specs.inside.Steps.{seat_given, pool_changed, seat_changed, pool_opened}
+use Rattle.branch_pool.specs.inside.Steps.{pool_shut, pool_recalled, seat_recalled}
+use Rattle.branch_pool.specs.inside.Goodness.{IsSoundPool, IsGoodSeat, IsGoodLoan}
 use Rattle.branch_pool.proofs.SlotLemmas.{loan_at-free, free_number-le, All-with_loan, All-at}
 use Rattle.branch_pool.proofs.SeatLemmas.{seat_lent_good, seat_given_good, seat_recalled_good}
 use Rattle.branch_pool.proofs.SeatLemmas.{new_seat_good, given_lends_nothing}
@@ -46,62 +45,66 @@ use Rattle.branch_pool.proofs.CarriedLemmas.{seat_changed_good}
 -- ---- lists of seats
 
 -- questions stay where a seat is written that has its question
-asked-set : (seats : List Seat) (place : ℕ) (seat new : Seat) → slice_get seats place ≡ Some seat
+asked-set : (seats : List QuestionState) (place : ℕ) (seat new : QuestionState)
+    → slice_get seats place ≡ Some seat
     → new.question ≡ seat.question
-    → map (λ (s : Seat). s.question) (set seats place new) ≡ map (λ (s : Seat). s.question) seats
+    → map (λ (s : QuestionState). s.question) (set seats place new) ≡ map
+    (λ (s : QuestionState). s.question) seats
 asked-set [] place seat new found same = refl
 asked-set (first ∷ seats) zero seat new found same =
-    ap (λ q. q ∷ map (λ (s : Seat). s.question) seats)
-    (same ∙ ap (λ (s : Seat). s.question) (sym (same_Some first seat found)))
+    ap (λ q. q ∷ map (λ (s : QuestionState). s.question) seats)
+    (same ∙ ap (λ (s : QuestionState). s.question) (sym (same_Some first seat found)))
 asked-set (first ∷ seats) (suc place) seat new found same =
     ap (λ qs. first.question ∷ qs) (asked-set seats place seat new found same)
 
 -- so they do where each seat becomes one with its question
-asked-map : (change : Seat → Seat) (seats : List Seat)
-    → ((seat : Seat) → (change seat).question ≡ seat.question)
-    → map (λ (s : Seat). s.question) (map change seats) ≡ map (λ (s : Seat). s.question) seats
+asked-map : (change : QuestionState → QuestionState) (seats : List QuestionState)
+    → ((seat : QuestionState) → (change seat).question ≡ seat.question)
+    → map (λ (s : QuestionState). s.question) (map change seats) ≡ map
+    (λ (s : QuestionState). s.question) seats
 asked-map change [] same = refl
 asked-map change (seat ∷ seats) same =
-    ap (λ q. q ∷ map (λ (s : Seat). s.question) (map change seats)) (same seat)
+    ap (λ q. q ∷ map (λ (s : QuestionState). s.question) (map change seats)) (same seat)
     ∙ ap (λ qs. seat.question ∷ qs) (asked-map change seats same)
 
 asked-new : (questions : List Question)
-    → map (λ (s : Seat). s.question) (map new_seat questions) ≡ questions
+    → map (λ (s : QuestionState). s.question) (map new_seat questions) ≡ questions
 asked-new [] = refl
 asked-new (question ∷ questions) = ap (λ qs. question ∷ qs) (asked-new questions)
 
 -- as many seats as before
-length-map_seats : (change : Seat → Seat) (seats : List Seat)
+length-map_seats : (change : QuestionState → QuestionState) (seats : List QuestionState)
     → length (map change seats) ≡ length seats
 length-map_seats change [] = refl
 length-map_seats change (seat ∷ seats) = ap suc (length-map_seats change seats)
 
 -- where no seat lends anything, no seat at a place does
-none_lent : (change : Seat → Seat) (seats : List Seat)
-    → ((seat : Seat) (number : ℕ) → lent_zones number [] (change seat).tree ≡ [])
-    → (number place : ℕ) (seat : Seat) → slice_get (map change seats) place ≡ Some seat
+none_lent : (change : QuestionState → QuestionState) (seats : List QuestionState)
+    → ((seat : QuestionState) (number : ℕ) → lent_zones number [] (change seat).tree ≡ [])
+    → (number place : ℕ) (seat : QuestionState) → slice_get (map change seats) place ≡ Some seat
     → lent_zones number [] seat.tree ≡ []
 none_lent change [] none number place seat is = absurd (none-some seat is)
 none_lent change (first ∷ seats) none number zero seat is =
-    ap (λ (s : Seat). lent_zones number [] s.tree) (sym (same_Some (change first) seat is))
+    ap (λ (s : QuestionState). lent_zones number [] s.tree) (sym (same_Some (change first) seat is))
     ∙ none first number
 none_lent change (first ∷ seats) none number (suc place) seat is =
     none_lent change seats none number place seat is
 
 -- ---- the beginning
 
-none_lent_new : (questions : List Question) (number place : ℕ) (seat : Seat)
+none_lent_new : (questions : List Question) (number place : ℕ) (seat : QuestionState)
     → slice_get (map new_seat questions) place ≡ Some seat
     → lent_zones number [] seat.tree ≡ []
 none_lent_new [] number place seat is = absurd (none-some seat is)
 none_lent_new (question ∷ questions) number zero seat is =
-    ap (λ (s : Seat). lent_zones number [] s.tree) (sym (same_Some (new_seat question) seat is))
+    ap (λ (s : QuestionState). lent_zones number [] s.tree)
+    (sym (same_Some (new_seat question) seat is))
 none_lent_new (question ∷ questions) number (suc place) seat is =
     none_lent_new questions number place seat is
 
 -- a pool at its beginning
 pub begun_sound : (sheet : Sheet) (questions : List Question) → IsWithinLimits sheet
-    → All (IsQuestionOf sheet) questions → length questions ≤ MOST_QUESTIONS
+    → All (IsQuestionOf sheet) questions → length questions ≤ most_questions
     → IsSoundPool (pool_begun sheet questions)
 begun_sound sheet questions limits of_sheet few = record {
   limits = limits;
@@ -119,11 +122,11 @@ begun_sound sheet questions limits of_sheet few = record {
 
 -- ---- take
 
-pub taken_sound : (old : PoolState) (ticket : Ticket) (new : PoolState) → IsSoundPool old
+pub taken_sound : (old : PoolView) (ticket : Ticket) (new : PoolView) → IsSoundPool old
     → TakesLeaf old ticket new → IsSoundPool new
 taken_sound old ticket new sound takes = subst IsSoundPool (sym takes.after) after
   where
-    seat_after : Seat
+    seat_after : QuestionState
     seat_after = seat_lent takes.tree takes.seat
 
     free : loan_at old.loans ticket.number ≡ None
@@ -159,12 +162,12 @@ taken_sound old ticket new sound takes = subst IsSoundPool (sym takes.after) aft
 
 -- ---- give
 
-pub kept_sound : (old : PoolState) (ticket : Ticket) (done : Done) (new : PoolState)
+pub kept_sound : (old : PoolView) (ticket : Ticket) (done : Done) (new : PoolView)
     → IsSoundPool old
     → MayBeGiven old ticket done → Keeps old ticket done new → IsSoundPool new
 kept_sound old ticket done new sound may keeps = subst IsSoundPool (sym keeps.after) after
   where
-    seat_after : Seat
+    seat_after : QuestionState
     seat_after = seat_given ticket.number done keeps.seat
 
     present : IsPresent old ticket
@@ -189,8 +192,9 @@ kept_sound old ticket done new sound may keeps = subst IsSoundPool (sym keeps.af
           (seat_given_good old.sheet old.season keeps.seat ticket.number ticket.piece done
           (All-at (IsGoodSeat old.sheet old.season) old.seats ticket.place keeps.seat sound.seats
           keeps.found) may.is_for may.sound present.season
-          (present.question ∙ ap (λ (s : Seat). s.question) same_seat)
-          (ap (λ (s : Seat). lent_zones ticket.number [] s.tree) (sym same_seat) ∙ present.zone))
+          (present.question ∙ ap (λ (s : QuestionState). s.question) same_seat)
+          (ap (λ (s : QuestionState). lent_zones ticket.number [] s.tree) (sym same_seat)
+          ∙ present.zone))
           sound.seats;
       loans = rw (length-set old.seats ticket.place seat_after)
           (All-set (λ loan. IfSome loan (IsGoodLoan (present_epoch old) (length old.seats)))
@@ -200,7 +204,7 @@ kept_sound old ticket done new sound may keeps = subst IsSoundPool (sym keeps.af
           (λ n. given_lends_nothing n done);
     }
 
-pub home_sound : (old : PoolState) (ticket : Ticket) (new : PoolState) → IsSoundPool old
+pub home_sound : (old : PoolView) (ticket : Ticket) (new : PoolView) → IsSoundPool old
     → ComesHome old ticket new → IsSoundPool new
 home_sound old ticket new sound home = subst IsSoundPool (sym home.after) (record {
   limits = sound.limits;
@@ -217,7 +221,7 @@ home_sound old ticket new sound home = subst IsSoundPool (sym home.after) (recor
       home.own.out home.epoch;
 })
 
-pub given_sound : (old : PoolState) (ticket : Ticket) (done : Done) (gave : Gave) (new : PoolState)
+pub given_sound : (old : PoolView) (ticket : Ticket) (done : Done) (gave : Gave) (new : PoolView)
     → IsSoundPool old → MayBeGiven old ticket done → Gives old ticket done gave new
     → IsSoundPool new
 given_sound old ticket done Kept new sound may gives = kept_sound old ticket done new sound may
@@ -230,7 +234,7 @@ given_sound old ticket done (Stale told) new sound may gives = elim gives.cause 
 
 -- ---- change
 
-pub changed_sound : (old : PoolState) (event : Event) → IsSoundPool old
+pub changed_sound : (old : PoolView) (event : Event) → IsSoundPool old
     → length old.log < most_events
     → IsEventOf old.season event → IsSoundPool (pool_changed event old)
 changed_sound old event sound room may_be = record {
@@ -263,7 +267,7 @@ changed_sound old event sound room may_be = record {
     season : Results
     season = event_applied old.season event
 
-    change : Seat → Seat
+    change : QuestionState → QuestionState
     change seat = seat_changed old.sheet season seat
 
     later : (loan : Option Loan)
@@ -277,7 +281,7 @@ changed_sound old event sound room may_be = record {
 
 -- ---- start, shut, recall
 
-pub opened_sound : (old : PoolState) → IsSoundPool old → IsSoundPool (pool_opened old)
+pub opened_sound : (old : PoolView) → IsSoundPool old → IsSoundPool (pool_opened old)
 opened_sound old sound = record {
   limits = sound.limits;
   season = sound.season;
@@ -291,7 +295,7 @@ opened_sound old sound = record {
   due = sound.due;
 }
 
-pub shut_sound : (old : PoolState) → IsSoundPool old → IsSoundPool (pool_shut old)
+pub shut_sound : (old : PoolView) → IsSoundPool old → IsSoundPool (pool_shut old)
 shut_sound old sound = record {
   limits = sound.limits;
   season = sound.season;
@@ -305,7 +309,7 @@ shut_sound old sound = record {
   due = sound.due;
 }
 
-pub recalled_sound : (old : PoolState) → IsSoundPool old → IsSoundPool (pool_recalled old)
+pub recalled_sound : (old : PoolView) → IsSoundPool old → IsSoundPool (pool_recalled old)
 recalled_sound old sound = record {
   limits = sound.limits;
   season = sound.season;

@@ -3,11 +3,11 @@ use Rattle.std.proofs.Common.{◌≡◌, Some, None, refl, sym}
 use Rattle.std.proofs.lemmas.Option.{none-some, same_Some}
 use Rattle.league_core.specs.declared.sheet.Sheet.{Sheet}
 use Rattle.league_core.specs.declared.question.Question.{Question}
-use Rattle.league_core.specs.Results.{Results}
-use Rattle.league_core.specs.Trees.{Tree, open_leaf, lent_leaf, refuted_leaf, branch}
-use Rattle.tree_reuse.specs.Retargets.{retargeted}
+use Rattle.league_core.specs.game.Results.{Results}
+use Rattle.league_core.specs.search.Trees.{Tree, open_leaf, lent_leaf, refuted_leaf, branch}
+use Rattle.tree_reuse.specs.inside.Retargets.{retargeted}
 use Rattle.tree_reuse.proofs.RetargetLemmas.{open_leaf_stays}
-use Rattle.branch_pool.specs.Seats.{tree_left}
+use Rattle.branch_pool.specs.inside.Seats.{tree_left}
 
 -- nothing is made of it
 pub none_left : (sheet : Sheet) (season : Results) (question : Question) (tree : Tree)

@@ -6,27 +6,28 @@ use Rattle.std.specs.Prelude.{is_some}
 use Rattle.std.specs.List.{slice_get}
 use Rattle.std.proofs.lemmas.List.Sums.{sum_by-cons}
 use Rattle.league_core.specs.declared.sheet.Sheet.{Sheet}
-use Rattle.league_core.specs.Trees.{Tree}
-use Rattle.league_core.specs.Lending.{put}
+use Rattle.league_core.specs.search.Trees.{Tree}
+use Rattle.league_core.specs.inside.Lending.{put}
 use Rattle.reason_core.specs.declared.piece.Piece.{Piece}
 use Rattle.reason_core.specs.declared.finding.Finding.{Finding}
 use Rattle.reason_core.specs.declared.finding.Finding.TheVariants.{Refuted, Split, Won}
 use Rattle.reason_core.specs.declared.done.Done.{Done}
-use Rattle.reason_core.specs.Findings.{IsTrueFinding}
-use Rattle.reason_core.specs.Dones.{IsFor, IsTrueDone, done_of}
-use Rattle.branch_pool.specs.declared.seat.Example.{Example}
-use Rattle.branch_pool.specs.declared.seat.Seat.{Seat}
-use Rattle.branch_pool.specs.declared.seat.Loan.{Loan}
+use Rattle.reason_core.specs.inside.Findings.{IsTrueFinding}
+use Rattle.reason_core.specs.inside.Dones.{IsFor, IsTrueDone, done_of}
+use Rattle.branch_pool.specs.declared.question_state.Example.{Example}
+use Rattle.branch_pool.specs.declared.question_state.QuestionState.{QuestionState}
+use Rattle.branch_pool.specs.declared.question_state.Loan.{Loan}
 use Rattle.branch_pool.specs.declared.ticket.Ticket.{Ticket}
-use Rattle.branch_pool.specs.States.{PoolState, present_epoch, free_number, with_loan, out_count}
-use Rattle.branch_pool.specs.Steps.{TakesLeaf, IsOwnTicket, pool_lent, seat_lent}
-use Rattle.branch_pool.specs.Steps.{seat_given, loan_of, loans_home, leaf_given, units_given}
-use Rattle.branch_pool.specs.Steps.{example_given}
-use Rattle.branch_pool.specs.Seats.{WorksSeat, seat_found, with_slot, leaf_found, units_found}
-use Rattle.branch_pool.specs.Seats.{example_found}
-use Rattle.branch_pool.specs.Goodness.{IsSoundPool}
-use Rattle.branch_pool.specs.Calls.{next_place}
-use Rattle.branch_pool.specs.Runs.{IsWorked, WorksNext, IsSameButSeats}
+use Rattle.branch_pool.specs.inside.States.{PoolView, present_epoch, free_number, with_loan}
+use Rattle.branch_pool.specs.inside.States.{out_count}
+use Rattle.branch_pool.specs.inside.Steps.{TakesLeaf, IsOwnTicket, pool_lent, seat_lent, seat_given}
+use Rattle.branch_pool.specs.inside.Steps.{loan_of, loans_home, leaf_given, units_given}
+use Rattle.branch_pool.specs.inside.Steps.{example_given}
+use Rattle.branch_pool.specs.inside.Seats.{WorksSeat, seat_found, with_slot, leaf_found}
+use Rattle.branch_pool.specs.inside.Seats.{units_found, example_found}
+use Rattle.branch_pool.specs.inside.Goodness.{IsSoundPool}
+use Rattle.branch_pool.specs.inside.Calls.{next_place}
+use Rattle.branch_pool.specs.inside.Runs.{IsWorked, WorksNext, IsSameButSeats}
 use Rattle.branch_pool.proofs.SlotLemmas.{free_number-le, loan_at-with_same, set_twice}
 use Rattle.branch_pool.proofs.SlotLemmas.{slice_get-set_same}
 use Rattle.branch_pool.proofs.CallLemmas.{next_is_workable}
@@ -52,14 +53,14 @@ slot_there (Some loan ∷ loans) zero is within = absurd (omega arith)
 slot_there (Some loan ∷ loans) (suc number) is within =
     ap (λ rest. Some loan ∷ rest) (slot_there loans number (omega arith) (omega arith))
 
-pub slot_behind : (loans : List (Option Loan)) (number : ℕ) → number ≡ free_number loans
+pub slot_after : (loans : List (Option Loan)) (number : ℕ) → number ≡ free_number loans
     → length loans ≤ number → loans ++ None ∷ [] ≡ with_slot loans number
-slot_behind [] number is past = refl
-slot_behind (None ∷ loans) zero is past = absurd (omega arith)
-slot_behind (None ∷ loans) (suc number) is past = absurd (omega arith)
-slot_behind (Some loan ∷ loans) zero is past = absurd (omega arith)
-slot_behind (Some loan ∷ loans) (suc number) is past =
-    ap (λ rest. Some loan ∷ rest) (slot_behind loans number (omega arith) (omega arith))
+slot_after [] number is past = refl
+slot_after (None ∷ loans) zero is past = absurd (omega arith)
+slot_after (None ∷ loans) (suc number) is past = absurd (omega arith)
+slot_after (Some loan ∷ loans) zero is past = absurd (omega arith)
+slot_after (Some loan ∷ loans) (suc number) is past =
+    ap (λ rest. Some loan ∷ rest) (slot_after loans number (omega arith) (omega arith))
 
 -- as many are out as before
 pub out_count-slot : (loans : List (Option Loan)) (number : ℕ) → number ≡ free_number loans
@@ -85,7 +86,8 @@ example_is_given piece None (Split literal) = refl
 example_is_given piece None (Won finish lots) = refl
 
 -- what was found in a piece is what was done with it
-found_is_given : (piece : Piece) (number : ℕ) (finding : Finding) (tree : Tree) (seat : Seat)
+found_is_given : (piece : Piece) (number : ℕ) (finding : Finding) (tree : Tree)
+    (seat : QuestionState)
     → seat_found number finding tree seat
     ≡ seat_given number (done_of piece finding) (seat_lent tree seat)
 found_is_given piece number finding tree seat = λ i. record seat {
@@ -135,7 +137,8 @@ done_is_worked piece (Won finish lots) = tt
 -- ---- the turn
 
 -- the question that comes next was worked on in its place
-pub worked_after : (pool : PoolState) (place : ℕ) (seat new : Seat) (loans : List (Option Loan))
+pub worked_after : (pool : PoolView) (place : ℕ) (seat new : QuestionState)
+    (loans : List (Option Loan))
     → IsSoundPool pool → next_place pool ≡ Some place → slice_get pool.seats place ≡ Some seat
     → WorksSeat pool.sheet pool.season (free_number pool.loans) seat new
     → loans ≡ with_slot pool.loans (free_number pool.loans)
@@ -145,7 +148,7 @@ worked_after pool place seat new loans sound next found works is = record {
   done = done;
   between = between;
   worked = done_is_worked ticket.piece works.finding;
-  taken = taken;
+  taken = record { takes = taken; next = next };
   given = record {
     is_for = done_is_for ticket.piece works.finding;
     sound = done_is_true pool.sheet ticket.piece works.finding works.found;
@@ -177,7 +180,7 @@ worked_after pool place seat new loans sound next found works is = record {
     done : Done
     done = done_of ticket.piece works.finding
 
-    between : PoolState
+    between : PoolView
     between = pool_lent pool ticket seat works.tree
 
     taken : TakesLeaf pool ticket between
@@ -222,7 +225,7 @@ worked_after pool place seat new loans sound next found works is = record {
     loans_are = is ∙ sym (home_slot pool.loans number (loan_of ticket) (free_number-le pool.loans))
 
 -- all else is as before
-pub same_but_seats : (pool : PoolState) (seats : List Seat) (loans : List (Option Loan))
+pub same_but_seats : (pool : PoolView) (seats : List QuestionState) (loans : List (Option Loan))
     → out_count loans ≡ out_count pool.loans
     → IsSameButSeats pool (record pool { seats = seats; loans = loans })
 same_but_seats pool seats loans out = record {

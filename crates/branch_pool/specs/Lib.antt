@@ -1,10 +1,2 @@
--- Read in this order: it is the order in which the notions rest on each other.
-pub mod States
-pub mod Steps
-pub mod Goodness
-pub mod Calls
-pub mod Seats
-pub mod Looks
-pub mod Runs
-pub mod Laws
-pub mod Views
+-- All words of this crate stand in inside/: no promise of the program rests on them.
+pub mod inside

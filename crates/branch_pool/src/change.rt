@@ -2,13 +2,13 @@
 
 ghost use Rattle.std.specs.Prelude.{◌≡◌, ◌++◌, ◌∷◌, [], ◌<◌, ◌≤◌, ◌↔◌, length, All, IfOk};
 ghost use Rattle.std.specs.Prelude.{OnErr, OnOk, Err, IsTrue};
-ghost use Rattle.league_core.specs.Limits.{most_events};
-ghost use Rattle.league_core.specs.Seasons.{IsEventOf};
-ghost use Rattle.branch_pool.specs.Steps.{Changes, pool_changed};
-ghost use Rattle.branch_pool.specs.Seats.{IsUncut};
+ghost use Rattle.league_core.specs.game.Limits.{most_events};
+ghost use Rattle.league_core.specs.game.Seasons.{IsEventOf};
+ghost use Rattle.branch_pool.specs.inside.Steps.{Changes, pool_changed};
+ghost use Rattle.branch_pool.specs.inside.Seats.{IsUncut};
 
 use crate::pool::Pool;
-use crate::seats::{are_uncut, change_seats, change_uncut, trees_for};
+use crate::questions::{are_uncut, change_seats, change_uncut, trees_for};
 use crate::ticket::ChangeStop;
 use league_core::limits::MOST_EVENTS;
 use league_core::{Event, OutOfMemory};
@@ -29,14 +29,14 @@ impl Pool {
         if self.is_full() {
             return Err(ChangeStop::LogFull);
         }
-        match self.report(event) {
+        match self.apply(event) {
             Ok(()) => Ok(self.epoch()),
             Err(OutOfMemory) => Err(ChangeStop::OutOfMemory),
         }
     }
 
     /// Reports an event where the log has room for one more. After an `Err` the pool is as before.
-    pub fn tell(&mut self, event: Event) -> Result<(), OutOfMemory>
+    pub fn change_with_room(&mut self, event: Event) -> Result<(), OutOfMemory>
         requires may_be { IsEventOf self.old.season event }
         requires room { length self.old.log < most_events }
         ensures ok { OnOk result (Changes self.old event self.new) }
@@ -46,7 +46,7 @@ impl Pool {
         ensures questions { self.new.questions ≡ self.old.questions }
         ensures home { self.new.loans ≡ self.old.loans }
     {
-        self.report(event)
+        self.apply(event)
     }
 
     // No more events fit into the log.
@@ -57,20 +57,20 @@ impl Pool {
         self.log.len() == MOST_EVENTS as usize
     }
 
-    fn report(&mut self, event: Event) -> Result<(), OutOfMemory>
+    fn apply(&mut self, event: Event) -> Result<(), OutOfMemory>
         requires room { length self.old.log < most_events }
         requires may_be { IsEventOf self.old.season event }
         ensures ok { OnOk result (self.new ≡ pool_changed event self.old) }
         ensures err { OnErr result (self.new ≡ self.old) }
     {
         if are_uncut(self.seats.as_slice()) {
-            return self.note(event);
+            return self.apply_uncut(event);
         }
-        self.carry(event)
+        self.apply_retarget(event)
     }
 
     // Writes an event down where each tree is one open leaf, and so stays as it is.
-    fn note(&mut self, event: Event) -> Result<(), OutOfMemory>
+    fn apply_uncut(&mut self, event: Event) -> Result<(), OutOfMemory>
         requires room { length self.old.log < most_events }
         requires may_be { IsEventOf self.old.season event }
         requires uncut { All IsUncut self.old.seats }
@@ -85,7 +85,7 @@ impl Pool {
     }
 
     // Carries each tree over to the season after an event.
-    fn carry(&mut self, event: Event) -> Result<(), OutOfMemory>
+    fn apply_retarget(&mut self, event: Event) -> Result<(), OutOfMemory>
         requires room { length self.old.log < most_events }
         requires may_be { IsEventOf self.old.season event }
         ensures ok { OnOk result (self.new ≡ pool_changed event self.old) }

@@ -1,28 +1,29 @@
 //! A ticket is given back, with what was found at its piece.
 
 ghost use Rattle.std.specs.Prelude.{◌≡◌, ◌<◌, ◌+◌, ◌^◌};
-ghost use Rattle.league_core.specs.Lending.{times_lent};
+ghost use Rattle.league_core.specs.inside.Lending.{times_lent};
 ghost use Rattle.reason_core.specs.declared.piece.Piece.{Piece};
-ghost use Rattle.reason_core.specs.Dones.{IsTrueOf, done_of};
-ghost use Rattle.branch_pool.specs.States.{present_epoch};
-ghost use Rattle.branch_pool.specs.Steps.{IsOwnTicket, Keeps, Gives, seat_given};
-ghost use Rattle.branch_pool.specs.Calls.{IsTold, LeavesFound, IsExampleLeft, example_over};
+ghost use Rattle.reason_core.specs.inside.Dones.{IsTrueOf, done_of};
+ghost use Rattle.branch_pool.specs.inside.States.{present_epoch};
+ghost use Rattle.branch_pool.specs.inside.Steps.{IsOwnTicket, Keeps, Gives, seat_given};
+ghost use Rattle.branch_pool.specs.inside.Calls.{IsEpochSaid, LeavesFound, IsExampleLeft};
+ghost use Rattle.branch_pool.specs.inside.Calls.{example_over};
 ghost use Rattle.branch_pool.specs.declared.ticket.Gave.TheVariants.{Kept};
 
-use crate::leftover::{Leftover, example_of, keep_first};
+use crate::discarded::{Discarded, example_of, keep_first};
 use crate::next::earlier_of;
 use crate::pool::Pool;
-use crate::seat::{Example, Loan, Seat};
+use crate::question_state::{Example, Loan, QuestionState};
 use crate::ticket::{Gave, Ticket};
 use reason_core::Finding;
 
 impl Pool {
     /// As `give_leaving`, with what was found at the ticket's own piece. So it is about that piece,
     /// and no second one is needed to say so.
-    pub fn give_found(&mut self, ticket: Ticket, finding: Finding) -> (Gave, Leftover)
+    pub fn give_found(&mut self, ticket: Ticket, finding: Finding) -> (Gave, Discarded)
         requires sound { IsTrueOf self.old.sheet ticket.piece finding }
         ensures gives { Gives self.old ticket (done_of ticket.piece finding) result.0 self.new }
-        ensures epoch { IsTold self.new ticket result.0 }
+        ensures epoch { IsEpochSaid self.new ticket result.0 }
         ensures leaves { LeavesFound self.old ticket finding result.0 result.1 }
         ensures sheet { self.new.sheet ≡ self.old.sheet }
         ensures questions { self.new.questions ≡ self.old.questions }
@@ -37,7 +38,7 @@ impl Pool {
         } = ticket;
         (
             gave,
-            Leftover {
+            Discarded {
                 piece,
                 done: None,
                 example,
@@ -86,7 +87,7 @@ impl Pool {
     }
 }
 
-impl Seat {
+impl QuestionState {
     // Puts what was found in place of the leaf that is lent under a number, and answers the example
     // that is not kept.
     fn give_found(&mut self, number: u64, finding: Finding) -> Option<Example>

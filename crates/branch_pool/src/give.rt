@@ -1,18 +1,19 @@
 //! A ticket is given back, with what was done.
 
 ghost use Rattle.std.specs.Prelude.{◌≡◌, ◌≢◌, ◌↔◌, IsTrue, Some};
-ghost use Rattle.reason_core.specs.Dones.{IsFor, IsTrueDone};
-ghost use Rattle.branch_pool.specs.States.{present_epoch, loan_at};
-ghost use Rattle.branch_pool.specs.Steps.{IsOwnTicket, IsPresent, ComesHome, Keeps, Gives};
-ghost use Rattle.branch_pool.specs.Steps.{MayBeGiven, loan_of};
-ghost use Rattle.branch_pool.specs.Calls.{IsTold, LeavesOver, piece_done, IsExampleLeft};
+ghost use Rattle.reason_core.specs.inside.Dones.{IsFor, IsTrueDone};
+ghost use Rattle.branch_pool.specs.inside.States.{present_epoch, loan_at};
+ghost use Rattle.branch_pool.specs.inside.Steps.{IsOwnTicket, IsPresent, ComesHome, Keeps, Gives};
+ghost use Rattle.branch_pool.specs.inside.Steps.{MayBeGiven, loan_of};
+ghost use Rattle.branch_pool.specs.inside.Calls.{IsEpochSaid, LeavesOver, piece_done};
+ghost use Rattle.branch_pool.specs.inside.Calls.{IsExampleLeft};
 ghost use Rattle.branch_pool.specs.declared.ticket.Gave.TheVariants.{Kept};
 
-use crate::leftover::{Leftover, parts_of};
+use crate::discarded::{Discarded, parts_of};
 use crate::loans::is_loan_of;
 use crate::next::earlier_of;
 use crate::pool::Pool;
-use crate::seat::{Example, Loan};
+use crate::question_state::{Example, Loan};
 use crate::ticket::{Gave, Ticket};
 use league_core::Question;
 use reason_core::{Done, Piece};
@@ -24,7 +25,7 @@ impl Pool {
         requires is_for { IsFor done ticket.piece }
         requires sound { IsTrueDone self.old.sheet done }
         ensures gives { Gives self.old ticket done result self.new }
-        ensures epoch { IsTold self.new ticket result }
+        ensures epoch { IsEpochSaid self.new ticket result }
         ensures sheet { self.new.sheet ≡ self.old.sheet }
         ensures questions { self.new.questions ≡ self.old.questions }
         ensures log { self.new.log ≡ self.old.log }
@@ -33,12 +34,12 @@ impl Pool {
         gave
     }
 
-    /// As `give`, and answers what the pool has no use for, of which nothing was let go.
-    pub fn give_leaving(&mut self, ticket: Ticket, done: Done) -> (Gave, Leftover)
+    /// As `give`, and answers what the pool has no use for, of which nothing was dropped.
+    pub fn give_leaving(&mut self, ticket: Ticket, done: Done) -> (Gave, Discarded)
         requires is_for { IsFor done ticket.piece }
         requires sound { IsTrueDone self.old.sheet done }
         ensures gives { Gives self.old ticket done result.0 self.new }
-        ensures epoch { IsTold self.new ticket result.0 }
+        ensures epoch { IsEpochSaid self.new ticket result.0 }
         ensures leaves { LeavesOver self.old ticket done result.0 result.1 }
         ensures sheet { self.new.sheet ≡ self.old.sheet }
         ensures questions { self.new.questions ≡ self.old.questions }
@@ -53,7 +54,7 @@ impl Pool {
         } = ticket;
         (
             gave,
-            Leftover {
+            Discarded {
                 piece,
                 done,
                 example,

@@ -1,11 +1,11 @@
 //! What is out, number by number.
 
 ghost use Rattle.std.specs.Prelude.{◌≡◌, ◌<◌, ◌≤◌, ◌↔◌, length, IsTrue};
-ghost use Rattle.branch_pool.specs.States.{free_number, with_loan};
-ghost use Rattle.branch_pool.specs.Steps.{loan_of};
-ghost use Rattle.branch_pool.specs.Seats.{with_slot};
+ghost use Rattle.branch_pool.specs.inside.States.{free_number, with_loan};
+ghost use Rattle.branch_pool.specs.inside.Steps.{loan_of};
+ghost use Rattle.branch_pool.specs.inside.Seats.{with_slot};
 
-use crate::seat::Loan;
+use crate::question_state::Loan;
 use crate::ticket::Ticket;
 use league_core::{Literal, RoomyList};
 

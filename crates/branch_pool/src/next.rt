@@ -2,11 +2,11 @@
 
 ghost use Rattle.std.specs.Prelude.{◌≡◌, ◌<◌, ◌≤◌, ◌+◌, IfNone, IfSome, drop, false, length};
 ghost use Rattle.std.specs.Prelude.{position};
-ghost use Rattle.branch_pool.specs.States.{has_work, is_workable};
-ghost use Rattle.branch_pool.specs.Calls.{is_untouched, next_place};
+ghost use Rattle.branch_pool.specs.inside.States.{has_work, is_workable, most_questions};
+ghost use Rattle.branch_pool.specs.inside.Calls.{is_untouched, next_place};
 
 use crate::pool::Pool;
-use crate::seat::{MOST_QUESTIONS, Seat};
+use crate::question_state::QuestionState;
 use league_core::Sheet;
 
 impl Pool {
@@ -31,7 +31,7 @@ impl Pool {
 
     fn first_workable(&self) -> Option<usize>
         ensures place { result ≡ position (is_workable self.now.sheet) self.now.seats }
-        ensures within { IfSome result (λ place. place < MOST_QUESTIONS) }
+        ensures within { IfSome result (λ place. place < most_questions) }
         ensures in_range { IfSome result (λ place. place < length self.now.seats) }
     {
         match workable_among(&self.sheet, &self.seats[self.work_from..]) {
@@ -41,14 +41,14 @@ impl Pool {
     }
 }
 
-fn workable_among(sheet: &Sheet, seats: &[Seat]) -> Option<usize>
+fn workable_among(sheet: &Sheet, seats: &[QuestionState]) -> Option<usize>
     ensures place { result ≡ position (is_workable sheet.now) seats.now }
     ensures in_range { IfSome result (λ place. place < length seats.now) }
 {
     seats.iter().position(|seat| seat.is_workable(sheet))
 }
 
-fn untouched_among(sheet: &Sheet, seats: &[Seat]) -> Option<usize>
+fn untouched_among(sheet: &Sheet, seats: &[QuestionState]) -> Option<usize>
     ensures place { result ≡ position (is_untouched sheet.now) seats.now }
     ensures in_range { IfSome result (λ place. place < length seats.now) }
 {

@@ -2,19 +2,20 @@
 
 ghost use Rattle.std.specs.Prelude.{◌≡◌, ◌<◌, ◌≤◌, length, All, IfOk, IsTrue, Some};
 ghost use Rattle.std.specs.List.{slice_get};
-ghost use Rattle.league_core.specs.Limits.{most_events};
-ghost use Rattle.league_core.specs.Sheets.{IsWithinLimits};
-ghost use Rattle.league_core.specs.Seasons.{AreEventsOf, IsSeasonOf, season_after};
-ghost use Rattle.league_core.specs.Codes.{has_code};
-ghost use Rattle.league_core.specs.Questions.{IsQuestionOf};
-ghost use Rattle.branch_pool.specs.States.{pool_begun, present_epoch, out_count};
-ghost use Rattle.branch_pool.specs.Steps.{pool_opened, pool_shut, pool_recalled};
-ghost use Rattle.branch_pool.specs.Goodness.{IsGood, IsSoundPool};
-ghost use Rattle.branch_pool.specs.Calls.{pool_answer, example_at, tree_at};
-ghost use Rattle.branch_pool.specs.Looks.{seen_example};
+ghost use Rattle.league_core.specs.game.Limits.{most_events};
+ghost use Rattle.league_core.specs.game.Sheets.{IsWithinLimits};
+ghost use Rattle.league_core.specs.game.Seasons.{AreEventsOf, IsSeasonOf, season_after};
+ghost use Rattle.league_core.specs.inside.Codes.{has_code};
+ghost use Rattle.league_core.specs.game.Questions.{IsQuestionOf};
+ghost use Rattle.branch_pool.specs.inside.States.{pool_begun, present_epoch, out_count};
+ghost use Rattle.branch_pool.specs.inside.States.{most_questions};
+ghost use Rattle.branch_pool.specs.inside.Steps.{pool_opened, pool_shut, pool_recalled};
+ghost use Rattle.branch_pool.specs.inside.Goodness.{IsGood, IsSoundPool};
+ghost use Rattle.branch_pool.specs.inside.Calls.{pool_answer, example_at, tree_at};
+ghost use Rattle.branch_pool.specs.inside.Looks.{seen_example};
 
-use crate::seat::{Loan, MOST_QUESTIONS, Seat};
-use crate::seats::{new_seats, recall_seats};
+use crate::question_state::{Loan, QuestionState};
+use crate::questions::{new_seats, recall_seats};
 use crate::ticket::Answer;
 use league_core::{Event, Finish, Lots, OutOfMemory, Question, RoomyList, Season, Sheet};
 use std::alloc::Global;
@@ -23,7 +24,7 @@ use tree_reuse::Tree;
 
 /// Questions about a season while it is played, each with a tree that is worked on leaf by leaf.
 ///
-/// Contracts see it as the record `PoolState`. What is taken is out under a number until it is
+/// Contracts see it as the record `PoolView`. What is taken is out under a number until it is
 /// given back, an event is reported, or all is recalled.
 #[derive(Drop)]
 pub struct Pool {
@@ -32,7 +33,7 @@ pub struct Pool {
     pub(crate) questions: Vec<Question>,
     pub(crate) season: Season,
     pub(crate) log: Vec<Event>,
-    pub(crate) seats: Vec<Seat>,
+    pub(crate) seats: Vec<QuestionState>,
     // no question before this place has work
     pub(crate) work_from: usize,
     pub(crate) loans: RoomyList<Option<Loan>>,
@@ -40,16 +41,16 @@ pub struct Pool {
 }
 
 impl Model for Pool {
-    ghost use Rattle.branch_pool.specs.States.{PoolState};
-    ghost use Rattle.branch_pool.specs.contracts.seat.Seat as seat;
-    ghost use Rattle.branch_pool.specs.contracts.seat.Loan as loan;
+    ghost use Rattle.branch_pool.specs.inside.States.{PoolView};
+    ghost use Rattle.branch_pool.specs.contracts.question_state.QuestionState as seat;
+    ghost use Rattle.branch_pool.specs.contracts.question_state.Loan as loan;
     ghost use Rattle.std.specs.Coded.{codes};
 
-    ghost Value = { PoolState };
+    ghost Value = { PoolView };
 
     ghost coded = { Prim.hlevel (codes, seat.the_row.coded, loan.the_row.coded) };
 
-    ghost use Rattle.branch_pool.specs.Views.{state_of, IsPoolKept};
+    ghost use Rattle.branch_pool.specs.inside.Views.{state_of, IsPoolKept};
 
     ghost view = { state_of };
 
@@ -62,7 +63,7 @@ impl Pool {
     pub fn begin(alloc: Global, sheet: Sheet, questions: Vec<Question>) -> Result<Pool, OutOfMemory>
         requires limits { IsWithinLimits sheet }
         requires of_sheet { All (IsQuestionOf sheet) questions.items }
-        requires few { length questions.items ≤ MOST_QUESTIONS }
+        requires few { length questions.items ≤ most_questions }
         ensures { IfOk result (λ pool. pool ≡ pool_begun sheet questions.items) }
     {
         let season = Season::unplayed(alloc, sheet.clubs.len(), sheet.fixtures.len())?;
@@ -118,7 +119,7 @@ impl Pool {
     pub fn questions(&self) -> &[Question]
         ensures questions { result.now ≡ self.now.questions }
         ensures of_sheet { All (IsQuestionOf self.now.sheet) result.now }
-        ensures few { length result.now ≤ MOST_QUESTIONS }
+        ensures few { length result.now ≤ most_questions }
     {
         self.questions.as_slice()
     }
@@ -158,7 +159,7 @@ impl Pool {
     }
 
     /// What is kept of the question at a place, from 0.
-    pub fn seat(&self, place: u16) -> &Seat
+    pub fn seat(&self, place: u16) -> &QuestionState
         requires in_range { place < length self.now.questions }
         ensures seat { slice_get self.now.seats place ≡ Some result.now }
         ensures sound { IsSoundPool self.now }
@@ -167,7 +168,7 @@ impl Pool {
     }
 
     /// What is kept of all questions, in their order, in place of the pool.
-    pub fn into_seats(self) -> Vec<Seat>
+    pub fn into_seats(self) -> Vec<QuestionState>
         ensures seats { result.items ≡ self.seats }
         ensures sound { IsSoundPool self }
     {
@@ -175,7 +176,7 @@ impl Pool {
     }
 
     /// A look that says all that the type keeps.
-    pub fn is_sound(&self)
+    pub fn recall_invariant(&self)
         ensures sound { IsSoundPool self.now }
         ensures good { IsGood self.now }
     {

@@ -1,21 +1,21 @@
 //! A leaf is lent, with a ticket.
 
 ghost use Rattle.std.specs.Prelude.{◌≡◌, None, ◌↔◌, IfOk, OnErr, OnOk, IsTrue, Some};
-ghost use Rattle.branch_pool.specs.Calls.{Taking, IsFit, IsFitIfLent, LendsNext, may_go_on};
-ghost use Rattle.branch_pool.specs.Calls.{IsSpareUsed, LeavesSpare, next_place};
+ghost use Rattle.branch_pool.specs.inside.Calls.{Taking, IsFit, IsFitIfLent, LendsNext, may_go_on};
+ghost use Rattle.branch_pool.specs.inside.Calls.{IsSpareUsed, LeavesSpare, next_place};
 
 use crate::loans::{free_number, put_loan};
 use crate::next::earlier_of;
 use crate::pool::Pool;
-use crate::seat::Loan;
+use crate::question_state::Loan;
 use crate::ticket::{Ticket, Took};
 use league_core::{OutOfMemory, Season};
 use reason_core::Piece;
 
 impl Pool {
     /// Lends an open leaf of the question that comes next: questions go in order, one of which
-    /// nothing is out before one of which something is. It takes the room that `give` will need; on
-    /// want of memory the pool is as before.
+    /// nothing is out before one of which something is. It takes the room that `give` will need; if
+    /// memory runs out, the pool is as before.
     pub fn take(&mut self) -> Took
         ensures taking { Taking self.old result self.new }
         ensures fit { IsFitIfLent self.new result }
@@ -29,7 +29,7 @@ impl Pool {
 
     /// As `take`, but a ticket carries the spare season where that is the pool's season: then none
     /// is copied, and none is spare any more. Else the pool's season is copied, and the spare one
-    /// stays. On want of memory both are as before.
+    /// stays. If memory runs out, both are as before.
     pub fn take_with(&mut self, spare: &mut Option<Season>) -> Took
         ensures taking { Taking self.old result self.new }
         ensures fit { IsFitIfLent self.new result }

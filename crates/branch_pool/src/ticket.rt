@@ -2,8 +2,8 @@
 
 use reason_core::Piece;
 
-/// A piece of work that is out under a number. It cannot be let go: `give` and `give_leaving` spend
-/// it.
+/// A piece of work that is out under a number. It cannot be dropped: `give` and `give_leaving`
+/// spend it.
 pub struct Ticket {
     /// The least number that was not out.
     pub number: u64,

@@ -1,8 +1,8 @@
 //! A turn of work in place, without a ticket.
 
 ghost use Rattle.std.specs.Prelude.{◌≡◌, OnErr, OnOk, Some};
-ghost use Rattle.branch_pool.specs.Calls.{next_place};
-ghost use Rattle.branch_pool.specs.Runs.{IsSameButSeats, TakesTurn, WorksNext};
+ghost use Rattle.branch_pool.specs.inside.Calls.{next_place};
+ghost use Rattle.branch_pool.specs.inside.Runs.{IsSameButSeats, TakesTurn, WorksNext};
 
 use crate::loans::{free_number, keep_slot};
 use crate::next::earlier_of;
@@ -12,9 +12,9 @@ use league_core::OutOfMemory;
 use reason_core::Solver;
 
 impl Pool {
-    /// One turn of work without a ticket: what `take` would lend is solved in its place, and what
-    /// was found is put where `give` would put it. The worker is one for the pool's sheet and
-    /// season. On want of memory the pool is as before.
+    /// One turn of work without a ticket: an open leaf of the question from which `take` would lend
+    /// is solved in its place, and what was found is put where `give` would put it. The worker is
+    /// one for the pool's sheet and season. If memory runs out, the pool is as before.
     pub fn work_next<W: Solver>(&mut self, worker: &mut W) -> Turn
         requires sheet { W.sheet worker.old ≡ self.old.sheet }
         requires season { W.season worker.old ≡ self.old.season }

@@ -10,14 +10,14 @@ use Rattle.league_core.specs.declared.question.Question.{Question}
 use Rattle.league_core.specs.declared.zone.Literal.{Literal}
 use Rattle.league_core.specs.declared.zone.Reason.{Reason}
 use Rattle.league_core.specs.declared.zone.Reason.TheVariants.{Window, Tie}
-use Rattle.league_core.specs.Results.{Results}
-use Rattle.league_core.specs.Seasons.{IsSeasonOf}
-use Rattle.league_core.specs.Questions.{IsQuestionOf, IsExample}
-use Rattle.league_core.specs.LotsFor.{lots_for_claim}
-use Rattle.league_core.specs.Zones.{is_zone_of, is_test_of}
-use Rattle.league_core.specs.Options.{is_single, has_finish}
-use Rattle.league_core.specs.Proposals.{proposed_finish}
-use Rattle.league_core.specs.Reasons.{has_reason}
+use Rattle.league_core.specs.game.Results.{Results}
+use Rattle.league_core.specs.game.Seasons.{IsSeasonOf}
+use Rattle.league_core.specs.game.Questions.{IsQuestionOf, IsExample}
+use Rattle.league_core.specs.inside.LotsFor.{lots_for_claim}
+use Rattle.league_core.specs.search.Zones.{is_zone_of, is_test_of}
+use Rattle.league_core.specs.search.Options.{is_single, has_finish}
+use Rattle.league_core.specs.search.Proposals.{proposed_finish}
+use Rattle.league_core.specs.search.Reasons.{has_reason}
 use Rattle.league_core.proofs.ProposalLemmas.{proposed_in_box, proposed_is_finish}
 use Rattle.reason_laws.proofs.DecidedLemmas.{single_decided_by_two}
 use Rattle.league_core.specs.declared.memory.OutOfMemory.{OutOfMemory}
@@ -25,13 +25,13 @@ use Rattle.reason_core.specs.declared.piece.Piece.{Piece}
 use Rattle.reason_core.specs.declared.done.Done.{Done}
 use Rattle.reason_core.specs.declared.finding.Finding.{Finding}
 use Rattle.reason_core.specs.declared.finding.Finding.TheVariants.{Refuted, Split, Won}
-use Rattle.reason_core.specs.Findings.{IsTrueFinding}
-use Rattle.reason_core.specs.Dones.{IsFor, IsTrueDone, done_of}
-use Rattle.branch_rules.specs.Found.{IsProposedInVain, IsProposedExample, IsFoundIn}
-use Rattle.branch_rules.specs.Found.{is_proposed_example}
+use Rattle.reason_core.specs.inside.Findings.{IsTrueFinding}
+use Rattle.reason_core.specs.inside.Dones.{IsFor, IsTrueDone, done_of}
+use Rattle.branch_rules.specs.inside.Found.{IsProposedInVain, IsProposedExample, IsFoundIn}
+use Rattle.branch_rules.specs.inside.Found.{is_proposed_example}
 use Rattle.league_core.proofs.LotsLemmas.{holds_at-favoured, lots_for_claim-favoured}
 use Rattle.league_core.proofs.LotsLemmas.{lots_for_claim-are_lots}
-use Rattle.branch_rules.specs.Works.{IsWorkOf}
+use Rattle.branch_rules.specs.inside.Works.{IsWorkOf}
 
 -- where the question holds at the proposed finish with the lots that favour the claim, it is an
 -- example with these
@@ -106,7 +106,7 @@ found_is_true sheet season question zone (Won finish lots) is = is.example
 found_is_true sheet season question zone (Refuted reason) is = is.first.holds
 found_is_true sheet season question zone (Split literal) is = is
 
--- also where want of memory may come in its place
+-- also where running out of memory may come in its place
 pub found_are_true : (sheet : Sheet) (season : Results) (question : Question) (zone : List Literal)
     (result : Result Finding OutOfMemory)
     → IfOk result (IsFoundIn sheet season question zone)

@@ -10,35 +10,33 @@ use Rattle.league_core.specs.declared.question.Question.{Question}
 use Rattle.league_core.specs.declared.zone.Test.{Test}
 use Rattle.league_core.specs.declared.zone.Test.TheVariants.{Home, Draw, HomeMost, AwayMost, Rival}
 use Rattle.league_core.specs.declared.zone.Literal.{Literal}
-use Rattle.league_core.specs.Results.{Results}
-use Rattle.league_core.specs.Seasons.{IsSeasonOf}
-use Rattle.league_core.specs.Finishes.{same_score}
-use Rattle.league_core.specs.Zones.{passes}
-use Rattle.league_core.specs.Options.{meets, options_of, options_in, has_score, has_option}
-use Rattle.league_core.specs.Options.{has_finish}
-use Rattle.league_core.specs.Options.{has_one_score, has_one_outcome, is_single, is_home_win}
-use Rattle.league_core.specs.Options.{is_draw}
-use Rattle.league_core.specs.Options.{is_away_win}
+use Rattle.league_core.specs.game.Results.{Results}
+use Rattle.league_core.specs.game.Seasons.{IsSeasonOf}
+use Rattle.league_core.specs.game.Finishes.{same_score}
+use Rattle.league_core.specs.search.Zones.{passes}
+use Rattle.league_core.specs.search.Options.{meets, options_of, options_in, has_score, has_option}
+use Rattle.league_core.specs.search.Options.{has_finish, has_one_score, has_one_outcome, is_single}
+use Rattle.league_core.specs.search.Options.{is_home_win, is_draw, is_away_win}
 use Rattle.league_core.proofs.PlainLemmas.{list_all-at, all_from}
 use Rattle.league_core.proofs.OptionLemmas.{same_score-itself, has_score-first, all_options}
 use Rattle.league_core.proofs.OptionLemmas.{length-options_from}
 use Rattle.league_core.proofs.LiteralLemmas.{options_at}
 use Rattle.score_box.specs.declared.cell.Cell.{Cell}
-use Rattle.score_box.specs.declared.cell.goals.Goals.{Goals}
-use Rattle.score_box.specs.Cells.{allows, IsCellOf, IsAllowed, IsSpanOf, HasOneOutcome}
-use Rattle.score_box.specs.Settings.{Setting, HasFinish}
-use Rattle.score_box.specs.Unplayed.{is_unplayed, unplayed_in}
+use Rattle.score_box.specs.declared.cell.goals.GoalRange.{GoalRange}
+use Rattle.score_box.specs.inside.Cells.{allows, IsCellOf, IsAllowed, IsSpanOf, HasOneOutcome}
+use Rattle.score_box.specs.inside.Settings.{ZoneBoxView, HasFinish}
+use Rattle.score_box.specs.inside.Unplayed.{is_unplayed, unplayed_in}
 use Rattle.score_box.proofs.OutcomeLemmas.{all_home_wins, all_draws, all_away_wins, one_outcome_of}
 use Rattle.branch_rules.specs.declared.rated.Rated.{Rated}
-use Rattle.branch_rules.specs.Choices.{IsDivided, IsGoalSplit, options_at_fixture}
-use Rattle.branch_rules.specs.GoalTests.{DividesByGoals, HasOneAtMost, AreSame}
+use Rattle.branch_rules.specs.inside.Choices.{IsDivided, IsGoalSplit, options_at_fixture}
+use Rattle.branch_rules.specs.inside.GoalTests.{DividesByGoals, HasOneAtMost, AreSame}
 use Rattle.example_finish.proofs.UnplayedLemmas.{each_fixture}
 use Rattle.branch_rules.proofs.SplitLemmas.{home_most_is_proper, away_most_is_proper}
 
 -- ---- what parts the scores of a cell
 
 -- a number between the least and the most goals at home parts them
-pub home_parts : (cell : Cell) (test : Score → Bool) (goals : Goals) (fixture most : ℕ)
+pub home_parts : (cell : Cell) (test : Score → Bool) (goals : GoalRange) (fixture most : ℕ)
     → IsSpanOf cell test goals → goals.home_least ≤ most → most < goals.home_most
     → DividesByGoals cell fixture (HomeMost fixture most)
 home_parts cell test goals fixture most span low high =
@@ -56,7 +54,7 @@ home_parts cell test goals fixture most span low high =
       };
     }
 
-pub away_parts : (cell : Cell) (test : Score → Bool) (goals : Goals) (fixture most : ℕ)
+pub away_parts : (cell : Cell) (test : Score → Bool) (goals : GoalRange) (fixture most : ℕ)
     → IsSpanOf cell test goals → goals.away_least ≤ most → most < goals.away_most
     → DividesByGoals cell fixture (AwayMost fixture most)
 away_parts cell test goals fixture most span low high =
@@ -75,7 +73,7 @@ away_parts cell test goals fixture most span low high =
     }
 
 -- what parts every cell with these goals parts this one
-pub parts_this : (found : Option Rated) (cell : Cell) (test : Score → Bool) (goals : Goals)
+pub parts_this : (found : Option Rated) (cell : Cell) (test : Score → Bool) (goals : GoalRange)
     (fixture : ℕ)
     → IfSome found (λ one. (other : Cell) (passed : Score → Bool) → IsSpanOf other passed goals
     → DividesByGoals other fixture one.test)
@@ -86,7 +84,7 @@ parts_this (Some one) cell test goals fixture each span = each cell test span
 -- ---- one score alone
 
 -- scores between the same ends are the same
-same_ends : (cell : Cell) (test : Score → Bool) (goals : Goals) → IsSpanOf cell test goals
+same_ends : (cell : Cell) (test : Score → Bool) (goals : GoalRange) → IsSpanOf cell test goals
     → AreSame goals → (score other : Score) → IsAllowed cell test score → IsAllowed cell test other
     → score ≡ other
 same_ends cell test goals span same score other is other_is =
@@ -96,7 +94,7 @@ same_ends cell test goals span same score other is other_is =
     let away : score.away ≡ other.away = omega arith in
     λ i. record { home = home i; away = away i }
 
-pub one_home_win : (found : Option Rated) (cell : Cell) (goals : Goals) → IfNone found (AreSame
+pub one_home_win : (found : Option Rated) (cell : Cell) (goals : GoalRange) → IfNone found (AreSame
     goals)
     → IsSpanOf cell is_home_win goals → IfNone found (HasOneOutcome cell → HasOneAtMost cell)
 one_home_win (Some one) cell goals same span = tt
@@ -107,7 +105,8 @@ one_home_win None cell goals same span = λ one score other is other_is.
     (record { allowed = is; passed = won score is })
     (record { allowed = other_is; passed = won other other_is })
 
-pub one_draw : (found : Option Rated) (cell : Cell) (goals : Goals) → IfNone found (AreSame goals)
+pub one_draw : (found : Option Rated) (cell : Cell) (goals : GoalRange)
+    → IfNone found (AreSame goals)
     → IsSpanOf cell is_draw goals → IfNone found (HasOneOutcome cell → HasOneAtMost cell)
 one_draw (Some one) cell goals same span = tt
 one_draw None cell goals same span = λ one score other is other_is.
@@ -117,7 +116,7 @@ one_draw None cell goals same span = λ one score other is other_is.
     (record { allowed = is; passed = drawn score is })
     (record { allowed = other_is; passed = drawn other other_is })
 
-pub one_away_win : (found : Option Rated) (cell : Cell) (goals : Goals) → IfNone found (AreSame
+pub one_away_win : (found : Option Rated) (cell : Cell) (goals : GoalRange) → IfNone found (AreSame
     goals)
     → IsSpanOf cell is_away_win goals → IfNone found (HasOneOutcome cell → HasOneAtMost cell)
 one_away_win (Some one) cell goals same span = tt
@@ -157,7 +156,7 @@ among cell options test of_cell parts = record {
 }
 
 -- a test that parts the scores of a fixture's cell is a proper split
-pub goals_split : (setting : Setting) (question : Question) (fixture : ℕ) (cell : Cell) (test :
+pub goals_split : (setting : ZoneBoxView) (question : Question) (fixture : ℕ) (cell : Cell) (test :
     Test)
     → IsSeasonOf setting.sheet setting.season → HasFinish setting
     → fixture < length setting.season.scores → IsCellOf cell (options_at_fixture setting fixture)
@@ -192,7 +191,7 @@ goals_split setting question fixture cell (Rival club) of_sheet some within of_c
     absurd parts.of_fixture
 
 -- a fixture whose cell has one score at most has one
-pub one_score_is_left : (setting : Setting) (fixture : ℕ) (cell : Cell) → HasFinish setting
+pub one_score_is_left : (setting : ZoneBoxView) (fixture : ℕ) (cell : Cell) → HasFinish setting
     → fixture < length setting.season.scores → IsCellOf cell (options_at_fixture setting fixture)
     → (HasOneOutcome cell → HasOneAtMost cell)
     → IsTrue (has_one_outcome (options_at_fixture setting fixture))

@@ -10,13 +10,13 @@ use Rattle.league_core.specs.declared.season.Score.{Score}
 use Rattle.league_core.specs.declared.question.Question.{Question}
 use Rattle.league_core.specs.declared.zone.Test.TheVariants.{Home, Draw}
 use Rattle.league_core.specs.declared.zone.Literal.{Literal}
-use Rattle.league_core.specs.Results.{Results}
-use Rattle.league_core.specs.Seasons.{IsSeasonOf}
-use Rattle.league_core.specs.Finishes.{same_score}
-use Rattle.league_core.specs.Options.{meets, options_of, options_in, has_score}
-use Rattle.league_core.specs.Options.{has_one_outcome, same_outcome}
-use Rattle.league_core.specs.Options.{is_home_win, is_draw, is_away_win}
-use Rattle.league_core.specs.Splits.{are_outcomes_fixed}
+use Rattle.league_core.specs.game.Results.{Results}
+use Rattle.league_core.specs.game.Seasons.{IsSeasonOf}
+use Rattle.league_core.specs.game.Finishes.{same_score}
+use Rattle.league_core.specs.search.Options.{meets, options_of, options_in, has_score}
+use Rattle.league_core.specs.search.Options.{has_one_outcome, same_outcome, is_home_win, is_draw}
+use Rattle.league_core.specs.search.Options.{is_away_win}
+use Rattle.league_core.specs.search.Splits.{are_outcomes_fixed}
 use Rattle.league_core.proofs.OptionLemmas.{same_score-true, has_score-first, all_options}
 use Rattle.league_core.proofs.OptionLemmas.{each_option}
 use Rattle.league_core.proofs.OptionLemmas.{length-options_from}
@@ -29,13 +29,13 @@ use Rattle.league_core.proofs.PlainLemmas.{all_from}
 use Rattle.league_core.proofs.OptionTestLemmas.{any_gives, any_shows}
 use Rattle.league_core.proofs.LiteralLemmas.{options_at}
 use Rattle.score_box.specs.declared.cell.Cell.{Cell}
-use Rattle.score_box.specs.declared.cell.goals.Goals.{Goals}
-use Rattle.score_box.specs.Cells.{IsCellOf, AllowsNone, IsSpanOf}
-use Rattle.score_box.specs.Settings.{Setting, HasFinish}
-use Rattle.score_box.specs.Unplayed.{is_unplayed, unplayed_in}
+use Rattle.score_box.specs.declared.cell.goals.GoalRange.{GoalRange}
+use Rattle.score_box.specs.inside.Cells.{IsCellOf, AllowsNone, IsSpanOf}
+use Rattle.score_box.specs.inside.Settings.{ZoneBoxView, HasFinish}
+use Rattle.score_box.specs.inside.Unplayed.{is_unplayed, unplayed_in}
 use Rattle.branch_rules.specs.declared.left.Outcomes.{Outcomes}
-use Rattle.branch_rules.specs.Choices.{IsOutcomeSplit, options_at_fixture}
-use Rattle.branch_rules.specs.Outcomes.{AreOutcomesOf}
+use Rattle.branch_rules.specs.inside.Choices.{IsOutcomeSplit, options_at_fixture}
+use Rattle.branch_rules.specs.inside.Outcomes.{AreOutcomesOf}
 use Rattle.example_finish.proofs.UnplayedLemmas.{each_fixture}
 use Rattle.branch_rules.proofs.SplitLemmas.{home_is_proper, draw_is_proper}
 
@@ -54,7 +54,7 @@ none_shows test options none_passes =
     ]
 
 -- an outcome of the cell is left among the options where it has goals
-pub outcome_is_left : (cell : Cell) (test : Score → Bool) (found : Option Goals)
+pub outcome_is_left : (cell : Cell) (test : Score → Bool) (found : Option GoalRange)
     (options : List Score) → IsCellOf cell options
     → MatchOption found (AllowsNone cell test) (IsSpanOf cell test)
     → is_some found ≡ list_any test options
@@ -192,7 +192,7 @@ either_left one two options first second is_first is_second either =
     ]
 
 -- a home win beside others splits
-pub home_splits : (setting : Setting) (question : Question) (fixture : ℕ) (left : Outcomes)
+pub home_splits : (setting : ZoneBoxView) (question : Question) (fixture : ℕ) (left : Outcomes)
     → IsSeasonOf setting.sheet setting.season → HasFinish setting
     → fixture < length setting.season.scores
     → AreOutcomesOf (options_at_fixture setting fixture) left → left.wins ≡ true
@@ -223,7 +223,7 @@ home_splits setting question fixture left of_sheet some within are wins others =
     }
 
 -- so does a draw
-pub draw_splits : (setting : Setting) (question : Question) (fixture : ℕ) (left : Outcomes)
+pub draw_splits : (setting : ZoneBoxView) (question : Question) (fixture : ℕ) (left : Outcomes)
     → IsSeasonOf setting.sheet setting.season → HasFinish setting
     → fixture < length setting.season.scores
     → AreOutcomesOf (options_at_fixture setting fixture) left → left.draws ≡ true

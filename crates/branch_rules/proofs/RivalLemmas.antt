@@ -9,9 +9,9 @@ use Rattle.std.proofs.lemmas.Bool.{lt-ltb}
 use Rattle.league_core.specs.declared.sheet.Sheet.{Sheet}
 use Rattle.league_core.specs.declared.question.Question.{Question}
 use Rattle.league_core.specs.declared.zone.Literal.{Literal}
-use Rattle.league_core.specs.Sums.{has_club}
-use Rattle.league_core.specs.Zones.{is_marked}
-use Rattle.league_core.specs.Splits.{are_all_marked}
+use Rattle.league_core.specs.game.Sums.{has_club}
+use Rattle.league_core.specs.search.Zones.{is_marked}
+use Rattle.league_core.specs.search.Splits.{are_all_marked}
 use Rattle.league_core.proofs.ClubLemmas.{all_in_range}
 
 -- what all that are kept pass

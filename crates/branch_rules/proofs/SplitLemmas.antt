@@ -12,18 +12,17 @@ use Rattle.league_core.specs.declared.question.Question.{Question}
 use Rattle.league_core.specs.declared.zone.Test.{Test}
 use Rattle.league_core.specs.declared.zone.Test.TheVariants.{Home, Draw, HomeMost, AwayMost}
 use Rattle.league_core.specs.declared.zone.Literal.{Literal}
-use Rattle.league_core.specs.Results.{Results}
-use Rattle.league_core.specs.Seasons.{IsSeasonOf}
-use Rattle.league_core.specs.Zones.{passes, is_on, is_as_said, with_test}
-use Rattle.league_core.specs.Options.{meets_literal, options_in, has_score}
-use Rattle.league_core.specs.Options.{has_option}
-use Rattle.league_core.specs.Options.{has_finish}
-use Rattle.league_core.specs.Splits.{have_both_finish, is_proper}
+use Rattle.league_core.specs.game.Results.{Results}
+use Rattle.league_core.specs.game.Seasons.{IsSeasonOf}
+use Rattle.league_core.specs.search.Zones.{passes, is_on, is_as_said, with_test}
+use Rattle.league_core.specs.search.Options.{meets_literal, options_in, has_score, has_option}
+use Rattle.league_core.specs.search.Options.{has_finish}
+use Rattle.league_core.specs.search.Splits.{have_both_finish, is_proper}
 use Rattle.league_core.proofs.PlainLemmas.{list_all-at, all_from}
 use Rattle.league_core.proofs.OptionLemmas.{length-options_from}
 use Rattle.league_core.proofs.OptionTestLemmas.{has_option-some, first_shown}
 use Rattle.league_core.proofs.LiteralLemmas.{options_at-with}
-use Rattle.branch_rules.specs.Choices.{IsDivided}
+use Rattle.branch_rules.specs.inside.Choices.{IsDivided}
 
 -- the half of a zone in which a score's test is as said has a finish, where some option of its
 -- fixture is as said

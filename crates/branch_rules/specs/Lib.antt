@@ -1,6 +1,2 @@
--- What is found in a zone, then what a choice is, then what comes of a piece.
-pub mod Found
-pub mod Choices
-pub mod Outcomes
-pub mod GoalTests
-pub mod Works
+-- All words of this crate stand in inside/: no promise of the program rests on them.
+pub mod inside

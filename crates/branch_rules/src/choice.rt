@@ -1,10 +1,10 @@
 //! Which test splits a zone.
 
 ghost use Rattle.std.specs.Prelude.{◌≡◌, ◌<◌, false, length, IsTrue};
-ghost use Rattle.league_core.specs.Options.{is_single};
-ghost use Rattle.league_core.specs.Splits.{are_all_marked};
-ghost use Rattle.score_box.specs.Settings.{HasFinish};
-ghost use Rattle.branch_rules.specs.Choices.{IsDueSplit};
+ghost use Rattle.league_core.specs.search.Options.{is_single};
+ghost use Rattle.league_core.specs.search.Splits.{are_all_marked};
+ghost use Rattle.score_box.specs.inside.Settings.{HasFinish};
+ghost use Rattle.branch_rules.specs.inside.Choices.{IsDueSplit};
 
 use crate::goals::goal_test;
 use crate::outcomes::outcome_test;

@@ -3,18 +3,18 @@
 ghost use Rattle.std.specs.Prelude.{◌≡◌, ◌<◌, IfNone, IfSome, IsTrue, true, length};
 ghost use Rattle.std.specs.Prelude.{Bool};
 ghost use Rattle.league_core.specs.declared.season.Score.{Score};
-ghost use Rattle.league_core.specs.Options.{has_one_outcome, has_one_score, is_single};
-ghost use Rattle.league_core.specs.Splits.{are_outcomes_fixed};
+ghost use Rattle.league_core.specs.search.Options.{has_one_outcome, has_one_score, is_single};
+ghost use Rattle.league_core.specs.search.Splits.{are_outcomes_fixed};
 ghost use Rattle.score_box.specs.declared.cell.Cell.{Cell};
-ghost use Rattle.score_box.specs.Cells.{IsSpanOf, HasOneOutcome};
-ghost use Rattle.score_box.specs.Settings.{HasFinish};
-ghost use Rattle.branch_rules.specs.Choices.{IsGoalSplit, options_at_fixture};
-ghost use Rattle.branch_rules.specs.GoalTests.{DividesByGoals, HasOneAtMost, AreSame};
+ghost use Rattle.score_box.specs.inside.Cells.{IsSpanOf, HasOneOutcome};
+ghost use Rattle.score_box.specs.inside.Settings.{HasFinish};
+ghost use Rattle.branch_rules.specs.inside.Choices.{IsGoalSplit, options_at_fixture};
+ghost use Rattle.branch_rules.specs.inside.GoalTests.{DividesByGoals, HasOneAtMost, AreSame};
 
 use crate::outcomes::sides_of;
 use crate::rated::{Rated, better, test_of};
 use league_core::{Fixture, Question, Test};
-use score_box::{Cell, Goals, ZoneBox};
+use score_box::{Cell, GoalRange, ZoneBox};
 
 /// The test of goals that is rated highest, of those that split the zone: in the widest range of
 /// goals, matches of clubs level with the question's club before all others. None where each
@@ -92,7 +92,7 @@ fn goal_split(cell: &Cell, fixture: u16) -> Option<Rated>
 }
 
 // The middle of the wider of two ranges; none where both have one number.
-fn split_of(goals: Goals, fixture: u16) -> Option<Rated>
+fn split_of(goals: GoalRange, fixture: u16) -> Option<Rated>
     ensures some { IfSome result (λ one. (cell : Cell) (test : Score → Bool)
         → IsSpanOf cell test goals → DividesByGoals cell fixture one.test) }
     ensures none { IfNone result (AreSame goals) }

@@ -13,8 +13,8 @@ pub struct Outcomes {
 }
 
 impl Outcomes {
-    ghost use Rattle.branch_rules.specs.Choices.{options_at_fixture};
-    ghost use Rattle.branch_rules.specs.Outcomes.{AreOutcomesOf};
+    ghost use Rattle.branch_rules.specs.inside.Choices.{options_at_fixture};
+    ghost use Rattle.branch_rules.specs.inside.Outcomes.{AreOutcomesOf};
 
     /// Those of a fixture in the box's zone.
     pub fn at(zone_box: &ZoneBox, fixture: u16) -> Outcomes

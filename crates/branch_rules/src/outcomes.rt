@@ -2,12 +2,12 @@
 
 ghost use Rattle.std.specs.Prelude.{◌≡◌, ◌<◌, ◌&&◌, ◌||◌, false, IfNone, IfSome, IsTrue, length};
 ghost use Rattle.std.specs.Prelude.{None};
-ghost use Rattle.league_core.specs.Seasons.{IsSeasonOf};
-ghost use Rattle.league_core.specs.Options.{has_one_outcome};
-ghost use Rattle.league_core.specs.Splits.{are_outcomes_fixed};
-ghost use Rattle.score_box.specs.Settings.{HasFinish};
-ghost use Rattle.branch_rules.specs.Choices.{IsOutcomeSplit, options_at_fixture};
-ghost use Rattle.branch_rules.specs.Outcomes.{AreOutcomesOf};
+ghost use Rattle.league_core.specs.game.Seasons.{IsSeasonOf};
+ghost use Rattle.league_core.specs.search.Options.{has_one_outcome};
+ghost use Rattle.league_core.specs.search.Splits.{are_outcomes_fixed};
+ghost use Rattle.score_box.specs.inside.Settings.{HasFinish};
+ghost use Rattle.branch_rules.specs.inside.Choices.{IsOutcomeSplit, options_at_fixture};
+ghost use Rattle.branch_rules.specs.inside.Outcomes.{AreOutcomesOf};
 
 use crate::left::Outcomes;
 use crate::rated::{Rated, better, test_of};

@@ -7,10 +7,10 @@
 //! club's own points may miss the window, its own matches come before all that.
 
 ghost use Rattle.std.specs.Prelude.{pos, neg_ℤ, ◌<◌, ◌≤ℤ◌, ◌≢◌, IsTrue, None, length};
-ghost use Rattle.score_box.specs.Settings.{HasFinish};
+ghost use Rattle.score_box.specs.inside.Settings.{HasFinish};
 
+use crate::bound_slack::BoundSlack;
 use crate::left::Outcomes;
-use crate::pressure::Pressure;
 use crate::rated::Rated;
 use league_core::{Claim, ClubSet, Fixture, Question};
 use score_box::ZoneBox;
@@ -28,7 +28,7 @@ const OWN_MATCH: i32 = 100_000;
 #[derive(Clone, Copy)]
 pub struct Rater<'a> {
     question: &'a Question,
-    pressure: Pressure<'a>,
+    pressure: BoundSlack<'a>,
     before: ClubSet,
     after: ClubSet,
     excess: i32,
@@ -45,7 +45,7 @@ impl<'a> Rater<'a> {
         };
         Rater {
             question,
-            pressure: Pressure::of(zone_box, question),
+            pressure: BoundSlack::of(zone_box, question),
             before: zone_box.before(),
             after: zone_box.after(),
             excess,
@@ -67,7 +67,7 @@ impl<'a> Rater<'a> {
         if REFUTES_A_HALF <= rate {
             !self.counts_own(sides)
         } else {
-            UNFELT_HOME_WIN <= rate && !self.pressure.is_felt(sides)
+            UNFELT_HOME_WIN <= rate && !self.pressure.is_affected(sides)
         }
     }
 
@@ -83,15 +83,15 @@ impl<'a> Rater<'a> {
         if self.counts_own(sides) {
             return self.rate_own(sides, left, yes);
         }
-        if !self.pressure.is_felt(sides) {
+        if !self.pressure.is_affected(sides) {
             return UNFELT_HOME_WIN - points_if(!is_home, 1);
         }
-        let first = self.pressure.outlook(sides, left, yes);
-        let second = self.pressure.outlook(sides, left, no);
-        if first.breaks || second.breaks {
+        let first = self.pressure.effect(sides, left, yes);
+        let second = self.pressure.effect(sides, left, no);
+        if first.violates || second.violates {
             return REFUTES_A_HALF;
         }
-        points_if(!first.levels, 4) + points_if(second.levels, 2) + points_if(is_home, 1)
+        points_if(!first.ties, 4) + points_if(second.ties, 2) + points_if(is_home, 1)
     }
 
     // The match is the club's own, and its points may miss the window.

@@ -2,22 +2,23 @@
 
 ghost use Rattle.std.specs.Prelude.{◌≡◌, ◌<◌, false, IfOk, IfSome, None, length};
 ghost use Rattle.league_core.specs.declared.zone.Reason.{Reason};
-ghost use Rattle.league_core.specs.Reasons.{has_reason};
-ghost use Rattle.score_box.specs.Settings.{HasFinish};
-ghost use Rattle.branch_rules.specs.Found.{IsFirstReason};
+ghost use Rattle.league_core.specs.search.Reasons.{has_reason};
+ghost use Rattle.score_box.specs.inside.Settings.{HasFinish};
+ghost use Rattle.branch_rules.specs.inside.Found.{IsFirstReason};
 
-use flow_bound::{high_cut, low_cut};
+use flow_bound::{FlowKeep, high_cut_from, low_cut_from};
 use league_core::{OutOfMemory, Question, Reason};
 use score_box::ZoneBox;
 use std::alloc::Global;
 use tie_bound::{count_reason, tie_reason, window_reason};
 
 /// The first reason that holds: the marks, the window, a floor cut, a ceiling cut, the criteria;
-/// none where none holds.
+/// none where none holds. Both cuts are sought from what the keep holds.
 pub fn first_reason(
     alloc: Global,
     zone_box: &ZoneBox,
     question: &Question,
+    keep: &mut FlowKeep,
 ) -> Result<Option<Reason>, OutOfMemory>
     requires has_finish { HasFinish zone_box.now }
     requires of_sheet { question.now.club < length zone_box.now.sheet.clubs }
@@ -32,10 +33,10 @@ pub fn first_reason(
     if window_reason(zone_box, question) {
         return Ok(Some(Reason::Window));
     }
-    if let Some(clubs) = low_cut(alloc, zone_box, question)? {
+    if let Some(clubs) = low_cut_from(alloc, zone_box, question, keep)? {
         return Ok(Some(Reason::Low(clubs)));
     }
-    if let Some(clubs) = high_cut(alloc, zone_box, question)? {
+    if let Some(clubs) = high_cut_from(alloc, zone_box, question, keep)? {
         return Ok(Some(Reason::High(clubs)));
     }
     if tie_reason(zone_box, question) {

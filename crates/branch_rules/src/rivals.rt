@@ -3,13 +3,12 @@
 ghost use Rattle.std.specs.Prelude.{◌≡◌, ◌<◌, ◌&&◌, ◌==◌, nat_lt, not, IfNone, IfSome, IsTrue};
 ghost use Rattle.std.specs.Prelude.{◌⊎◌, ℕ, true, [], ◌≢◌, length};
 ghost use Rattle.league_core.specs.declared.zone.Test.TheVariants.{Rival};
-ghost use Rattle.league_core.specs.ClubSets.{clubs_in};
-ghost use Rattle.league_core.specs.Sums.{has_club};
-ghost use Rattle.league_core.specs.Zones.{is_marked};
-ghost use Rattle.league_core.specs.Splits.{are_all_marked, is_proper};
-ghost use Rattle.score_box.specs.Settings.{HasFinish};
+ghost use Rattle.league_core.specs.game.ClubSets.{clubs_in};
+ghost use Rattle.league_core.specs.game.Sums.{has_club};
+ghost use Rattle.league_core.specs.search.Zones.{is_marked};
+ghost use Rattle.league_core.specs.search.Splits.{are_all_marked, is_proper};
+ghost use Rattle.score_box.specs.inside.Settings.{HasFinish};
 
-use league_core::limits::SET_WIDTH;
 use league_core::{ClubSet, Question};
 use score_box::{ZoneBox, own_least, own_most};
 
@@ -52,17 +51,11 @@ fn best_rival(zone_box: &ZoneBox, question: &Question, rivals: ClubSet) -> u8
     requires some { clubs_in rivals ≢ [] }
     ensures { has_club (clubs_in rivals) result ≡ true }
 {
-    let room = Room::of(zone_box, question);
+    let room = Slack::of(zone_box, question);
     let first = rivals.first_club();
     let mut best = room.ranked(zone_box, first);
-    let mut left = rivals.without(ClubSet::single(first));
-    for _step in 0..SET_WIDTH {
-        if left.is_empty() {
-            return best.club;
-        }
-        let rival = left.first_club();
+    for rival in rivals.without(ClubSet::single(first)).clubs() {
         best = higher(best, room.ranked(zone_box, rival));
-        left = left.without(ClubSet::single(rival));
     }
     best.club
 }
@@ -84,17 +77,17 @@ fn higher(best: Ranked, other: Ranked) -> Ranked
 // The points that a rival may have: no more after the club than the most that the club can have in
 // its window, no fewer before it than the least.
 #[derive(Clone, Copy)]
-struct Room {
+struct Slack {
     most: i32,
     least: i32,
 }
 
-impl Room {
-    fn of(zone_box: &ZoneBox, question: &Question) -> Room
+impl Slack {
+    fn of(zone_box: &ZoneBox, question: &Question) -> Slack
         requires has_finish { HasFinish zone_box.now }
         requires of_sheet { question.now.club < length zone_box.now.sheet.clubs }
     {
-        Room {
+        Slack {
             most: own_most(zone_box, question),
             least: own_least(zone_box, question),
         }

@@ -1,22 +1,29 @@
 //! What is found in the zone of a box.
 
 ghost use Rattle.std.specs.Prelude.{IfOk, IsTrue};
-ghost use Rattle.league_core.specs.Questions.{IsQuestionOf};
-ghost use Rattle.score_box.specs.Settings.{HasFinish};
-ghost use Rattle.branch_rules.specs.Found.{IsFoundIn, IsProposedInVain, is_proposed_example};
+ghost use Rattle.league_core.specs.game.Questions.{IsQuestionOf};
+ghost use Rattle.score_box.specs.inside.Settings.{HasFinish};
+ghost use Rattle.branch_rules.specs.inside.Found.{IsFoundIn, IsProposedInVain, is_proposed_example};
 
 use crate::choice::choose;
 use crate::reasons::first_reason;
 use example_finish::{is_example, propose};
 use final_rank::lots_for;
+use flow_bound::FlowKeep;
 use league_core::{OutOfMemory, Question};
 use reason_core::Finding;
 use score_box::ZoneBox;
 use std::alloc::Global;
 
 /// The proposed finish with lots, exactly where it is an example; otherwise the first reason,
-/// exactly where one holds; otherwise a split. A finish is made for an example alone.
-pub fn find(alloc: Global, zone_box: &ZoneBox, question: &Question) -> Result<Finding, OutOfMemory>
+/// exactly where one holds; otherwise a split. A finish is made for an example alone. Cuts are
+/// sought from what an earlier search left in the keep, whatever that was.
+pub fn find_with(
+    alloc: Global,
+    zone_box: &ZoneBox,
+    question: &Question,
+    keep: &mut FlowKeep,
+) -> Result<Finding, OutOfMemory>
     requires has_finish { HasFinish zone_box.now }
     requires of_sheet { IsQuestionOf zone_box.now.sheet question.now }
     ensures { IfOk result
@@ -25,7 +32,7 @@ pub fn find(alloc: Global, zone_box: &ZoneBox, question: &Question) -> Result<Fi
     if is_example(zone_box, question) {
         won(alloc, zone_box, question)
     } else {
-        reason_or_split(alloc, zone_box, question)
+        reason_or_split(alloc, zone_box, question, keep)
     }
 }
 
@@ -50,6 +57,7 @@ fn reason_or_split(
     alloc: Global,
     zone_box: &ZoneBox,
     question: &Question,
+    keep: &mut FlowKeep,
 ) -> Result<Finding, OutOfMemory>
     requires has_finish { HasFinish zone_box.now }
     requires of_sheet { IsQuestionOf zone_box.now.sheet question.now }
@@ -59,7 +67,7 @@ fn reason_or_split(
         (IsFoundIn zone_box.now.sheet zone_box.now.season question.now zone_box.now.zone) }
 {
     let _season = zone_box.season();
-    match first_reason(alloc, zone_box, question)? {
+    match first_reason(alloc, zone_box, question, keep)? {
         Some(reason) => Ok(Finding::Refuted(reason)),
         None => Ok(Finding::Split(choose(zone_box, question))),
     }

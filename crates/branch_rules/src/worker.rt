@@ -1,13 +1,14 @@
-//! A worker of one season, who keeps the box between pieces.
+//! A worker of one season, who keeps the box and the flow of a cut between pieces.
 
 ghost use Rattle.std.specs.Prelude.{◌≡◌, ◌↔◌, ◌≤◌, ◌++◌, IfOk, OnOk, IsTrue, length, take};
-ghost use Rattle.league_core.specs.Questions.{IsQuestionOf};
-ghost use Rattle.league_core.specs.Zones.{IsZoneFor, is_zone_of};
-ghost use Rattle.league_core.specs.Options.{has_finish};
-ghost use Rattle.reason_core.specs.Findings.{IsTrueFinding};
-ghost use Rattle.branch_rules.specs.Found.{IsFoundIn};
+ghost use Rattle.league_core.specs.game.Questions.{IsQuestionOf};
+ghost use Rattle.league_core.specs.search.Zones.{IsZoneFor, is_zone_of};
+ghost use Rattle.league_core.specs.search.Options.{has_finish};
+ghost use Rattle.reason_core.specs.inside.Findings.{IsTrueFinding};
+ghost use Rattle.branch_rules.specs.inside.Found.{IsFoundIn};
 
-use crate::search::find;
+use crate::search::find_with;
+use flow_bound::FlowKeep;
 use league_core::{Literal, OutOfMemory, Question};
 use reason_core::{Finding, Solver};
 use score_box::{Played, ZoneBox};
@@ -15,32 +16,38 @@ use std::alloc::Global;
 use std::marker::Model;
 
 /// Works on zones of one season. From one zone to the next the box goes back to what both have in
-/// front, and on from there. Contracts see the sheet and the season.
+/// front, and on from there, and a search for a cut begins with the flow of the one before.
+/// Contracts see the sheet and the season.
 #[derive(Drop)]
-pub struct Worker<'a> {
+pub struct ZoneSolver<'a> {
     alloc: Global,
     zone_box: ZoneBox<'a>,
+    keep: FlowKeep,
 }
 
-impl<'a> Model for Worker<'a> {
-    ghost use Rattle.score_box.specs.Stages.{Stage};
+impl<'a> Model for ZoneSolver<'a> {
+    ghost use Rattle.score_box.specs.inside.PlayedViews.{PlayedView};
 
-    ghost Value = { Stage };
+    ghost Value = { PlayedView };
 
     ghost view = { λ w. record { sheet = w.zone_box.sheet; season = w.zone_box.season } };
 }
 
-impl<'a> Worker<'a> {
+impl<'a> ZoneSolver<'a> {
     /// A worker of the season that the tables are of.
-    pub fn new(alloc: Global, played: &'a Played<'a>) -> Result<Worker<'a>, OutOfMemory>
+    pub fn new(alloc: Global, played: &'a Played<'a>) -> Result<ZoneSolver<'a>, OutOfMemory>
         ensures { IfOk result (λ worker. worker ≡ played.now) }
     {
         let zone_box = ZoneBox::over(alloc, played, &[])?;
-        Ok(Worker { alloc, zone_box })
+        Ok(ZoneSolver {
+            alloc,
+            zone_box,
+            keep: FlowKeep::new(),
+        })
     }
 }
 
-impl<'a> Solver for Worker<'a> {
+impl<'a> Solver for ZoneSolver<'a> {
     ghost sheet = { λ worker. worker.sheet };
 
     ghost season = { λ worker. worker.season };
@@ -58,7 +65,7 @@ impl<'a> Solver for Worker<'a> {
         ensures same_season { self.new.season ≡ self.old.season }
     {
         move_to(&mut self.zone_box, zone)?;
-        find(self.alloc, &self.zone_box, question)
+        find_with(self.alloc, &self.zone_box, question, &mut self.keep)
     }
 }
 
@@ -69,13 +76,13 @@ fn move_to(zone_box: &mut ZoneBox, zone: &[Literal]) -> Result<(), OutOfMemory>
     ensures sheet { zone_box.new.sheet ≡ zone_box.old.sheet }
     ensures season { zone_box.new.season ≡ zone_box.old.season }
 {
-    let common = common_front(zone_box.zone(), zone);
+    let common = common_prefix(zone_box.zone(), zone);
     go_back(zone_box, common);
     go_on(zone_box, &zone[common..])
 }
 
-// How many literals both zones have in front.
-fn common_front(zone: &[Literal], other: &[Literal]) -> usize
+// How many literals both zones have at the front.
+fn common_prefix(zone: &[Literal], other: &[Literal]) -> usize
     ensures one { result ≤ length zone.now }
     ensures two { result ≤ length other.now }
     ensures same { take result zone.now ≡ take result other.now }

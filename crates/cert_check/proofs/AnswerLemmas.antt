@@ -18,40 +18,41 @@ use Rattle.league_core.specs.declared.zone.Reason.{Reason}
 use Rattle.league_core.specs.declared.zone.Reason.TheVariants.{Count, Window, Low, High, Tie}
 use Rattle.league_core.specs.declared.tree.TreeNode.{TreeNode}
 use Rattle.league_core.specs.declared.tree.TreeNode.TheVariants as node
-use Rattle.league_core.specs.Results.{Results}
-use Rattle.league_core.specs.ClubSets.{clubs_in}
-use Rattle.league_core.specs.Zones.{with_test, marked_before, marked_after, is_of_rival}
-use Rattle.league_core.specs.Options.{has_finish}
-use Rattle.league_core.specs.Reasons.{has_member, has_reason, refutes}
-use Rattle.league_core.specs.Trees.{Tree, open_leaf, lent_leaf, refuted_leaf, branch, NodesMeet}
-use Rattle.league_core.specs.Trees.{preorder, new_count, has_open, is_refuted}
-use Rattle.league_core.specs.Lending.{all_opened}
-use Rattle.league_core.specs.Splits.{AreReasonsTrue}
+use Rattle.league_core.specs.game.Results.{Results}
+use Rattle.league_core.specs.game.ClubSets.{clubs_in}
+use Rattle.league_core.specs.search.Zones.{with_test, marked_before, marked_after, is_of_rival}
+use Rattle.league_core.specs.search.Options.{has_finish}
+use Rattle.league_core.specs.search.Reasons.{has_member, has_reason, refutes}
+use Rattle.league_core.specs.search.Trees.{Tree, open_leaf, lent_leaf, refuted_leaf, branch}
+use Rattle.league_core.specs.search.Trees.{NodesMeet, preorder, new_count, has_open, is_refuted}
+use Rattle.league_core.specs.inside.Lending.{all_opened}
+use Rattle.league_core.specs.search.Splits.{AreReasonsTrue}
 use Rattle.league_core.proofs.HalfLemmas.{list_all-with}
 use Rattle.cert_text.specs.Ranges.{is_test_in_range}
 use Rattle.cert_text.specs.TreeLines.{is_test_for, are_tests_for, marked_line}
-use Rattle.cert_check.specs.declared.dues.TreeKind.TheVariants.{Refutation, Spent}
-use Rattle.cert_check.specs.Dues.{Basis, is_path_for, is_reason_for}
-use Rattle.league_core.specs.Questions.{full_question, holds_at}
+use Rattle.cert_check.specs.declared.expected.TreeKind.TheVariants.{Refutation, Spent}
+use Rattle.cert_check.specs.ExpectedItems.{Basis, is_path_for, is_reason_for}
+use Rattle.league_core.specs.game.Questions.{full_question, holds_at}
 use Rattle.league_core.proofs.LendingLemmas.{new_count-all_opened}
 use Rattle.cert_text.specs.declared.proof_line.ProofLine.{ProofLine}
 use Rattle.cert_text.specs.TreeLines.{IsRefutationTree, IsSpentTree}
 use Rattle.cert_text.specs.ExampleLines.{score_lines, lots_line}
 use Rattle.cert_check.specs.declared.token.Token.{Token}
 use Rattle.cert_check.specs.declared.token.Token.TheVariants.{Row, Proof}
-use Rattle.cert_check.specs.declared.dues.RowWord.{RowWord}
-use Rattle.cert_check.specs.declared.dues.RowWord.TheVariants.{Clinched, Lost, Possible, Unsettled}
+use Rattle.cert_check.specs.declared.expected.RowWord.{RowWord}
+use Rattle.cert_check.specs.declared.expected.RowWord.TheVariants.{Clinched, Lost, Possible}
+use Rattle.cert_check.specs.declared.expected.RowWord.TheVariants.{Unsettled}
 use Rattle.cert_check.specs.Tokens.{counts, counted_lines}
-use Rattle.cert_check.specs.Dues.{verdict_fields, ask_fields, name_of_club}
-use Rattle.cert_check.specs.Dues.{Due}
+use Rattle.cert_check.specs.ExpectedItems.{verdict_fields, ask_fields, name_of_club}
+use Rattle.cert_check.specs.ExpectedItems.{Expected}
 use Rattle.cert_check.specs.Machine.{with_unsettled, ending_of, whole_at, rows_of, part_of_ask}
-use Rattle.cert_check.specs.Grammar.{NodeFits, line_of_node, IsRefutationPart}
-use Rattle.cert_check.specs.Grammar.{IsSpentPart, IsExamplePart, IsBehind, AreParts}
-use Rattle.cert_check.specs.Laws.{unsettled_with}
-use Rattle.cert_check.specs.Calls.{unsettled_in}
-use Rattle.cert_check.specs.Answers.{ShowsRefutedHeaded, ShowsSpentHeaded, ShowsExampleOf}
-use Rattle.cert_check.specs.Answers.{ShowsWord, ShownItem, item_tokens, answer_tokens, AreShown}
-use Rattle.cert_check.specs.Answers.{unsettled_items, row_due}
+use Rattle.cert_check.specs.inside.Grammar.{NodeFits, line_of_node, IsRefutationPart, IsSpentPart}
+use Rattle.cert_check.specs.inside.Grammar.{IsExamplePart, IsAfterReport, AreParts}
+use Rattle.cert_check.specs.inside.Laws.{unsettled_with}
+use Rattle.cert_check.specs.inside.Calls.{unsettled_in}
+use Rattle.cert_check.specs.inside.Answers.{ShowsRefutedHeaded, ShowsSpentHeaded, ShowsExampleOf}
+use Rattle.cert_check.specs.inside.Answers.{ShowsWord, ShownItem, item_tokens, answer_tokens}
+use Rattle.cert_check.specs.inside.Answers.{AreShown, unsettled_items, row_due}
 use Rattle.cert_check.proofs.ExampleLemmas.{same_finish}
 use Rattle.cert_check.proofs.ReportLemmas.{proved_is_accepted}
 
@@ -289,9 +290,9 @@ example_part basis question lines shown =
       ap (map Proof) shown.3,
     )
 
--- what is shown behind a word is proved
+-- what is shown after a word is proved
 word_part : (basis : Basis) (number club : ℕ) (word : RowWord) (lines : List ProofLine)
-    → ShowsWord basis number club word lines → IsBehind true basis number club word (map Proof
+    → ShowsWord basis number club word lines → IsAfterReport true basis number club word (map Proof
     lines)
 word_part basis number club Clinched lines shown =
     refuted_part basis (full_question club number Outside) lines shown
@@ -413,7 +414,8 @@ answer_accepted basis items rest from rows shown =
       Row (ask_fields basis.epoch) ∷ [],
       flat_map (item_tokens basis) items,
       refl,
-      subst (λ (dues : List Due). AreParts true basis dues (flat_map (item_tokens basis) items))
+      subst (λ (dues : List Expected). AreParts true basis dues
+          (flat_map (item_tokens basis) items))
           rows
           (items_parts basis items shown),
       refl,

@@ -8,29 +8,30 @@ use Rattle.league_core.specs.declared.question.Question.{Question}
 use Rattle.league_core.specs.declared.zone.Literal.{Literal}
 use Rattle.league_core.specs.declared.zone.Reason.{Reason}
 use Rattle.league_core.specs.declared.tree.TreeNode.TheVariants as node
-use Rattle.league_core.specs.Zones.{is_zone_of, is_test_of, is_of_rival}
-use Rattle.league_core.specs.Reasons.{has_reason}
+use Rattle.league_core.specs.search.Zones.{is_zone_of, is_test_of, is_of_rival}
+use Rattle.league_core.specs.search.Reasons.{has_reason}
 use Rattle.cert_text.specs.Ranges.{is_test_in_range}
 use Rattle.cert_text.specs.TreeLines.{is_test_for}
 use Rattle.cert_check.specs.declared.token.Token.{Token}
-use Rattle.cert_check.specs.declared.token.Token.TheVariants.{Passed, Row, Proof, Neither}
-use Rattle.cert_check.specs.declared.stop.Halt.{Halt}
-use Rattle.cert_check.specs.declared.stop.Halt.TheVariants as halt
-use Rattle.cert_check.specs.declared.dues.TreeKind.{TreeKind}
-use Rattle.cert_check.specs.declared.dues.Tally.{Tally}
-use Rattle.cert_check.specs.Dues.{Basis, Due, ask_row, verdict_row}
-use Rattle.cert_check.specs.Dues.{nodes, bad, go}
-use Rattle.cert_check.specs.Dues.{after, is_ask_row, is_path_for, is_reason_for, behind_leaf}
-use Rattle.cert_check.specs.Dues.{after_node, with_fresh}
+use Rattle.cert_check.specs.declared.token.Token.TheVariants.{Blank, Row, Proof, Unknown}
+use Rattle.cert_check.specs.declared.stop.CheckStopAt.{CheckStopAt}
+use Rattle.cert_check.specs.declared.stop.CheckStopAt.TheVariants as halt
+use Rattle.cert_check.specs.declared.expected.TreeKind.{TreeKind}
+use Rattle.cert_check.specs.declared.expected.Tally.{Tally}
+use Rattle.cert_check.specs.ExpectedItems.{Basis, Expected, ask_row, verdict_row}
+use Rattle.cert_check.specs.ExpectedItems.{nodes, bad, go}
+use Rattle.cert_check.specs.ExpectedItems.{after, is_ask_row, is_path_for, is_reason_for}
+use Rattle.cert_check.specs.ExpectedItems.{after_leaf}
+use Rattle.cert_check.specs.ExpectedItems.{after_node, with_fresh}
 use Rattle.cert_check.specs.Machine.{with_unsettled, by_next}
 use Rattle.cert_check.specs.Machine.{ending_of}
-use Rattle.cert_check.specs.Calls.{Judged, ending_from, HaltsAt, Goes, IsNextAt}
+use Rattle.cert_check.specs.inside.Calls.{ReportView, ending_from, HaltsAt, Goes, IsNextAt}
 use Rattle.cert_check.proofs.NextLemmas.{go-if, bad-go, if-go}
 use Rattle.cert_check.proofs.RowLemmas.{ask_row-says}
 
 -- what the reading comes to at the next line that counts
-at_next : (judged : Judged) (from at : ℕ) (token : Token) → IsNextAt judged from at token
-    → (due : Due) (dues : List Due) (unsettled : ℕ)
+at_next : (judged : ReportView) (from at : ℕ) (token : Token) → IsNextAt judged from at token
+    → (due : Expected) (dues : List Expected) (unsettled : ℕ)
     → ending_from judged from (due ∷ dues) unsettled ≡
     by_next (after judged.basis due token) at
     (λ more. ending_from judged (at + 1) (more ++ dues) (with_unsettled unsettled token))
@@ -39,8 +40,9 @@ at_next judged from at token is due dues unsettled =
     ∙ ap (λ lines. ending_of judged.basis lines (due ∷ dues) at unsettled) is.there
 
 -- a line that may not come
-pub next_bad : (judged : Judged) (from at : ℕ) (token : Token) → IsNextAt judged from at token
-    → (due : Due) → after judged.basis due token ≡ bad → HaltsAt judged from due (halt.BadLine at)
+pub next_bad : (judged : ReportView) (from at : ℕ) (token : Token) → IsNextAt judged from at token
+    → (due : Expected) → after judged.basis due token ≡ bad
+    → HaltsAt judged from due (halt.BadLine at)
 next_bad judged from at token is due goes = (
   is.within,
   λ dues unsettled.
@@ -50,8 +52,8 @@ next_bad judged from at token is due goes = (
 )
 
 -- a line that does not prove what it says
-pub next_unproved : (judged : Judged) (from at : ℕ) (token : Token)
-    → IsNextAt judged from at token → (due : Due) (more : List Due)
+pub next_unproved : (judged : ReportView) (from at : ℕ) (token : Token)
+    → IsNextAt judged from at token → (due : Expected) (more : List Expected)
     → after judged.basis due token ≡ go false more → HaltsAt judged from due (halt.NoProof at)
 next_unproved judged from at token is due more goes = (
   is.within,
@@ -62,17 +64,17 @@ next_unproved judged from at token is due more goes = (
 )
 
 -- whether this is anything but the row of a line and a club
-abbrev pub is_quiet : Due → Bool
+abbrev pub is_quiet : Expected → Bool
 is_quiet (verdict_row line club) = false
 is_quiet _ = true
 
 -- where another thing is due, a line that goes on is no row of an unsettled club
-quiet : (basis : Basis) (due : Due) (token : Token) (holds : Bool) (more : List Due)
+quiet : (basis : Basis) (due : Expected) (token : Token) (holds : Bool) (more : List Expected)
     → is_quiet due ≡ true → after basis due token ≡ go holds more → (unsettled : ℕ)
     → with_unsettled unsettled token ≡ unsettled
-quiet basis due Passed holds more is goes unsettled = refl
+quiet basis due Blank holds more is goes unsettled = refl
 quiet basis due (Proof shown) holds more is goes unsettled = refl
-quiet basis due Neither holds more is goes unsettled = refl
+quiet basis due Unknown holds more is goes unsettled = refl
 quiet basis ask_row (Row fields) holds more is goes unsettled =
     let fits = go-if (is_ask_row basis.epoch fields) (go true []) holds more goes in
     ap (λ it. with_unsettled unsettled (Row it)) (ask_row-says basis.epoch fields fits.0)
@@ -81,9 +83,9 @@ quiet basis (verdict_row line club) (Row fields) holds more is goes unsettled =
 quiet basis _ (Row fields) holds more is goes unsettled = absurd (bad-go holds more goes)
 
 -- a line that goes on
-pub next_goes : (judged : Judged) (from at : ℕ) (token : Token) → IsNextAt judged from at token
-    → (due : Due) (more : List Due) → is_quiet due ≡ true
-    → after judged.basis due token ≡ go true more → (dues : List Due) (unsettled : ℕ)
+pub next_goes : (judged : ReportView) (from at : ℕ) (token : Token) → IsNextAt judged from at token
+    → (due : Expected) (more : List Expected) → is_quiet due ≡ true
+    → after judged.basis due token ≡ go true more → (dues : List Expected) (unsettled : ℕ)
     → ending_from judged from (due ∷ dues) unsettled
     ≡ ending_from judged (at + 1) (more ++ dues) unsettled
 next_goes judged from at token is due more is_other goes dues unsettled =
@@ -93,17 +95,17 @@ next_goes judged from at token is due more is_other goes dues unsettled =
     ∙ ap (ending_from judged (at + 1) (more ++ dues))
     (quiet judged.basis due token true more is_other goes unsettled)
 
--- a line behind which nothing more is due of this
-pub next_ends : (judged : Judged) (from at : ℕ) (token : Token) → IsNextAt judged from at token
-    → (due : Due) → is_quiet due ≡ true → after judged.basis due token ≡ go true []
+-- a line after which nothing more is due of this
+pub next_ends : (judged : ReportView) (from at : ℕ) (token : Token) → IsNextAt judged from at token
+    → (due : Expected) → is_quiet due ≡ true → after judged.basis due token ≡ go true []
     → Goes judged from due (Ok (at + 1))
 next_ends judged from at token is due is_other goes =
     (omega (arith, is.within), next_goes judged from at token is due [] is_other goes)
 
--- a line behind which this is due
-pub next_then : (judged : Judged) (from at : ℕ) (token : Token) → IsNextAt judged from at token
-    → (due next : Due) → is_quiet due ≡ true
-    → after judged.basis due token ≡ go true (next ∷ []) → (result : Result ℕ Halt)
+-- a line after which this is due
+pub next_then : (judged : ReportView) (from at : ℕ) (token : Token) → IsNextAt judged from at token
+    → (due next : Expected) → is_quiet due ≡ true
+    → after judged.basis due token ≡ go true (next ∷ []) → (result : Result ℕ CheckStopAt)
     → Goes judged (at + 1) next result → Goes judged from due result
 next_then judged from at token is due next is_other goes (Ok to) later = (
   later.0,
@@ -129,10 +131,10 @@ next_then judged from at token is due next is_other goes (Err halt.Short) later 
     ∙ later dues unsettled
 next_then judged from at token is due next is_other goes (Err halt.OutOfMemory) later = tt
 
--- a line behind which two things are due, of which the first stops the reading
-pub next_two_halt : (judged : Judged) (from at : ℕ) (token : Token)
-    → IsNextAt judged from at token → (due first second : Due) → is_quiet due ≡ true
-    → after judged.basis due token ≡ go true (first ∷ second ∷ []) → (stop : Halt)
+-- a line after which two things are due, of which the first stops the reading
+pub next_two_halt : (judged : ReportView) (from at : ℕ) (token : Token)
+    → IsNextAt judged from at token → (due first second : Expected) → is_quiet due ≡ true
+    → after judged.basis due token ≡ go true (first ∷ second ∷ []) → (stop : CheckStopAt)
     → HaltsAt judged (at + 1) first stop → HaltsAt judged from due stop
 next_two_halt judged from at token is due first second is_other goes (halt.BadLine place) later = (
   later.0,
@@ -153,10 +155,10 @@ next_two_halt judged from at token is due first second is_other goes halt.Short 
 next_two_halt judged from at token is due first second is_other goes halt.OutOfMemory later = tt
 
 -- of two things due the first is shown
-pub two_then : (judged : Judged) (from at to : ℕ) (token : Token)
-    → IsNextAt judged from at token → (due first second : Due) → is_quiet due ≡ true
+pub two_then : (judged : ReportView) (from at to : ℕ) (token : Token)
+    → IsNextAt judged from at token → (due first second : Expected) → is_quiet due ≡ true
     → after judged.basis due token ≡ go true (first ∷ second ∷ [])
-    → Goes judged (at + 1) first (Ok to) → (result : Result ℕ Halt)
+    → Goes judged (at + 1) first (Ok to) → (result : Result ℕ CheckStopAt)
     → Goes judged to second result → Goes judged from due result
 two_then judged from at to token is due first second is_other goes shown (Ok last) later = (
   later.0,
@@ -209,7 +211,7 @@ zone_of_path sheet question (literal ∷ zone) path =
 -- a leaf that does not prove what it says leaves something due all the same
 leaf_unproved : (basis : Basis) (kind : TreeKind) (question : Question)
     (zones : List (List Literal)) (tally : Tally)
-    → (more : List Due) × (behind_leaf basis kind question zones tally false ≡ go false more)
+    → (more : List Expected) × (after_leaf basis kind question zones tally false ≡ go false more)
 leaf_unproved basis kind question [] tally = ([], refl)
 leaf_unproved basis kind question (zone ∷ zones) tally =
     (nodes kind question zone zones tally ∷ [], refl)
@@ -219,13 +221,13 @@ pub reason_unproved : (basis : Basis) (kind : TreeKind) (question : Question) (z
     (zones : List (List Literal)) (tally : Tally) (reason : Reason) (fresh : Bool)
     → is_reason_for basis.sheet question reason ≡ true
     → has_reason basis.sheet basis.season question zone reason ≡ false
-    → (more : List Due) × (after_node basis kind question zone zones tally
+    → (more : List Expected) × (after_node basis kind question zone zones tally
     (node.Refuted reason fresh) ≡ go false more)
 reason_unproved basis kind question zone zones tally reason fresh fits fails =
     let unproved = leaf_unproved basis kind question zones (with_fresh fresh tally) in (
       unproved.0,
       if-go (is_reason_for basis.sheet question reason)
-          (behind_leaf basis kind question zones (with_fresh fresh tally)
+          (after_leaf basis kind question zones (with_fresh fresh tally)
           (has_reason basis.sheet basis.season question zone reason)) fits
-          ∙ ap (behind_leaf basis kind question zones (with_fresh fresh tally)) fails ∙ unproved.1,
+          ∙ ap (after_leaf basis kind question zones (with_fresh fresh tally)) fails ∙ unproved.1,
     )

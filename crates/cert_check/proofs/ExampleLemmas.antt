@@ -7,20 +7,21 @@ use Rattle.std.proofs.lemmas.List.{take_all, drop_all}
 use Rattle.league_core.specs.declared.sheet.Sheet.{Sheet}
 use Rattle.league_core.specs.declared.season.Score.{Score}
 use Rattle.league_core.specs.declared.question.Question.{Question}
-use Rattle.league_core.specs.Results.{Results, is_score}
-use Rattle.league_core.specs.Sheets.{IsWithinLimits}
-use Rattle.league_core.specs.Ranking.{are_lots}
-use Rattle.league_core.specs.Questions.{holds_at}
+use Rattle.league_core.specs.game.Results.{Results, is_score}
+use Rattle.league_core.specs.game.Sheets.{IsWithinLimits}
+use Rattle.league_core.specs.game.Ranking.{are_lots}
+use Rattle.league_core.specs.game.Questions.{holds_at}
 use Rattle.cert_text.specs.declared.proof_line.ProofLine.TheVariants as line
 use Rattle.cert_check.specs.declared.token.Token.{Token}
-use Rattle.cert_check.specs.declared.token.Token.TheVariants.{Passed, Row, Proof, Neither}
-use Rattle.cert_check.specs.declared.stop.Halt.{Halt}
-use Rattle.cert_check.specs.declared.stop.Halt.TheVariants as halt
+use Rattle.cert_check.specs.declared.token.Token.TheVariants.{Blank, Row, Proof, Unknown}
+use Rattle.cert_check.specs.declared.stop.CheckStopAt.{CheckStopAt}
+use Rattle.cert_check.specs.declared.stop.CheckStopAt.TheVariants as halt
 use Rattle.cert_check.specs.Tokens.{counts}
-use Rattle.cert_check.specs.Dues.{Basis, Due, lots, bad, go, after, is_ending, finish_with}
-use Rattle.cert_check.specs.Dues.{lots_if_drawn, scores_due}
-use Rattle.cert_check.specs.Calls.{Judged, ending_from, HaltsAt, Goes, IsNextAt, after_lots_if}
-use Rattle.cert_check.specs.Calls.{lots_of_token, example_due}
+use Rattle.cert_check.specs.ExpectedItems.{Basis, Expected, lots, bad, go, after, is_ending}
+use Rattle.cert_check.specs.ExpectedItems.{finish_with}
+use Rattle.cert_check.specs.ExpectedItems.{lots_if_drawn, scores_due}
+use Rattle.cert_check.specs.inside.Calls.{ReportView, ending_from, HaltsAt, Goes, IsNextAt}
+use Rattle.cert_check.specs.inside.Calls.{after_lots_if, lots_of_token, example_due}
 use Rattle.cert_check.proofs.CallLemmas.{next_ends, next_unproved, next_bad}
 
 -- a score of an unplayed match is one that a match may have
@@ -37,7 +38,7 @@ ending_is_score sheet ending limits is =
 pub after_lots-token : (basis : Basis) (question : Question) (ended : List (Option Score))
     (token : Token) → counts token ≡ true → after basis (lots question ended) token
     ≡ after_lots_if basis question ended (lots_of_token (length basis.sheet.clubs) token)
-after_lots-token basis question ended Passed counted = absurd (false≢true counted)
+after_lots-token basis question ended Blank counted = absurd (false≢true counted)
 after_lots-token basis question ended (Row fields) counted = refl
 after_lots-token basis question ended (Proof (line.Lots told)) counted =
     by_test (are_lots (length basis.sheet.clubs) told.list)
@@ -49,7 +50,7 @@ after_lots-token basis question ended (Proof (line.Lots told)) counted =
     by_test true = refl
     by_test false = refl
 after_lots-token basis question ended (Proof _) counted = refl
-after_lots-token basis question ended Neither counted = refl
+after_lots-token basis question ended Unknown counted = refl
 
 -- a finish with the season's deductions is the season with its scores
 pub same_finish : (season finish : Results) → finish.deductions ≡ season.deductions
@@ -58,7 +59,7 @@ same_finish season finish same =
     λ i. record { scores = finish.scores; deductions = sym same i }
 
 -- what lots leave due, where they are told
-told_lots : (judged : Judged) (question : Question) (finish : Results) (token : Token)
+told_lots : (judged : ReportView) (question : Question) (finish : Results) (token : Token)
     (found : Option (List ℕ)) (drawn : List ℕ) (holds : Bool) → counts token ≡ true
     → finish.deductions ≡ judged.basis.season.deductions
     → found ≡ lots_of_token (length judged.basis.sheet.clubs) token → found ≡ Some drawn
@@ -72,7 +73,7 @@ told_lots judged question finish token found drawn holds counted deductions is s
     ∙ ap (λ it. go it []) (sym says)
 
 -- lots with which the question holds
-pub lots_end : (judged : Judged) (from at : ℕ) (token : Token) → IsNextAt judged from at token
+pub lots_end : (judged : ReportView) (from at : ℕ) (token : Token) → IsNextAt judged from at token
     → (question : Question) (finish : Results) (found : Option (List ℕ)) (drawn : List ℕ)
     (holds : Bool) → finish.deductions ≡ judged.basis.season.deductions
     → found ≡ lots_of_token (length judged.basis.sheet.clubs) token → found ≡ Some drawn
@@ -84,7 +85,7 @@ lots_end judged from at token next question finish found drawn holds deductions 
     ∙ ap (λ it. go it []) so)
 
 -- lots with which it does not
-pub lots_fail : (judged : Judged) (from at : ℕ) (token : Token) → IsNextAt judged from at token
+pub lots_fail : (judged : ReportView) (from at : ℕ) (token : Token) → IsNextAt judged from at token
     → (question : Question) (finish : Results) (found : Option (List ℕ)) (drawn : List ℕ)
     (holds : Bool) → finish.deductions ≡ judged.basis.season.deductions
     → found ≡ lots_of_token (length judged.basis.sheet.clubs) token → found ≡ Some drawn
@@ -96,7 +97,8 @@ lots_fail judged from at token next question finish found drawn holds deductions
     ∙ ap (λ it. go it []) so)
 
 -- a line that tells no lots
-pub lots_missing : (judged : Judged) (from at : ℕ) (token : Token) → IsNextAt judged from at token
+pub lots_missing : (judged : ReportView) (from at : ℕ) (token : Token)
+    → IsNextAt judged from at token
     → (question : Question) (ended : List (Option Score)) (found : Option (List ℕ))
     → found ≡ lots_of_token (length judged.basis.sheet.clubs) token → found ≡ None
     → HaltsAt judged from (lots question ended) (halt.BadLine at)
@@ -113,8 +115,8 @@ example_due-end question fixture scores all =
     ∙ ap (λ ended. lots question ended) (take_all fixture scores all)
 
 -- the reading stops along the way
-pub halt_along : (judged : Judged) (from at : ℕ) (first second : Due) (stop : Halt)
-    → ((dues : List Due) (unsettled : ℕ) → ending_from judged from (first ∷ dues) unsettled
+pub halt_along : (judged : ReportView) (from at : ℕ) (first second : Expected) (stop : CheckStopAt)
+    → ((dues : List Expected) (unsettled : ℕ) → ending_from judged from (first ∷ dues) unsettled
     ≡ ending_from judged at (second ∷ dues) unsettled)
     → HaltsAt judged at second stop → HaltsAt judged from first stop
 halt_along judged from at first second (halt.BadLine place) way halts =
@@ -126,8 +128,9 @@ halt_along judged from at first second halt.Short way halts =
 halt_along judged from at first second halt.OutOfMemory way halts = tt
 
 -- what is due at the end of the way is read
-pub goes_along : (judged : Judged) (from at : ℕ) (first second : Due) (result : Result ℕ Halt)
-    → ((dues : List Due) (unsettled : ℕ) → ending_from judged from (first ∷ dues) unsettled
+pub goes_along : (judged : ReportView) (from at : ℕ) (first second : Expected)
+    (result : Result ℕ CheckStopAt)
+    → ((dues : List Expected) (unsettled : ℕ) → ending_from judged from (first ∷ dues) unsettled
     ≡ ending_from judged at (second ∷ dues) unsettled)
     → Goes judged at second result → Goes judged from first result
 goes_along judged from at first second (Ok to) way goes =

@@ -10,29 +10,29 @@ use Rattle.league_core.specs.declared.question.Claim.TheVariants.{Inside, Outsid
 use Rattle.league_core.specs.declared.question.Question.{Question}
 use Rattle.league_core.specs.declared.zone.Literal.{Literal}
 use Rattle.league_core.specs.declared.zone.Reason.TheVariants.{Count}
-use Rattle.league_core.specs.Ranking.{are_lots}
-use Rattle.league_core.specs.Questions.{holds_at, full_question}
-use Rattle.league_core.specs.Reasons.{has_reason}
-use Rattle.league_core.specs.Trees.{Tree, refuted_leaf}
-use Rattle.league_core.specs.LotsFor.{lots_for_claim}
+use Rattle.league_core.specs.game.Ranking.{are_lots}
+use Rattle.league_core.specs.game.Questions.{holds_at, full_question}
+use Rattle.league_core.specs.search.Reasons.{has_reason}
+use Rattle.league_core.specs.search.Trees.{Tree, refuted_leaf}
+use Rattle.league_core.specs.inside.LotsFor.{lots_for_claim}
 use Rattle.league_core.proofs.LotsLemmas.{lots_for_claim-are_lots}
 use Rattle.league_core.proofs.FinishLemmas.{may_all_end-ended, ended_of}
 use Rattle.cert_text.specs.declared.proof_line.ProofLine.TheVariants as line
 use Rattle.cert_text.specs.ExampleLines.{score_lines, lots_line}
 use Rattle.cert_check.specs.declared.token.Token.{Token}
 use Rattle.cert_check.specs.declared.token.Token.TheVariants.{Row, Proof}
-use Rattle.cert_check.specs.declared.dues.RowWord.TheVariants.{Clinched}
-use Rattle.cert_check.specs.declared.dues.TreeKind.{TreeKind}
-use Rattle.cert_check.specs.declared.dues.TreeKind.TheVariants.{Refutation, Spent}
-use Rattle.cert_check.specs.declared.dues.Tally.{Tally}
-use Rattle.cert_check.specs.Dues.{Basis, Due, ask_row, verdict_row, tree_head, spent_head}
-use Rattle.cert_check.specs.Dues.{finish_head, both_parts, one_part, nodes, score, lots}
-use Rattle.cert_check.specs.Dues.{ask_fields, verdict_fields, name_of_club, finish_with}
-use Rattle.cert_check.specs.Dues.{is_tally_whole}
-use Rattle.cert_check.specs.Grammar.{IsPartFor, AreParts, TreesFit, AreTrees}
-use Rattle.cert_check.specs.Grammar.{lines_of_trees, no_tally}
-use Rattle.cert_check.specs.Grammar.{IsExampleFrom, IsRefutationPart, IsSpentPart}
-use Rattle.cert_check.specs.Grammar.{IsExamplePart, tally_behind}
+use Rattle.cert_check.specs.declared.expected.RowWord.TheVariants.{Clinched}
+use Rattle.cert_check.specs.declared.expected.TreeKind.{TreeKind}
+use Rattle.cert_check.specs.declared.expected.TreeKind.TheVariants.{Refutation, Spent}
+use Rattle.cert_check.specs.declared.expected.Tally.{Tally}
+use Rattle.cert_check.specs.ExpectedItems.{Basis, Expected, ask_row, verdict_row, tree_head}
+use Rattle.cert_check.specs.ExpectedItems.{spent_head}
+use Rattle.cert_check.specs.ExpectedItems.{finish_head, both_parts, one_part, nodes, score, lots}
+use Rattle.cert_check.specs.ExpectedItems.{ask_fields, verdict_fields, name_of_club, finish_with}
+use Rattle.cert_check.specs.ExpectedItems.{is_tally_whole}
+use Rattle.cert_check.specs.inside.Grammar.{IsPartFor, AreParts, TreesFit, AreTrees, lines_of_trees}
+use Rattle.cert_check.specs.inside.Grammar.{no_tally, IsExampleFrom, IsRefutationPart, IsSpentPart}
+use Rattle.cert_check.specs.inside.Grammar.{IsExamplePart, tally_after}
 
 -- where proofs are not asked for, nothing has to hold
 asked_not : (P : Type 0) → OnTrue false P
@@ -65,7 +65,7 @@ some_nodes basis kind question zones tally = (
     leaves_for zones,
     leaves_fit basis kind question zones,
     asked_not (IsTrue (is_tally_whole basis.sheet.budget kind
-        (tally_behind tally (leaves_for zones)))),
+        (tally_after tally (leaves_for zones)))),
     refl,
   ),
 )
@@ -119,7 +119,8 @@ some_example basis question =
     (Proof (line.Finish question.claim) ∷ rest.0, (rest.0, rest.1, refl))
 
 -- some part for anything that is due
-some_part : (basis : Basis) (due : Due) → (tokens : List Token) × IsPartFor false basis due tokens
+some_part : (basis : Basis) (due : Expected) → (tokens : List Token)
+    × IsPartFor false basis due tokens
 some_part basis ask_row = (Row (ask_fields basis.epoch) ∷ [], refl)
 some_part basis (verdict_row number club) =
     let tree = some_refutation basis (full_question club number Outside) in (
@@ -150,7 +151,7 @@ some_part basis (lots question ended) =
     )
 
 -- parts for everything that is due
-pub some_parts : (basis : Basis) (dues : List Due)
+pub some_parts : (basis : Basis) (dues : List Expected)
     → (tokens : List Token) × AreParts false basis dues tokens
 some_parts basis [] = ([], refl)
 some_parts basis (due ∷ dues) =

@@ -11,7 +11,7 @@ use Rattle.league_core.specs.declared.memory.OutOfMemory.{OutOfMemory}
 use Rattle.league_core.specs.declared.zone.Literal.{Literal}
 use Rattle.league_core.specs.declared.zone.Test.{Test}
 use Rattle.cert_check.specs.declared.token.Token.{Token}
-use Rattle.cert_check.specs.declared.token.Token.TheVariants.{Neither}
+use Rattle.cert_check.specs.declared.token.Token.TheVariants.{Unknown}
 use Rattle.cert_check.specs.Tokens.{token_of}
 use Rattle.cert_check.specs.LineLists.{NumberedLine, tokens_of, text_at}
 
@@ -36,9 +36,9 @@ token_there lines at (Ok token) within read =
     let shown = λ (it : NumberedLine). token_of it.text in
     let there : at < length lines = omega (arith, within, length-map lines shown) in
     let none : NumberedLine = record { number = 0; text = [] } in
-    drop_more (tokens_of lines) at Neither within
+    drop_more (tokens_of lines) at Unknown within
     ∙ ap (λ (it : Token). it ∷ drop (at + 1) (tokens_of lines))
-    (get_or-map shown lines at none Neither there
+    (get_or-map shown lines at none Unknown there
     ∙ ap token_of (sym (get_or-map (λ (it : NumberedLine). it.text) lines at none [] there))
     ∙ sym read)
 

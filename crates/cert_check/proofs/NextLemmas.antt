@@ -7,20 +7,20 @@ use Rattle.std.specs.Bool.{OnTrue}
 use Rattle.std.proofs.lemmas.Bool.{OnTrue_at, OnTrue_from}
 use Rattle.cert_check.specs.declared.token.Token.{Token}
 use Rattle.cert_check.specs.Tokens.{counts}
-use Rattle.cert_check.specs.Dues.{Basis, Due, Next, bad, go, after}
-use Rattle.cert_check.specs.Grammar.{IsPartFor, AreParts}
+use Rattle.cert_check.specs.ExpectedItems.{Basis, Expected, Next, bad, go, after}
+use Rattle.cert_check.specs.inside.Grammar.{IsPartFor, AreParts}
 
 -- two lines that go on so go on alike
-pub go-same : (holds other : Bool) (more others : List Due) → go holds more ≡ go other others
+pub go-same : (holds other : Bool) (more others : List Expected) → go holds more ≡ go other others
     → (holds ≡ other) × (more ≡ others)
 go-same holds other more others same = (cc, cc)
 
 -- a line that may not come does not go on
-pub bad-go : (holds : Bool) (more : List Due) → bad ≡ go holds more → ⊥
+pub bad-go : (holds : Bool) (more : List Expected) → bad ≡ go holds more → ⊥
 bad-go holds more same = cc
 
 -- where a line goes on under a test, the test was true
-pub go-if : (test : Bool) (next : Next) (holds : Bool) (more : List Due)
+pub go-if : (test : Bool) (next : Next) (holds : Bool) (more : List Expected)
     → (if test then next else bad) ≡ go holds more → (test ≡ true) × (next ≡ go holds more)
 go-if true next holds more same = (refl, same)
 go-if false next holds more same = absurd (bad-go holds more same)
@@ -30,7 +30,7 @@ pub if-go : (test : Bool) (next : Next) → test ≡ true → (if test then next
 if-go test next holds = rw holds refl
 
 -- one thing due is one part
-pub only_part : (proved : Bool) (basis : Basis) (due : Due) (tokens : List Token)
+pub only_part : (proved : Bool) (basis : Basis) (due : Expected) (tokens : List Token)
     → AreParts proved basis (due ∷ []) tokens → IsPartFor proved basis due tokens
 only_part proved basis due tokens parts =
     let all : tokens ≡ parts.0 =
@@ -38,12 +38,13 @@ only_part proved basis due tokens parts =
     let P : List Token → Type 0 = λ it. IsPartFor proved basis due it in subst P (sym all) parts.2
 
 -- one part is one thing due
-pub as_only_part : (proved : Bool) (basis : Basis) (due : Due) (tokens : List Token)
+pub as_only_part : (proved : Bool) (basis : Basis) (due : Expected) (tokens : List Token)
     → IsPartFor proved basis due tokens → AreParts proved basis (due ∷ []) tokens
 as_only_part proved basis due tokens part = (tokens, [], part, refl, sym (append-nil tokens))
 
 -- parts for two lists of things due, one after another
-pub parts-join : (proved : Bool) (basis : Basis) (more dues : List Due) (front back : List Token)
+pub parts-join : (proved : Bool) (basis : Basis) (more dues : List Expected)
+    (front back : List Token)
     → AreParts proved basis more front → AreParts proved basis dues back
     → AreParts proved basis (more ++ dues) (front ++ back)
 parts-join proved basis [] dues front back ends parts =
@@ -58,7 +59,7 @@ parts-join proved basis (due ∷ more) dues front back ends parts = (
 )
 
 -- lines that are parts for two lists fall into two
-pub parts-split : (proved : Bool) (basis : Basis) (more dues : List Due) (tokens : List Token)
+pub parts-split : (proved : Bool) (basis : Basis) (more dues : List Expected) (tokens : List Token)
     → AreParts proved basis (more ++ dues) tokens
     → (front : List Token) × (back : List Token) × AreParts proved basis more front
     × AreParts proved basis dues back × (tokens ≡ front ++ back)
@@ -73,9 +74,9 @@ parts-split proved basis (due ∷ more) dues tokens parts =
     )
 
 -- the first line of a part, what it leaves due, and that the other lines are that
-abbrev pub Parted : Bool → Basis → Due → List Token → Type 0
+abbrev pub Parted : Bool → Basis → Expected → List Token → Type 0
 Parted proved basis due tokens =
-    (token : Token) × (rest : List Token) × (holds : Bool) × (more : List Due)
+    (token : Token) × (rest : List Token) × (holds : Bool) × (more : List Expected)
     × (tokens ≡ token ∷ rest) × (after basis due token ≡ go holds more)
     × (proved ≡ true → holds ≡ true) × (counts token ≡ true) × AreParts proved basis more rest
 

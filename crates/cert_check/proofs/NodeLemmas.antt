@@ -1,4 +1,4 @@
--- Trees line by line: a node with what is due behind it is a tree, and the first line of a tree
+-- Trees line by line: a node with what is due after it is a tree, and the first line of a tree
 -- leaves due what its other lines are.
 use Rattle.std.proofs.Common.{◌≡◌, ℕ, Bool, true, false, ◌&&◌, ◌||◌, List, [], ◌∷◌, ◌++◌, Option}
 use Rattle.std.proofs.Common.{Some, None, refl, sym, ap, ◌∙◌, subst, append_assoc, arith}
@@ -11,24 +11,25 @@ use Rattle.league_core.specs.declared.question.Question.{Question}
 use Rattle.league_core.specs.declared.zone.Literal.{Literal}
 use Rattle.league_core.specs.declared.tree.TreeNode.{TreeNode}
 use Rattle.league_core.specs.declared.tree.TreeNode.TheVariants as node
-use Rattle.league_core.specs.Zones.{with_test}
-use Rattle.league_core.specs.Reasons.{has_reason}
-use Rattle.league_core.specs.Trees.{Tree, open_leaf, lent_leaf, refuted_leaf, branch, preorder}
-use Rattle.league_core.specs.Trees.{has_open}
+use Rattle.league_core.specs.search.Zones.{with_test}
+use Rattle.league_core.specs.search.Reasons.{has_reason}
+use Rattle.league_core.specs.search.Trees.{Tree, open_leaf, lent_leaf, refuted_leaf, branch}
+use Rattle.league_core.specs.search.Trees.{preorder, has_open}
 use Rattle.cert_text.specs.declared.proof_line.ProofLine.{ProofLine}
 use Rattle.cert_text.specs.declared.proof_line.ProofLine.TheVariants as line
 use Rattle.cert_check.specs.declared.token.Token.{Token}
 use Rattle.cert_check.specs.declared.token.Token.TheVariants.{Proof}
-use Rattle.cert_check.specs.declared.dues.TreeKind.{TreeKind}
-use Rattle.cert_check.specs.declared.dues.TreeKind.TheVariants.{Refutation, Spent}
-use Rattle.cert_check.specs.declared.dues.Tally.{Tally}
-use Rattle.cert_check.specs.Dues.{Basis, Due, nodes, go, node_in, with_fresh, with_open}
-use Rattle.cert_check.specs.Dues.{is_tally_whole, behind_leaf, after_node}
-use Rattle.cert_check.specs.Dues.{after_node_if, is_reason_for}
+use Rattle.cert_check.specs.declared.expected.TreeKind.{TreeKind}
+use Rattle.cert_check.specs.declared.expected.TreeKind.TheVariants.{Refutation, Spent}
+use Rattle.cert_check.specs.declared.expected.Tally.{Tally}
+use Rattle.cert_check.specs.ExpectedItems.{Basis, Expected, nodes, go, node_in, with_fresh}
+use Rattle.cert_check.specs.ExpectedItems.{with_open}
+use Rattle.cert_check.specs.ExpectedItems.{is_tally_whole, after_leaf, after_node}
+use Rattle.cert_check.specs.ExpectedItems.{after_node_if, is_reason_for}
 use Rattle.cert_text.specs.TreeLines.{is_test_for}
-use Rattle.cert_check.specs.Grammar.{NodeFits, TreesFit, line_of_node}
-use Rattle.cert_check.specs.Grammar.{lines_of_tree, lines_of_trees}
-use Rattle.cert_check.specs.Grammar.{with_tree, tally_behind, AreTrees, AreParts}
+use Rattle.cert_check.specs.inside.Grammar.{NodeFits, TreesFit, line_of_node, lines_of_tree}
+use Rattle.cert_check.specs.inside.Grammar.{lines_of_trees, with_tree, tally_after, AreTrees}
+use Rattle.cert_check.specs.inside.Grammar.{AreParts}
 use Rattle.cert_check.proofs.NextLemmas.{go-same, bad-go, go-if, if-go, only_part, as_only_part}
 use Rattle.cert_check.proofs.NextLemmas.{Parted, OnTrue-weaker}
 
@@ -41,7 +42,7 @@ or_again : (first second third : Bool) → ((first || second) || third) ≡ (fir
 or_again true second third = refl
 or_again false second third = refl
 
--- the tally behind a branch is that behind its halves
+-- the tally after a branch is that after its halves
 with_tree-branch : (tally : Tally) (fresh : Bool) (yes_half no_half : Tree) (test : _)
     → with_tree (with_tree (with_fresh fresh tally) yes_half) no_half
     ≡ with_tree tally (branch test fresh yes_half no_half)
@@ -52,7 +53,7 @@ with_tree-branch tally false yes_half no_half test =
     same_tally _ _ (omega arith)
     (or_again tally.some_open (has_open yes_half) (has_open no_half))
 
--- that behind a refuted leaf counts it where it is new
+-- that after a refuted leaf counts it where it is new
 with_tree-refuted : (tally : Tally) (fresh : Bool) (reason : _)
     → with_tree tally (refuted_leaf reason fresh) ≡ with_fresh fresh tally
 with_tree-refuted tally true reason =
@@ -60,13 +61,13 @@ with_tree-refuted tally true reason =
 with_tree-refuted tally false reason =
     same_tally _ _ (omega arith) (or-false tally.some_open)
 
--- that behind an open leaf has one
+-- that after an open leaf has one
 with_tree-open : (tally : Tally) → with_tree tally open_leaf ≡ with_open tally
 with_tree-open tally = same_tally _ _ (omega arith) (or-true tally.some_open)
 
--- ---- a line with what is due behind it
+-- ---- a line with what is due after it
 
--- a test's line in front of the lines of its halves
+-- a test's line before the lines of its halves
 branch_lines : (kind : TreeKind) (test : _) (fresh : Bool) (yes_half no_half : Tree)
     (trees : List Tree)
     → lines_of_trees kind (branch test fresh yes_half no_half ∷ trees)
@@ -83,7 +84,7 @@ branch_lines kind test fresh yes_half no_half trees =
 -- a split whose halves follow, and what else was due
 join_split : (proved : Bool) (basis : Basis) (kind : TreeKind) (question : Question)
     (zone : List Literal) (zones : List (List Literal)) (tally : Tally) (test : _) (fresh : Bool)
-    (holds : Bool) (more : List Due) (tokens : List Token)
+    (holds : Bool) (more : List Expected) (tokens : List Token)
     → after_node basis kind question zone zones tally (node.Split test fresh) ≡ go holds more
     → AreParts proved basis more tokens
     → AreTrees proved basis kind question (zone ∷ zones) tally
@@ -91,7 +92,7 @@ join_split : (proved : Bool) (basis : Basis) (kind : TreeKind) (question : Quest
 join_split proved basis kind question zone zones tally test fresh holds more tokens goes parts =
     let fits = go-if (is_test_for basis.sheet question test) _ holds more goes in
     let dues = (go-same true holds _ more fits.1).1 in
-    let P : List Due → Type 0 = λ it. AreParts proved basis it tokens in
+    let P : List Expected → Type 0 = λ it. AreParts proved basis it tokens in
     let halves = only_part proved basis
     (nodes kind question (with_test zone test true) (with_test zone test false ∷ zones)
     (with_fresh fresh tally)) tokens (subst P (sym dues) parts) in
@@ -101,7 +102,7 @@ join_split proved basis kind question zone zones tally test fresh holds more tok
         → TreesFit proved basis kind question
         (with_test zone test true ∷ with_test zone test false ∷ zones) trees
         → OnTrue proved (IsTrue (is_tally_whole basis.sheet.budget kind
-        (tally_behind (with_fresh fresh tally) trees)))
+        (tally_after (with_fresh fresh tally) trees)))
         → tokens ≡ lines_of_trees kind trees
         → AreTrees proved basis kind question (zone ∷ zones) tally
         (Proof (line_of_node kind (node.Split test fresh)) ∷ tokens)
@@ -109,7 +110,7 @@ join_split proved basis kind question zone zones tally test fresh holds more tok
     joined (yes_half ∷ []) fits trees_fit whole lines = absurd trees_fit.1
     joined (yes_half ∷ no_half ∷ trees) fits trees_fit whole lines =
         let T : Tally → Type 0 = λ it. OnTrue proved
-        (IsTrue (is_tally_whole basis.sheet.budget kind (tally_behind it trees))) in (
+        (IsTrue (is_tally_whole basis.sheet.budget kind (tally_after it trees))) in (
           branch test fresh yes_half no_half ∷ trees,
           ((fits, trees_fit.0, trees_fit.1.0), trees_fit.1.1),
           subst T (with_tree-branch tally fresh yes_half no_half test) whole,
@@ -120,17 +121,17 @@ join_split proved basis kind question zone zones tally test fresh holds more tok
 -- a leaf, and what else was due
 join_leaf : (proved : Bool) (basis : Basis) (kind : TreeKind) (question : Question)
     (zone : List Literal) (zones : List (List Literal)) (tally behind : Tally) (leaf : Tree)
-    (shown : ProofLine) (says holds : Bool) (more : List Due) (tokens : List Token)
+    (shown : ProofLine) (says holds : Bool) (more : List Expected) (tokens : List Token)
     → ((proved ≡ true → says ≡ true)
     → TreesFit proved basis kind question (zone ∷ []) (leaf ∷ []))
     → with_tree tally leaf ≡ behind → lines_of_tree kind leaf ≡ Proof shown ∷ []
-    → behind_leaf basis kind question zones behind says ≡ go holds more
+    → after_leaf basis kind question zones behind says ≡ go holds more
     → (proved ≡ true → holds ≡ true) → AreParts proved basis more tokens
     → AreTrees proved basis kind question (zone ∷ zones) tally (Proof shown ∷ tokens)
 join_leaf proved basis kind question zone [] tally behind leaf shown says holds more tokens fits
     counted lines goes so parts =
     let same = go-same (says && is_tally_whole basis.sheet.budget kind behind) holds [] more goes in
-    let P : List Due → Type 0 = λ it. AreParts proved basis it tokens in
+    let P : List Expected → Type 0 = λ it. AreParts proved basis it tokens in
     let ends : tokens ≡ [] = subst P (sym same.1) parts in
     let both : proved ≡ true → (says ≡ true)
     × (is_tally_whole basis.sheet.budget kind behind ≡ true) =
@@ -144,11 +145,11 @@ join_leaf proved basis kind question zone [] tally behind leaf shown says holds 
 join_leaf proved basis kind question zone (next ∷ zones) tally behind leaf shown says holds more
     tokens fits counted lines goes so parts =
     let same = go-same says holds (nodes kind question next zones behind ∷ []) more goes in
-    let P : List Due → Type 0 = λ it. AreParts proved basis it tokens in
+    let P : List Expected → Type 0 = λ it. AreParts proved basis it tokens in
     let rest = only_part proved basis (nodes kind question next zones behind) tokens
     (subst P (sym same.1) parts) in
     let T : Tally → Type 0 = λ it. OnTrue proved
-    (IsTrue (is_tally_whole basis.sheet.budget kind (tally_behind it rest.0))) in (
+    (IsTrue (is_tally_whole basis.sheet.budget kind (tally_after it rest.0))) in (
       leaf ∷ rest.0,
       ((fits (λ it. same.0 ∙ so it)).0, rest.1),
       subst T (sym counted) rest.2,
@@ -178,10 +179,10 @@ open_fits proved basis Refutation question zone (line.Leaf reason) is = absurd c
 open_fits proved basis Refutation question zone _ is = absurd cc
 open_fits proved basis Spent question zone shown is = tt
 
--- a line of a tree, with what is due behind it, is the tree
+-- a line of a tree, with what is due after it, is the tree
 pub join_nodes : (proved : Bool) (basis : Basis) (kind : TreeKind) (question : Question)
     (zone : List Literal) (zones : List (List Literal)) (tally : Tally) (shown : ProofLine)
-    (holds : Bool) (more : List Due) (tokens : List Token)
+    (holds : Bool) (more : List Expected) (tokens : List Token)
     → after_node_if basis kind question zone zones tally (node_in kind shown) ≡ go holds more
     → (proved ≡ true → holds ≡ true) → AreParts proved basis more tokens
     → AreTrees proved basis kind question (zone ∷ zones) tally (Proof shown ∷ tokens)
@@ -207,7 +208,7 @@ join_nodes proved basis kind question zone zones tally shown holds more tokens g
         parts)
     by_node (Some (node.Refuted reason fresh)) is goes =
         let says = has_reason basis.sheet basis.season question zone reason in
-        let fits = go-if (is_reason_for basis.sheet question reason) (behind_leaf basis kind
+        let fits = go-if (is_reason_for basis.sheet question reason) (after_leaf basis kind
         question zones (with_fresh fresh tally) says) holds more goes in
         written (node.Refuted reason fresh) is
         (join_leaf proved basis kind question zone zones tally (with_fresh fresh tally)
@@ -249,8 +250,8 @@ line_refuted Spent reason false = refl
 
 -- a tree is as whole without the marks of a refutation
 whole_kept : (budget : ℕ) (kind : TreeKind) (fresh : Bool) (tally : Tally) (trees : List Tree)
-    → is_tally_whole budget kind (tally_behind (with_fresh fresh tally) trees) ≡ true
-    → is_tally_whole budget kind (tally_behind (with_fresh (kept kind fresh) tally) trees) ≡ true
+    → is_tally_whole budget kind (tally_after (with_fresh fresh tally) trees) ≡ true
+    → is_tally_whole budget kind (tally_after (with_fresh (kept kind fresh) tally) trees) ≡ true
 unfolding kept
 whole_kept budget Refutation fresh tally trees whole = refl
 whole_kept budget Spent fresh tally trees whole = whole
@@ -259,9 +260,9 @@ whole_kept budget Spent fresh tally trees whole = whole
 leaf_goes : (proved : Bool) (basis : Basis) (kind : TreeKind) (question : Question)
     (zones : List (List Literal)) (behind : Tally) (says : Bool) (trees : List Tree)
     → (proved ≡ true → says ≡ true) → TreesFit proved basis kind question zones trees
-    → OnTrue proved (IsTrue (is_tally_whole basis.sheet.budget kind (tally_behind behind trees)))
-    → (holds : Bool) × (more : List Due)
-    × (behind_leaf basis kind question zones behind says ≡ go holds more)
+    → OnTrue proved (IsTrue (is_tally_whole basis.sheet.budget kind (tally_after behind trees)))
+    → (holds : Bool) × (more : List Expected)
+    × (after_leaf basis kind question zones behind says ≡ go holds more)
     × (proved ≡ true → holds ≡ true) × AreParts proved basis more (lines_of_trees kind trees)
 leaf_goes proved basis kind question [] behind says [] so fits whole = (
   says && is_tally_whole basis.sheet.budget kind behind,
@@ -296,7 +297,7 @@ pub part_nodes : (proved : Bool) (basis : Basis) (kind : TreeKind) (question : Q
 part_nodes proved basis kind question zone zones tally tokens are =
     by_tree are.0 are.1 are.2 are.3
   where
-    first_line : (it : TreeNode) (holds : Bool) (more : List Due) (rest : List Token)
+    first_line : (it : TreeNode) (holds : Bool) (more : List Expected) (rest : List Token)
         → tokens ≡ Proof (line_of_node kind it) ∷ rest
         → after_node_if basis kind question zone zones tally (node_in kind (line_of_node kind it))
         ≡ go holds more
@@ -306,7 +307,7 @@ part_nodes proved basis kind question zone zones tally tokens are =
         (Proof (line_of_node kind it), rest, holds, more, lines, goes, so, refl, parts)
 
     by_tree : (trees : List Tree) → TreesFit proved basis kind question (zone ∷ zones) trees
-        → OnTrue proved (IsTrue (is_tally_whole basis.sheet.budget kind (tally_behind tally trees)))
+        → OnTrue proved (IsTrue (is_tally_whole basis.sheet.budget kind (tally_after tally trees)))
         → tokens ≡ lines_of_trees kind trees
         → Parted proved basis (nodes kind question zone zones tally) tokens
     by_tree [] fits whole lines = absurd fits
@@ -316,7 +317,7 @@ part_nodes proved basis kind question zone zones tally tokens are =
         (with_test zone test false ∷ zones) behind in
         let halves = yes_half ∷ no_half ∷ trees in
         let T : Tally → Type 0 = λ it. OnTrue proved
-        (IsTrue (is_tally_whole basis.sheet.budget kind (tally_behind it trees))) in
+        (IsTrue (is_tally_whole basis.sheet.budget kind (tally_after it trees))) in
         let moved = subst T (sym (with_tree-branch tally fresh yes_half no_half test)) whole in
         first_line (node.Split test fresh) true (due ∷ []) (lines_of_trees kind halves)
         (lines ∙ branch_lines kind test fresh yes_half no_half trees)
@@ -327,8 +328,8 @@ part_nodes proved basis kind question zone zones tally tokens are =
           (fits.0.1, (fits.0.2, fits.1)),
           OnTrue-weaker proved
               (IsTrue (is_tally_whole basis.sheet.budget kind
-              (tally_behind (with_fresh fresh tally) halves)))
-              (IsTrue (is_tally_whole basis.sheet.budget kind (tally_behind behind halves)))
+              (tally_after (with_fresh fresh tally) halves)))
+              (IsTrue (is_tally_whole basis.sheet.budget kind (tally_after behind halves)))
               (whole_kept basis.sheet.budget kind fresh tally halves) moved,
           refl,
         ))
@@ -336,11 +337,11 @@ part_nodes proved basis kind question zone zones tally tokens are =
         let says = has_reason basis.sheet basis.season question zone reason in
         let behind = with_fresh (kept kind fresh) tally in
         let T : Tally → Type 0 = λ it. OnTrue proved
-        (IsTrue (is_tally_whole basis.sheet.budget kind (tally_behind it trees))) in
+        (IsTrue (is_tally_whole basis.sheet.budget kind (tally_after it trees))) in
         let moved = OnTrue-weaker proved
         (IsTrue (is_tally_whole basis.sheet.budget kind
-        (tally_behind (with_fresh fresh tally) trees)))
-        (IsTrue (is_tally_whole basis.sheet.budget kind (tally_behind behind trees)))
+        (tally_after (with_fresh fresh tally) trees)))
+        (IsTrue (is_tally_whole basis.sheet.budget kind (tally_after behind trees)))
         (whole_kept basis.sheet.budget kind fresh tally trees)
         (subst T (with_tree-refuted tally fresh reason) whole) in
         let goes = leaf_goes proved basis kind question zones behind says trees
@@ -348,10 +349,10 @@ part_nodes proved basis kind question zone zones tally tokens are =
         first_line (node.Refuted reason fresh) goes.0 goes.1 (lines_of_trees kind trees) lines
         (ap (after_node_if basis kind question zone zones tally) (line_refuted kind reason fresh)
         ∙ if-go (is_reason_for basis.sheet question reason)
-        (behind_leaf basis kind question zones behind says) fits.0.0 ∙ goes.2) goes.3 goes.4
+        (after_leaf basis kind question zones behind says) fits.0.0 ∙ goes.2) goes.3 goes.4
     by_tree (open_leaf ∷ trees) fits whole lines =
         let T : Tally → Type 0 = λ it. OnTrue proved
-        (IsTrue (is_tally_whole basis.sheet.budget kind (tally_behind it trees))) in
+        (IsTrue (is_tally_whole basis.sheet.budget kind (tally_after it trees))) in
         let goes = leaf_goes proved basis kind question zones (with_open tally) true trees
         (λ _. refl) fits.1 (subst T (with_tree-open tally) whole) in
         first_line node.Open goes.0 goes.1 (lines_of_trees kind trees) lines

@@ -1,4 +1,4 @@
--- Any line that may come: with what is due behind it, it is a part, and the first line of a part
+-- Any line that may come: with what is due after it, it is a part, and the first line of a part
 -- leaves due what its other lines are.
 use Rattle.std.proofs.Common.{◌≡◌, ℕ, Bool, true, false, List, [], ◌∷◌, ◌++◌, Option, Some, None}
 use Rattle.std.proofs.Common.{refl, sym, ap, ◌∙◌, subst, inl, inr}
@@ -7,26 +7,31 @@ use Rattle.std.proofs.lemmas.Bool.{false≢true}
 use Rattle.league_core.specs.declared.question.Claim.{Claim}
 use Rattle.league_core.specs.declared.question.Claim.TheVariants.{Inside, Outside}
 use Rattle.league_core.specs.declared.question.Question.{Question}
-use Rattle.league_core.specs.Questions.{full_question}
+use Rattle.league_core.specs.game.Questions.{full_question}
 use Rattle.cert_text.specs.declared.proof_line.ProofLine.{ProofLine}
 use Rattle.cert_text.specs.declared.proof_line.ProofLine.TheVariants as line
 use Rattle.cert_check.specs.declared.token.Token.{Token}
-use Rattle.cert_check.specs.declared.token.Token.TheVariants.{Passed, Row, Proof, Neither}
-use Rattle.cert_check.specs.declared.dues.RowWord.{RowWord}
-use Rattle.cert_check.specs.declared.dues.RowWord.TheVariants.{Clinched, Lost, Possible, Unsettled}
-use Rattle.cert_check.specs.declared.dues.Head.{Head}
-use Rattle.cert_check.specs.declared.dues.Head.TheVariants.{RefutedTree, SpentTree, Example}
-use Rattle.cert_check.specs.declared.dues.TreeKind.TheVariants.{Refutation, Spent}
+use Rattle.cert_check.specs.declared.token.Token.TheVariants.{Blank, Row, Proof, Unknown}
+use Rattle.cert_check.specs.declared.expected.RowWord.{RowWord}
+use Rattle.cert_check.specs.declared.expected.RowWord.TheVariants.{Clinched, Lost, Possible}
+use Rattle.cert_check.specs.declared.expected.RowWord.TheVariants.{Unsettled}
+use Rattle.cert_check.specs.declared.expected.Head.{Head}
+use Rattle.cert_check.specs.declared.expected.Head.TheVariants.{RefutedTree, SpentTree, Example}
+use Rattle.cert_check.specs.declared.expected.TreeKind.TheVariants.{Refutation, Spent}
 use Rattle.cert_check.specs.Tokens.{counts}
-use Rattle.cert_check.specs.Dues.{Basis, Due, ask_row, verdict_row, tree_head, spent_head}
-use Rattle.cert_check.specs.Dues.{finish_head, both_parts, one_part, nodes, score, lots, bad, go}
-use Rattle.cert_check.specs.Dues.{is_ask_row, ask_fields, verdict_fields, name_of_club}
-use Rattle.cert_check.specs.Dues.{word_in_row, promised, same_claim, whole_tree, whole_example}
-use Rattle.cert_check.specs.Dues.{after_tree_head, after_spent_head, after_finish_head}
-use Rattle.cert_check.specs.Dues.{after_one_part, after_both_parts, head_in, if_of_claim, after}
-use Rattle.cert_check.specs.Grammar.{IsPartFor, AreParts, IsRefutationPart}
-use Rattle.cert_check.specs.Grammar.{IsSpentPart, IsExamplePart, IsOnePart, AreBothParts}
-use Rattle.cert_check.specs.Grammar.{IsBehind, IsItemLines}
+use Rattle.cert_check.specs.ExpectedItems.{Basis, Expected, ask_row, verdict_row, tree_head}
+use Rattle.cert_check.specs.ExpectedItems.{spent_head}
+use Rattle.cert_check.specs.ExpectedItems.{finish_head, both_parts, one_part, nodes, score, lots}
+use Rattle.cert_check.specs.ExpectedItems.{bad, go}
+use Rattle.cert_check.specs.ExpectedItems.{is_ask_row, ask_fields, verdict_fields, name_of_club}
+use Rattle.cert_check.specs.ExpectedItems.{word_in_row, promised, same_claim, whole_tree}
+use Rattle.cert_check.specs.ExpectedItems.{whole_example}
+use Rattle.cert_check.specs.ExpectedItems.{after_tree_head, after_spent_head, after_finish_head}
+use Rattle.cert_check.specs.ExpectedItems.{after_one_part, after_both_parts, head_in, if_of_claim}
+use Rattle.cert_check.specs.ExpectedItems.{after}
+use Rattle.cert_check.specs.inside.Grammar.{IsPartFor, AreParts, IsRefutationPart, IsSpentPart}
+use Rattle.cert_check.specs.inside.Grammar.{IsExamplePart, IsOnePart, AreBothParts, IsAfterReport}
+use Rattle.cert_check.specs.inside.Grammar.{IsItemLines}
 use Rattle.cert_check.proofs.NextLemmas.{go-same, bad-go, go-if, if-go, only_part, as_only_part}
 use Rattle.cert_check.proofs.NextLemmas.{Parted}
 use Rattle.cert_check.proofs.RowLemmas.{ask_row-says, ask_row-of}
@@ -48,7 +53,7 @@ same_claim-itself Inside = refl
 same_claim-itself Outside = refl
 
 -- two parts are two things due
-as_two_parts : (proved : Bool) (basis : Basis) (due second : Due) (front back : List Token)
+as_two_parts : (proved : Bool) (basis : Basis) (due second : Expected) (front back : List Token)
     → IsPartFor proved basis due front → IsPartFor proved basis second back
     → AreParts proved basis (due ∷ second ∷ []) (front ++ back)
 as_two_parts proved basis due second front back part other =
@@ -94,17 +99,18 @@ head_of_line claim SpentTree =
     ap (λ it. if it then Some SpentTree else None) (same_claim-itself claim)
 head_of_line claim Example = ap (λ it. if it then Some Example else None) (same_claim-itself claim)
 
--- ---- a head with what is due behind it
+-- ---- a head with what is due after it
 
 -- parts for what a line leaves due
-those : (proved : Bool) (basis : Basis) (dues more : List Due) (holds : Bool) (tokens : List Token)
+those : (proved : Bool) (basis : Basis) (dues more : List Expected) (holds : Bool)
+    (tokens : List Token)
     → go true dues ≡ go holds more → AreParts proved basis more tokens
     → AreParts proved basis dues tokens
 those proved basis dues more holds tokens goes parts =
-    let P : List Due → Type 0 = λ it. AreParts proved basis it tokens in
+    let P : List Expected → Type 0 = λ it. AreParts proved basis it tokens in
     subst P (sym (go-same true holds dues more goes).1) parts
 
--- a refutation behind its head
+-- a refutation after its head
 behind_tree : (proved : Bool) (basis : Basis) (question : Question) (shown : ProofLine)
     (tokens : List Token) → head_in question.claim shown ≡ Some RefutedTree
     → IsPartFor proved basis (whole_tree Refutation question) tokens
@@ -113,7 +119,7 @@ unfolding line_of_head
 behind_tree proved basis question shown tokens is part =
     (tokens, part, ap (λ it. Proof it ∷ tokens) (head_line question.claim shown RefutedTree is))
 
--- a spent tree behind its head
+-- a spent tree after its head
 behind_spent : (proved : Bool) (basis : Basis) (question : Question) (shown : ProofLine)
     (tokens : List Token) → head_in question.claim shown ≡ Some SpentTree
     → IsPartFor proved basis (whole_tree Spent question) tokens
@@ -122,7 +128,7 @@ unfolding line_of_head
 behind_spent proved basis question shown tokens is part =
     (tokens, part, ap (λ it. Proof it ∷ tokens) (head_line question.claim shown SpentTree is))
 
--- an example behind its head
+-- an example after its head
 behind_finish : (proved : Bool) (basis : Basis) (question : Question) (shown : ProofLine)
     (tokens : List Token) → head_in question.claim shown ≡ Some Example
     → IsPartFor proved basis (whole_example basis question) tokens
@@ -136,7 +142,7 @@ behind_finish proved basis question shown tokens is part = (
 
 -- a refutation's head
 join_refutation : (proved : Bool) (basis : Basis) (question : Question) (shown : ProofLine)
-    (holds : Bool) (more : List Due) (tokens : List Token)
+    (holds : Bool) (more : List Expected) (tokens : List Token)
     → after_tree_head question (head_in question.claim shown) ≡ go holds more
     → AreParts proved basis more tokens
     → IsRefutationPart proved basis question (Proof shown ∷ tokens)
@@ -157,7 +163,7 @@ join_refutation proved basis question shown holds more tokens goes parts =
 
 -- a spent tree's head
 join_spent : (proved : Bool) (basis : Basis) (question : Question) (shown : ProofLine)
-    (holds : Bool) (more : List Due) (tokens : List Token)
+    (holds : Bool) (more : List Expected) (tokens : List Token)
     → after_spent_head question (head_in question.claim shown) ≡ go holds more
     → AreParts proved basis more tokens
     → IsSpentPart proved basis question (Proof shown ∷ tokens)
@@ -178,7 +184,7 @@ join_spent proved basis question shown holds more tokens goes parts =
 
 -- an example's head
 join_example : (proved : Bool) (basis : Basis) (question : Question) (shown : ProofLine)
-    (holds : Bool) (more : List Due) (tokens : List Token)
+    (holds : Bool) (more : List Expected) (tokens : List Token)
     → after_finish_head basis question (head_in question.claim shown) ≡ go holds more
     → AreParts proved basis more tokens
     → IsExamplePart proved basis question (Proof shown ∷ tokens)
@@ -199,7 +205,7 @@ join_example proved basis question shown holds more tokens goes parts =
 
 -- one of the two
 join_one : (proved : Bool) (basis : Basis) (question : Question) (shown : ProofLine)
-    (holds : Bool) (more : List Due) (tokens : List Token)
+    (holds : Bool) (more : List Expected) (tokens : List Token)
     → after_one_part basis question (head_in question.claim shown) ≡ go holds more
     → AreParts proved basis more tokens
     → IsOnePart proved basis question (Proof shown ∷ tokens)
@@ -224,7 +230,7 @@ join_one proved basis question shown holds more tokens goes parts =
 
 -- the two parts of an unsettled row
 join_both : (proved : Bool) (basis : Basis) (inside outside : Question) (shown : ProofLine)
-    (holds : Bool) (more : List Due) (tokens : List Token)
+    (holds : Bool) (more : List Expected) (tokens : List Token)
     → after_both_parts basis inside outside (head_in inside.claim shown) ≡ go holds more
     → AreParts proved basis more tokens
     → AreBothParts proved basis inside outside (Proof shown ∷ tokens)
@@ -262,19 +268,19 @@ join_both proved basis inside outside shown holds more tokens goes parts =
 
 -- the row of a word with what the word asks for
 join_item : (proved : Bool) (basis : Basis) (number club : ℕ) (fields : List (List ℕ))
-    (holds : Bool) (more : List Due) (tokens : List Token)
+    (holds : Bool) (more : List Expected) (tokens : List Token)
     → promised number club (word_in_row number (name_of_club basis.sheet club) fields)
     ≡ go holds more → AreParts proved basis more tokens
     → IsItemLines proved basis number club (Row fields ∷ tokens)
 join_item proved basis number club fields holds more tokens goes parts =
     by_word (word_in_row number (name_of_club basis.sheet club) fields) refl goes
   where
-    P : List Due → Type 0
+    P : List Expected → Type 0
     P it = AreParts proved basis it tokens
 
     told : (word : RowWord)
         → word_in_row number (name_of_club basis.sheet club) fields ≡ Some word
-        → IsBehind proved basis number club word tokens
+        → IsAfterReport proved basis number club word tokens
         → IsItemLines proved basis number club (Row fields ∷ tokens)
     told word is behind = (
       word,
@@ -311,7 +317,7 @@ join_item proved basis number club fields holds more tokens goes parts =
 
 -- the row of the ask
 join_ask : (proved : Bool) (basis : Basis) (fields : List (List ℕ)) (holds : Bool)
-    (more : List Due) (tokens : List Token)
+    (more : List Expected) (tokens : List Token)
     → (if is_ask_row basis.epoch fields then go true []
     else bad) ≡ go holds more
     → AreParts proved basis more tokens
@@ -319,14 +325,14 @@ join_ask : (proved : Bool) (basis : Basis) (fields : List (List ℕ)) (holds : B
 join_ask proved basis fields holds more tokens goes parts =
     let fits = go-if (is_ask_row basis.epoch fields) (go true []) holds more goes in
     let same = go-same true holds [] more fits.1 in
-    let P : List Due → Type 0 = λ it. AreParts proved basis it tokens in
+    let P : List Expected → Type 0 = λ it. AreParts proved basis it tokens in
     let ends : tokens ≡ [] = subst P (sym same.1) parts in
     ap (λ it. Row it ∷ tokens) (ask_row-says basis.epoch fields fits.0)
     ∙ ap (λ it. Row (ask_fields basis.epoch) ∷ it) ends
 
--- a row with what is due behind it
-join_row : (proved : Bool) (basis : Basis) (due : Due) (fields : List (List ℕ)) (holds : Bool)
-    (more : List Due) (tokens : List Token) → after basis due (Row fields) ≡ go holds more
+-- a row with what is due after it
+join_row : (proved : Bool) (basis : Basis) (due : Expected) (fields : List (List ℕ)) (holds : Bool)
+    (more : List Expected) (tokens : List Token) → after basis due (Row fields) ≡ go holds more
     → AreParts proved basis more tokens → IsPartFor proved basis due (Row fields ∷ tokens)
 join_row proved basis ask_row fields holds more tokens goes parts =
     join_ask proved basis fields holds more tokens goes parts
@@ -334,9 +340,9 @@ join_row proved basis (verdict_row number club) fields holds more tokens goes pa
     join_item proved basis number club fields holds more tokens goes parts
 join_row proved basis _ fields holds more tokens goes parts = absurd (bad-go holds more goes)
 
--- a proof line with what is due behind it
-join_proof : (proved : Bool) (basis : Basis) (due : Due) (shown : ProofLine) (holds : Bool)
-    (more : List Due) (tokens : List Token) → after basis due (Proof shown) ≡ go holds more
+-- a proof line with what is due after it
+join_proof : (proved : Bool) (basis : Basis) (due : Expected) (shown : ProofLine) (holds : Bool)
+    (more : List Expected) (tokens : List Token) → after basis due (Proof shown) ≡ go holds more
     → (proved ≡ true → holds ≡ true) → AreParts proved basis more tokens
     → IsPartFor proved basis due (Proof shown ∷ tokens)
 join_proof proved basis ask_row shown holds more tokens goes so parts =
@@ -362,18 +368,18 @@ join_proof proved basis (score question ended left) shown holds more tokens goes
 join_proof proved basis (lots question ended) shown holds more tokens goes so parts =
     join_lots proved basis question ended shown holds more tokens goes so parts
 
--- a line that counts, with what is due behind it, is a part
-pub join_part : (proved : Bool) (basis : Basis) (due : Due) (token : Token) (holds : Bool)
-    (more : List Due) (tokens : List Token) → counts token ≡ true
+-- a line that counts, with what is due after it, is a part
+pub join_part : (proved : Bool) (basis : Basis) (due : Expected) (token : Token) (holds : Bool)
+    (more : List Expected) (tokens : List Token) → counts token ≡ true
     → after basis due token ≡ go holds more → (proved ≡ true → holds ≡ true)
     → AreParts proved basis more tokens → IsPartFor proved basis due (token ∷ tokens)
-join_part proved basis due Passed holds more tokens counted goes so parts =
+join_part proved basis due Blank holds more tokens counted goes so parts =
     absurd (false≢true counted)
 join_part proved basis due (Row fields) holds more tokens counted goes so parts =
     join_row proved basis due fields holds more tokens goes parts
 join_part proved basis due (Proof shown) holds more tokens counted goes so parts =
     join_proof proved basis due shown holds more tokens goes so parts
-join_part proved basis due Neither holds more tokens counted goes so parts =
+join_part proved basis due Unknown holds more tokens counted goes so parts =
     absurd (bad-go holds more goes)
 
 -- ---- a part's first line
@@ -521,7 +527,8 @@ part_item proved basis number club tokens item =
         ≡ promised number club (Some word)
     goes word = ap (promised number club) (word_in_row-of number name word)
 
-    by_word : (word : RowWord) (rest : List Token) → IsBehind proved basis number club word rest
+    by_word : (word : RowWord) (rest : List Token)
+        → IsAfterReport proved basis number club word rest
         → tokens ≡ Row (verdict_fields number name word) ∷ rest
         → Parted proved basis (verdict_row number club) tokens
     by_word Clinched rest behind lines =
@@ -581,7 +588,7 @@ part_item proved basis number club tokens item =
         )
 
 -- the first line of a part leaves due what its other lines are
-pub part_parts : (proved : Bool) (basis : Basis) (due : Due) (tokens : List Token)
+pub part_parts : (proved : Bool) (basis : Basis) (due : Expected) (tokens : List Token)
     → IsPartFor proved basis due tokens → Parted proved basis due tokens
 part_parts proved basis ask_row tokens part = (
   Row (ask_fields basis.epoch),

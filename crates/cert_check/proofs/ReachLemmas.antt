@@ -5,17 +5,18 @@ use Rattle.std.specs.List.{range_with_len}
 use Rattle.std.proofs.Common.{append-nil, zero-add}
 use Rattle.std.proofs.lemmas.List.{drop_more}
 use Rattle.std.proofs.lemmas.List.FromFn.{length-range_with_len, get_or-range_with_len}
-use Rattle.cert_check.specs.declared.part.Item.{Item}
-use Rattle.cert_check.specs.declared.stop.Halt.{Halt}
-use Rattle.cert_check.specs.declared.stop.Halt.TheVariants as halt
-use Rattle.cert_check.specs.Dues.{Due}
+use Rattle.cert_check.specs.declared.item.Item.{Item}
+use Rattle.cert_check.specs.declared.stop.CheckStopAt.{CheckStopAt}
+use Rattle.cert_check.specs.declared.stop.CheckStopAt.TheVariants as halt
+use Rattle.cert_check.specs.ExpectedItems.{Expected}
 use Rattle.cert_check.specs.Machine.{Ending, ending_of, whole_at}
-use Rattle.cert_check.specs.Calls.{Judged, ending_from, HaltsAt, Goes, AllHalt, GoesBehind}
-use Rattle.cert_check.specs.Calls.{GoesOverAll, Reaches}
+use Rattle.cert_check.specs.inside.Calls.{ReportView, ending_from, HaltsAt, Goes, AllHalt}
+use Rattle.cert_check.specs.inside.Calls.{GoesAfter}
+use Rattle.cert_check.specs.inside.Calls.{GoesOverAll, Reaches}
 
 -- one thing due is all that is
-pub goes_behind : (judged : Judged) (from : ℕ) (due : Due) (result : Result ℕ Halt)
-    → Goes judged from due result → GoesBehind judged from (due ∷ []) result
+pub goes_behind : (judged : ReportView) (from : ℕ) (due : Expected) (result : Result ℕ CheckStopAt)
+    → Goes judged from due result → GoesAfter judged from (due ∷ []) result
 goes_behind judged from due (Ok at) goes = goes
 goes_behind judged from due (Err (halt.BadLine at)) goes = goes
 goes_behind judged from due (Err (halt.NoProof at)) goes = goes
@@ -23,7 +24,7 @@ goes_behind judged from due (Err halt.Short) goes = goes
 goes_behind judged from due (Err halt.OutOfMemory) goes = tt
 
 -- of two things due the first stops the reading
-pub first_halts : (judged : Judged) (from : ℕ) (first second : Due) (stop : Halt)
+pub first_halts : (judged : ReportView) (from : ℕ) (first second : Expected) (stop : CheckStopAt)
     → HaltsAt judged from first stop → AllHalt judged from (first ∷ second ∷ []) stop
 first_halts judged from first second (halt.BadLine at) halts =
     (halts.0, λ dues unsettled. halts.1 (second ∷ dues) unsettled)
@@ -34,9 +35,10 @@ first_halts judged from first second halt.Short halts =
 first_halts judged from first second halt.OutOfMemory halts = tt
 
 -- of two things due the first is shown
-pub first_shown : (judged : Judged) (from at : ℕ) (first second : Due) (result : Result ℕ Halt)
+pub first_shown : (judged : ReportView) (from at : ℕ) (first second : Expected)
+    (result : Result ℕ CheckStopAt)
     → Goes judged from first (Ok at) → Goes judged at second result
-    → GoesBehind judged from (first ∷ second ∷ []) result
+    → GoesAfter judged from (first ∷ second ∷ []) result
 first_shown judged from at first second (Ok to) goes later =
     (later.0, λ dues unsettled. goes.1 (second ∷ dues) unsettled ∙ later.1 dues unsettled)
 first_shown judged from at first second (Err (halt.BadLine place)) goes later =
@@ -48,13 +50,13 @@ first_shown judged from at first second (Err halt.Short) goes later =
 first_shown judged from at first second (Err halt.OutOfMemory) goes later = tt
 
 -- at the start all is due
-pub reach_start : (judged : Judged) (from : ℕ) (wanted : List Due)
+pub reach_start : (judged : ReportView) (from : ℕ) (wanted : List Expected)
     → Reaches judged from wanted from wanted 0
 reach_start judged from wanted = λ dues before.
     ap (λ count. ending_from judged from (wanted ++ dues) count) (omega arith)
 
 -- one piece more is shown
-pub reach_on : (judged : Judged) (from at unsettled : ℕ) (wanted first later : List Due)
+pub reach_on : (judged : ReportView) (from at unsettled : ℕ) (wanted first later : List Expected)
     (found : Item) → Reaches judged from wanted at (first ++ later) unsettled
     → GoesOverAll judged at first (Ok found)
     → Reaches judged from wanted found.next later (unsettled + found.unsettled)
@@ -65,8 +67,8 @@ reach_on judged from at unsettled wanted first later found reaches goes = λ due
     ∙ ap (λ count. ending_from judged found.next (later ++ dues) count) (omega arith)
 
 -- a piece stops the reading
-pub reach_halt : (judged : Judged) (from at unsettled : ℕ) (wanted first later : List Due)
-    (stop : Halt) → Reaches judged from wanted at (first ++ later) unsettled
+pub reach_halt : (judged : ReportView) (from at unsettled : ℕ) (wanted first later : List Expected)
+    (stop : CheckStopAt) → Reaches judged from wanted at (first ++ later) unsettled
     → AllHalt judged at first stop → AllHalt judged from wanted stop
 reach_halt judged from at unsettled wanted first later (halt.BadLine place) reaches halts = (
   halts.0,
@@ -87,7 +89,7 @@ reach_halt judged from at unsettled wanted first later halt.Short reaches halts 
 reach_halt judged from at unsettled wanted first later halt.OutOfMemory reaches halts = tt
 
 -- where nothing is due the reading ends
-pub ends_whole : (judged : Judged) (at unsettled : ℕ)
+pub ends_whole : (judged : ReportView) (at unsettled : ℕ)
     → ending_from judged at [] unsettled ≡ whole_at at unsettled
 ends_whole judged at unsettled = of_lines (drop at judged.tokens)
   where
@@ -97,15 +99,15 @@ ends_whole judged at unsettled = of_lines (drop at judged.tokens)
     of_lines (token ∷ tokens) = refl
 
 -- nothing else being due
-pub all_due : (judged : Judged) (from : ℕ) (wanted : List Due) (ending : Ending)
-    → ((dues : List Due) (unsettled : ℕ)
+pub all_due : (judged : ReportView) (from : ℕ) (wanted : List Expected) (ending : Ending)
+    → ((dues : List Expected) (unsettled : ℕ)
     → ending_from judged from (wanted ++ dues) unsettled ≡ ending)
     → ending_from judged from wanted 0 ≡ ending
 all_due judged from wanted ending is =
     ap (λ due. ending_from judged from due 0) (sym (append-nil wanted)) ∙ is [] 0
 
 -- all being shown, the reading ends
-pub all_shown_ends : (judged : Judged) (from : ℕ) (wanted : List Due) (found : Item)
+pub all_shown_ends : (judged : ReportView) (from : ℕ) (wanted : List Expected) (found : Item)
     → GoesOverAll judged from wanted (Ok found)
     → ending_from judged from wanted 0 ≡ whole_at found.next found.unsettled
 all_shown_ends judged from wanted found goes =

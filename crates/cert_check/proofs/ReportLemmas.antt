@@ -6,23 +6,24 @@ use Rattle.std.specs.Prelude.{◌⊎◌}
 use Rattle.std.specs.List.{list_all}
 use Rattle.std.proofs.lemmas.Bool.{false≢true, and_parts}
 use Rattle.cert_check.specs.declared.token.Token.{Token}
-use Rattle.cert_check.specs.declared.token.Token.TheVariants.{Passed, Row, Proof, Neither}
+use Rattle.cert_check.specs.declared.token.Token.TheVariants.{Blank, Row, Proof, Unknown}
 use Rattle.cert_check.specs.Tokens.{counts, counted_lines}
-use Rattle.cert_check.specs.Dues.{Basis, Due, Next, bad, go, after}
+use Rattle.cert_check.specs.ExpectedItems.{Basis, Expected, Next, bad, go, after}
 use Rattle.cert_check.specs.Machine.{whole_at, bad_line, no_proof, short, with_unsettled}
 use Rattle.cert_check.specs.Machine.{by_next, ending_of}
-use Rattle.cert_check.specs.Grammar.{AreParts}
-use Rattle.cert_check.specs.Laws.{unsettled_with, LeavesDue, Begins, IsBadLineAt, IsUnprovedAt}
-use Rattle.cert_check.specs.Laws.{AreTooFew}
+use Rattle.cert_check.specs.inside.Grammar.{AreParts}
+use Rattle.cert_check.specs.inside.Laws.{unsettled_with, LeavesDue, Begins, IsBadLineAt}
+use Rattle.cert_check.specs.inside.Laws.{IsUnprovedAt, AreTooFew}
 use Rattle.cert_check.proofs.NextLemmas.{go-same, bad-go, parts-join, parts-split}
 use Rattle.cert_check.proofs.PartLemmas.{join_part, part_parts}
 use Rattle.cert_check.proofs.FillLemmas.{some_parts}
 
 -- ---- one line
 
--- a line that counts, with parts behind it for what it leaves due and for what else was
-join_counted : (proved : Bool) (basis : Basis) (due : Due) (dues : List Due) (token : Token)
-    (holds : Bool) (more : List Due) (tokens : List Token) → counts token ≡ true
+-- a line that counts, with parts after it for what it leaves due and for what else was
+join_counted : (proved : Bool) (basis : Basis) (due : Expected) (dues : List Expected)
+    (token : Token)
+    (holds : Bool) (more : List Expected) (tokens : List Token) → counts token ≡ true
     → after basis due token ≡ go holds more → (proved ≡ true → holds ≡ true)
     → AreParts proved basis (more ++ dues) tokens
     → AreParts proved basis (due ∷ dues) (token ∷ tokens)
@@ -36,9 +37,10 @@ join_counted proved basis due dues token holds more tokens counted_lines goes so
     )
 
 -- what a line leaves due that begins parts
-part_counted : (proved : Bool) (basis : Basis) (due : Due) (dues : List Due) (token : Token)
+part_counted : (proved : Bool) (basis : Basis) (due : Expected) (dues : List Expected)
+    (token : Token)
     (tokens : List Token) → AreParts proved basis (due ∷ dues) (token ∷ tokens)
-    → (holds : Bool) × (more : List Due) × (after basis due token ≡ go holds more)
+    → (holds : Bool) × (more : List Expected) × (after basis due token ≡ go holds more)
     × (proved ≡ true → holds ≡ true) × AreParts proved basis (more ++ dues) tokens
 part_counted proved basis due dues token tokens parts =
     let first = part_parts proved basis due parts.0 parts.2 in
@@ -54,14 +56,15 @@ part_counted proved basis due dues token tokens parts =
       subst P rest (parts-join proved basis first.3 dues first.1 parts.1 first.8 parts.3),
     )
 
--- any line with parts behind it
-join_line : (proved : Bool) (basis : Basis) (due : Due) (dues : List Due) (token : Token)
-    (holds : Bool) (more : List Due) (tokens rest : List Token)
+-- any line with parts after it
+join_line : (proved : Bool) (basis : Basis) (due : Expected) (dues : List Expected) (token : Token)
+    (holds : Bool) (more : List Expected) (tokens rest : List Token)
     → after basis due token ≡ go holds more → (proved ≡ true → holds ≡ true)
     → AreParts proved basis (more ++ dues) (counted_lines tokens ++ rest)
     → AreParts proved basis (due ∷ dues) (counted_lines (token ∷ tokens) ++ rest)
-join_line proved basis due dues Passed holds more tokens rest goes so parts =
-    let P : List Due → Type 0 = λ it. AreParts proved basis (it ++ dues) (counted_lines tokens ++
+join_line proved basis due dues Blank holds more tokens rest goes so parts =
+    let P : List Expected
+    → Type 0 = λ it. AreParts proved basis (it ++ dues) (counted_lines tokens ++
     rest) in
     subst P (sym (go-same true holds (due ∷ []) more goes).1) parts
 join_line proved basis due dues (Row fields) holds more tokens rest goes so parts =
@@ -72,29 +75,29 @@ join_line proved basis due dues (Proof shown) holds more tokens rest goes so par
     join_counted proved basis due dues (Proof shown) holds more (counted_lines tokens ++ rest)
     refl goes
     so parts
-join_line proved basis due dues Neither holds more tokens rest goes so parts =
+join_line proved basis due dues Unknown holds more tokens rest goes so parts =
     absurd (bad-go holds more goes)
 
 -- what any line leaves due that begins parts
-part_line : (proved : Bool) (basis : Basis) (due : Due) (dues : List Due) (token : Token)
+part_line : (proved : Bool) (basis : Basis) (due : Expected) (dues : List Expected) (token : Token)
     (tokens rest : List Token)
     → AreParts proved basis (due ∷ dues) (counted_lines (token ∷ tokens) ++ rest)
-    → (holds : Bool) × (more : List Due) × (after basis due token ≡ go holds more)
+    → (holds : Bool) × (more : List Expected) × (after basis due token ≡ go holds more)
     × (proved ≡ true → holds ≡ true)
     × AreParts proved basis (more ++ dues) (counted_lines tokens ++ rest)
-part_line proved basis due dues Passed tokens rest parts =
+part_line proved basis due dues Blank tokens rest parts =
     (true, due ∷ [], refl, λ _. refl, parts)
 part_line proved basis due dues (Row fields) tokens rest parts =
     part_counted proved basis due dues (Row fields) (counted_lines tokens ++ rest) parts
 part_line proved basis due dues (Proof shown) tokens rest parts =
     part_counted proved basis due dues (Proof shown) (counted_lines tokens ++ rest) parts
-part_line proved basis due dues Neither tokens rest parts =
-    part_counted proved basis due dues Neither (counted_lines tokens ++ rest) parts
+part_line proved basis due dues Unknown tokens rest parts =
+    part_counted proved basis due dues Unknown (counted_lines tokens ++ rest) parts
 
 -- ---- many lines
 
--- the reading goes on behind lines that pass
-pub passes_on : (basis : Basis) (before rest : List Token) (dues left : List Due)
+-- the reading goes on after lines that pass
+pub passes_on : (basis : Basis) (before rest : List Token) (dues left : List Expected)
     (at unsettled : ℕ) → LeavesDue basis before dues left
     → ending_of basis (before ++ rest) dues at unsettled ≡
     ending_of basis rest left (at + length before) (unsettled_with unsettled before)
@@ -111,12 +114,12 @@ passes_on basis (token ∷ before) rest (due ∷ dues) left at unsettled passed 
     ∙ ap (λ it. ending_of basis rest left it
     (unsettled_with (with_unsettled unsettled token) before)) (omega arith)
 
--- lines that pass begin what is due where those behind them begin what is due there
-begins_through : (basis : Basis) (before tokens : List Token) (dues left : List Due)
+-- lines that pass begin what is due where those after them begin what is due there
+begins_through : (basis : Basis) (before tokens : List Token) (dues left : List Expected)
     → LeavesDue basis before dues left → Begins basis left tokens
     → Begins basis dues (before ++ tokens)
 begins_through basis [] tokens dues left passed begins =
-    let P : List Due → Type 0 = λ it. Begins basis it tokens in subst P (sym passed) begins
+    let P : List Expected → Type 0 = λ it. Begins basis it tokens in subst P (sym passed) begins
 begins_through basis (token ∷ before) tokens [] left passed begins = absurd passed
 begins_through basis (token ∷ before) tokens (due ∷ dues) left passed begins =
     let later = begins_through basis before tokens (passed.0 ++ dues) left passed.2 begins in (
@@ -126,47 +129,47 @@ begins_through basis (token ∷ before) tokens (due ∷ dues) left passed begins
     )
 
 -- and only there
-begins_after : (basis : Basis) (before tokens : List Token) (dues left : List Due)
+begins_after : (basis : Basis) (before tokens : List Token) (dues left : List Expected)
     → LeavesDue basis before dues left → Begins basis dues (before ++ tokens)
     → Begins basis left tokens
 begins_after basis [] tokens dues left passed begins =
-    let P : List Due → Type 0 = λ it. Begins basis it tokens in subst P passed begins
+    let P : List Expected → Type 0 = λ it. Begins basis it tokens in subst P passed begins
 begins_after basis (token ∷ before) tokens [] left passed begins = absurd passed
 begins_after basis (token ∷ before) tokens (due ∷ dues) left passed begins =
     let first = part_line false basis due dues token (before ++ tokens) begins.0 begins.1 in
     let same = (go-same first.0 true first.1 passed.0 (sym first.2 ∙ passed.1)).1 in
-    let P : List Due → Type 0 = λ it. AreParts false basis (it ++ dues)
+    let P : List Expected → Type 0 = λ it. AreParts false basis (it ++ dues)
     (counted_lines (before ++ tokens) ++ begins.0) in
     begins_after basis before tokens (passed.0 ++ dues) left passed.2
     (begins.0, subst P same first.4)
 
--- how a reading stands behind the lines that pass: nothing more is due; or no line is left; or the
+-- how a reading stands after the lines that pass: nothing more is due; or no line is left; or the
 -- next line may not come; or it proves nothing
-data Status (basis : Basis) (rest : List Token) (left : List Due) : Type 0 where
+data Status (basis : Basis) (rest : List Token) (left : List Expected) : Type 0 where
   all_shown : left ≡ [] → Status basis rest left
   missing : rest ≡ [] → 0 < length left → Status basis rest left
-  refused : (due : Due) (others : List Due) (token : Token) (later : List Token)
+  refused : (due : Expected) (others : List Expected) (token : Token) (later : List Token)
       → rest ≡ token ∷ later → left ≡ due ∷ others → after basis due token ≡ bad
       → Status basis rest left
-  unshown : (due : Due) (others more : List Due) (token : Token) (later : List Token)
+  unshown : (due : Expected) (others more : List Expected) (token : Token) (later : List Token)
       → rest ≡ token ∷ later → left ≡ due ∷ others → after basis due token ≡ go false more
       → Status basis rest left
 
--- the lines that pass, and how the reading stands behind them
-abbrev Run : Basis → List Token → List Due → Type 0
+-- the lines that pass, and how the reading stands after them
+abbrev Run : Basis → List Token → List Expected → Type 0
 Run basis tokens dues =
-    (before : List Token) × (rest : List Token) × (left : List Due) × (tokens ≡ before ++ rest)
+    (before : List Token) × (rest : List Token) × (left : List Expected) × (tokens ≡ before ++ rest)
     × LeavesDue basis before dues left × Status basis rest left
 
 -- each reading is such a run
-run_of : (basis : Basis) (tokens : List Token) (dues : List Due) → Run basis tokens dues
+run_of : (basis : Basis) (tokens : List Token) (dues : List Expected) → Run basis tokens dues
 run_of basis [] [] = ([], [], [], refl, refl, all_shown refl)
 run_of basis [] (due ∷ dues) = ([], [], due ∷ dues, refl, refl, missing refl (omega arith))
 run_of basis (token ∷ tokens) [] = ([], token ∷ tokens, [], refl, refl, all_shown refl)
 run_of basis (token ∷ tokens) (due ∷ dues) =
     by_after (λ more. run_of basis tokens (more ++ dues)) (after basis due token) refl
   where
-    by_after : ((more : List Due) → Run basis tokens (more ++ dues)) → (next : Next)
+    by_after : ((more : List Expected) → Run basis tokens (more ++ dues)) → (next : Next)
         → after basis due token ≡ next → Run basis (token ∷ tokens) (due ∷ dues)
     by_after later bad is =
         ([], token ∷ tokens, due ∷ dues, refl, refl, refused due dues token tokens refl refl is)
@@ -183,14 +186,14 @@ run_of basis (token ∷ tokens) (due ∷ dues) =
         (token ∷ run.0, run.1, run.2, ap (λ it. token ∷ it) run.3, (more, is, run.4), run.5)
 
 -- what a reading comes to, by how it stands
-comes_to : (basis : Basis) (rest : List Token) (left : List Due) (at unsettled : ℕ)
+comes_to : (basis : Basis) (rest : List Token) (left : List Expected) (at unsettled : ℕ)
     → Status basis rest left
     → ((left ≡ []) × (ending_of basis rest left at unsettled ≡ whole_at at unsettled))
     ⊎ (((rest ≡ []) × (0 < length left) × (ending_of basis rest left at unsettled ≡ short))
-    ⊎ (((due : Due) × (others : List Due) × (token : Token) × (later : List Token)
+    ⊎ (((due : Expected) × (others : List Expected) × (token : Token) × (later : List Token)
     × (rest ≡ token ∷ later) × (left ≡ due ∷ others) × (after basis due token ≡ bad)
     × (ending_of basis rest left at unsettled ≡ bad_line at))
-    ⊎ ((due : Due) × (others : List Due) × (more : List Due) × (token : Token)
+    ⊎ ((due : Expected) × (others : List Expected) × (more : List Expected) × (token : Token)
     × (later : List Token) × (rest ≡ token ∷ later) × (left ≡ due ∷ others)
     × (after basis due token ≡ go false more)
     × (ending_of basis rest left at unsettled ≡ no_proof at))))
@@ -204,7 +207,7 @@ comes_to basis rest left at unsettled (all_shown ends) =
 comes_to basis rest left at unsettled (missing ends some) =
     inr (inl (ends, some, ap (λ it. ending_of basis it left at unsettled) ends ∙ none left some))
   where
-    none : (dues : List Due) → 0 < length dues → ending_of basis [] dues at unsettled ≡ short
+    none : (dues : List Expected) → 0 < length dues → ending_of basis [] dues at unsettled ≡ short
     none [] some = absurd (omega arith)
     none (due ∷ dues) some = refl
 comes_to basis rest left at unsettled (refused due others token later lines dues is) =
@@ -240,12 +243,12 @@ comes_to basis rest left at unsettled (unshown due others more token later lines
 -- ---- the three stops
 
 -- something is always able to follow
-begins_with_nothing : (basis : Basis) (dues : List Due) → Begins basis dues []
+begins_with_nothing : (basis : Basis) (dues : List Expected) → Begins basis dues []
 begins_with_nothing basis dues = some_parts basis dues
 
 -- a line that goes on begins what is due
-begins_with : (basis : Basis) (due : Due) (dues : List Due) (token : Token) (holds : Bool)
-    (more : List Due) → after basis due token ≡ go holds more
+begins_with : (basis : Basis) (due : Expected) (dues : List Expected) (token : Token) (holds : Bool)
+    (more : List Expected) → after basis due token ≡ go holds more
     → Begins basis (due ∷ dues) (token ∷ [])
 begins_with basis due dues token holds more goes =
     let later = some_parts basis (more ++ dues) in (
@@ -255,14 +258,14 @@ begins_with basis due dues token holds more goes =
     )
 
 -- a line that may not come does not begin it
-begins_not : (basis : Basis) (due : Due) (dues : List Due) (token : Token)
+begins_not : (basis : Basis) (due : Expected) (dues : List Expected) (token : Token)
     → after basis due token ≡ bad → Begins basis (due ∷ dues) (token ∷ []) → ⊥
 begins_not basis due dues token is begins =
     let first = part_line false basis due dues token [] begins.0 begins.1 in
     bad-go first.0 first.1 (sym is ∙ first.2)
 
 -- the reading of a run
-run_comes_to : (basis : Basis) (before rest tokens : List Token) (dues left : List Due)
+run_comes_to : (basis : Basis) (before rest tokens : List Token) (dues left : List Expected)
     (at unsettled : ℕ) → tokens ≡ before ++ rest → LeavesDue basis before dues left
     → ending_of basis tokens dues at unsettled ≡
     ending_of basis rest left (at + length before) (unsettled_with unsettled before)
@@ -270,18 +273,19 @@ run_comes_to basis before rest tokens dues left at unsettled parts passed =
     ap (λ it. ending_of basis it dues at unsettled) parts
     ∙ passes_on basis before rest dues left at unsettled passed
 
--- the place behind a beginning is one alone
+-- the place after a beginning is one alone
 one_place : (at place more : ℕ) → at + more ≡ at + place → place ≡ more
 one_place at place more same = omega arith
 
 -- a list with an item has one
-some_due : (dues : List Due) (due : Due) (others : List Due) → dues ≡ due ∷ others
+some_due : (dues : List Expected) (due : Expected) (others : List Expected) → dues ≡ due ∷ others
     → 0 < length dues
 some_due dues due others same =
-    let P : List Due → Type 0 = λ it. 0 < length it in subst P (sym same) (omega arith)
+    let P : List Expected → Type 0 = λ it. 0 < length it in subst P (sym same) (omega arith)
 
 -- a refused line does not fit
-pub bad_line_is : (basis : Basis) (tokens : List Token) (dues : List Due) (at unsettled place : ℕ)
+pub bad_line_is : (basis : Basis) (tokens : List Token) (dues : List Expected)
+    (at unsettled place : ℕ)
     → ending_of basis tokens dues at unsettled ≡ bad_line (at + place)
     → IsBadLineAt basis tokens dues place
 bad_line_is basis tokens dues at unsettled place ending =
@@ -305,7 +309,7 @@ bad_line_is basis tokens dues at unsettled place ending =
             (begins_through basis run.0 [] dues run.2 run.4 (begins_with_nothing basis run.2));
         ends =
             λ begins.
-            let P : List Due → Type 0 = λ due_then. Begins basis due_then (it.2 ∷ []) in
+            let P : List Expected → Type 0 = λ due_then. Begins basis due_then (it.2 ∷ []) in
             begins_not basis it.0 it.1 it.2 it.6
             (subst P it.5
             (begins_after basis run.0 (it.2 ∷ []) dues run.2 run.4 begins));
@@ -326,14 +330,14 @@ bad_line_is basis tokens dues at unsettled place ending =
     same_bad same = cc
 
 -- the list of what is due has a first
-first_due : (dues : List Due) → 0 < length dues
-    → (due : Due) × (others : List Due) × (dues ≡ due ∷ others)
+first_due : (dues : List Expected) → 0 < length dues
+    → (due : Expected) × (others : List Expected) × (dues ≡ due ∷ others)
 first_due [] some = absurd (omega arith)
 first_due (due ∷ others) some = (due, others, refl)
 
 -- what a line is that neither goes on
-is_bad : (basis : Basis) (due : Due) (token : Token)
-    → ((holds : Bool) (more : List Due) → after basis due token ≡ go holds more → ⊥)
+is_bad : (basis : Basis) (due : Expected) (token : Token)
+    → ((holds : Bool) (more : List Expected) → after basis due token ≡ go holds more → ⊥)
     → after basis due token ≡ bad
 is_bad basis due token goes_not = by_next_of (after basis due token) refl
   where
@@ -342,14 +346,15 @@ is_bad basis due token goes_not = by_next_of (after basis due token) refl
     by_next_of (go holds more) is = absurd (goes_not holds more is)
 
 -- a line that does not fit is refused
-pub is_bad_line : (basis : Basis) (tokens : List Token) (dues : List Due) (at unsettled place : ℕ)
+pub is_bad_line : (basis : Basis) (tokens : List Token) (dues : List Expected)
+    (at unsettled place : ℕ)
     → IsBadLineAt basis tokens dues place
     → ending_of basis tokens dues at unsettled ≡ bad_line (at + place)
 is_bad_line basis tokens dues at unsettled place it =
     let first = first_due it.left it.due in
     let is = is_bad basis first.0 it.bad_one
     (λ holds more goes.
-    let P : List Due → Type 0 = λ due_then. Begins basis due_then (it.bad_one ∷ []) in
+    let P : List Expected → Type 0 = λ due_then. Begins basis due_then (it.bad_one ∷ []) in
     it.ends (begins_through basis it.before (it.bad_one ∷ []) dues it.left it.passed
     (subst P (sym first.2)
     (begins_with basis first.0 first.1 it.bad_one holds more goes)))) in
@@ -363,7 +368,8 @@ is_bad_line basis tokens dues at unsettled place it =
     ∙ ap (λ number. bad_line (at + number)) (sym it.place)
 
 -- a line that is named as no proof is the first that does not prove what it says
-pub no_proof_is : (basis : Basis) (tokens : List Token) (dues : List Due) (at unsettled place : ℕ)
+pub no_proof_is : (basis : Basis) (tokens : List Token) (dues : List Expected)
+    (at unsettled place : ℕ)
     → ending_of basis tokens dues at unsettled ≡ no_proof (at + place)
     → IsUnprovedAt basis tokens dues place
 no_proof_is basis tokens dues at unsettled place ending =
@@ -383,11 +389,11 @@ no_proof_is basis tokens dues at unsettled place ending =
         parts = run.3 ∙ ap (λ behind. run.0 ++ behind) it.5;
         place = one_place at place (length run.0) (same_no (sym it.8 ∙ sym found ∙ ending));
         passed =
-            let P : List Due → Type 0 = λ due_then. LeavesDue basis run.0 dues due_then in
+            let P : List Expected → Type 0 = λ due_then. LeavesDue basis run.0 dues due_then in
             subst P it.6 run.4;
         fails = it.7;
         begins =
-            let P : List Due → Type 0 = λ due_then. Begins basis due_then (it.3 ∷ []) in
+            let P : List Expected → Type 0 = λ due_then. Begins basis due_then (it.3 ∷ []) in
             begins_through basis run.0 (it.3 ∷ []) dues run.2 run.4
             (subst P (sym it.6) (begins_with basis it.0 it.1 it.3 false it.2 it.7));
       }
@@ -406,7 +412,8 @@ no_proof_is basis tokens dues at unsettled place ending =
     same_no same = cc
 
 -- the first line that does not prove what it says is named
-pub is_no_proof : (basis : Basis) (tokens : List Token) (dues : List Due) (at unsettled place : ℕ)
+pub is_no_proof : (basis : Basis) (tokens : List Token) (dues : List Expected)
+    (at unsettled place : ℕ)
     → IsUnprovedAt basis tokens dues place
     → ending_of basis tokens dues at unsettled ≡ no_proof (at + place)
 is_no_proof basis tokens dues at unsettled place it =
@@ -418,7 +425,7 @@ is_no_proof basis tokens dues at unsettled place it =
     ∙ ap (λ number. no_proof (at + number)) (sym it.place)
 
 -- where lines are said to be missing they are too few
-pub short_is : (basis : Basis) (tokens : List Token) (dues : List Due) (at unsettled : ℕ)
+pub short_is : (basis : Basis) (tokens : List Token) (dues : List Expected) (at unsettled : ℕ)
     → ending_of basis tokens dues at unsettled ≡ short → AreTooFew basis tokens dues
 short_is basis tokens dues at unsettled ending =
     let run = run_of basis tokens dues in
@@ -455,7 +462,7 @@ short_is basis tokens dues at unsettled ending =
     no_proof_not same = cc
 
 -- where they are too few this is said
-pub is_short : (basis : Basis) (tokens : List Token) (dues : List Due) (at unsettled : ℕ)
+pub is_short : (basis : Basis) (tokens : List Token) (dues : List Expected) (at unsettled : ℕ)
     → AreTooFew basis tokens dues → ending_of basis tokens dues at unsettled ≡ short
 is_short basis tokens dues at unsettled few =
     let first = first_due few.left few.due in
@@ -467,10 +474,10 @@ is_short basis tokens dues at unsettled few =
 -- ---- what is accepted
 
 -- lines that pass and leave nothing due are proved parts
-proved_by_run : (basis : Basis) (before : List Token) (dues : List Due)
+proved_by_run : (basis : Basis) (before : List Token) (dues : List Expected)
     → LeavesDue basis before dues [] → AreParts true basis dues (counted_lines before)
 proved_by_run basis [] dues passed =
-    let P : List Due → Type 0 = λ it. AreParts true basis it [] in subst P (sym passed) refl
+    let P : List Expected → Type 0 = λ it. AreParts true basis it [] in subst P (sym passed) refl
 proved_by_run basis (token ∷ before) [] passed = absurd passed
 proved_by_run basis (token ∷ before) (due ∷ dues) passed =
     let P : List Token → Type 0 = λ it. AreParts true basis (passed.0 ++ dues) it in
@@ -481,7 +488,7 @@ proved_by_run basis (token ∷ before) (due ∷ dues) passed =
     (proved_by_run basis before (passed.0 ++ dues) passed.2)))
 
 -- what is read as whole is proved
-pub accepted_is_proved : (basis : Basis) (tokens : List Token) (dues : List Due)
+pub accepted_is_proved : (basis : Basis) (tokens : List Token) (dues : List Expected)
     (at unsettled to found : ℕ) → ending_of basis tokens dues at unsettled ≡ whole_at to found
     → (taken : List Token) × (rest : List Token) × (tokens ≡ taken ++ rest)
     × (to ≡ at + length taken) × (found ≡ unsettled_with unsettled taken)
@@ -492,7 +499,7 @@ accepted_is_proved basis tokens dues at unsettled to found ending =
     elim (comes_to basis run.1 run.2 (at + length run.0) (unsettled_with unsettled run.0) run.5) [
       | inl it ↦
           let same = same_whole (sym it.1 ∙ sym reads ∙ ending) in
-          let P : List Due → Type 0 = λ due_then. LeavesDue basis run.0 dues due_then in (
+          let P : List Expected → Type 0 = λ due_then. LeavesDue basis run.0 dues due_then in (
             run.0,
             run.1,
             run.3,
@@ -521,22 +528,22 @@ accepted_is_proved basis tokens dues at unsettled to found ending =
 none_counted : (tokens : List Token) (unsettled : ℕ) → counted_lines tokens ≡ []
     → unsettled_with unsettled tokens ≡ unsettled
 none_counted [] unsettled none = refl
-none_counted (Passed ∷ tokens) unsettled none = none_counted tokens unsettled none
+none_counted (Blank ∷ tokens) unsettled none = none_counted tokens unsettled none
 none_counted (Row fields ∷ tokens) unsettled none = absurd cc
 none_counted (Proof shown ∷ tokens) unsettled none = absurd cc
-none_counted (Neither ∷ tokens) unsettled none = absurd cc
+none_counted (Unknown ∷ tokens) unsettled none = absurd cc
 
 -- none of them counts, so not all do where there is one
 not_all : (tokens : List Token) → counted_lines tokens ≡ [] → list_all counts tokens ≡ true
     → length tokens ≡ 0
 not_all [] none all = refl
-not_all (Passed ∷ tokens) none all = absurd (false≢true all)
+not_all (Blank ∷ tokens) none all = absurd (false≢true all)
 not_all (Row fields ∷ tokens) none all = absurd cc
 not_all (Proof shown ∷ tokens) none all = absurd cc
-not_all (Neither ∷ tokens) none all = absurd cc
+not_all (Unknown ∷ tokens) none all = absurd cc
 
 -- proved lines are read as whole
-abbrev pub IsRead : Basis → List Token → List Token → List Due → ℕ → ℕ → Type 0
+abbrev pub IsRead : Basis → List Token → List Token → List Expected → ℕ → ℕ → Type 0
 IsRead basis taken rest dues at unsettled =
     (to : ℕ) × (ending_of basis (taken ++ rest) dues at unsettled
     ≡ whole_at to (unsettled_with unsettled taken))
@@ -544,7 +551,7 @@ IsRead basis taken rest dues at unsettled =
     × (list_all counts taken ≡ true → to ≡ at + length taken)
 
 -- parts for something due are not without a line
-no_lines : (basis : Basis) (due : Due) (dues : List Due)
+no_lines : (basis : Basis) (due : Expected) (dues : List Expected)
     → AreParts true basis (due ∷ dues) [] → ⊥
 no_lines basis due dues parts =
     let first = part_parts true basis due parts.0 parts.2 in
@@ -573,7 +580,7 @@ read_none basis taken rest at unsettled none = (
     count_none none_left = omega arith
 
 -- proved lines are read as whole, whatever follows
-pub proved_is_accepted : (basis : Basis) (taken rest : List Token) (dues : List Due)
+pub proved_is_accepted : (basis : Basis) (taken rest : List Token) (dues : List Expected)
     (at unsettled : ℕ) → AreParts true basis dues (counted_lines taken)
     → IsRead basis taken rest dues at unsettled
 proved_is_accepted basis taken rest [] at unsettled parts =

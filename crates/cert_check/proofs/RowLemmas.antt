@@ -5,10 +5,12 @@ use Rattle.std.specs.Prelude.{bytes_eq, if◌then◌else◌}
 use Rattle.std.proofs.lemmas.Bool.{and_parts, and_from, eqb-true}
 use Rattle.std.proofs.lemmas.Slice.Eq.{bytes_eq-Decides}
 use Rattle.fixture_sheet.specs.Fields.{field}
-use Rattle.cert_check.specs.declared.dues.RowWord.{RowWord}
-use Rattle.cert_check.specs.declared.dues.RowWord.TheVariants.{Clinched, Lost, Possible, Unsettled}
-use Rattle.cert_check.specs.Dues.{ask_fields, verdict_fields, is_ask_row, is_row_about, word_named}
-use Rattle.cert_check.specs.Dues.{word_in_row, text_of_word}
+use Rattle.cert_check.specs.declared.expected.RowWord.{RowWord}
+use Rattle.cert_check.specs.declared.expected.RowWord.TheVariants.{Clinched, Lost, Possible}
+use Rattle.cert_check.specs.declared.expected.RowWord.TheVariants.{Unsettled}
+use Rattle.cert_check.specs.ExpectedItems.{ask_fields, verdict_fields, is_ask_row, is_row_about}
+use Rattle.cert_check.specs.ExpectedItems.{word_named}
+use Rattle.cert_check.specs.ExpectedItems.{word_in_row, text_of_word}
 
 -- texts of which the test says so are the same
 bytes_eq-true : (text other : List ℕ) → bytes_eq text other ≡ true → text ≡ other

@@ -9,22 +9,23 @@ use Rattle.std.proofs.lemmas.Bool.{eqb-true, eq-eqb}
 use Rattle.std.proofs.lemmas.List.{length_push}
 use Rattle.league_core.specs.declared.season.Score.{Score}
 use Rattle.league_core.specs.declared.question.Question.{Question}
-use Rattle.league_core.specs.Finishes.{may_end, may_all_end, same_score}
-use Rattle.league_core.specs.Ranking.{are_lots}
-use Rattle.league_core.specs.Questions.{holds_at}
+use Rattle.league_core.specs.game.Finishes.{may_end, may_all_end, same_score}
+use Rattle.league_core.specs.game.Ranking.{are_lots}
+use Rattle.league_core.specs.game.Questions.{holds_at}
 use Rattle.league_core.proofs.OptionLemmas.{same_score-true, same_score-itself}
 use Rattle.cert_text.specs.declared.proof_line.ProofLine.{ProofLine}
 use Rattle.cert_text.specs.declared.proof_line.ProofLine.TheVariants as line
 use Rattle.cert_text.specs.ExampleLines.{score_lines, lots_line}
 use Rattle.cert_check.specs.declared.token.Token.{Token}
 use Rattle.cert_check.specs.declared.token.Token.TheVariants.{Proof}
-use Rattle.cert_check.specs.Dues.{Basis, Due, score, lots, go, scores_due, is_ending, finish_with}
-use Rattle.cert_check.specs.Dues.{after_score, after_lots}
-use Rattle.cert_check.specs.Grammar.{IsPartFor, AreParts, IsExampleFrom, AreLotsOf}
+use Rattle.cert_check.specs.ExpectedItems.{Basis, Expected, score, lots, go, scores_due, is_ending}
+use Rattle.cert_check.specs.ExpectedItems.{finish_with}
+use Rattle.cert_check.specs.ExpectedItems.{after_score, after_lots}
+use Rattle.cert_check.specs.inside.Grammar.{IsPartFor, AreParts, IsExampleFrom, AreLotsOf}
 use Rattle.cert_check.proofs.NextLemmas.{go-same, bad-go, go-if, if-go, only_part, as_only_part}
 use Rattle.cert_check.proofs.NextLemmas.{Parted}
 
--- an ended fixture in front of the rest of an example
+-- an ended fixture before the rest of an example
 with_ended : (proved : Bool) (basis : Basis) (question : Question) (ended left : List (Option
     Score))
     (played : Option Score) (ending : Score) (tokens : List Token)
@@ -50,7 +51,7 @@ with_ended proved basis question ended left played ending tokens may rest =
           (length_push ended (Some ending)),
     )
 
--- what is due behind scores is the rest of an example
+-- what is due after scores is the rest of an example
 pub scores_due-rest : (proved : Bool) (basis : Basis) (question : Question)
     (left ended : List (Option Score)) (tokens : List Token)
     → IsPartFor proved basis (scores_due question ended left) tokens
@@ -87,7 +88,7 @@ without_ended proved basis question ended left scores ending drawn may are holds
           (sym (length_push ended (Some ending))),
     )
 
--- the rest of an example is what is due behind the scores before it
+-- the rest of an example is what is due after the scores before it
 pub rest-scores_due : (proved : Bool) (basis : Basis) (question : Question)
     (left ended : List (Option Score)) (tokens : List Token)
     → IsExampleFrom proved basis question ended left tokens
@@ -139,9 +140,9 @@ rest-scores_due proved basis question (Some played ∷ left) ended tokens rest =
         (without_ended proved basis question ended left scores played drawn parts.1 are
         (subst H (sym same) holds)))
 
--- a score, with what is due behind it, is the rest of an example
+-- a score, with what is due after it, is the rest of an example
 pub join_score : (proved : Bool) (basis : Basis) (question : Question)
-    (ended left : List (Option Score)) (shown : ProofLine) (holds : Bool) (more : List Due)
+    (ended left : List (Option Score)) (shown : ProofLine) (holds : Bool) (more : List Expected)
     (tokens : List Token) → after_score basis question ended left shown ≡ go holds more
     → AreParts proved basis more tokens
     → IsExampleFrom proved basis question ended (None ∷ left) (Proof shown ∷ tokens)
@@ -151,7 +152,7 @@ join_score proved basis question ended left (line.Score fixture ending) holds mo
     let fits = go-if ((fixture == length ended) && is_ending basis.sheet ending)
     (go true (due ∷ [])) holds more goes in
     let tests = and_parts (fixture == length ended) (is_ending basis.sheet ending) fits.0 in
-    let P : List Due → Type 0 = λ it. AreParts proved basis it tokens in
+    let P : List Expected → Type 0 = λ it. AreParts proved basis it tokens in
     let same = go-same true holds (due ∷ []) more fits.1 in
     let rest = with_ended proved basis question ended left None ending tokens tests.1
     (scores_due-rest proved basis question left (ended ++ Some ending ∷ []) tokens
@@ -169,7 +170,7 @@ join_score proved basis question ended left _ holds more tokens goes parts =
 
 -- the lots are the rest of an example
 pub join_lots : (proved : Bool) (basis : Basis) (question : Question) (ended : List (Option Score))
-    (shown : ProofLine) (holds : Bool) (more : List Due) (tokens : List Token)
+    (shown : ProofLine) (holds : Bool) (more : List Expected) (tokens : List Token)
     → after_lots basis question ended shown ≡ go holds more → (proved ≡ true → holds ≡ true)
     → AreParts proved basis more tokens
     → AreLotsOf proved basis question ended (Proof shown ∷ tokens)
@@ -177,7 +178,7 @@ join_lots proved basis question ended (line.Lots list) holds more tokens goes so
     let says = holds_at basis.sheet question (finish_with basis.season ended) list.list in
     let fits = go-if (are_lots (length basis.sheet.clubs) list.list) (go says []) holds more goes in
     let same = go-same says holds [] more fits.1 in
-    let P : List Due → Type 0 = λ it. AreParts proved basis it tokens in
+    let P : List Expected → Type 0 = λ it. AreParts proved basis it tokens in
     let ends : tokens ≡ [] = subst P (sym same.1) parts in (
       list.list,
       fits.0,

@@ -9,28 +9,30 @@ use Rattle.league_core.specs.declared.question.Question.{Question}
 use Rattle.league_core.specs.declared.zone.Literal.{Literal}
 use Rattle.league_core.specs.declared.tree.TreeNode.{TreeNode}
 use Rattle.league_core.specs.declared.tree.TreeNode.TheVariants as node
-use Rattle.league_core.specs.Verdicts.{HasExample, HasNoExample}
-use Rattle.league_core.specs.Questions.{full_question}
-use Rattle.league_core.specs.Trees.{Tree}
+use Rattle.league_core.specs.game.Verdicts.{HasExample, HasNoExample}
+use Rattle.league_core.specs.game.Questions.{full_question}
+use Rattle.league_core.specs.search.Trees.{Tree}
 use Rattle.league_core.proofs.TreeLemmas.{NodesMeet-weaker}
 use Rattle.league_core.proofs.ClubSetLemmas.{has_club-range}
 use Rattle.league_core.proofs.ClubLemmas.{all_members}
-use Rattle.reason_laws.specs.Refutations.{IsRefutedLeaf}
+use Rattle.reason_laws.specs.inside.Refutations.{IsRefutedLeaf}
 use Rattle.reason_laws.proofs.RefutationLemmas.{refutation_shows}
 use Rattle.cert_check.specs.declared.token.Token.{Token}
-use Rattle.cert_check.specs.declared.dues.RowWord.{RowWord}
-use Rattle.cert_check.specs.declared.dues.RowWord.TheVariants.{Clinched, Lost, Possible, Unsettled}
-use Rattle.cert_check.specs.declared.dues.TreeKind.TheVariants.{Refutation}
-use Rattle.cert_check.specs.Dues.{Basis, Due, ask_row, verdict_row, finish_with}
+use Rattle.cert_check.specs.declared.expected.RowWord.{RowWord}
+use Rattle.cert_check.specs.declared.expected.RowWord.TheVariants.{Clinched, Lost, Possible}
+use Rattle.cert_check.specs.declared.expected.RowWord.TheVariants.{Unsettled}
+use Rattle.cert_check.specs.declared.expected.TreeKind.TheVariants.{Refutation}
+use Rattle.cert_check.specs.ExpectedItems.{Basis, Expected, ask_row, verdict_row, finish_with}
 use Rattle.cert_check.specs.Machine.{rows_on_line, part_of_ask}
-use Rattle.cert_check.specs.Grammar.{NodeFits, TreesFit, IsRefutationPart, IsExamplePart, IsBehind}
-use Rattle.cert_check.specs.Grammar.{AreParts}
+use Rattle.cert_check.specs.inside.Grammar.{NodeFits, TreesFit, IsRefutationPart, IsExamplePart}
+use Rattle.cert_check.specs.inside.Grammar.{IsAfterReport, AreParts}
 use Rattle.std.proofs.Common.{drop}
 use Rattle.cert_check.specs.Tokens.{counted_lines}
 use Rattle.cert_check.specs.LineLists.{NumberedLine, tokens_of}
 use Rattle.cert_check.specs.Machine.{whole_at}
-use Rattle.cert_check.specs.Truths.{IsToldTruly, AreTrueRows}
-use Rattle.cert_check.specs.Calls.{part_ending, TellsTruly}
+use Rattle.cert_check.specs.inside.Truths.{IsSaidTruly, AreTrueRows}
+use Rattle.cert_check.specs.Machine.{part_ending}
+use Rattle.cert_check.specs.inside.Calls.{SaysTruly}
 use Rattle.cert_check.proofs.ReportLemmas.{accepted_is_proved}
 
 -- a node of a proved refutation is a split, or a leaf whose reason holds
@@ -72,10 +74,10 @@ example_is basis question tokens part =
       },
     )
 
--- what stands behind a word makes it true
+-- what comes after a word makes it true
 word_true : (basis : Basis) (line club : ℕ) (word : RowWord) (tokens : List Token)
-    → club < length basis.sheet.clubs → IsBehind true basis line club word tokens
-    → IsToldTruly basis line club word
+    → club < length basis.sheet.clubs → IsAfterReport true basis line club word tokens
+    → IsSaidTruly basis line club word
 word_true basis line club Clinched tokens club_in behind =
     refutation_decides basis (full_question club line Outside) tokens club_in behind
 word_true basis line club Lost tokens club_in behind =
@@ -87,13 +89,13 @@ word_true basis line club Possible tokens club_in behind = (
 word_true basis line club Unsettled tokens club_in behind = tt
 
 -- the row of an ask, or that of a club of the sheet
-is_row_due : ℕ → Due → Bool
+is_row_due : ℕ → Expected → Bool
 is_row_due clubs ask_row = true
 is_row_due clubs (verdict_row line club) = nat_lt club clubs
 is_row_due clubs _ = false
 
 -- rows that are proved are true
-rows_true : (basis : Basis) (dues : List Due) (tokens : List Token)
+rows_true : (basis : Basis) (dues : List Expected) (tokens : List Token)
     → list_all (is_row_due (length basis.sheet.clubs)) dues ≡ true
     → AreParts true basis dues tokens → AreTrueRows basis dues tokens
 unfolding is_row_due
@@ -146,7 +148,7 @@ part_true basis tokens parts =
 -- what is read as whole tells the truth
 pub told_truly : (basis : Basis) (lines : List NumberedLine) (from next unsettled : ℕ)
     → part_ending basis lines from ≡ whole_at next unsettled
-    → TellsTruly basis lines from next
+    → SaysTruly basis lines from next
 told_truly basis lines from next unsettled ending =
     let read = accepted_is_proved basis (drop from (tokens_of lines)) (part_of_ask basis.sheet)
     from 0

@@ -1,11 +1,6 @@
--- Read in this order: what a line is, what may come and what it leaves due, a whole report, its
--- grammar by cases, and the laws that join the two.
+-- Read in this order: what a line is, what may come and what it leaves due, and a whole report.
 pub mod Tokens
 pub mod LineLists
-pub mod Dues
+pub mod ExpectedItems
 pub mod Machine
-pub mod Grammar
-pub mod Laws
-pub mod Truths
-pub mod Calls
-pub mod Answers
+pub mod inside

@@ -7,14 +7,14 @@ use Rattle.fixture_sheet.specs.Fields.{has_return, record_of}
 use Rattle.cert_text.specs.Forms.{line_in}
 use Rattle.cert_text.specs.declared.proof_line.ProofLine.{ProofLine}
 use Rattle.cert_check.specs.declared.token.Token.{Token}
-use Rattle.cert_check.specs.declared.token.Token.TheVariants.{Passed, Row, Proof, Neither}
+use Rattle.cert_check.specs.declared.token.Token.TheVariants.{Blank, Row, Proof, Unknown}
 
 -- the line counts: it is not passed over
 abbrev pub counts : Token → Bool
-counts Passed = false
+counts Blank = false
 counts (Row fields) = true
 counts (Proof line) = true
-counts Neither = true
+counts Unknown = true
 
 -- the lines without those that are passed over
 abbrev pub counted_lines : List Token → List Token
@@ -27,17 +27,17 @@ begins_proof (byte ∷ bytes) = byte == 91
 
 -- what a text that begins with a bracket is
 abbrev pub token_of_line : Option ProofLine → Token
-token_of_line None = Neither
+token_of_line None = Unknown
 token_of_line (Some line) = Proof line
 
 -- what a record is
 abbrev pub token_of_record : Option (List (List ℕ)) → Token
-token_of_record None = Passed
+token_of_record None = Blank
 token_of_record (Some fields) = Row fields
 
 -- what any other text is
 abbrev pub token_of_row : List ℕ → Token
-token_of_row text = if has_return text then Neither else token_of_record (record_of text)
+token_of_row text = if has_return text then Unknown else token_of_record (record_of text)
 
 -- what the content of a line is
 abbrev pub token_of : List ℕ → Token

@@ -1,20 +1,20 @@
 //! Examples in a report, score by score, and the lots that end them.
 
 ghost use Rattle.std.specs.Prelude.{◌≡◌, ◌<◌, ◌≤◌, List, Option, IsTrue, IfOk, IfSome, length};
-ghost use Rattle.league_core.specs.Seasons.{IsSeasonOf};
-ghost use Rattle.league_core.specs.Questions.{IsQuestionOf, holds_at};
-ghost use Rattle.league_core.specs.Questions as questions;
-ghost use Rattle.league_core.specs.Ranking.{are_lots};
-ghost use Rattle.league_core.specs.Sums as sums;
+ghost use Rattle.league_core.specs.game.Seasons.{IsSeasonOf};
+ghost use Rattle.league_core.specs.game.Questions.{IsQuestionOf, holds_at};
+ghost use Rattle.league_core.specs.game.Questions as questions;
+ghost use Rattle.league_core.specs.game.Ranking.{are_lots};
+ghost use Rattle.league_core.specs.game.Sums as sums;
 ghost use Rattle.cert_check.specs.Tokens.{counts};
-ghost use Rattle.cert_check.specs.Dues.{after, score, lots, whole_example};
-ghost use Rattle.cert_check.specs.Dues as dues;
-ghost use Rattle.cert_check.specs.Calls.{Goes, GoesOverFixture, after_score_if, lots_of_token};
-ghost use Rattle.cert_check.specs.Calls.{IsOver};
+ghost use Rattle.cert_check.specs.ExpectedItems.{after, score, lots, whole_example};
+ghost use Rattle.cert_check.specs.ExpectedItems as dues;
+ghost use Rattle.cert_check.specs.inside.Calls.{Goes, GoesOverFixture, after_score_if};
+ghost use Rattle.cert_check.specs.inside.Calls.{lots_of_token, IsOver};
 
 use crate::ranges::is_ending;
 use crate::report::Report;
-use crate::stop::Halt;
+use crate::stop::CheckStopAt;
 use crate::token::Token;
 use cert_text::ProofLine;
 use final_rank::place;
@@ -24,7 +24,7 @@ use tie_criteria::points_of;
 impl<'a> Report<'a> {
     /// An example behind its head: a score for each fixture that the season has none for, and lots
     /// with which the question holds.
-    pub fn example(&self, from: usize, question: Question) -> Result<usize, Halt>
+    pub fn example(&self, from: usize, question: Question) -> Result<usize, CheckStopAt>
         requires room { from ≤ length self.now.tokens }
         requires question { IsQuestionOf self.now.basis.sheet question }
         ensures { Goes self.now from (whole_example self.now.basis question) result }
@@ -38,7 +38,12 @@ impl<'a> Report<'a> {
     }
 
     // Goes on over one fixture: its score is read where it has none.
-    fn take_fixture(&self, from: usize, fixture: u16, finish: &mut Season) -> Result<usize, Halt>
+    fn take_fixture(
+        &self,
+        from: usize,
+        fixture: u16,
+        finish: &mut Season,
+    ) -> Result<usize, CheckStopAt>
         requires room { from ≤ length self.now.tokens }
         requires in_range { fixture < length finish.old.scores }
         ensures goes { GoesOverFixture self.now from fixture finish.old.scores finish.new.scores
@@ -51,11 +56,11 @@ impl<'a> Report<'a> {
         let (at, token) = self.next(from)?;
         match self.score_in(&token, fixture) {
             Some(score) => {
-                self.keeps_league();
+                self.recall_invariant();
                 finish.apply(&Event::Set { fixture, score });
                 Ok(at + 1)
             }
-            None => Err(Halt::BadLine(at)),
+            None => Err(CheckStopAt::BadLine(at)),
         }
     }
 
@@ -85,7 +90,7 @@ impl<'a> Report<'a> {
         }
     }
 
-    fn lots(&self, from: usize, question: Question, finish: &Season) -> Result<usize, Halt>
+    fn lots(&self, from: usize, question: Question, finish: &Season) -> Result<usize, CheckStopAt>
         requires room { from ≤ length self.now.tokens }
         requires question { IsQuestionOf self.now.basis.sheet question }
         requires of_sheet { IsSeasonOf self.now.basis.sheet finish.now }
@@ -98,10 +103,10 @@ impl<'a> Report<'a> {
                 if self.holds(question, finish, &drawn)? {
                     Ok(at + 1)
                 } else {
-                    Err(Halt::NoProof(at))
+                    Err(CheckStopAt::NoProof(at))
                 }
             }
-            None => Err(Halt::BadLine(at)),
+            None => Err(CheckStopAt::BadLine(at)),
         }
     }
 

@@ -1,11 +1,12 @@
 //! The laws of the grammar: functions that do nothing, each with a law as its contract.
 //!
-//! The statements are in `specs/Laws.antt`.
+//! The statements are in `specs/inside/Laws.antt`.
 
-ghost use Rattle.cert_check.specs.Laws.{AcceptedPartsAreProved, ProvedPartsAreAccepted};
-ghost use Rattle.cert_check.specs.Truths.{ProvedRowsAreTrue};
-ghost use Rattle.cert_check.specs.Answers.{ShownAnswersAreAccepted};
-ghost use Rattle.cert_check.specs.Laws.{BadLinesDoNotFit, UnprovedLinesFit, ShortReportsBegin};
+ghost use Rattle.cert_check.specs.inside.Laws.{AcceptedPartsAreProved, ProvedPartsAreAccepted};
+ghost use Rattle.cert_check.specs.inside.Truths.{ProvedRowsAreTrue};
+ghost use Rattle.cert_check.specs.inside.Answers.{ShownAnswersAreAccepted};
+ghost use Rattle.cert_check.specs.inside.Laws.{BadLinesDoNotFit, UnprovedLinesFit};
+ghost use Rattle.cert_check.specs.inside.Laws.{ShortReportsBegin};
 
 /// What is accepted is made of proved parts.
 pub fn accepted_parts_are_proved()

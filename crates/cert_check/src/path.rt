@@ -4,15 +4,15 @@
 ghost use Rattle.std.specs.Prelude.{◌≡◌, [], ◌∷◌, Bool, true, IsTrue, if◌then◌else◌, IfOk};
 ghost use Rattle.std.specs.List.{list_all};
 ghost use Rattle.league_core.specs.declared.zone.Test.{Test};
-ghost use Rattle.league_core.specs.Zones.{is_zone_of};
-ghost use Rattle.cert_check.specs.Calls.{IsInSeasonOf, pending_of};
+ghost use Rattle.league_core.specs.search.Zones.{is_zone_of};
+ghost use Rattle.cert_check.specs.inside.Calls.{IsInSeasonOf, pending_of};
 
-use check_bounds::Way;
+use check_bounds::Trail;
 use league_core::{Literal, OutOfMemory};
 
 /// Goes on to the next half that is due: the last yes of the way becomes a no. False where no half
 /// is due.
-pub fn next_half(path: &mut Way) -> Result<bool, OutOfMemory>
+pub fn next_half(path: &mut Trail) -> Result<bool, OutOfMemory>
     requires { IsTrue (is_zone_of path.old.sheet path.old.zone) }
     ensures due { IfOk result (λ found. pending_of path.old.zone
         ≡ (if found then path.new.zone ∷ pending_of path.new.zone else [])) }

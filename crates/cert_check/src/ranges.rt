@@ -1,12 +1,12 @@
 //! What a report's lines may name, for a sheet and a question.
 
 ghost use Rattle.std.specs.Prelude.{◌≡◌, ◌<◌, length};
-ghost use Rattle.league_core.specs.ClubSets.{clubs_in};
-ghost use Rattle.league_core.specs.Sheets.{IsWithinLimits};
-ghost use Rattle.league_core.specs.Zones.{is_test_of, is_of_rival};
+ghost use Rattle.league_core.specs.game.ClubSets.{clubs_in};
+ghost use Rattle.league_core.specs.game.Sheets.{IsWithinLimits};
+ghost use Rattle.league_core.specs.search.Zones.{is_test_of, is_of_rival};
 ghost use Rattle.cert_text.specs.Ranges.{is_test_in_range};
 ghost use Rattle.cert_text.specs.TreeLines as tree_lines;
-ghost use Rattle.cert_check.specs.Dues as dues;
+ghost use Rattle.cert_check.specs.ExpectedItems as dues;
 
 use league_core::limits::{MOST_CLUBS, MOST_FIXTURES, MOST_GOALS};
 use league_core::{Claim, ClubSet, Question, Reason, Score, Sheet, Test};

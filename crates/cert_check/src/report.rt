@@ -1,14 +1,14 @@
 //! A report with what it is judged by, and the next of its lines that counts.
 
 ghost use Rattle.std.specs.Prelude.{◌≡◌, ◌<◌, ◌≤◌, ◌+◌, ◌∷◌, length, drop, IfOk};
-ghost use Rattle.league_core.specs.Seasons.{IsLeague};
-ghost use Rattle.check_bounds.specs.Ways.{root_of};
-ghost use Rattle.cert_check.specs.Calls.{IsNextAt, FindsNext};
+ghost use Rattle.league_core.specs.game.Seasons.{IsLeague};
+ghost use Rattle.check_bounds.specs.inside.Trails.{root_of};
+ghost use Rattle.cert_check.specs.inside.Calls.{IsNextAt, FindsNext};
 
 use crate::line_list::LineList;
-use crate::stop::Halt;
+use crate::stop::CheckStopAt;
 use crate::token::{Token, counts};
-use check_bounds::Way;
+use check_bounds::Trail;
 use league_core::{OutOfMemory, Season, Sheet};
 use std::alloc::Global;
 use std::marker::Model;
@@ -23,16 +23,17 @@ pub struct Report<'a> {
     pub epoch: u64,
     pub lines: &'a LineList,
     /// The way to the whole season, of which each tree takes a copy.
-    pub root: Way<'a>,
+    pub root: Trail<'a>,
 }
 
 impl<'a> Model for Report<'a> {
-    ghost use Rattle.cert_check.specs.Calls.{Judged, basis_of};
+    ghost use Rattle.cert_check.specs.inside.Calls.{ReportView};
+    ghost use Rattle.cert_check.specs.Machine.{basis_of};
     ghost use Rattle.cert_check.specs.LineLists.{tokens_of};
 
-    ghost Value = { Judged };
+    ghost Value = { ReportView };
 
-    ghost use Rattle.cert_check.specs.Calls.{IsJudgedFrom};
+    ghost use Rattle.cert_check.specs.inside.Calls.{IsJudgedFrom};
 
     ghost view = { λ report. record {
       basis = basis_of report.sheet.now report.season.now report.epoch;
@@ -44,14 +45,14 @@ impl<'a> Model for Report<'a> {
 
 impl<'a> Report<'a> {
     /// Hands on what the type keeps: a sheet within the limits, and a season of it.
-    pub fn keeps_league(&self)
+    pub fn recall_invariant(&self)
         ensures { IsLeague self.now.basis.sheet self.now.basis.season }
     {
         let _sheet = self.sheet;
     }
 
     /// The way from which a tree begins: to the whole season.
-    pub fn whole_season(&self) -> Result<Way<'a>, OutOfMemory>
+    pub fn whole_season(&self) -> Result<Trail<'a>, OutOfMemory>
         ensures { IfOk result
             (λ way. way ≡ root_of self.now.basis.sheet self.now.basis.season) }
     {
@@ -90,7 +91,7 @@ impl<'a> Report<'a> {
     }
 
     /// The next line that counts, from a position on, with its position.
-    pub fn next(&self, from: usize) -> Result<(usize, Token), Halt>
+    pub fn next(&self, from: usize) -> Result<(usize, Token), CheckStopAt>
         requires { from ≤ length self.now.tokens }
         ensures { FindsNext self.now from result }
     {
@@ -100,6 +101,6 @@ impl<'a> Report<'a> {
                 return Ok((at, token));
             }
         }
-        Err(Halt::Short)
+        Err(CheckStopAt::Short)
     }
 }

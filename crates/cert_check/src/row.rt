@@ -5,14 +5,15 @@ ghost use Rattle.std.specs.Prelude.{IsTrue, IfOk, IfSome, length};
 ghost use Rattle.std.specs.Prelude.{bytes_eq, codes, string_bytes, decimal};
 ghost use Rattle.fixture_sheet.specs.Fields.{field};
 ghost use Rattle.cert_check.specs.Tokens.{counts};
-ghost use Rattle.cert_check.specs.Dues.{ask_row, verdict_row, promised, after, name_of_club};
-ghost use Rattle.cert_check.specs.Dues as dues;
+ghost use Rattle.cert_check.specs.ExpectedItems.{ask_row, verdict_row, promised, after};
+ghost use Rattle.cert_check.specs.ExpectedItems.{name_of_club};
+ghost use Rattle.cert_check.specs.ExpectedItems as dues;
 ghost use Rattle.cert_check.specs.Machine.{with_unsettled};
-ghost use Rattle.cert_check.specs.Calls.{Goes, GoesByWord, after_ask_row_if, unsettled_in};
+ghost use Rattle.cert_check.specs.inside.Calls.{Goes, GoesByWord, after_ask_row_if, unsettled_in};
 
-use crate::dues::RowWord;
+use crate::expected::RowWord;
 use crate::report::Report;
-use crate::stop::Halt;
+use crate::stop::CheckStopAt;
 use crate::token::Token;
 use fixture_sheet::Fields;
 use league_core::OutOfMemory;
@@ -20,7 +21,7 @@ use std::alloc::{AllocError, Global};
 
 impl<'a> Report<'a> {
     /// The row of the ask.
-    pub fn ask_row(&self, from: usize) -> Result<usize, Halt>
+    pub fn ask_row(&self, from: usize) -> Result<usize, CheckStopAt>
         requires { from ≤ length self.now.tokens }
         ensures { Goes self.now from ask_row result }
     {
@@ -28,7 +29,7 @@ impl<'a> Report<'a> {
         if self.is_ask_row(&token)? {
             Ok(at + 1)
         } else {
-            Err(Halt::BadLine(at))
+            Err(CheckStopAt::BadLine(at))
         }
     }
 
@@ -47,7 +48,12 @@ impl<'a> Report<'a> {
     }
 
     /// The row of a line and a club, with its word.
-    pub fn verdict_row(&self, from: usize, line: u8, club: u8) -> Result<(usize, RowWord), Halt>
+    pub fn verdict_row(
+        &self,
+        from: usize,
+        line: u8,
+        club: u8,
+    ) -> Result<(usize, RowWord), CheckStopAt>
         requires room { from ≤ length self.now.tokens }
         requires in_range { club < length self.now.basis.sheet.clubs }
         ensures { GoesByWord self.now from line club result }
@@ -55,7 +61,7 @@ impl<'a> Report<'a> {
         let (at, token) = self.next(from)?;
         match self.word_in(&token, line, club)? {
             Some(word) => Ok((at + 1, word)),
-            None => Err(Halt::BadLine(at)),
+            None => Err(CheckStopAt::BadLine(at)),
         }
     }
 

@@ -7,7 +7,7 @@ use league_core::OutOfMemory;
 /// The part of one ask is proved.
 #[derive(Clone, Copy, Debug, PartialEq, Eq)]
 pub struct Accepted {
-    /// The position behind the part's last line.
+    /// The position after the part's last line.
     pub next: usize,
     /// How many verdict rows the part has.
     pub rows: u32,
@@ -39,19 +39,19 @@ impl From<OutOfMemory> for CheckStop {
 
 // The same by positions of lines, from 0.
 #[derive(Clone, Copy)]
-pub enum Halt {
+pub enum CheckStopAt {
     BadLine(usize),
     NoProof(usize),
     Short,
     OutOfMemory,
 }
 
-impl From<OutOfMemory> for Halt {
-    ghost use Rattle.cert_check.specs.declared.stop.Halt.TheVariants.{OutOfMemory};
+impl From<OutOfMemory> for CheckStopAt {
+    ghost use Rattle.cert_check.specs.declared.stop.CheckStopAt.TheVariants.{OutOfMemory};
 
     ghost from_gives = { λ _ stop. stop ≡ OutOfMemory };
 
-    fn from(_: OutOfMemory) -> Halt {
-        Halt::OutOfMemory
+    fn from(_: OutOfMemory) -> CheckStopAt {
+        CheckStopAt::OutOfMemory
     }
 }

@@ -14,13 +14,13 @@ use std::alloc::Global;
 #[derive(Drop)]
 pub enum Token {
     /// No field is left of it: it is passed over.
-    Passed,
+    Blank,
     /// A row, by its fields.
     Row(Fields),
     /// A proof line.
     Proof(ProofLine),
     /// Neither: no place of a report has such a line.
-    Neither,
+    Unknown,
 }
 
 /// What a line is, by its bytes without its end.
@@ -48,7 +48,7 @@ fn proof_token(alloc: Global, text: &[u8]) -> Result<Token, OutOfMemory>
 {
     match read_line(alloc, text) {
         Ok(line) => Ok(Token::Proof(line)),
-        Err(LineStop::NoForm) => Ok(Token::Neither),
+        Err(LineStop::NoForm) => Ok(Token::Unknown),
         Err(LineStop::OutOfMemory) => Err(OutOfMemory),
     }
 }
@@ -58,8 +58,8 @@ fn row_token(alloc: Global, text: &[u8]) -> Result<Token, OutOfMemory>
 {
     match fields_of(alloc, text) {
         Ok(Some(fields)) => Ok(Token::Row(fields)),
-        Ok(None) => Ok(Token::Passed),
-        Err(FieldsStop::InnerReturn) => Ok(Token::Neither),
+        Ok(None) => Ok(Token::Blank),
+        Err(FieldsStop::InnerReturn) => Ok(Token::Unknown),
         Err(FieldsStop::OutOfMemory) => Err(OutOfMemory),
     }
 }
@@ -68,5 +68,5 @@ fn row_token(alloc: Global, text: &[u8]) -> Result<Token, OutOfMemory>
 pub fn counts(token: &Token) -> bool
     ensures { result ≡ tokens.counts token.now }
 {
-    !matches!(token, Token::Passed)
+    !matches!(token, Token::Blank)
 }

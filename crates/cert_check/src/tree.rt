@@ -1,27 +1,27 @@
 //! Trees in a report, node by node.
 
 ghost use Rattle.std.specs.Prelude.{◌≡◌, ◌<◌, ◌≤◌, ◌+◌, ◌^◌, IsTrue, OnOk, true, length};
-ghost use Rattle.league_core.specs.Questions.{IsQuestionOf};
-ghost use Rattle.league_core.specs.Reasons as reasons;
+ghost use Rattle.league_core.specs.game.Questions.{IsQuestionOf};
+ghost use Rattle.league_core.specs.search.Reasons as reasons;
 ghost use Rattle.cert_check.specs.Tokens.{counts};
-ghost use Rattle.cert_check.specs.Dues.{whole_tree, after};
-ghost use Rattle.cert_check.specs.Dues as dues;
-ghost use Rattle.cert_check.specs.Calls.{Goes, NodeSays, nodes_due, node_of_token, pending_of};
-ghost use Rattle.cert_check.specs.Calls.{IsPathFor, after_walked};
+ghost use Rattle.cert_check.specs.ExpectedItems.{whole_tree, after};
+ghost use Rattle.cert_check.specs.ExpectedItems as dues;
+ghost use Rattle.cert_check.specs.inside.Calls.{Goes, NodeSays, nodes_due, node_of_token};
+ghost use Rattle.cert_check.specs.inside.Calls.{pending_of, IsPathFor, after_walked};
 
-use crate::dues::{Tally, TreeKind};
+use crate::expected::{Tally, TreeKind};
 use crate::path::next_half;
 use crate::ranges::{is_reason_for, is_test_for};
 use crate::report::Report;
-use crate::stop::Halt;
+use crate::stop::CheckStopAt;
 use crate::token::Token;
 use cert_text::ProofLine;
-use check_bounds::Way;
+use check_bounds::Trail;
 use league_core::{Literal, Question, Reason, Test, TreeNode};
 
 // What kind of tree, for which question.
 #[derive(Clone, Copy)]
-pub struct Wanted {
+pub struct TreeSpec {
     pub kind: TreeKind,
     pub question: Question,
 }
@@ -29,13 +29,13 @@ pub struct Wanted {
 // Where the reading of a tree stands: the way to the zone that is due, and what was counted.
 #[derive(Drop)]
 pub struct Walk<'a> {
-    pub path: Way<'a>,
+    pub path: Trail<'a>,
     pub tally: Tally,
 }
 
 impl<'a> Report<'a> {
     /// The nodes of a tree from its root on.
-    pub fn tree(&self, from: usize, wanted: Wanted) -> Result<usize, Halt>
+    pub fn tree(&self, from: usize, wanted: TreeSpec) -> Result<usize, CheckStopAt>
         requires room { from ≤ length self.now.tokens }
         requires question { IsQuestionOf self.now.basis.sheet wanted.question }
         ensures { Goes self.now from (whole_tree wanted.kind wanted.question) result }
@@ -57,14 +57,14 @@ impl<'a> Report<'a> {
         }
     }
 
-    // True where the tree is whole behind this line.
+    // True where the tree is whole after this line.
     fn take_node(
         &self,
         at: usize,
         token: &Token,
-        wanted: Wanted,
+        wanted: TreeSpec,
         walk: &mut Walk,
-    ) -> Result<bool, Halt>
+    ) -> Result<bool, CheckStopAt>
         requires counted { IsTrue (counts token.now) }
         requires question { IsQuestionOf self.now.basis.sheet wanted.question }
         requires path { IsPathFor self.now.basis wanted.question walk.old.path }
@@ -84,8 +84,8 @@ impl<'a> Report<'a> {
                 walk.tally.some_open = true;
                 self.leave(at, wanted, walk)
             }
-            Some(TreeNode::Lent(_)) => Err(Halt::BadLine(at)),
-            None => Err(Halt::BadLine(at)),
+            Some(TreeNode::Lent(_)) => Err(CheckStopAt::BadLine(at)),
+            None => Err(CheckStopAt::BadLine(at)),
         }
     }
 
@@ -94,9 +94,9 @@ impl<'a> Report<'a> {
         at: usize,
         test: Test,
         fresh: bool,
-        wanted: Wanted,
+        wanted: TreeSpec,
         walk: &mut Walk,
-    ) -> Result<bool, Halt>
+    ) -> Result<bool, CheckStopAt>
         requires path { IsPathFor self.now.basis wanted.question walk.old.path }
         requires few { walk.old.tally.news + 1 < 2 ^ 64 }
         ensures says { NodeSays
@@ -106,7 +106,7 @@ impl<'a> Report<'a> {
         ensures few { walk.new.tally.news ≤ walk.old.tally.news + 1 }
     {
         if !is_test_for(self.sheet, &wanted.question, test) {
-            return Err(Halt::BadLine(at));
+            return Err(CheckStopAt::BadLine(at));
         }
         walk.tally = with_fresh(fresh, walk.tally);
         walk.path.go(Literal { test, yes: true })?;
@@ -118,9 +118,9 @@ impl<'a> Report<'a> {
         at: usize,
         reason: Reason,
         fresh: bool,
-        wanted: Wanted,
+        wanted: TreeSpec,
         walk: &mut Walk,
-    ) -> Result<bool, Halt>
+    ) -> Result<bool, CheckStopAt>
         requires question { IsQuestionOf self.now.basis.sheet wanted.question }
         requires path { IsPathFor self.now.basis wanted.question walk.old.path }
         requires few { walk.old.tally.news + 1 < 2 ^ 64 }
@@ -131,17 +131,17 @@ impl<'a> Report<'a> {
         ensures few { walk.new.tally.news ≤ walk.old.tally.news + 1 }
     {
         if !is_reason_for(self.sheet, &wanted.question, reason) {
-            return Err(Halt::BadLine(at));
+            return Err(CheckStopAt::BadLine(at));
         }
         if !self.has_reason(&wanted.question, &walk.path, reason) {
-            return Err(Halt::NoProof(at));
+            return Err(CheckStopAt::NoProof(at));
         }
         walk.tally = with_fresh(fresh, walk.tally);
         self.leave(at, wanted, walk)
     }
 
     // The reason holds in the zone that is due.
-    fn has_reason(&self, question: &Question, path: &Way, reason: Reason) -> bool
+    fn has_reason(&self, question: &Question, path: &Trail, reason: Reason) -> bool
         requires question { IsQuestionOf self.now.basis.sheet question.now }
         requires path { IsPathFor self.now.basis question.now path.now }
         ensures { result ≡ reasons.has_reason self.now.basis.sheet
@@ -151,10 +151,10 @@ impl<'a> Report<'a> {
     }
 
     // Leaves a leaf that proves what it says.
-    fn leave(&self, at: usize, wanted: Wanted, walk: &mut Walk) -> Result<bool, Halt>
+    fn leave(&self, at: usize, wanted: TreeSpec, walk: &mut Walk) -> Result<bool, CheckStopAt>
         requires path { IsPathFor self.now.basis wanted.question walk.old.path }
         ensures says { NodeSays
-            (dues.behind_leaf self.now.basis wanted.kind wanted.question
+            (dues.after_leaf self.now.basis wanted.kind wanted.question
             (pending_of walk.old.path.zone) walk.old.tally true)
             at (nodes_due wanted walk.new) result }
         ensures path { OnOk result (IsPathFor self.now.basis wanted.question walk.new.path) }
@@ -165,7 +165,7 @@ impl<'a> Report<'a> {
         } else if is_tally_whole(self.sheet.budget, wanted.kind, walk.tally) {
             Ok(true)
         } else {
-            Err(Halt::NoProof(at))
+            Err(CheckStopAt::NoProof(at))
         }
     }
 }

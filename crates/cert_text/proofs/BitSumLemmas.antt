@@ -12,8 +12,8 @@ use Rattle.std.proofs.lemmas.Nat.{shr_below}
 use Rattle.std.proofs.lemmas.Bool.{and_parts, and_from, cond_both, le-leb, false≢true}
 use Rattle.std.proofs.lemmas.Nat.Bits.{bit_at-lt}
 use Rattle.league_core.specs.declared.club_set.ClubSet.{ClubSet}
-use Rattle.league_core.specs.ClubSets.{clubs_below, clubs_in}
-use Rattle.league_core.specs.Reasons.{has_member}
+use Rattle.league_core.specs.game.ClubSets.{clubs_below, clubs_in}
+use Rattle.league_core.specs.search.Reasons.{has_member}
 use Rattle.cert_text.specs.Ranges.{is_club_number}
 use Rattle.cert_text.specs.Places.{are_rising_from, bits_at, set_listed}
 

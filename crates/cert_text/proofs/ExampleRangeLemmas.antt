@@ -7,10 +7,10 @@ use Rattle.std.proofs.lemmas.List.Folds.{list_all-append}
 use Rattle.league_core.specs.declared.sheet.Sheet.{Sheet}
 use Rattle.league_core.specs.declared.season.Score.{Score}
 use Rattle.league_core.specs.declared.question.Question.{Question}
-use Rattle.league_core.specs.Results.{Results, is_score, is_score_or_none, are_results}
-use Rattle.league_core.specs.Seasons.{IsLeague}
-use Rattle.league_core.specs.Finishes.{may_end, may_all_end}
-use Rattle.league_core.specs.Questions.{IsExample}
+use Rattle.league_core.specs.game.Results.{Results, is_score, is_score_or_none, are_results}
+use Rattle.league_core.specs.game.Seasons.{IsLeague}
+use Rattle.league_core.specs.game.Finishes.{may_end, may_all_end}
+use Rattle.league_core.specs.game.Questions.{IsExample}
 use Rattle.league_core.proofs.FinishLemmas.{may_end_is_score}
 use Rattle.cert_text.specs.Ranges.{is_fixture_number, is_club_number, is_in_range}
 use Rattle.cert_text.specs.ExampleLines.{score_line_if, score_lines, lots_line, example_lines}

@@ -10,25 +10,25 @@ use Rattle.serde_json.specs.Data.{number, unsigned}
 use Rattle.serde_json.specs.Find.{of_integer, as_i64}
 use Rattle.serde_json.specs.View.{items_of}
 use Rattle.league_core.specs.declared.club_set.ClubSet.{ClubSet}
-use Rattle.league_core.specs.ClubSets.{clubs_in}
-use Rattle.league_core.specs.Reasons.{has_member}
+use Rattle.league_core.specs.game.ClubSets.{clubs_in}
+use Rattle.league_core.specs.search.Reasons.{has_member}
 use Rattle.league_core.specs.declared.question.Claim.{Claim}
 use Rattle.league_core.specs.declared.question.Claim.TheVariants.{Inside, Outside}
 use Rattle.league_core.specs.declared.zone.Test.{Test}
 use Rattle.league_core.specs.declared.zone.Test.TheVariants.{Home, Draw, HomeMost, AwayMost, Rival}
 use Rattle.league_core.specs.declared.zone.Reason.{Reason}
 use Rattle.league_core.specs.declared.zone.Reason.TheVariants.{Count, Window, Low, High, Tie}
-use Rattle.league_core.specs.Limits.{most_clubs, most_fixtures}
+use Rattle.league_core.specs.game.Limits.{most_clubs, most_fixtures}
 use Rattle.cert_text.specs.declared.proof_line.ProofLine.{ProofLine}
 use Rattle.cert_text.specs.declared.proof_line.ProofLine.TheVariants as line
 use Rattle.cert_text.specs.Lines.{word, number_in_text, test_parts, reason_parts, parts_of}
 use Rattle.cert_text.specs.Ranges.{is_fixture_number, is_club_number, is_goal_bound, are_points}
 use Rattle.cert_text.specs.Ranges.{is_test_in_range, is_set_in_range, is_reason_in_range}
 use Rattle.cert_text.specs.Ranges.{is_in_range, most_goal_bound}
-use Rattle.cert_text.specs.Values.{parts_value}
+use Rattle.cert_text.specs.inside.Values.{parts_value}
 use Rattle.cert_text.specs.Places.{if_between, number_here, if_points, listed_clubs, set_listed}
 use Rattle.cert_text.specs.Forms.{test_in, reason_in, line_of_value}
-use Rattle.cert_text.specs.Widths.{is_set_kept, is_reason_kept, is_line_kept}
+use Rattle.cert_text.specs.inside.Widths.{is_set_kept, is_reason_kept, is_line_kept}
 use Rattle.cert_text.proofs.BitSumLemmas.{set_listed-clubs_in}
 
 -- a number within its bounds is found

@@ -3,7 +3,6 @@
 -- rows worked by hand.
 pub mod RowLemmas
 pub mod PlainRowLemmas
-pub mod SetLemmas
 pub mod SetListLemmas
 pub mod ReadLemmas
 pub mod RangeLemmas

@@ -20,7 +20,7 @@ use Rattle.cert_text.specs.declared.proof_line.ProofLine.TheVariants as line
 use Rattle.cert_text.specs.Lines.{Part, word, whole, points, clubs, number_in_text, claim_word}
 use Rattle.cert_text.specs.Lines.{test_parts, reason_parts, parts_of, array_text, part_text}
 use Rattle.cert_text.specs.Lines.{text_of_proof_line}
-use Rattle.cert_text.specs.Values.{part_value, parts_value}
+use Rattle.cert_text.specs.inside.Values.{part_value, parts_value}
 
 -- a byte that stands for itself in a JSON string
 abbrev pub is_plain : ℕ → Bool

@@ -7,8 +7,8 @@ use Rattle.std.specs.List.{list_all, range_with_len}
 use Rattle.std.proofs.lemmas.Bool.{and_parts, and_from, eqb-true}
 use Rattle.std.proofs.lemmas.Bool.{ne_eqb, lt-ltb, ltb-true, cases_lt}
 use Rattle.std.proofs.lemmas.Map.Steps.{le-length_from_below}
-use Rattle.league_core.specs.Sums.{has_club}
-use Rattle.league_core.specs.Ranking.{are_lots}
+use Rattle.league_core.specs.game.Sums.{has_club}
+use Rattle.league_core.specs.game.Ranking.{are_lots}
 use Rattle.league_core.proofs.ClubLemmas.{has_club-append, each_in_range, any_from_has}
 
 -- without an entry past the clubs the list would be too short for them

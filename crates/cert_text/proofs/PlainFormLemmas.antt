@@ -18,9 +18,10 @@ use Rattle.cert_text.specs.Lines.{test_parts, parts_of, text_of_proof_line}
 use Rattle.cert_text.specs.Ranges.{is_club_number, is_in_range, is_fixture_number}
 use Rattle.cert_text.specs.Places.{set_listed, listed_clubs}
 use Rattle.cert_text.specs.Forms.{line_in}
-use Rattle.cert_text.specs.PlainForms.{text_named, next_named, text_of_rest, AreClubsAtEnd}
-use Rattle.cert_text.specs.PlainForms.{IsSetAtEnd, IsTestAtEnd, IsReasonAtEnd, IsNumberBefore}
-use Rattle.cert_text.specs.Widths.{is_line_kept}
+use Rattle.cert_text.specs.inside.PlainForms.{text_named, next_named, text_of_rest, AreClubsAtEnd}
+use Rattle.cert_text.specs.inside.PlainForms.{IsSetAtEnd, IsTestAtEnd, IsReasonAtEnd}
+use Rattle.cert_text.specs.inside.PlainForms.{IsNumberBefore}
+use Rattle.cert_text.specs.inside.Widths.{is_line_kept}
 use Rattle.cert_text.proofs.FormLemmas.{clubs_back}
 use Rattle.cert_text.proofs.PrintedLemmas.{alone}
 use Rattle.cert_text.proofs.ReadBackLemmas.{line_in-parts, line_in-written}
@@ -141,7 +142,7 @@ pub one_number : (least most n : ℕ) (text behind : List ℕ)
     → text ≡ text_of_rest (whole n ∷ [])
 one_number least most n text behind told ends = told.2 ∙ ap (λ t. 44 ∷ (decimal n ++ t)) ends
 
--- one more in front
+-- one more at the front
 pub more_numbers : (least most n : ℕ) (text behind : List ℕ) (parts : List Part)
     → IsNumberBefore least most text n behind → behind ≡ text_of_rest parts
     → text ≡ text_of_rest (whole n ∷ parts)

@@ -7,7 +7,7 @@ use Rattle.std.proofs.lemmas.Bool.{and_parts, and_from}
 use Rattle.std.proofs.lemmas.Fmt.{decimal_digit, decimal_step}
 use Rattle.cert_text.specs.Lines.{number_in_text}
 use Rattle.cert_text.specs.Ranges.{is_club_number}
-use Rattle.cert_text.specs.PlainForms.{AreClubsAtEnd}
+use Rattle.cert_text.specs.inside.PlainForms.{AreClubsAtEnd}
 use Rattle.cert_text.proofs.PrintedLemmas.{alone}
 
 -- what is said of what is there
@@ -36,7 +36,7 @@ digits_more n next byte text rest some few small shown is =
     ∙ ap (λ d. decimal n ++ (48 + d) ∷ []) last)
     ∙ append_assoc (decimal n) ((48 + next) ∷ []) rest)
 
--- clubs in a list that goes on: each with a comma behind it
+-- clubs in a list that goes on: each with a comma after it
 abbrev pub clubs_so_far : List ℕ → List ℕ
 clubs_so_far [] = []
 clubs_so_far (club ∷ list) = decimal (number_in_text club) ++ 44 ∷ clubs_so_far list

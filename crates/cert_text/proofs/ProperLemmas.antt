@@ -13,14 +13,15 @@ use Rattle.league_core.specs.declared.question.Question.{Question}
 use Rattle.league_core.specs.declared.zone.Test.{Test}
 use Rattle.league_core.specs.declared.zone.Test.TheVariants.{Home, Draw, HomeMost, AwayMost, Rival}
 use Rattle.league_core.specs.declared.zone.Literal.{Literal}
-use Rattle.league_core.specs.Results.{Results, is_score, is_score_or_none, are_results}
-use Rattle.league_core.specs.Seasons.{IsLeague}
-use Rattle.league_core.specs.Finishes.{may_end}
-use Rattle.league_core.specs.Zones.{is_on, passes, with_test, is_marked}
-use Rattle.league_core.specs.Options.{options_of, options_in, has_score, has_option}
-use Rattle.league_core.specs.Options.{has_finish, meets_literal, meets}
-use Rattle.league_core.specs.Splits.{have_both_finish, is_proper, IsProperNode}
-use Rattle.league_core.specs.Trees.{Tree, open_leaf, lent_leaf, refuted_leaf, branch, NodesMeet}
+use Rattle.league_core.specs.game.Results.{Results, is_score, is_score_or_none, are_results}
+use Rattle.league_core.specs.game.Seasons.{IsLeague}
+use Rattle.league_core.specs.game.Finishes.{may_end}
+use Rattle.league_core.specs.search.Zones.{is_on, passes, with_test, is_marked}
+use Rattle.league_core.specs.search.Options.{options_of, options_in, has_score, has_option}
+use Rattle.league_core.specs.search.Options.{has_finish, meets_literal, meets}
+use Rattle.league_core.specs.search.Splits.{have_both_finish, is_proper, IsProperNode}
+use Rattle.league_core.specs.search.Trees.{Tree, open_leaf, lent_leaf, refuted_leaf, branch}
+use Rattle.league_core.specs.search.Trees.{NodesMeet}
 use Rattle.league_core.proofs.OptionLemmas.{has_score-with, has_score-options_of}
 use Rattle.league_core.proofs.OptionLemmas.{get_or-options_from}
 use Rattle.league_core.proofs.OptionLemmas.{length-options_from}

@@ -4,7 +4,7 @@ use Rattle.std.proofs.Common.{ap}
 use Rattle.std.specs.Prelude.{◌↔◌, IsTrue}
 use Rattle.std.specs.List.{list_all, range_with_len}
 use Rattle.std.proofs.Math.Bool.{not-not}
-use Rattle.league_core.specs.Sums.{has_club}
+use Rattle.league_core.specs.game.Sums.{has_club}
 use Rattle.league_core.proofs.ClubSetLemmas.{has_club-range}
 use Rattle.league_core.proofs.ClubLemmas.{each_member, all_members, no_member}
 use Rattle.cert_text.specs.Ranges.{is_club_number}

@@ -31,11 +31,11 @@ use Rattle.cert_text.specs.declared.proof_line.ProofLine.TheVariants as line
 use Rattle.cert_text.specs.Lines.{Part, word, whole, points, clubs, number_in_text, parts_of}
 use Rattle.cert_text.specs.Lines.{test_parts, reason_parts, array_text, part_text}
 use Rattle.cert_text.specs.Lines.{text_of_proof_line, is_printed}
-use Rattle.cert_text.specs.Values.{part_value, parts_value}
+use Rattle.cert_text.specs.inside.Values.{part_value, parts_value}
 use Rattle.cert_text.specs.Ranges.{is_in_range, is_fixture_number, is_club_number, is_goal_bound}
 use Rattle.cert_text.specs.Ranges.{are_points, is_test_in_range}
 use Rattle.cert_text.specs.Ranges.{is_reason_in_range}
-use Rattle.cert_text.specs.Widths.{is_line_kept}
+use Rattle.cert_text.specs.inside.Widths.{is_line_kept}
 use Rattle.cert_text.specs.Forms.{line_in, line_of_value}
 use Rattle.cert_text.proofs.LineLemmas.{is_plain_part, text_of_parts, plain_line}
 use Rattle.cert_text.proofs.PrintedLemmas.{alone, small_fixture, small_goals, is_small_part}
@@ -61,7 +61,7 @@ pub record AllStand (shown : Items) (most : ℕ) : Type 0 where
 none_stand : (most : ℕ) → AllStand no_items most
 none_stand most = record { numbers = tt; same = refl; shallow = omega arith }
 
--- one more in front
+-- one more at the front
 more_stand : (first : Data) (rest : Items) (most : ℕ) → Stands first most → AllStand rest most
     → AllStand (item first rest) most
 more_stand first rest most here behind =

@@ -15,15 +15,17 @@ use Rattle.league_core.specs.declared.zone.Reason.{Reason}
 use Rattle.league_core.specs.declared.zone.Reason.TheVariants.{Count, Window, Low, High, Tie}
 use Rattle.league_core.specs.declared.tree.TreeNode.{TreeNode}
 use Rattle.league_core.specs.declared.tree.TreeNode.TheVariants.{Split, Open, Lent, Refuted}
-use Rattle.league_core.specs.Results.{Results}
-use Rattle.league_core.specs.ClubSets.{clubs_in}
-use Rattle.league_core.specs.Zones.{is_test_of, is_of_rival, with_test, marked_after}
-use Rattle.league_core.specs.Zones.{marked_before}
-use Rattle.league_core.specs.Options.{has_finish}
-use Rattle.league_core.specs.PointRanges.{least_points_of, most_points_of, own_most, own_least}
-use Rattle.league_core.specs.Reasons.{has_member, has_reason, refutes, times}
-use Rattle.league_core.specs.Trees.{Tree, open_leaf, lent_leaf, refuted_leaf, branch, preorder}
-use Rattle.league_core.specs.Splits.{AreReasonsTrue}
+use Rattle.league_core.specs.game.Results.{Results}
+use Rattle.league_core.specs.game.ClubSets.{clubs_in}
+use Rattle.league_core.specs.search.Zones.{is_test_of, is_of_rival, with_test, marked_after}
+use Rattle.league_core.specs.search.Zones.{marked_before}
+use Rattle.league_core.specs.search.Options.{has_finish}
+use Rattle.league_core.specs.search.PointRanges.{least_points_of, most_points_of, own_most}
+use Rattle.league_core.specs.search.PointRanges.{own_least}
+use Rattle.league_core.specs.search.Reasons.{has_member, has_reason, refutes, times}
+use Rattle.league_core.specs.search.Trees.{Tree, open_leaf, lent_leaf, refuted_leaf, branch}
+use Rattle.league_core.specs.search.Trees.{preorder}
+use Rattle.league_core.specs.search.Splits.{AreReasonsTrue}
 use Rattle.league_core.proofs.HalfLemmas.{list_all-with}
 use Rattle.league_core.proofs.ClubLemmas.{each_member, all_members}
 use Rattle.cert_text.specs.declared.proof_line.ProofLine.{ProofLine}

@@ -7,7 +7,7 @@ use Rattle.csv.specs.Writing.{escaped, fields_text, is_blank}
 use Rattle.league_core.specs.declared.question.Claim.TheVariants.{Inside, Outside}
 use Rattle.league_core.specs.declared.zone.Test.TheVariants.{HomeMost, Rival}
 use Rattle.league_core.specs.declared.zone.Reason.TheVariants.{Low}
-use Rattle.league_core.specs.ClubSets as sets
+use Rattle.league_core.specs.game.ClubSets as sets
 use Rattle.cert_text.specs.declared.proof_line.ProofLine.TheVariants as line
 use Rattle.cert_text.specs.Lines.{text_of_proof_line}
 use Rattle.cert_text.specs.Ranges.{is_in_range}

@@ -1,14 +1,10 @@
--- Reading order: what a row of fields is, what each proof line says in its parts, which lines have
--- a form, which lists of lines are trees and examples, the JSON values that stand for lines, and
--- which line a text has the form of; then lines by their own texts.
+-- Reading order: what a row of fields is, what each proof line says in its parts, the ranges of its
+-- numbers, which lists of lines are trees and examples, and which line a text has the form of.
 pub mod Rows
 pub mod Lines
 pub mod Ranges
 pub mod TreeLines
 pub mod ExampleLines
-pub mod LineLaws
-pub mod Values
 pub mod Places
 pub mod Forms
-pub mod Widths
-pub mod PlainForms
+pub mod inside

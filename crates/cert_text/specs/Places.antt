@@ -10,7 +10,7 @@ use Rattle.serde_json.specs.Find.{at, as_number, as_u64, as_i64, as_str, as_arra
 use Rattle.league_core.specs.declared.club_set.ClubSet.{ClubSet}
 use Rattle.league_core.specs.declared.question.Claim.{Claim}
 use Rattle.league_core.specs.declared.question.Claim.TheVariants.{Inside, Outside}
-use Rattle.league_core.specs.Limits.{most_clubs, most_fixtures}
+use Rattle.league_core.specs.game.Limits.{most_clubs, most_fixtures}
 use Rattle.cert_text.specs.Ranges.{is_club_number, are_points}
 
 -- nothing stands at the place, so that the array is no longer than this

@@ -7,11 +7,11 @@ use Rattle.league_core.specs.declared.zone.Test.{Test}
 use Rattle.league_core.specs.declared.zone.Test.TheVariants.{Home, Draw, HomeMost, AwayMost, Rival}
 use Rattle.league_core.specs.declared.zone.Reason.{Reason}
 use Rattle.league_core.specs.declared.zone.Reason.TheVariants.{Count, Window, Low, High, Tie}
-use Rattle.league_core.specs.Limits.{most_clubs, most_fixtures, most_goals, least_points}
-use Rattle.league_core.specs.Limits.{most_points}
-use Rattle.league_core.specs.Results.{is_score}
-use Rattle.league_core.specs.ClubSets.{clubs_in}
-use Rattle.league_core.specs.Reasons.{has_member}
+use Rattle.league_core.specs.game.Limits.{most_clubs, most_fixtures, most_goals, least_points}
+use Rattle.league_core.specs.game.Limits.{most_points}
+use Rattle.league_core.specs.game.Results.{is_score}
+use Rattle.league_core.specs.game.ClubSets.{clubs_in}
+use Rattle.league_core.specs.search.Reasons.{has_member}
 use Rattle.cert_text.specs.declared.proof_line.ProofLine.{ProofLine}
 use Rattle.cert_text.specs.declared.proof_line.ProofLine.TheVariants as line
 

@@ -8,11 +8,11 @@ use Rattle.league_core.specs.declared.question.Question.{Question}
 use Rattle.league_core.specs.declared.zone.Test.{Test}
 use Rattle.league_core.specs.declared.tree.TreeNode.{TreeNode}
 use Rattle.league_core.specs.declared.tree.TreeNode.TheVariants.{Split, Open, Lent, Refuted}
-use Rattle.league_core.specs.Results.{Results}
-use Rattle.league_core.specs.Zones.{is_test_of, is_of_rival}
-use Rattle.league_core.specs.Trees.{Tree, open_leaf, lent_leaf, refuted_leaf, branch, preorder}
-use Rattle.league_core.specs.Trees.{NodesMeet, is_refuted, is_spent}
-use Rattle.league_core.specs.Splits.{AreReasonsTrue, IsUnitIfNew}
+use Rattle.league_core.specs.game.Results.{Results}
+use Rattle.league_core.specs.search.Zones.{is_test_of, is_of_rival}
+use Rattle.league_core.specs.search.Trees.{Tree, open_leaf, lent_leaf, refuted_leaf, branch}
+use Rattle.league_core.specs.search.Trees.{preorder, NodesMeet, is_refuted, is_spent}
+use Rattle.league_core.specs.search.Splits.{AreReasonsTrue, IsUnitIfNew}
 use Rattle.cert_text.specs.declared.proof_line.ProofLine.{ProofLine}
 use Rattle.cert_text.specs.declared.proof_line.ProofLine.TheVariants as line
 use Rattle.cert_text.specs.Ranges.{is_test_in_range}

@@ -5,9 +5,9 @@ ghost use Rattle.std.specs.List.{list_all};
 ghost use Rattle.serde_json.specs.Read.{read};
 ghost use Rattle.cert_text.specs.Lines.{parts_of, text_of_proof_line, is_printed};
 ghost use Rattle.cert_text.specs.Ranges.{is_in_range};
-ghost use Rattle.cert_text.specs.Values.{parts_value};
+ghost use Rattle.cert_text.specs.inside.Values.{parts_value};
 ghost use Rattle.cert_text.specs.Forms.{line_in};
-ghost use Rattle.cert_text.specs.Widths.{is_line_kept};
+ghost use Rattle.cert_text.specs.inside.Widths.{is_line_kept};
 
 use crate::proof_line::ProofLine;
 use crate::score_line::score_text;

@@ -3,7 +3,8 @@
 
 ghost use Rattle.std.specs.Prelude.{◌≡◌, Some, IfOk, IfSome, codes};
 ghost use Rattle.cert_text.specs.Forms.{line_in};
-ghost use Rattle.cert_text.specs.PlainForms.{IsReasonAtEnd, IsSetAtEnd, next_named, text_named};
+ghost use Rattle.cert_text.specs.inside.PlainForms.{IsReasonAtEnd, IsSetAtEnd, next_named};
+ghost use Rattle.cert_text.specs.inside.PlainForms.{text_named};
 
 use crate::places::set_of;
 use crate::plain_number::{behind, clubs_at_end, is_all, number};

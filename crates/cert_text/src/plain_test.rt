@@ -1,13 +1,13 @@
 //! The tests of splits out of the lines' own texts.
 
 ghost use Rattle.std.specs.Prelude.{IfSome, codes};
-ghost use Rattle.cert_text.specs.PlainForms.{IsTestAtEnd, next_named};
+ghost use Rattle.cert_text.specs.inside.PlainForms.{IsTestAtEnd, next_named};
 
 use crate::plain_number::{behind, is_all, number};
 use league_core::Test;
 use league_core::limits::{MOST_CLUBS, MOST_FIXTURES, MOST_GOALS};
 
-/// The test of a split, behind its name.
+/// The test of a split, after its name.
 pub fn test(text: &[u8]) -> Option<Test>
     ensures { IfSome result (IsTestAtEnd text.now) }
 {

@@ -24,7 +24,7 @@ pub fn score_text(alloc: Global, fixture: u16, score: Score) -> Result<Vec<u8>, 
     Ok(text)
 }
 
-// Puts a number at the end, and a mark behind it.
+// Puts a number at the end, and a mark after it.
 fn push_number(text: &mut Vec<u8>, number: u32, mark: u8) -> Result<(), OutOfMemory>
     ensures { OnOk result (text.new.items ≡ text.old.items ++ (decimal number ++ mark ∷ [])) }
 {

@@ -2,16 +2,15 @@
 
 ghost use Rattle.std.specs.Prelude.{◌≡◌, ◌∷◌, [], codes, IfOk, IsTrue};
 ghost use Rattle.serde_json.specs.View.{view};
-ghost use Rattle.league_core.specs.ClubSets.{clubs_in};
+ghost use Rattle.league_core.specs.game.ClubSets.{clubs_in};
 ghost use Rattle.cert_text.specs.Lines as lines;
 ghost use Rattle.cert_text.specs.Lines.{word, whole, points, parts_of, test_parts, reason_parts};
 ghost use Rattle.cert_text.specs.Lines.{number_in_text};
-ghost use Rattle.cert_text.specs.Values as values;
-ghost use Rattle.cert_text.specs.Values.{parts_value};
-ghost use Rattle.cert_text.specs.Widths.{is_set_kept, is_reason_kept, is_line_kept};
+ghost use Rattle.cert_text.specs.inside.Values as values;
+ghost use Rattle.cert_text.specs.inside.Values.{parts_value};
+ghost use Rattle.cert_text.specs.inside.Widths.{is_set_kept, is_reason_kept, is_line_kept};
 
 use crate::proof_line::ProofLine;
-use league_core::limits::SET_WIDTH;
 use league_core::{Claim, ClubSet, Reason, Score, Test};
 use serde_json::{Value, json};
 use std::alloc::{AllocError, Global};
@@ -138,10 +137,8 @@ fn listed(alloc: Global, set: ClubSet) -> Result<Vec<u8>, AllocError>
     ensures { IfOk result (λ clubs. clubs.items ≡ clubs_in set) }
 {
     let mut clubs = Vec::new(alloc);
-    for club in 0..SET_WIDTH {
-        if set.has(club) {
-            clubs.push(club)?;
-        }
+    for club in set.clubs() {
+        clubs.push(club)?;
     }
     Ok(clubs)
 }

@@ -5,19 +5,20 @@ use Rattle.std.proofs.lemmas.Bool.{cases_eq}
 use Rattle.std.proofs.lemmas.List.{length-set, get_or-set_same, get_or-set_other}
 use Rattle.league_core.specs.declared.sheet.Sheet.{Sheet}
 use Rattle.league_core.specs.declared.season.Score.{Score}
-use Rattle.check_bounds.specs.declared.scope.Scope.{Scope}
-use Rattle.check_bounds.specs.declared.span.Span.{Span}
-use Rattle.check_bounds.specs.Scopes.{IsScopeOf}
-use Rattle.check_bounds.specs.Corners.{AreCornersOf}
-use Rattle.check_bounds.specs.Zones.{AreScopesOf, AreAllCornersOf}
-use Rattle.check_bounds.specs.Cells.{FitScopes, AreCells, AreWonIn}
-use Rattle.check_bounds.specs.declared.loose.Loose.{Loose}
-use Rattle.check_bounds.specs.Loose.{AreExchanged}
-use Rattle.check_bounds.proofs.LooseLemmas.{loose_set}
+use Rattle.check_bounds.specs.declared.score_domain.ScoreDomain.{ScoreDomain}
+use Rattle.check_bounds.specs.declared.int_range.IntRange.{IntRange}
+use Rattle.check_bounds.specs.inside.ScoreDomains.{IsScoreDomainOf}
+use Rattle.check_bounds.specs.inside.ExtremeScores.{AreExtremesOf}
+use Rattle.check_bounds.specs.inside.Zones.{AreScoreDomainsOf, AreAllExtremesOf}
+use Rattle.check_bounds.specs.inside.Cells.{FitScoreDomains, AreCells, AreWonIn}
+use Rattle.check_bounds.specs.declared.open_counts.OpenCounts.{OpenCounts}
+use Rattle.check_bounds.specs.inside.OpenCounts.{AreExchanged}
+use Rattle.check_bounds.proofs.OpenCountLemmas.{loose_set}
 
 -- corners that fit scopes are those of what the scopes leave
-pub fit_zone : (scopes : List Scope) (corners options : List (List Score))
-    → FitScopes scopes corners → AreScopesOf scopes options → AreAllCornersOf corners options
+pub fit_zone : (scopes : List ScoreDomain) (corners options : List (List Score))
+    → FitScoreDomains scopes corners → AreScoreDomainsOf scopes options
+    → AreAllExtremesOf corners options
 fit_zone scopes corners options fit are = record {
   many = fit.many ∙ are.many;
   each = λ k within.
@@ -25,7 +26,7 @@ fit_zone scopes corners options fit are = record {
       fit.each k nothing below (get_or options k []) (are.each k nothing below);
 }
   where
-    nothing : Scope
+    nothing : ScoreDomain
     nothing = record {
       home_win = false;
       draw = false;
@@ -35,10 +36,11 @@ fit_zone scopes corners options fit are = record {
     }
 
 -- another scope at one place, with its corners
-pub fit_set : (scopes : List Scope) (corners : List (List Score)) (place : ℕ) (scope : Scope)
-    (own : List Score) → place < length scopes → FitScopes scopes corners
-    → ((options : List Score) → IsScopeOf scope options → AreCornersOf own options)
-    → FitScopes (set scopes place scope) (set corners place own)
+pub fit_set : (scopes : List ScoreDomain) (corners : List (List Score)) (place : ℕ)
+    (scope : ScoreDomain)
+    (own : List Score) → place < length scopes → FitScoreDomains scopes corners
+    → ((options : List Score) → IsScoreDomainOf scope options → AreExtremesOf own options)
+    → FitScoreDomains (set scopes place scope) (set corners place own)
 fit_set scopes corners place scope own inside fit is = record {
   many = length-set corners place own ∙ fit.many ∙ sym (length-set scopes place scope);
   each = λ k d within. at k d within (cases_eq k place);
@@ -47,30 +49,33 @@ fit_set scopes corners place scope own inside fit is = record {
     there : place < length corners
     there = omega (arith, inside, fit.many)
 
-    at : (k : ℕ) (d : Scope) → k < length (set scopes place scope)
+    at : (k : ℕ) (d : ScoreDomain) → k < length (set scopes place scope)
         → (k ≡ place) ⊎ (k ≢ place) → (options : List Score)
-        → IsScopeOf (get_or (set scopes place scope) k d) options
-        → AreCornersOf (get_or (set corners place own) k []) options
+        → IsScoreDomainOf (get_or (set scopes place scope) k d) options
+        → AreExtremesOf (get_or (set corners place own) k []) options
     at k d within (inl same) options of =
-        subst (λ (n : ℕ). AreCornersOf (get_or (set corners place own) n []) options) (sym same)
-        (subst (λ (xs : List Score). AreCornersOf xs options)
+        subst (λ (n : ℕ). AreExtremesOf (get_or (set corners place own) n []) options) (sym same)
+        (subst (λ (xs : List Score). AreExtremesOf xs options)
         (sym (get_or-set_same corners place own [] there))
         (is options
-        (subst (λ (s : Scope). IsScopeOf s options) (get_or-set_same scopes place scope d inside)
-        (subst (λ (n : ℕ). IsScopeOf (get_or (set scopes place scope) n d) options) same of))))
+        (subst (λ (s : ScoreDomain). IsScoreDomainOf s options)
+        (get_or-set_same scopes place scope d inside)
+        (subst (λ (n : ℕ). IsScoreDomainOf (get_or (set scopes place scope) n d) options) same
+        of))))
     at k d within (inr other) options of =
         let below : k < length scopes = omega (arith, within, length-set scopes place scope) in
-        subst (λ (xs : List Score). AreCornersOf xs options)
+        subst (λ (xs : List Score). AreExtremesOf xs options)
         (sym (get_or-set_other corners place k own [] other))
         (fit.each k d below options
-        (subst (λ (s : Scope). IsScopeOf s options)
+        (subst (λ (s : ScoreDomain). IsScoreDomainOf s options)
         (get_or-set_other scopes place k scope d other) of))
 
 -- another scope at one place
-pub cells_set : (sheet : Sheet) (scopes : List Scope) (corners : List (List Score))
-    (won now : List Span) (loose after : Loose) (place : ℕ) (scope : Scope) (own : List Score)
+pub cells_set : (sheet : Sheet) (scopes : List ScoreDomain) (corners : List (List Score))
+    (won now : List IntRange) (loose after : OpenCounts) (place : ℕ) (scope : ScoreDomain)
+    (own : List Score)
     → place < length scopes → AreCells sheet scopes corners won loose
-    → ((options : List Score) → IsScopeOf scope options → AreCornersOf own options)
+    → ((options : List Score) → IsScoreDomainOf scope options → AreExtremesOf own options)
     → AreWonIn sheet (set corners place own) now
     → AreExchanged loose (get_or corners place []) own after
     → AreCells sheet (set scopes place scope) (set corners place own) now after

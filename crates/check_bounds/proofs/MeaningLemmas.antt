@@ -13,31 +13,31 @@ use Rattle.league_core.specs.declared.question.Question.{Question}
 use Rattle.league_core.specs.declared.zone.Literal.{Literal}
 use Rattle.league_core.specs.declared.zone.Reason.{Reason}
 use Rattle.league_core.specs.declared.zone.Reason.TheVariants.{Count, Window, Low, High, Tie}
-use Rattle.league_core.specs.Results.{Results}
-use Rattle.league_core.specs.Ahead.{rank_of}
-use Rattle.league_core.specs.Sheets.{clubs_of}
-use Rattle.league_core.specs.ClubSets.{clubs_in}
-use Rattle.league_core.specs.Sums.{worth_to, worth_among, match_points, goal_difference, goals}
-use Rattle.league_core.specs.Sums.{away_goals, wins, away_wins}
-use Rattle.league_core.specs.Zones.{rivals_of, marked_before, marked_after}
-use Rattle.league_core.specs.Options.{options_in, has_option, has_one_outcome, has_finish}
-use Rattle.league_core.specs.PointRanges.{added, one_value, points_together, points_range}
-use Rattle.league_core.specs.PointRanges.{deducted_from, least_points_of, most_points_of}
-use Rattle.league_core.specs.Reasons.{too_many, has_member, times, refutes, has_reason}
-use Rattle.league_core.specs.SureOrder.{sure_then, sure_by_range, sure_by_ranges, record_ranges}
-use Rattle.league_core.specs.SureOrder.{overall_ranges, first_sum_ranges, sure_within, sure_in}
-use Rattle.league_core.specs.SureOrder.{sure_by, level_on_points, sure_order}
-use Rattle.league_core.specs.SureOrder.{is_surely_in, are_all_sure, is_level, is_apart, is_above}
-use Rattle.league_core.specs.SureOrder.{is_below, surely_level_overall}
-use Rattle.check_bounds.specs.declared.look.Kind.TheVariants as kind
-use Rattle.check_bounds.specs.Zones.{AreAllCornersOf}
-use Rattle.check_bounds.specs.Refutes.{sure_over, refutes_over}
-use Rattle.check_bounds.proofs.RoundLemmas.{rest_of_round, rest_of_sums}
+use Rattle.league_core.specs.game.Results.{Results}
+use Rattle.league_core.specs.game.Ahead.{rank_of}
+use Rattle.league_core.specs.game.Sheets.{clubs_of}
+use Rattle.league_core.specs.game.ClubSets.{clubs_in}
+use Rattle.league_core.specs.game.Sums.{worth_to, worth_among, match_points, goal_difference, goals}
+use Rattle.league_core.specs.game.Sums.{away_goals, wins, away_wins}
+use Rattle.league_core.specs.search.Zones.{rivals_of, marked_before, marked_after}
+use Rattle.league_core.specs.search.Options.{options_in, has_option, has_one_outcome, has_finish}
+use Rattle.league_core.specs.search.PointRanges.{added, one_value, points_together, points_range}
+use Rattle.league_core.specs.search.PointRanges.{deducted_from, least_points_of, most_points_of}
+use Rattle.league_core.specs.search.Reasons.{too_many, has_member, times, refutes, has_reason}
+use Rattle.league_core.specs.search.SureOrder.{sure_then, sure_by_range, sure_by_ranges}
+use Rattle.league_core.specs.search.SureOrder.{record_ranges, overall_ranges, first_sum_ranges}
+use Rattle.league_core.specs.search.SureOrder.{sure_within, sure_in, sure_by, level_on_points}
+use Rattle.league_core.specs.search.SureOrder.{sure_order, is_surely_in, are_all_sure, is_level}
+use Rattle.league_core.specs.search.SureOrder.{is_apart, is_above, is_below, surely_level_overall}
+use Rattle.check_bounds.specs.declared.term.Measure.TheVariants as kind
+use Rattle.check_bounds.specs.inside.Zones.{AreAllExtremesOf}
+use Rattle.check_bounds.specs.inside.Refutes.{sure_over, refutes_over}
+use Rattle.check_bounds.proofs.TieRoundLemmas.{rest_of_round, rest_of_sums}
 use Rattle.check_bounds.proofs.TransferLemmas.{ranges_same, worth_same, among_same, together_same}
 use Rattle.check_bounds.proofs.TransferLemmas.{tests_same, some_same, one_same}
 
 record_same : (sheet : Sheet) (corners options : List (List Score)) (group : List ℕ) (club : ℕ)
-    → AreAllCornersOf corners options
+    → AreAllExtremesOf corners options
     → record_ranges sheet corners group club ≡ record_ranges sheet options group club
 record_same sheet corners options group club are =
     λ i. ranges_same (worth_among group match_points club) (among_same group kind.Points club)
@@ -49,7 +49,7 @@ record_same sheet corners options group club are =
     ∷ []
 
 first_same : (sheet : Sheet) (corners options : List (List Score)) (club : ℕ)
-    → AreAllCornersOf corners options
+    → AreAllExtremesOf corners options
     → first_sum_ranges sheet corners club ≡ first_sum_ranges sheet options club
 first_same sheet corners options club are =
     λ i. ranges_same (worth_to goal_difference club) (worth_same kind.Difference club)
@@ -59,7 +59,7 @@ first_same sheet corners options club are =
     ∷ []
 
 overall_same : (sheet : Sheet) (corners options : List (List Score)) (club : ℕ)
-    → AreAllCornersOf corners options
+    → AreAllExtremesOf corners options
     → overall_ranges sheet corners club ≡ overall_ranges sheet options club
 overall_same sheet corners options club are =
     λ i. ranges_same (worth_to goal_difference club) (worth_same kind.Difference club)
@@ -76,7 +76,7 @@ overall_same sheet corners options club are =
     ∷ []
 
 level_same : (sheet : Sheet) (corners options : List (List Score)) (group : List ℕ) (club : ℕ)
-    → AreAllCornersOf corners options
+    → AreAllExtremesOf corners options
     → filter (is_surely_in sheet corners group club) group
     ≡ filter (is_surely_in sheet options group club) group
 level_same sheet corners options group club are =
@@ -85,7 +85,7 @@ level_same sheet corners options group club are =
     (record_same sheet corners options group club are i))) group
 
 all_same : (sheet : Sheet) (corners options : List (List Score)) (group : List ℕ) (club : ℕ)
-    → AreAllCornersOf corners options
+    → AreAllExtremesOf corners options
     → are_all_sure sheet corners group club ≡ are_all_sure sheet options group club
 all_same sheet corners options group club are =
     λ i. list_all (λ other. is_level
@@ -95,7 +95,7 @@ all_same sheet corners options group club are =
     (record_same sheet corners options group club are i)) group
 
 within_same : (times : ℕ) (sheet : Sheet) (corners options : List (List Score)) (group : List ℕ)
-    (rival club : ℕ) → AreAllCornersOf corners options
+    (rival club : ℕ) → AreAllExtremesOf corners options
     → sure_within times sheet corners group rival club
     ≡ sure_within times sheet options group rival club
 within_same zero sheet corners options group rival club are = refl
@@ -112,13 +112,13 @@ within_same (suc times) sheet corners options group rival club are =
     (overall_same sheet corners options club are i)) (next i))
 
 in_same : (sheet : Sheet) (corners options : List (List Score)) (group : List ℕ) (rival club : ℕ)
-    → AreAllCornersOf corners options
+    → AreAllExtremesOf corners options
     → sure_in sheet corners group rival club ≡ sure_in sheet options group rival club
 in_same sheet corners options group rival club are =
     within_same (length group) sheet corners options group rival club are
 
 by_same : (order : Order) (sheet : Sheet) (corners options : List (List Score)) (group : List ℕ)
-    (rival club : ℕ) → AreAllCornersOf corners options
+    (rival club : ℕ) → AreAllExtremesOf corners options
     → sure_by order sheet corners group rival club ≡ sure_by order sheet options group rival club
 by_same HeadFirst sheet corners options group rival club are =
     in_same sheet corners options group rival club are
@@ -139,7 +139,7 @@ by_same OverallFirst sheet corners options group rival club are =
     (first_same sheet corners options club are i)) group) (next i))
 
 points_same : (sheet : Sheet) (season : Results) (corners options : List (List Score))
-    (clubs : List ℕ) → AreAllCornersOf corners options
+    (clubs : List ℕ) → AreAllExtremesOf corners options
     → points_range sheet season corners clubs ≡ points_range sheet season options clubs
 points_same sheet season corners options clubs are =
     λ i. added (ranges_same (points_together clubs) (together_same clubs) sheet.fixtures corners
@@ -148,7 +148,7 @@ points_same sheet season corners options clubs are =
 -- what is sure over corners is what is sure
 pub sure_over-is : (sheet : Sheet) (season : Results) (zone : List Literal)
     (corners : List (List Score)) (club rival : ℕ)
-    → AreAllCornersOf corners (options_in sheet season zone)
+    → AreAllExtremesOf corners (options_in sheet season zone)
     → sure_over sheet season corners club rival ≡ sure_order sheet season zone rival club
 unfolding sure_order
 sure_over-is sheet season zone corners club rival are =
@@ -166,7 +166,7 @@ sure_over-is sheet season zone corners club rival are =
 -- what a reason says over corners and sets is what it says
 pub refutes_over-is : (sheet : Sheet) (season : Results) (question : Question)
     (zone : List Literal) (corners : List (List Score)) (before after : ℕ → Bool)
-    (reason : Reason) → AreAllCornersOf corners (options_in sheet season zone)
+    (reason : Reason) → AreAllExtremesOf corners (options_in sheet season zone)
     → before ≡ marked_before zone → after ≡ marked_after zone
     → refutes_over sheet season question corners before after reason
     ≡ refutes sheet season question zone reason
@@ -204,7 +204,7 @@ refutes_over-is sheet season question zone corners before after Tie are before_i
 -- whether a reason holds
 pub has_reason-is : (sheet : Sheet) (season : Results) (question : Question)
     (zone : List Literal) (corners : List (List Score)) (before after : ℕ → Bool)
-    (reason : Reason) → AreAllCornersOf corners (options_in sheet season zone)
+    (reason : Reason) → AreAllExtremesOf corners (options_in sheet season zone)
     → before ≡ marked_before zone → after ≡ marked_after zone
     → (list_all has_option corners
     && refutes_over sheet season question corners before after reason)

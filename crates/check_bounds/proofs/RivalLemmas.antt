@@ -14,11 +14,11 @@ use Rattle.league_core.specs.declared.question.Claim.{Claim}
 use Rattle.league_core.specs.declared.question.Claim.TheVariants.{Inside, Outside}
 use Rattle.league_core.specs.declared.question.Question.{Question}
 use Rattle.league_core.specs.declared.sure.Sure.{Sure}
-use Rattle.league_core.specs.SureOrder.{is_above, is_below}
-use Rattle.league_core.specs.Sums.{has_club}
-use Rattle.league_core.specs.ClubSets.{clubs_below}
-use Rattle.league_core.specs.LotsFor.{others_of}
-use Rattle.league_core.specs.Reasons.{too_many}
+use Rattle.league_core.specs.search.SureOrder.{is_above, is_below}
+use Rattle.league_core.specs.game.Sums.{has_club}
+use Rattle.league_core.specs.game.ClubSets.{clubs_below}
+use Rattle.league_core.specs.search.Zones.{others_of}
+use Rattle.league_core.specs.search.Reasons.{too_many}
 use Rattle.league_core.proofs.PlainLemmas.{eqb-swap, times-suc}
 use Rattle.league_core.proofs.ClubSetLemmas.{clubs_below-filter_range, has_club-range}
 use Rattle.league_core.proofs.ClubSetLemmas.{filter-filter, filter_agree_in, has_club-filter}

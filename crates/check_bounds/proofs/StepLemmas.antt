@@ -9,11 +9,11 @@ use Rattle.std.proofs.lemmas.Bool.Decides.{same_from_decides}
 use Rattle.std.proofs.lemmas.List.{get_or-set_same, get_or-set_other, length-set}
 use Rattle.league_core.specs.declared.sure.Sure.{Sure}
 use Rattle.league_core.specs.declared.sure.Sure.TheVariants.{Above, Below, Level, Unknown}
-use Rattle.league_core.specs.Sums.{has_club}
-use Rattle.league_core.specs.SureOrder.{sure_then, is_level}
+use Rattle.league_core.specs.game.Sums.{has_club}
+use Rattle.league_core.specs.search.SureOrder.{sure_then, is_level}
 use Rattle.league_core.proofs.ClubSetLemmas.{has_club-filter}
-use Rattle.check_bounds.specs.declared.span.Span.{Span}
-use Rattle.check_bounds.specs.Steps.{sure_at, sure_by_tables, is_level_by_tables, TakesNext}
+use Rattle.check_bounds.specs.declared.int_range.IntRange.{IntRange}
+use Rattle.check_bounds.specs.inside.Steps.{sure_at, sure_by_tables, is_level_by_tables, TakesNext}
 
 -- the clubs below a number have taken the next answer, and the others have not
 pub record IsTakenBelow (old now : List Sure) (count : ℕ) (next : ℕ → Sure) : Type 0 where
@@ -100,7 +100,7 @@ stays Below next apart = refl
 stays Level next apart = absurd (apart refl)
 stays Unknown next apart = refl
 
--- an answer is level behind a step where it was so before, and by the step
+-- an answer is level after a step where it was so before, and by the step
 pub both_level : (a b : Sure) → is_level (sure_then a b) ≡ true
     → (is_level a ≡ true) × (is_level b ≡ true)
 both_level Above b level = absurd (false≢true level)
@@ -108,8 +108,8 @@ both_level Below b level = absurd (false≢true level)
 both_level Level b level = (refl, level)
 both_level Unknown b level = absurd (false≢true level)
 
--- a club that is level behind a step is of those that the step leaves level
-pub still_level : (tables : List (List Span)) (group level : List ℕ) (club rival : ℕ)
+-- a club that is level after a step is of those that the step leaves level
+pub still_level : (tables : List (List IntRange)) (group level : List ℕ) (club rival : ℕ)
     (old new : Sure) → new ≡ sure_then old (sure_by_tables tables club rival)
     → level ≡ filter (is_level_by_tables tables club) group
     → (is_level old ≡ true → has_club group rival ≡ true) → is_level new ≡ true

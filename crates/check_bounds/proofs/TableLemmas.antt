@@ -12,25 +12,25 @@ use Rattle.std.proofs.lemmas.List.{get_or-replicate, length-replicate}
 use Rattle.league_core.specs.declared.sheet.Sheet.{Sheet}
 use Rattle.league_core.specs.declared.sheet.Fixture.{Fixture}
 use Rattle.league_core.specs.declared.season.Score.{Score}
-use Rattle.league_core.specs.Ahead.{rank_of}
-use Rattle.league_core.specs.Sums.{Worth, match_points, has_club, worth_to}
-use Rattle.league_core.specs.ClubSets.{clubs_below}
-use Rattle.league_core.specs.PointRanges.{one_value, added, range_of, range_from}
-use Rattle.league_core.specs.PointRanges.{points_together, points_of_sides}
+use Rattle.league_core.specs.game.Ahead.{rank_of}
+use Rattle.league_core.specs.game.Sums.{Worth, match_points, has_club, worth_to}
+use Rattle.league_core.specs.game.ClubSets.{clubs_below}
+use Rattle.league_core.specs.search.PointRanges.{one_value, added, range_of, range_from}
+use Rattle.league_core.specs.search.PointRanges.{points_together, points_of_sides}
 use Rattle.league_core.proofs.PointRangeLemmas.{range_from-more, range_from-all, range_of-same}
 use Rattle.league_core.proofs.PointRangeLemmas.{points_together-sides}
 use Rattle.league_core.proofs.RangeLemmas.{added-none, none-added, added-assoc, range_of-none}
-use Rattle.check_bounds.specs.declared.look.Kind.{Kind}
-use Rattle.check_bounds.specs.declared.span.Span.{Span}
-use Rattle.check_bounds.specs.Looks.{worth_by, side_worth}
-use Rattle.check_bounds.specs.Spans.{range_of_span, span_at, no_span, IsSpanWithin}
-use Rattle.check_bounds.specs.Tables.{IsTableOf, TableTakes, worth_if}
-use Rattle.check_bounds.specs.Walks.{worth_near}
-use Rattle.check_bounds.proofs.SpanLemmas.{near_wider}
+use Rattle.check_bounds.specs.declared.term.Measure.{Measure}
+use Rattle.check_bounds.specs.declared.int_range.IntRange.{IntRange}
+use Rattle.check_bounds.specs.inside.Terms.{worth_by, side_worth}
+use Rattle.check_bounds.specs.inside.IntRanges.{range_of_span, span_at, no_span, IsSpanWithin}
+use Rattle.check_bounds.specs.inside.Tables.{IsTableOf, TableTakes, worth_if}
+use Rattle.check_bounds.specs.inside.Walks.{worth_near}
+use Rattle.check_bounds.proofs.IntRangeLemmas.{near_wider}
 
 -- each club's sum so far, and that of the matches that are left, make the whole; none is far from 0
 pub record IsTableSoFar (value : ℕ → Fixture → Score → ℤ) (fixtures : List Fixture)
-    (corners : List (List Score)) (count : ℕ) (table : List Span) : Type 0 where
+    (corners : List (List Score)) (count : ℕ) (table : List IntRange) : Type 0 where
   pub long : length table ≡ 32
   pub sums : (club : ℕ) → added (range_of_span (span_at table club))
       (range_from (value club) (drop count fixtures) (drop count corners))
@@ -39,7 +39,7 @@ pub record IsTableSoFar (value : ℕ → Fixture → Score → ℤ) (fixtures : 
 
 -- one match more
 pub table_more : (value : ℕ → Fixture → Score → ℤ) (fixtures : List Fixture)
-    (corners : List (List Score)) (count : ℕ) (table new : List Span) (d : Fixture)
+    (corners : List (List Score)) (count : ℕ) (table new : List IntRange) (d : Fixture)
     → count < length fixtures → count < length corners
     → IsTableSoFar value fixtures corners count table → length new ≡ 32
     → ((club : ℕ) → range_of_span (span_at new club)
@@ -65,7 +65,7 @@ table_more value fixtures corners count table new d inside there so_far long add
 
 -- all of them
 pub table_all : (value : ℕ → Fixture → Score → ℤ) (fixtures : List Fixture)
-    (corners : List (List Score)) (count : ℕ) (table : List Span) → length fixtures ≤ count
+    (corners : List (List Score)) (count : ℕ) (table : List IntRange) → length fixtures ≤ count
     → IsTableSoFar value fixtures corners count table → IsTableOf value fixtures corners table
 table_all value fixtures corners count table all so_far club =
     sym (added-none (range_of_span (span_at table club)))
@@ -74,8 +74,8 @@ table_all value fixtures corners count table all so_far club =
     ∙ so_far.sums club
 
 -- what a match adds to the sums of each club
-pub match_adds : (kind : Kind) (match : Fixture) (corners : List Score)
-    (table middle new : List Span) (home away : Span)
+pub match_adds : (kind : Measure) (match : Fixture) (corners : List Score)
+    (table middle new : List IntRange) (home away : IntRange)
     → match.home ≢ match.away
     → range_of_span home ≡ range_of (side_worth kind false) corners
     → range_of_span away ≡ range_of (side_worth kind true) corners
@@ -140,14 +140,14 @@ match_adds kind match corners table middle new home away apart home_is away_is
 
 -- where it counts, that is what a match adds; where it does not, nothing
 pub adds_when : (counts : Bool) (value : ℕ → Score → ℤ) (corners : List Score)
-    (old new : List Span) → counts ≡ true → TableTakes value corners old new
+    (old new : List IntRange) → counts ≡ true → TableTakes value corners old new
     → TableTakes (λ club score. cond counts (value club score) (pos 0)) corners old new
 adds_when counts value corners old new is adds =
     subst (λ (b : Bool). TableTakes (λ club score. cond b (value club score) (pos 0)) corners old
     new) (sym is) adds
 
 pub adds_unless : (counts : Bool) (value : ℕ → Score → ℤ) (corners : List Score)
-    (table : List Span) → counts ≡ false
+    (table : List IntRange) → counts ≡ false
     → TableTakes (λ club score. cond counts (value club score) (pos 0)) corners table table
 adds_unless counts value corners table is =
     subst (λ (b : Bool). TableTakes (λ club score. cond b (value club score) (pos 0)) corners table
@@ -162,7 +162,7 @@ adds_unless counts value corners table is =
 
 -- one match more, by what it added
 pub adds_more : (value : ℕ → Fixture → Score → ℤ) (worth : Worth) (fixtures : List Fixture)
-    (corners : List (List Score)) (count : ℕ) (table new : List Span) (d : Fixture)
+    (corners : List (List Score)) (count : ℕ) (table new : List IntRange) (d : Fixture)
     (counts : Bool) (own : List Score) → count < length fixtures → count < length corners
     → own ≡ get_or corners count []
     → ((club : ℕ) → worth_if counts worth (get_or fixtures count d) club
@@ -181,7 +181,7 @@ adds_more value worth fixtures corners count table new d counts own inside there
 
 -- sums so far are not far from 0
 pub so_far_near : (value : ℕ → Fixture → Score → ℤ) (fixtures : List Fixture)
-    (corners : List (List Score)) (count : ℕ) (table : List Span) → count < 600
+    (corners : List (List Score)) (count : ℕ) (table : List IntRange) → count < 600
     → IsTableSoFar value fixtures corners count table → (club : ℕ)
     → IsSpanWithin 500000 (span_at table club)
 so_far_near value fixtures corners count table few so_far club =
@@ -217,13 +217,14 @@ near_is group worth club has =
         (ne_eqb match.away club away))
 
 -- the clubs below a number have their ranks, the others none
-pub record AreRanksBelow (sheet : Sheet) (table : List Span) (count : ℕ) : Type 0 where
+pub record AreRanksBelow (sheet : Sheet) (table : List IntRange) (count : ℕ) : Type 0 where
   pub long : length table ≡ 32
   pub done : (club : ℕ) → club < count
       → range_of_span (span_at table club) ≡ one_value (neg_ℤ (pos (rank_of sheet club)))
   pub left : (club : ℕ) → count ≤ club → range_of_span (span_at table club) ≡ one_value (pos 0)
 
-pub ranks_more : (sheet : Sheet) (table : List Span) (count rank : ℕ) (span : Span) → count < 32
+pub ranks_more : (sheet : Sheet) (table : List IntRange) (count rank : ℕ) (span : IntRange)
+    → count < 32
     → AreRanksBelow sheet table count → rank ≡ rank_of sheet count
     → range_of_span span ≡ one_value (neg_ℤ (pos rank))
     → AreRanksBelow sheet (set table count span) (count + 1)
@@ -256,12 +257,12 @@ nothing_at count club =
     elim (cases_lt club count) as (λ _. span_at (replicate count no_span) club ≡ no_span) [
       | inl within ↦ get_or-replicate count club no_span no_span within
       | inr past ↦ get_or_past (replicate count no_span) club no_span
-          (omega (arith, past, length-replicate {A = Span}))
+          (omega (arith, past, length-replicate {A = IntRange}))
     ]
 
-pub near_nothing : (bound : ℕ) (span : Span) → span ≡ no_span → IsSpanWithin bound span
+pub near_nothing : (bound : ℕ) (span : IntRange) → span ≡ no_span → IsSpanWithin bound span
 near_nothing bound span is =
-    let At : Span → Type 0 = λ s. IsSpanWithin bound s in
+    let At : IntRange → Type 0 = λ s. IsSpanWithin bound s in
     subst At (sym is) (record {
       least_above = omega (arith, ints);
       least_below = omega (arith, ints);
@@ -282,7 +283,7 @@ table_none value fixtures corners = record {
 }
 
 -- how far the sums are from 0 after a match
-pub match_near : (bound : ℕ) (match : Fixture) (table middle new : List Span)
+pub match_near : (bound : ℕ) (match : Fixture) (table middle new : List IntRange)
     → match.home ≢ match.away → ((club : ℕ) → IsSpanWithin bound (span_at table club))
     → (IsSpanWithin bound (span_at table match.home)
     → IsSpanWithin (bound + 255) (span_at middle match.home))
@@ -294,21 +295,21 @@ pub match_near : (bound : ℕ) (match : Fixture) (table middle new : List Span)
 match_near bound match table middle new apart all home_grows home_others away_grows away_others
     club = by_away (cases_eq match.away club)
   where
-    At : Span → Type 0
+    At : IntRange → Type 0
     At s = IsSpanWithin (bound + 255) s
 
-    Was : Span → Type 0
+    Was : IntRange → Type 0
     Was s = IsSpanWithin bound s
 
     by_home : (match.away ≢ club) → (match.home ≡ club) ⊎ (match.home ≢ club)
         → IsSpanWithin (bound + 255) (span_at new club)
     by_home not_away (inl same) =
-        subst (λ (s : Span). IsSpanWithin (bound + 255) s)
+        subst (λ (s : IntRange). IsSpanWithin (bound + 255) s)
         (sym (away_others club (λ e. not_away (sym e))))
         (subst (λ (n : ℕ). IsSpanWithin (bound + 255) (span_at middle n)) same
         (home_grows (all match.home)))
     by_home not_away (inr other) =
-        subst (λ (s : Span). IsSpanWithin (bound + 255) s)
+        subst (λ (s : IntRange). IsSpanWithin (bound + 255) s)
         (sym (away_others club (λ e. not_away (sym e)) ∙ home_others club (λ e. other (sym e))))
         (near_wider bound (bound + 255) (span_at table club) (omega arith) (all club))
 
@@ -316,7 +317,7 @@ match_near bound match table middle new apart all home_grows home_others away_gr
         → IsSpanWithin (bound + 255) (span_at new club)
     by_away (inl same) =
         subst (λ (n : ℕ). IsSpanWithin (bound + 255) (span_at new n)) same
-        (away_grows (subst (λ (s : Span). IsSpanWithin bound s)
+        (away_grows (subst (λ (s : IntRange). IsSpanWithin bound s)
         (sym (home_others match.away (λ e. apart (sym e)))) (all match.away)))
     by_away (inr other) = by_home other (cases_eq match.home club)
 
@@ -329,7 +330,7 @@ ranks_none sheet = record {
 
 -- the points of a set in a match, by which of its ends are of the set
 pub together_by_ends : (bits : ℕ) (match : Fixture) (corners : List Score) (home away : Bool)
-    (span : Span) → match.home ≢ match.away → home ≡ has_club (clubs_below 32 bits) match.home
+    (span : IntRange) → match.home ≢ match.away → home ≡ has_club (clubs_below 32 bits) match.home
     → away ≡ has_club (clubs_below 32 bits) match.away
     → range_of_span span ≡ range_of (points_of_sides home away) corners
     → range_of_span span ≡ range_of (points_together (clubs_below 32 bits) match) corners
@@ -345,7 +346,7 @@ together_by_ends bits match corners home away span apart home_is away_is is =
 
 -- one match more of one sum
 pub sum_more : (value : Fixture → Score → ℤ) (fixtures : List Fixture)
-    (corners : List (List Score)) (count : ℕ) (old here new : Span) (d : Fixture)
+    (corners : List (List Score)) (count : ℕ) (old here new : IntRange) (d : Fixture)
     → count < length fixtures → count < length corners
     → added (range_of_span old) (range_from value (drop count fixtures) (drop count corners))
     ≡ range_from value fixtures corners
@@ -375,7 +376,7 @@ points_alone club fixtures corners =
     without n = omega (arith, ints)
 
 -- what holds of each club passed, and of one more
-pub each_more : (Fact : ℕ → Span → Type 0) (table : List Span) (count : ℕ) (span : Span)
+pub each_more : (Fact : ℕ → IntRange → Type 0) (table : List IntRange) (count : ℕ) (span : IntRange)
     → count < length table → ((x : ℕ) → x < count → Fact x (span_at table x)) → Fact count span
     → (x : ℕ) → x < count + 1 → Fact x (span_at (set table count span) x)
 each_more Fact table count span inside so_far here x below = at (cases_eq x count)
@@ -383,8 +384,8 @@ each_more Fact table count span inside so_far here x below = at (cases_eq x coun
     at : (x ≡ count) ⊎ (x ≢ count) → Fact x (span_at (set table count span) x)
     at (inl same) =
         subst (λ (n : ℕ). Fact n (span_at (set table count span) n)) (sym same)
-        (subst (λ (s : Span). Fact count s)
+        (subst (λ (s : IntRange). Fact count s)
         (sym (get_or-set_same table count span no_span inside)) here)
     at (inr other) =
-        subst (λ (s : Span). Fact x s) (sym (get_or-set_other table count x span no_span other))
+        subst (λ (s : IntRange). Fact x s) (sym (get_or-set_other table count x span no_span other))
         (so_far x (omega (arith, below, other)))

@@ -9,24 +9,24 @@ use Rattle.std.proofs.lemmas.Bool.Decides.{nat_tests, same_from_decides}
 use Rattle.std.proofs.lemmas.Int.{ints}
 use Rattle.league_core.specs.declared.sheet.Fixture.{Fixture}
 use Rattle.league_core.specs.declared.season.Score.{Score}
-use Rattle.league_core.specs.Sums.{has_club, worth_to, worth_among}
-use Rattle.league_core.specs.Options.{has_score, has_option, has_one_outcome, same_outcome}
-use Rattle.league_core.specs.PointRanges.{added, range_of, range_from, total_of}
-use Rattle.league_core.specs.PointRanges.{points_together}
+use Rattle.league_core.specs.game.Sums.{has_club, worth_to, worth_among}
+use Rattle.league_core.specs.search.Options.{has_score, has_option, has_one_outcome, same_outcome}
+use Rattle.league_core.specs.search.PointRanges.{added, range_of, range_from, total_of}
+use Rattle.league_core.specs.search.PointRanges.{points_together}
 use Rattle.league_core.proofs.OptionLemmas.{has_score-first, all_options, each_option}
-use Rattle.league_core.specs.Finishes.{same_score}
+use Rattle.league_core.specs.game.Finishes.{same_score}
 use Rattle.league_core.proofs.OutcomeLemmas.{same_outcome-joined, same_outcome-itself}
 use Rattle.league_core.proofs.PointRangeLemmas.{least_reached, greatest_reached}
 use Rattle.league_core.proofs.PointRangeLemmas.{range_bounds, least-is, greatest-is}
 use Rattle.league_core.proofs.RangeLemmas.{same_range}
-use Rattle.check_bounds.specs.declared.look.Kind.{Kind}
-use Rattle.check_bounds.specs.declared.look.Kind.TheVariants as kind
-use Rattle.check_bounds.specs.Looks.{worth_by, side_worth}
-use Rattle.check_bounds.specs.Corners.{AreCornersOf}
-use Rattle.check_bounds.specs.Zones.{AreAllCornersOf}
+use Rattle.check_bounds.specs.declared.term.Measure.{Measure}
+use Rattle.check_bounds.specs.declared.term.Measure.TheVariants as kind
+use Rattle.check_bounds.specs.inside.Terms.{worth_by, side_worth}
+use Rattle.check_bounds.specs.inside.ExtremeScores.{AreExtremesOf}
+use Rattle.check_bounds.specs.inside.Zones.{AreAllExtremesOf}
 
 -- there is a corner where there is an option
-pub some_same : (corners options : List Score) → AreCornersOf corners options
+pub some_same : (corners options : List Score) → AreExtremesOf corners options
     → has_option corners ≡ has_option options
 some_same [] [] are = refl
 some_same (c ∷ corners) (o ∷ options) are = refl
@@ -42,7 +42,7 @@ IsBounded value corners options =
     → ((c : Score) × (has_score corners c ≡ true) × (value c ≤ℤ value score))
     × ((c : Score) × (has_score corners c ≡ true) × (value score ≤ℤ value c))
 
-range_same : (value : Score → ℤ) (corners options : List Score) → AreCornersOf corners options
+range_same : (value : Score → ℤ) (corners options : List Score) → AreExtremesOf corners options
     → IsBounded value corners options → range_of value corners ≡ range_of value options
 range_same value [] [] are bounded = refl
 range_same value [] (o ∷ options) are bounded =
@@ -66,7 +66,7 @@ range_same value (c ∷ corners) options are bounded =
     (high.0, are.inside high.0 high.1, high.2))
 
 -- all corners have one outcome where all options have
-pub one_same : (corners options : List Score) → AreCornersOf corners options
+pub one_same : (corners options : List Score) → AreExtremesOf corners options
     → has_one_outcome corners ≡ has_one_outcome options
 one_same [] [] are = refl
 one_same [] (o ∷ options) are =
@@ -140,7 +140,7 @@ away_wins_alike false c s are = refl
 
 by_outcome : (value : Score → ℤ)
     → ((c s : Score) → same_outcome c s ≡ true → value c ≡ value s)
-    → (corners options : List Score) → AreCornersOf corners options
+    → (corners options : List Score) → AreExtremesOf corners options
     → IsBounded value corners options
 by_outcome value same corners options are score there =
     let corner = (are.between score there).fewest_home in
@@ -148,8 +148,8 @@ by_outcome value same corners options are score there =
     ((corner.0, corner.1, omega (arith, ints, is)), (corner.0, corner.1, omega (arith, ints, is)))
 
 -- what a score is worth to a side
-pub side_same : (which : Kind) (away : Bool) (corners options : List Score)
-    → AreCornersOf corners options
+pub side_same : (which : Measure) (away : Bool) (corners options : List Score)
+    → AreExtremesOf corners options
     → range_of (side_worth which away) corners ≡ range_of (side_worth which away) options
 side_same kind.Points away corners options are =
     range_same (side_worth kind.Points away) corners options are
@@ -198,8 +198,8 @@ side_same kind.Difference true corners options are =
     ((low.0, low.1, omega (arith, ints, low.3)), (high.0, high.1, omega (arith, ints, high.3))))
 
 -- what it is worth to a club
-pub worth_same : (which : Kind) (club : ℕ) (match : Fixture) (corners options : List Score)
-    → AreCornersOf corners options → range_of (worth_to (worth_by which) club match) corners
+pub worth_same : (which : Measure) (club : ℕ) (match : Fixture) (corners options : List Score)
+    → AreExtremesOf corners options → range_of (worth_to (worth_by which) club match) corners
     ≡ range_of (worth_to (worth_by which) club match) options
 worth_same which club match corners options are = at (match.home == club) (match.away == club)
   where
@@ -215,8 +215,8 @@ worth_same which club match corners options are = at (match.home == club) (match
         (by_outcome (λ score. pos 0) (λ c s same. refl) corners options are)
 
 -- what it is worth to a club among others
-pub among_same : (group : List ℕ) (which : Kind) (club : ℕ) (match : Fixture)
-    (corners options : List Score) → AreCornersOf corners options
+pub among_same : (group : List ℕ) (which : Measure) (club : ℕ) (match : Fixture)
+    (corners options : List Score) → AreExtremesOf corners options
     → range_of (worth_among group (worth_by which) club match) corners
     ≡ range_of (worth_among group (worth_by which) club match) options
 among_same group which club match corners options are =
@@ -234,7 +234,7 @@ among_same group which club match corners options are =
 
 -- the match points of a set
 pub together_same : (clubs : List ℕ) (match : Fixture) (corners options : List Score)
-    → AreCornersOf corners options
+    → AreExtremesOf corners options
     → range_of (points_together clubs match) corners
     ≡ range_of (points_together clubs match) options
 together_same clubs match corners options are =
@@ -253,8 +253,8 @@ together_same clubs match corners options are =
     one false false c s are = refl
 
 tail_of : (c : List Score) (corners : List (List Score)) (o : List Score)
-    (options : List (List Score)) → AreAllCornersOf (c ∷ corners) (o ∷ options)
-    → AreAllCornersOf corners options
+    (options : List (List Score)) → AreAllExtremesOf (c ∷ corners) (o ∷ options)
+    → AreAllExtremesOf corners options
 tail_of c corners o options are = record {
   many = let e = are.many in omega (arith, e);
   each = λ k within. are.each (suc k) (omega (arith, within));
@@ -262,10 +262,10 @@ tail_of c corners o options are = record {
 
 -- fixture by fixture
 pub ranges_same : (value : Fixture → Score → ℤ)
-    → ((match : Fixture) (corners options : List Score) → AreCornersOf corners options
+    → ((match : Fixture) (corners options : List Score) → AreExtremesOf corners options
     → range_of (value match) corners ≡ range_of (value match) options)
     → (matches : List Fixture) (corners options : List (List Score))
-    → AreAllCornersOf corners options
+    → AreAllExtremesOf corners options
     → range_from value matches corners ≡ range_from value matches options
 ranges_same value same [] corners options are = refl
 ranges_same value same (match ∷ matches) [] [] are = refl
@@ -279,9 +279,9 @@ ranges_same value same (match ∷ matches) (c ∷ corners) (o ∷ options) are =
 
 -- a test of each
 pub tests_same : (test : List Score → Bool)
-    → ((corners options : List Score) → AreCornersOf corners options
+    → ((corners options : List Score) → AreExtremesOf corners options
     → test corners ≡ test options)
-    → (corners options : List (List Score)) → AreAllCornersOf corners options
+    → (corners options : List (List Score)) → AreAllExtremesOf corners options
     → list_all test corners ≡ list_all test options
 tests_same test same [] [] are = refl
 tests_same test same [] (o ∷ options) are = let e = are.many in absurd (omega (arith, e))

@@ -3,11 +3,11 @@ use Rattle.std.proofs.Common.{◌≡◌, ℕ, ◌+◌, ◌<◌, ◌≤◌, Bool,
 use Rattle.std.proofs.Common.{get_or, replicate}
 use Rattle.league_core.specs.declared.sheet.Fixture.{Fixture}
 use Rattle.league_core.specs.declared.season.Score.{Score}
-use Rattle.league_core.specs.Sums.{has_club, worth_among, match_points, goal_difference, goals}
+use Rattle.league_core.specs.game.Sums.{has_club, worth_among, match_points, goal_difference, goals}
 use Rattle.check_bounds.specs.declared.records.Records.{Records}
-use Rattle.check_bounds.specs.Spans.{no_span}
-use Rattle.check_bounds.specs.Tables.{worth_if}
-use Rattle.check_bounds.specs.Walks.{AreRecordsNear, AddsRecord, AreRecordsOf}
+use Rattle.check_bounds.specs.inside.IntRanges.{no_span}
+use Rattle.check_bounds.specs.inside.Tables.{worth_if}
+use Rattle.check_bounds.specs.inside.Walks.{AreRecordsNear, AddsRecord, AreRecordsOf}
 use Rattle.check_bounds.proofs.TableLemmas.{IsTableSoFar, table_none, table_all, adds_more}
 use Rattle.check_bounds.proofs.TableLemmas.{so_far_near}
 

@@ -7,16 +7,16 @@ use Rattle.std.proofs.lemmas.Int.{ints, clamps}
 use Rattle.league_core.specs.declared.sheet.Sheet.{Sheet}
 use Rattle.league_core.specs.declared.sheet.Fixture.{Fixture}
 use Rattle.league_core.specs.declared.season.Score.{Score}
-use Rattle.league_core.specs.Results.{Results}
-use Rattle.league_core.specs.Sums.{match_points, worth_to}
-use Rattle.league_core.specs.PointRanges.{Range, one_value, added, range_of, range_from}
-use Rattle.league_core.specs.PointRanges.{points_range, deducted_from}
+use Rattle.league_core.specs.game.Results.{Results}
+use Rattle.league_core.specs.game.Sums.{match_points, worth_to}
+use Rattle.league_core.specs.search.PointRanges.{Range, one_value, added, range_of, range_from}
+use Rattle.league_core.specs.search.PointRanges.{points_range, deducted_from}
 use Rattle.league_core.proofs.RangeLemmas.{same_range, range_of-none}
-use Rattle.check_bounds.specs.declared.look.Kind.TheVariants as kind
-use Rattle.check_bounds.specs.declared.span.Span.{Span}
-use Rattle.check_bounds.specs.Looks.{side_worth}
-use Rattle.check_bounds.specs.Spans.{range_of_span, span_at, IsSpanWithin}
-use Rattle.check_bounds.specs.Cells.{AreWonIn, points_by_table}
+use Rattle.check_bounds.specs.declared.term.Measure.TheVariants as kind
+use Rattle.check_bounds.specs.declared.int_range.IntRange.{IntRange}
+use Rattle.check_bounds.specs.inside.Terms.{side_worth}
+use Rattle.check_bounds.specs.inside.IntRanges.{range_of_span, span_at, IsSpanWithin}
+use Rattle.check_bounds.specs.inside.Cells.{AreWonIn, points_by_table}
 use Rattle.check_bounds.proofs.TableLemmas.{points_alone}
 
 -- from 0 to so much
@@ -88,7 +88,7 @@ sums_few value few (match ∷ matches) (own ∷ corners) =
     )
 
 -- the points of a league's clubs are not far from 0
-pub won_near : (sheet : Sheet) (corners : List (List Score)) (won : List Span)
+pub won_near : (sheet : Sheet) (corners : List (List Score)) (won : List IntRange)
     → length sheet.fixtures ≤ 600 → AreWonIn sheet corners won → (club : ℕ)
     → IsSpanWithin 2000 (span_at won club)
 won_near sheet corners won few are club =
@@ -117,8 +117,8 @@ sides at_home at_away corners =
     (cond at_away (side_worth kind.Points true score) (pos 0))) corners
 
 -- one part of a sum in the place of another, at each club
-pub match_exchanged : (match : Fixture) (old new : List Score) (table middle now : List Span)
-    (home_old home_new away_old away_new : Span) → match.home ≢ match.away
+pub match_exchanged : (match : Fixture) (old new : List Score) (table middle now : List IntRange)
+    (home_old home_new away_old away_new : IntRange) → match.home ≢ match.away
     → range_of_span home_old ≡ range_of (side_worth kind.Points false) old
     → range_of_span home_new ≡ range_of (side_worth kind.Points false) new
     → range_of_span away_old ≡ range_of (side_worth kind.Points true) old
@@ -225,7 +225,7 @@ range_from-set value (match ∷ matches) (own ∷ corners) (suc k) new d inside 
     (omega (arith, ints, greatest))
 
 -- a table that follows one match follows the sums
-pub won_exchanged : (sheet : Sheet) (corners : List (List Score)) (won now : List Span) (k : ℕ)
+pub won_exchanged : (sheet : Sheet) (corners : List (List Score)) (won now : List IntRange) (k : ℕ)
     (new : List Score) (d : Fixture) → k < length sheet.fixtures → k < length corners
     → AreWonIn sheet corners won
     → ((club : ℕ) → added (range_of_span (span_at now club))
@@ -251,7 +251,7 @@ won_exchanged sheet corners won now k new d inside there are follows club =
 
 -- a club's points, by the table of match points
 pub points_by_table-is : (sheet : Sheet) (season : Results) (corners : List (List Score))
-    (won : List Span) (club : ℕ) → AreWonIn sheet corners won
+    (won : List IntRange) (club : ℕ) → AreWonIn sheet corners won
     → points_by_table season won club ≡ points_range sheet season corners (club ∷ [])
 points_by_table-is sheet season corners won club are =
     ap (λ r. added r (one_value (pos 0 -ℤ deducted_from season (club ∷ []))))

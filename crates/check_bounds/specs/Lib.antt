@@ -1,15 +1,2 @@
--- Reading order: the scores that a fixture may still end with, what is looked at in them, the few
--- scores that bound all others, what a zone leaves of each fixture, sums and tables of them, what
--- is kept of them from zone to zone, what is sure of each rival, and what a reason then says.
-pub mod Scopes
-pub mod Looks
-pub mod Corners
-pub mod Zones
-pub mod Ways
-pub mod Spans
-pub mod Tables
-pub mod Walks
-pub mod Loose
-pub mod Cells
-pub mod Steps
-pub mod Refutes
+-- All words of this crate stand in inside/: no promise of the program rests on them.
+pub mod inside

@@ -2,32 +2,32 @@
 //! literal changes one fixture alone, and so does going back over one; all others are kept.
 
 ghost use Rattle.std.specs.Prelude.{◌≡◌, ◌<◌, [], ◌∷◌, IfOk, length, set, slice_index_or};
-ghost use Rattle.league_core.specs.Seasons.{IsLeague};
-ghost use Rattle.league_core.specs.Sheets.{IsWithinLimits};
-ghost use Rattle.league_core.specs.Sums.{worth_to};
-ghost use Rattle.league_core.specs.ClubSets.{clubs_in};
+ghost use Rattle.league_core.specs.game.Seasons.{IsLeague};
+ghost use Rattle.league_core.specs.game.Sheets.{IsWithinLimits};
+ghost use Rattle.league_core.specs.game.Sums.{worth_to};
+ghost use Rattle.league_core.specs.game.ClubSets.{clubs_in};
 ghost use Rattle.std.specs.List.{list_all};
-ghost use Rattle.league_core.specs.Options.{options_in, has_option, has_one_outcome};
-ghost use Rattle.league_core.specs.PointRanges.{points_range, points_together, range_from};
-ghost use Rattle.check_bounds.specs.declared.scope.Scope.{Scope};
-ghost use Rattle.check_bounds.specs.Looks.{worth_by};
-ghost use Rattle.check_bounds.specs.Spans.{range_of_span, IsSpanWithin};
-ghost use Rattle.check_bounds.specs.Tables.{IsTableOf};
-ghost use Rattle.check_bounds.specs.Walks.{AreRecordsOf, worth_near};
-ghost use Rattle.check_bounds.specs.Zones.{AreScopesOf};
-ghost use Rattle.check_bounds.specs.Cells.{FitScopes};
+ghost use Rattle.league_core.specs.search.Options.{options_in, has_option, has_one_outcome};
+ghost use Rattle.league_core.specs.search.PointRanges.{points_range, points_together, range_from};
+ghost use Rattle.check_bounds.specs.declared.score_domain.ScoreDomain.{ScoreDomain};
+ghost use Rattle.check_bounds.specs.inside.Terms.{worth_by};
+ghost use Rattle.check_bounds.specs.inside.IntRanges.{range_of_span, IsSpanWithin};
+ghost use Rattle.check_bounds.specs.inside.Tables.{IsTableOf};
+ghost use Rattle.check_bounds.specs.inside.Walks.{AreRecordsOf, worth_near};
+ghost use Rattle.check_bounds.specs.inside.Zones.{AreScoreDomainsOf};
+ghost use Rattle.check_bounds.specs.inside.Cells.{FitScoreDomains};
 
-use crate::corners::Corners;
-use crate::look::Kind;
-use crate::loose::Loose;
+use crate::extreme_scores::ExtremeScores;
+use crate::int_range::IntRange;
+use crate::open_counts::OpenCounts;
 use crate::records::{Records, records_of};
-use crate::scope::Scope;
-use crate::span::Span;
+use crate::score_domain::ScoreDomain;
 use crate::sums::sums_in;
 use crate::table::sums_of;
+use crate::term::Measure;
 use crate::total::won_by;
 use crate::won::{exchange_match, points_of_club};
-use crate::zone::{all_corners, copied_corners, season_scopes};
+use crate::zone::{all_extremes, copied_extremes, season_domains};
 use league_core::{ClubSet, OutOfMemory, Season, Sheet};
 use std::alloc::Global;
 use std::marker::Model;
@@ -36,16 +36,16 @@ use std::marker::Model;
 #[derive(Drop)]
 pub struct Cells<'a> {
     sheet: &'a Sheet,
-    scopes: Vec<Scope>,
-    corners: Vec<Corners>,
-    won: [Span; 32],
-    loose: Loose,
+    scopes: Vec<ScoreDomain>,
+    corners: Vec<ExtremeScores>,
+    won: [IntRange; 32],
+    loose: OpenCounts,
 }
 
 impl<'a> Model for Cells<'a> {
-    ghost use Rattle.check_bounds.specs.Cells.{Kept, AreCells};
+    ghost use Rattle.check_bounds.specs.inside.Cells.{CellsView, AreCells};
 
-    ghost Value = { Kept };
+    ghost Value = { CellsView };
 
     ghost view = { λ cells. record {
       sheet = cells.sheet.now;
@@ -63,12 +63,16 @@ impl<'a> Cells<'a> {
         requires { IsLeague sheet.now season.now }
         ensures sheet { IfOk result (λ cells. cells.sheet ≡ sheet.now) }
         ensures scopes { IfOk result
-            (λ cells. AreScopesOf cells.scopes (options_in sheet.now season.now [])) }
+            (λ cells. AreScoreDomainsOf cells.scopes (options_in sheet.now season.now [])) }
     {
-        let scopes = season_scopes(alloc, season.scores(), sheet.goal_limit)?;
-        let corners = all_corners(alloc, scopes.as_slice())?;
-        let won = sums_of(sheet.fixtures.as_slice(), corners.as_slice(), Kind::Points);
-        let loose = Loose::of(corners.as_slice());
+        let scopes = season_domains(alloc, season.scores(), sheet.goal_limit)?;
+        let corners = all_extremes(alloc, scopes.as_slice())?;
+        let won = sums_of(
+            sheet.fixtures.as_slice(),
+            corners.as_slice(),
+            Measure::Points,
+        );
+        let loose = OpenCounts::of(corners.as_slice());
         Ok(Cells {
             sheet,
             scopes,
@@ -85,7 +89,7 @@ impl<'a> Cells<'a> {
         Ok(Cells {
             sheet: self.sheet,
             scopes: Vec::from_slice(alloc, self.scopes.as_slice())?,
-            corners: copied_corners(alloc, self.corners.as_slice())?,
+            corners: copied_extremes(alloc, self.corners.as_slice())?,
             won: self.won,
             loose: self.loose,
         })
@@ -102,7 +106,7 @@ impl<'a> Cells<'a> {
     /// Each fixture has a score left.
     pub fn have_scores(&self) -> bool
         ensures value { result ≡ list_all has_option self.now.corners }
-        ensures fit { FitScopes self.now.scopes self.now.corners }
+        ensures fit { FitScoreDomains self.now.scopes self.now.corners }
     {
         self.loose.without_score == 0
     }
@@ -115,21 +119,21 @@ impl<'a> Cells<'a> {
     }
 
     /// What is left of a fixture.
-    pub fn scope(&self, fixture: u16) -> Scope
+    pub fn scope(&self, fixture: u16) -> ScoreDomain
         requires { fixture < length self.now.scopes }
-        ensures { (d : Scope) → result ≡ slice_index_or self.now.scopes fixture d }
+        ensures { (d : ScoreDomain) → result ≡ slice_index_or self.now.scopes fixture d }
     {
         self.scopes[fixture as usize]
     }
 
     /// Puts another scope in the place of a fixture's.
-    pub fn put(&mut self, fixture: u16, scope: Scope)
+    pub fn put(&mut self, fixture: u16, scope: ScoreDomain)
         requires { fixture < length self.old.scopes }
         ensures sheet { self.new.sheet ≡ self.old.sheet }
         ensures scopes { self.new.scopes ≡ set self.old.scopes fixture scope }
     {
         let place = fixture as usize;
-        let corners = Corners::of(&scope);
+        let corners = ExtremeScores::of(&scope);
         let teams = self.sheet.fixtures.as_slice()[place];
         exchange_match(&mut self.won, teams, &self.corners[place], &corners);
         self.loose = self.loose.exchanged(&self.corners[place], &corners);
@@ -149,7 +153,7 @@ impl<'a> Cells<'a> {
     }
 
     /// The sums of the clubs of a group by one measure, over all matches.
-    pub fn sums_in(&self, kind: Kind, group: ClubSet) -> [Span; 32]
+    pub fn sums_in(&self, kind: Measure, group: ClubSet) -> [IntRange; 32]
         ensures { IsTableOf (worth_near (clubs_in group) (worth_by kind))
             self.now.sheet.fixtures self.now.corners result }
     {
@@ -162,7 +166,7 @@ impl<'a> Cells<'a> {
     }
 
     /// The sums of all clubs by one measure, over all matches.
-    pub fn sums(&self, kind: Kind) -> [Span; 32]
+    pub fn sums(&self, kind: Measure) -> [IntRange; 32]
         ensures { IsTableOf (worth_to (worth_by kind))
             self.now.sheet.fixtures self.now.corners result }
     {
@@ -174,7 +178,7 @@ impl<'a> Cells<'a> {
     }
 
     /// The match points of the clubs of a set together.
-    pub fn won_by(&self, set: ClubSet) -> Span
+    pub fn won_by(&self, set: ClubSet) -> IntRange
         ensures points { range_of_span result ≡ range_from (points_together (clubs_in set))
             self.now.sheet.fixtures self.now.corners }
         ensures near { IsSpanWithin 153000 result }
@@ -183,7 +187,7 @@ impl<'a> Cells<'a> {
     }
 
     /// The points of a club.
-    pub fn points(&self, season: &Season, club: u8) -> Span
+    pub fn points(&self, season: &Season, club: u8) -> IntRange
         requires { club < 32 }
         ensures range { range_of_span result
             ≡ points_range self.now.sheet season.now self.now.corners (club ∷ []) }

@@ -1,16 +1,17 @@
 //! Two clubs by their sums: what is sure of a rival against the club.
 
 ghost use Rattle.std.specs.Prelude.{◌≡◌};
-ghost use Rattle.league_core.specs.SureOrder as order;
-ghost use Rattle.league_core.specs.SureOrder.{sure_by_range, sure_then, is_apart};
-ghost use Rattle.check_bounds.specs.Spans as spans;
-ghost use Rattle.check_bounds.specs.Spans.{range_of_span, ranges_at};
-ghost use Rattle.check_bounds.specs.Steps.{sure_by_tables, is_level_by_tables, is_sure_by_tables};
+ghost use Rattle.league_core.specs.search.SureOrder as order;
+ghost use Rattle.league_core.specs.search.SureOrder.{sure_by_range, sure_then, is_apart};
+ghost use Rattle.check_bounds.specs.inside.IntRanges as spans;
+ghost use Rattle.check_bounds.specs.inside.IntRanges.{range_of_span, ranges_at};
+ghost use Rattle.check_bounds.specs.inside.Steps.{sure_by_tables, is_level_by_tables};
+ghost use Rattle.check_bounds.specs.inside.Steps.{is_sure_by_tables};
 
-use crate::span::Span;
+use crate::int_range::IntRange;
 use league_core::Sure;
 
-fn by_span(rival: Span, club: Span) -> Sure
+fn by_span(rival: IntRange, club: IntRange) -> Sure
     ensures { result ≡ sure_by_range (range_of_span rival) (range_of_span club) }
 {
     if club.greatest < rival.least {
@@ -37,7 +38,7 @@ pub fn then(first: Sure, next: Sure) -> Sure
 }
 
 /// Where the answer is level, the tables decide; else it stays, and no table is looked at.
-pub fn then_by(answer: Sure, tables: &[[Span; 32]], club: u8, rival: u8) -> Sure
+pub fn then_by(answer: Sure, tables: &[[IntRange; 32]], club: u8, rival: u8) -> Sure
     ensures { result ≡ sure_then answer (sure_by_tables tables.now club rival) }
 {
     match answer {
@@ -49,14 +50,14 @@ pub fn then_by(answer: Sure, tables: &[[Span; 32]], club: u8, rival: u8) -> Sure
 }
 
 /// What the table has at the club's number; past the last one a sum without a match.
-pub fn span_at(table: &[Span; 32], club: u8) -> Span
+pub fn span_at(table: &[IntRange; 32], club: u8) -> IntRange
     ensures { result ≡ spans.span_at table.now club }
 {
-    table.get(club as usize).copied().unwrap_or(Span::ZERO)
+    table.get(club as usize).copied().unwrap_or(IntRange::ZERO)
 }
 
 /// The rival against the club by these tables, the first one first.
-pub fn by_tables(tables: &[[Span; 32]], club: u8, rival: u8) -> Sure
+pub fn by_tables(tables: &[[IntRange; 32]], club: u8, rival: u8) -> Sure
     ensures { result ≡ sure_by_tables tables.now club rival }
 {
     if tables.is_empty() {
@@ -66,7 +67,7 @@ pub fn by_tables(tables: &[[Span; 32]], club: u8, rival: u8) -> Sure
     then(first, by_tables(&tables[1..], club, rival))
 }
 
-fn are_apart(tables: &[[Span; 32]], club: u8, other: u8) -> bool
+fn are_apart(tables: &[[IntRange; 32]], club: u8, other: u8) -> bool
     ensures { result ≡ is_apart (ranges_at tables.now other) (ranges_at tables.now club) }
 {
     if tables.is_empty() {
@@ -90,14 +91,14 @@ pub fn is_level_answer(answer: Sure) -> bool
 }
 
 /// The other club is surely level with the club by these tables.
-pub fn is_level(tables: &[[Span; 32]], club: u8, other: u8) -> bool
+pub fn is_level(tables: &[[IntRange; 32]], club: u8, other: u8) -> bool
     ensures { result ≡ is_level_by_tables tables.now club other }
 {
     is_level_answer(by_tables(tables, club, other))
 }
 
 /// It is sure whether it is.
-pub fn is_sure(tables: &[[Span; 32]], club: u8, other: u8) -> bool
+pub fn is_sure(tables: &[[IntRange; 32]], club: u8, other: u8) -> bool
     ensures { result ≡ is_sure_by_tables tables.now club other }
 {
     is_level(tables, club, other) || are_apart(tables, club, other)

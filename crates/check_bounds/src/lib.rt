@@ -1,28 +1,29 @@
 //! The checker's own test of a reason: whether it holds in a zone.
 //!
-//! What a reason says is league_core's `specs/Reasons.antt` and `SureOrder.antt`; read these first.
-//! Here each fixture has a scope and a few corners (`cells.rt`, `corners.rt`), and sums over the
-//! corners are those over all options. Nothing of the search is used.
+//! What a reason says is league_core's `specs/search/Reasons.antt` and `SureOrder.antt`; read these
+//! first. Here each fixture has a domain of scores and its extremes (`cells.rt`,
+//! `extreme_scores.rt`), and sums over the extremes are those over all options. Nothing of the
+//! search is used.
 #![tactic(auto)]
 
 mod cells;
 mod compare;
-mod corners;
-mod look;
-mod loose;
+mod extreme_scores;
+mod int_range;
+mod open_counts;
 mod outcomes;
 mod reasons;
 mod records;
 mod rivals;
-mod rounds;
-mod scope;
-mod span;
+mod score_domain;
 mod step;
 mod sums;
 mod table;
+mod term;
+mod tie_rounds;
 mod total;
-mod way;
+mod trail;
 mod won;
 mod zone;
 
-pub use way::{Way, holds_in};
+pub use trail::{Trail, holds_in};

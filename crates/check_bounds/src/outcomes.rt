@@ -3,14 +3,14 @@
 ghost use Rattle.std.specs.Prelude.{◌≡◌, ◌&&◌, ◌<◌};
 ghost use Rattle.std.specs.Prelude.{◌||◌};
 ghost use Rattle.std.specs.List.{list_all};
-ghost use Rattle.league_core.specs.Options as options;
-ghost use Rattle.league_core.specs.Options.{has_option, has_one_outcome};
+ghost use Rattle.league_core.specs.search.Options as options;
+ghost use Rattle.league_core.specs.search.Options.{has_option, has_one_outcome};
 
-use crate::corners::Corners;
+use crate::extreme_scores::ExtremeScores;
 use league_core::Score;
 
 /// The fixture has a score left.
-pub fn has_score(corners: &Corners) -> bool
+pub fn has_score(corners: &ExtremeScores) -> bool
     ensures { result ≡ has_option corners.now }
 {
     !corners.as_slice().is_empty()

@@ -4,22 +4,22 @@ ghost use Rattle.std.specs.Prelude.{◌≡◌, ◌&&◌, ◌<◌, ◌≤◌, len
 ghost use Rattle.std.specs.Prelude.{◌||◌, ◌≤ℤ◌, ◌*ℤ◌};
 ghost use Rattle.std.specs.List.{list_all};
 ghost use Rattle.std.specs.Int.{int_min, int_max};
-ghost use Rattle.league_core.specs.Seasons.{IsLeague};
-ghost use Rattle.league_core.specs.Sums.{has_club};
-ghost use Rattle.league_core.specs.ClubSets.{clubs_in};
-ghost use Rattle.league_core.specs.Questions.{IsQuestionOf};
-ghost use Rattle.league_core.specs.PointRanges.{points_range};
-ghost use Rattle.league_core.specs.Options.{has_option, has_one_outcome};
-ghost use Rattle.check_bounds.specs.Cells.{FitScopes};
-ghost use Rattle.check_bounds.specs.Refutes as over;
-ghost use Rattle.check_bounds.specs.Refutes.{refutes_over, own_range, is_floor, is_ceiling};
-ghost use Rattle.check_bounds.specs.Refutes.{sure_over};
+ghost use Rattle.league_core.specs.game.Seasons.{IsLeague};
+ghost use Rattle.league_core.specs.game.Sums.{has_club};
+ghost use Rattle.league_core.specs.game.ClubSets.{clubs_in};
+ghost use Rattle.league_core.specs.game.Questions.{IsQuestionOf};
+ghost use Rattle.league_core.specs.search.PointRanges.{points_range};
+ghost use Rattle.league_core.specs.search.Options.{has_option, has_one_outcome};
+ghost use Rattle.check_bounds.specs.inside.Cells.{FitScoreDomains};
+ghost use Rattle.check_bounds.specs.inside.Refutes as over;
+ghost use Rattle.check_bounds.specs.inside.Refutes.{refutes_over, own_range, is_low, is_high};
+ghost use Rattle.check_bounds.specs.inside.Refutes.{sure_over};
 
 use crate::cells::Cells;
+use crate::int_range::IntRange;
 use crate::rivals::{has_members_in, is_decided, too_many};
-use crate::rounds::sure_against;
-use crate::span::Span;
 use crate::step::Marks;
+use crate::tie_rounds::sure_against;
 use crate::total::points_of_set;
 use league_core::{ClubSet, Question, Reason, Season};
 
@@ -33,7 +33,7 @@ pub fn holds_over(
 ) -> bool
     requires league { IsLeague cells.now.sheet season.now }
     requires question { IsQuestionOf cells.now.sheet question.now }
-    ensures fit { FitScopes cells.now.scopes cells.now.corners }
+    ensures fit { FitScoreDomains cells.now.scopes cells.now.corners }
     ensures value { result ≡ (list_all has_option cells.now.corners
         && refutes_over cells.now.sheet season.now question.now cells.now.corners
         (has_club (clubs_in marks.before)) (has_club (clubs_in marks.after)) reason) }
@@ -57,14 +57,14 @@ fn refutes(
     match reason {
         Reason::Count => too_many(cells.sheet(), question, marks.before, marks.after),
         Reason::Window => by_window(question, cells.points(season, question.club)),
-        Reason::Low(set) => by_floor(season, question, cells, marks.after, set),
-        Reason::High(set) => by_ceiling(season, question, cells, marks.before, set),
+        Reason::Low(set) => by_low(season, question, cells, marks.after, set),
+        Reason::High(set) => by_high(season, question, cells, marks.before, set),
         Reason::Tie => by_tie(season, question, cells, marks),
     }
 }
 
 // The club's points miss the window.
-fn by_window(question: &Question, own: Span) -> bool
+fn by_window(question: &Question, own: IntRange) -> bool
     ensures { result
         ≡ (int_lt own.greatest question.now.low || int_lt question.now.high own.least) }
 {
@@ -72,16 +72,10 @@ fn by_window(question: &Question, own: Span) -> bool
 }
 
 // A floor cut: all of the set are marked after, and have too many points together.
-fn by_floor(
-    season: &Season,
-    question: &Question,
-    cells: &Cells,
-    after: ClubSet,
-    set: ClubSet,
-) -> bool
+fn by_low(season: &Season, question: &Question, cells: &Cells, after: ClubSet, set: ClubSet) -> bool
     requires deductions { length season.now.deductions ≤ 24 }
     requires club { question.now.club < 32 }
-    ensures { result ≡ is_floor (has_club (clubs_in after))
+    ensures { result ≡ is_low (has_club (clubs_in after))
         (int_min question.now.high
         (own_range cells.now.sheet season.now question.now cells.now.corners).greatest)
         (points_range cells.now.sheet season.now cells.now.corners (clubs_in set))
@@ -94,7 +88,7 @@ fn by_floor(
 }
 
 // A ceiling cut: all of the set are marked before, and have too few points together.
-fn by_ceiling(
+fn by_high(
     season: &Season,
     question: &Question,
     cells: &Cells,
@@ -103,7 +97,7 @@ fn by_ceiling(
 ) -> bool
     requires deductions { length season.now.deductions ≤ 24 }
     requires club { question.now.club < 32 }
-    ensures { result ≡ is_ceiling (has_club (clubs_in before))
+    ensures { result ≡ is_high (has_club (clubs_in before))
         (int_max question.now.low
         (own_range cells.now.sheet season.now question.now cells.now.corners).least)
         (points_range cells.now.sheet season.now cells.now.corners (clubs_in set))

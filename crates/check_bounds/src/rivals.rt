@@ -3,15 +3,15 @@
 ghost use Rattle.std.specs.Prelude.{◌≡◌, ◌&&◌, ◌<◌, ◌≤◌, ℕ, nat_lt, IsTrue, length};
 ghost use Rattle.std.specs.Prelude.{count_by, ◌||◌};
 ghost use Rattle.std.specs.List.{list_all};
-ghost use Rattle.league_core.specs.Sums.{has_club};
-ghost use Rattle.league_core.specs.ClubSets.{clubs_in};
-ghost use Rattle.league_core.specs.LotsFor.{others_of};
-ghost use Rattle.league_core.specs.Zones.{rivals_of};
+ghost use Rattle.league_core.specs.game.Sums.{has_club};
+ghost use Rattle.league_core.specs.game.ClubSets.{clubs_in};
+ghost use Rattle.league_core.specs.search.Zones.{others_of};
+ghost use Rattle.league_core.specs.search.Zones.{rivals_of};
 ghost use Rattle.league_core.specs.declared.sure.Sure.{Sure};
-ghost use Rattle.league_core.specs.SureOrder as order;
-ghost use Rattle.league_core.specs.Reasons as reasons;
-ghost use Rattle.check_bounds.specs.Steps.{sure_at};
-ghost use Rattle.check_bounds.specs.Refutes as over;
+ghost use Rattle.league_core.specs.search.SureOrder as order;
+ghost use Rattle.league_core.specs.search.Reasons as reasons;
+ghost use Rattle.check_bounds.specs.inside.Steps.{sure_at};
+ghost use Rattle.check_bounds.specs.inside.Refutes as over;
 
 use league_core::{Claim, ClubSet, Question, Sheet, Sure};
 

@@ -2,11 +2,11 @@
 
 ghost use Rattle.std.specs.Prelude.{◌≡◌, [], ◌∷◌, ◌++◌, List, length};
 ghost use Rattle.league_core.specs.declared.zone.Literal.{Literal};
-ghost use Rattle.check_bounds.specs.Zones.{IsTestWithin, CutsBy};
-ghost use Rattle.check_bounds.specs.Ways.{undone, IsCutWithin, AreMarks};
+ghost use Rattle.check_bounds.specs.inside.Zones.{IsTestWithin, CutsBy};
+ghost use Rattle.check_bounds.specs.inside.Trails.{undone, IsCutWithin, AreMarks};
 
 use crate::cells::Cells;
-use crate::scope::Scope;
+use crate::score_domain::ScoreDomain;
 use crate::zone::{fixture_of, with_mark};
 use league_core::{ClubSet, Literal};
 
@@ -14,7 +14,7 @@ use league_core::{ClubSet, Literal};
 #[derive(Clone, Copy)]
 pub struct Cut {
     pub fixture: u16,
-    pub kept: Scope,
+    pub kept: ScoreDomain,
 }
 
 /// The rivals that a zone says to rank before the club, and those that it says not to.

@@ -1,27 +1,32 @@
 //! Sums over all matches of the clubs of a group, one measure in one walk.
 
 ghost use Rattle.std.specs.Prelude.{◌≡◌, ◌<◌, ◌||◌, ℕ, IsTrue, length};
-ghost use Rattle.league_core.specs.Sheets.{is_fixture};
-ghost use Rattle.league_core.specs.Sums.{has_club};
-ghost use Rattle.league_core.specs.ClubSets.{clubs_in};
-ghost use Rattle.check_bounds.specs.Looks.{worth_by};
-ghost use Rattle.check_bounds.specs.Spans.{span_at, IsSpanWithin};
-ghost use Rattle.check_bounds.specs.Tables.{ArePlayedOver, TableTakes, IsTableOf, worth_if};
-ghost use Rattle.check_bounds.specs.Walks.{worth_near};
+ghost use Rattle.league_core.specs.game.Sheets.{is_fixture};
+ghost use Rattle.league_core.specs.game.Sums.{has_club};
+ghost use Rattle.league_core.specs.game.ClubSets.{clubs_in};
+ghost use Rattle.check_bounds.specs.inside.Terms.{worth_by};
+ghost use Rattle.check_bounds.specs.inside.IntRanges.{span_at, IsSpanWithin};
+ghost use Rattle.check_bounds.specs.inside.Tables.{ArePlayedOver, TableTakes, IsTableOf, worth_if};
+ghost use Rattle.check_bounds.specs.inside.Walks.{worth_near};
 
-use crate::corners::Corners;
-use crate::look::Kind;
-use crate::span::Span;
+use crate::extreme_scores::ExtremeScores;
+use crate::int_range::IntRange;
 use crate::table::add_match;
+use crate::term::Measure;
 use league_core::{ClubSet, Fixture};
 
 /// The sums of clubs over the matches that have an end in the group; for its clubs these are all.
-pub fn sums_in(fixtures: &[Fixture], corners: &[Corners], kind: Kind, group: ClubSet) -> [Span; 32]
+pub fn sums_in(
+    fixtures: &[Fixture],
+    corners: &[ExtremeScores],
+    kind: Measure,
+    group: ClubSet,
+) -> [IntRange; 32]
     requires { ArePlayedOver fixtures.now corners.now }
     ensures { IsTableOf (worth_near (clubs_in group) (worth_by kind)) fixtures.now corners.now
         result }
 {
-    let mut table = [Span::ZERO; 32];
+    let mut table = [IntRange::ZERO; 32];
     for i in 0..fixtures.len() {
         let counts = has_one(group, fixtures[i]);
         add_if(&mut table, fixtures[i], &corners[i], kind, counts);
@@ -30,7 +35,13 @@ pub fn sums_in(fixtures: &[Fixture], corners: &[Corners], kind: Kind, group: Clu
 }
 
 // Adds a match to the sums of its two sides, where it counts.
-fn add_if(table: &mut [Span], fixture: Fixture, corners: &Corners, kind: Kind, counts: bool)
+fn add_if(
+    table: &mut [IntRange],
+    fixture: Fixture,
+    corners: &ExtremeScores,
+    kind: Measure,
+    counts: bool,
+)
     requires long { length table.old ≡ 32 }
     requires team { IsTrue (is_fixture 24 fixture) }
     requires near { (club : ℕ) → IsSpanWithin 500000 (span_at table.old club) }

@@ -1,25 +1,25 @@
 //! Tables of sums: for each club, by its number, what its matches can add up to.
 
 ghost use Rattle.std.specs.Prelude.{◌≡◌, ◌≢◌, ◌<◌, ◌≤◌, ◌+◌, ℕ, pos, neg_ℤ, true, IsTrue, length};
-ghost use Rattle.league_core.specs.Sheets.{is_fixture};
-ghost use Rattle.league_core.specs.Sums.{worth_to};
-ghost use Rattle.league_core.specs.Ahead.{rank_of};
-ghost use Rattle.league_core.specs.PointRanges.{one_value, added};
-ghost use Rattle.check_bounds.specs.Spans.{range_of_span, span_at, IsSpanWithin};
-ghost use Rattle.check_bounds.specs.Looks.{worth_by};
-ghost use Rattle.check_bounds.specs.Tables.{ArePlayedOver, IsTableOf, TableTakes, worth_if};
+ghost use Rattle.league_core.specs.game.Sheets.{is_fixture};
+ghost use Rattle.league_core.specs.game.Sums.{worth_to};
+ghost use Rattle.league_core.specs.game.Ahead.{rank_of};
+ghost use Rattle.league_core.specs.search.PointRanges.{one_value, added};
+ghost use Rattle.check_bounds.specs.inside.IntRanges.{range_of_span, span_at, IsSpanWithin};
+ghost use Rattle.check_bounds.specs.inside.Terms.{worth_by};
+ghost use Rattle.check_bounds.specs.inside.Tables.{ArePlayedOver, IsTableOf, TableTakes, worth_if};
 
-use crate::corners::Corners;
-use crate::look::{Kind, Look};
-use crate::span::{Span, span_of};
+use crate::extreme_scores::ExtremeScores;
+use crate::int_range::{IntRange, span_of};
+use crate::term::{Measure, Term};
 use league_core::{Fixture, Sheet};
 
 /// The sums of all clubs by one measure, over all matches.
-pub fn sums_of(fixtures: &[Fixture], corners: &[Corners], kind: Kind) -> [Span; 32]
+pub fn sums_of(fixtures: &[Fixture], corners: &[ExtremeScores], kind: Measure) -> [IntRange; 32]
     requires { ArePlayedOver fixtures.now corners.now }
     ensures { IsTableOf (worth_to (worth_by kind)) fixtures.now corners.now result }
 {
-    let mut table = [Span::ZERO; 32];
+    let mut table = [IntRange::ZERO; 32];
     for i in 0..fixtures.len() {
         add_match(&mut table, fixtures[i], &corners[i], kind);
     }
@@ -27,7 +27,7 @@ pub fn sums_of(fixtures: &[Fixture], corners: &[Corners], kind: Kind) -> [Span; 
 }
 
 /// Adds a match to the sums of its two sides.
-pub fn add_match(table: &mut [Span], fixture: Fixture, corners: &Corners, kind: Kind)
+pub fn add_match(table: &mut [IntRange], fixture: Fixture, corners: &ExtremeScores, kind: Measure)
     requires long { length table.old ≡ 32 }
     requires team { IsTrue (is_fixture 24 fixture) }
     requires near { (club : ℕ) → IsSpanWithin 500000 (span_at table.old club) }
@@ -37,16 +37,16 @@ pub fn add_match(table: &mut [Span], fixture: Fixture, corners: &Corners, kind: 
     add(
         table,
         fixture.home,
-        span_of(scores, Look::Side { kind, away: false }),
+        span_of(scores, Term::Side { kind, away: false }),
     );
     add(
         table,
         fixture.away,
-        span_of(scores, Look::Side { kind, away: true }),
+        span_of(scores, Term::Side { kind, away: true }),
     );
 }
 
-fn add(table: &mut [Span], club: u8, span: Span)
+fn add(table: &mut [IntRange], club: u8, span: IntRange)
     requires in_range { club < length table.old }
     requires near { IsSpanWithin 500000 (span_at table.old club) }
     requires small { IsSpanWithin 255 span }
@@ -62,14 +62,14 @@ fn add(table: &mut [Span], club: u8, span: Span)
 }
 
 /// The fixed ranks, each as a sum that is better the greater it is.
-pub fn ranks_of(sheet: &Sheet) -> [Span; 32]
+pub fn ranks_of(sheet: &Sheet) -> [IntRange; 32]
     requires { length sheet.now.clubs ≤ 24 }
     ensures { (club : ℕ) → range_of_span (span_at result club)
         ≡ one_value (neg_ℤ (pos (rank_of sheet.now club))) }
 {
-    let mut table = [Span::ZERO; 32];
+    let mut table = [IntRange::ZERO; 32];
     for club in 0..sheet.clubs.len() {
-        table[club] = Span::only(-i64::from(sheet.clubs.as_slice()[club].rank));
+        table[club] = IntRange::only(-i64::from(sheet.clubs.as_slice()[club].rank));
     }
     table
 }

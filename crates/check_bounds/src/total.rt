@@ -2,22 +2,22 @@
 
 ghost use Rattle.std.specs.Prelude.{◌≡◌, ◌<◌, ◌≤◌, ◌≤ℤ◌, ◌∷◌, [], ℕ, pos, length, slice_index};
 ghost use Rattle.std.specs.Prelude.{if◌then◌else◌};
-ghost use Rattle.league_core.specs.ClubSets.{clubs_in};
-ghost use Rattle.league_core.specs.PointRanges.{points_range, points_together, total_of};
-ghost use Rattle.league_core.specs.PointRanges.{range_from, range_of, points_of_sides};
-ghost use Rattle.check_bounds.specs.Spans as spans;
-ghost use Rattle.check_bounds.specs.Spans.{range_of_span, IsSpanWithin};
-ghost use Rattle.check_bounds.specs.Tables.{ArePlayedOver};
+ghost use Rattle.league_core.specs.game.ClubSets.{clubs_in};
+ghost use Rattle.league_core.specs.search.PointRanges.{points_range, points_together, total_of};
+ghost use Rattle.league_core.specs.search.PointRanges.{range_from, range_of, points_of_sides};
+ghost use Rattle.check_bounds.specs.inside.IntRanges as spans;
+ghost use Rattle.check_bounds.specs.inside.IntRanges.{range_of_span, IsSpanWithin};
+ghost use Rattle.check_bounds.specs.inside.Tables.{ArePlayedOver};
 
 use crate::cells::Cells;
-use crate::corners::Corners;
-use crate::look::Look;
-use crate::span::{Span, span_of};
+use crate::extreme_scores::ExtremeScores;
+use crate::int_range::{IntRange, span_of};
+use crate::term::Term;
 use league_core::{ClubSet, Fixture, Season};
 
 /// The least and the most points that the clubs of a set can have together: match points less what
 /// is taken off.
-pub fn points_of_set(season: &Season, cells: &Cells, set: ClubSet) -> Span
+pub fn points_of_set(season: &Season, cells: &Cells, set: ClubSet) -> IntRange
     requires { length season.now.deductions ≤ 24 }
     ensures points { range_of_span result
         ≡ points_range cells.now.sheet season.now cells.now.corners (clubs_in set) }
@@ -28,13 +28,13 @@ pub fn points_of_set(season: &Season, cells: &Cells, set: ClubSet) -> Span
 }
 
 /// The match points of the clubs of a set.
-pub fn won_by(fixtures: &[Fixture], corners: &[Corners], set: ClubSet) -> Span
+pub fn won_by(fixtures: &[Fixture], corners: &[ExtremeScores], set: ClubSet) -> IntRange
     requires { ArePlayedOver fixtures.now corners.now }
     ensures points { range_of_span result
         ≡ range_from (points_together (clubs_in set)) fixtures.now corners.now }
     ensures near { IsSpanWithin 153000 result }
 {
-    let mut won = Span::ZERO;
+    let mut won = IntRange::ZERO;
     for i in 0..fixtures.len() {
         let home = set.has(fixtures[i].home);
         let away = set.has(fixtures[i].away);
@@ -45,14 +45,14 @@ pub fn won_by(fixtures: &[Fixture], corners: &[Corners], set: ClubSet) -> Span
 
 // The match points that a match gives to its sides that count; most matches of a small set give
 // none.
-fn won_in(corners: &Corners, home: bool, away: bool) -> Span
+fn won_in(corners: &ExtremeScores, home: bool, away: bool) -> IntRange
     ensures range { range_of_span result ≡ range_of (points_of_sides home away) corners.now }
     ensures near { IsSpanWithin 255 result }
 {
     if home || away {
-        span_of(corners.as_slice(), Look::Both { home, away })
+        span_of(corners.as_slice(), Term::Both { home, away })
     } else {
-        Span::ZERO
+        IntRange::ZERO
     }
 }
 
@@ -78,11 +78,11 @@ fn taken_if(counts: bool, points: u8) -> i64
 }
 
 /// The points of each club.
-pub fn points_table(season: &Season, cells: &Cells) -> [Span; 32]
+pub fn points_table(season: &Season, cells: &Cells) -> [IntRange; 32]
     ensures { (club : ℕ) → club < 32 → range_of_span (spans.span_at result club)
         ≡ points_range cells.now.sheet season.now cells.now.corners (club ∷ []) }
 {
-    let mut table = [Span::ZERO; 32];
+    let mut table = [IntRange::ZERO; 32];
     for club in 0..32 {
         table[club as usize] = cells.points(season, club);
     }

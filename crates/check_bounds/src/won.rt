@@ -2,23 +2,28 @@
 
 ghost use Rattle.std.specs.Prelude.{◌≡◌, ◌≢◌, ◌<◌, ◌≤ℤ◌, ℕ, pos, IsTrue};
 ghost use Rattle.std.specs.Prelude.{slice_index};
-ghost use Rattle.league_core.specs.Sheets.{is_fixture};
-ghost use Rattle.league_core.specs.Sums.{match_points, worth_to};
-ghost use Rattle.league_core.specs.PointRanges.{added, range_of};
-ghost use Rattle.check_bounds.specs.Looks.{side_worth};
-ghost use Rattle.check_bounds.specs.declared.look.Kind.TheVariants as kinds;
-ghost use Rattle.check_bounds.specs.Spans as spans;
-ghost use Rattle.check_bounds.specs.Spans.{range_of_span, IsSpanWithin};
-ghost use Rattle.check_bounds.specs.Cells.{points_by_table};
+ghost use Rattle.league_core.specs.game.Sheets.{is_fixture};
+ghost use Rattle.league_core.specs.game.Sums.{match_points, worth_to};
+ghost use Rattle.league_core.specs.search.PointRanges.{added, range_of};
+ghost use Rattle.check_bounds.specs.inside.Terms.{side_worth};
+ghost use Rattle.check_bounds.specs.declared.term.Measure.TheVariants as kinds;
+ghost use Rattle.check_bounds.specs.inside.IntRanges as spans;
+ghost use Rattle.check_bounds.specs.inside.IntRanges.{range_of_span, IsSpanWithin};
+ghost use Rattle.check_bounds.specs.inside.Cells.{points_by_table};
 
 use crate::compare::span_at;
-use crate::corners::Corners;
-use crate::look::{Kind, Look};
-use crate::span::{Span, span_of};
+use crate::extreme_scores::ExtremeScores;
+use crate::int_range::{IntRange, span_of};
+use crate::term::{Measure, Term};
 use league_core::{Fixture, Season};
 
 /// Takes what a match gave to its two clubs off their points, and adds what it gives now.
-pub fn exchange_match(won: &mut [Span; 32], fixture: Fixture, old: &Corners, new: &Corners)
+pub fn exchange_match(
+    won: &mut [IntRange; 32],
+    fixture: Fixture,
+    old: &ExtremeScores,
+    new: &ExtremeScores,
+)
     requires team { IsTrue (is_fixture 24 fixture) }
     requires near { (club : ℕ) → IsSpanWithin 2000 (spans.span_at won.old club) }
     ensures { (club : ℕ) → added (range_of_span (spans.span_at won.new club))
@@ -41,16 +46,16 @@ pub fn exchange_match(won: &mut [Span; 32], fixture: Fixture, old: &Corners, new
 }
 
 // The match points of one side in a match.
-fn points_in(corners: &Corners, away: bool) -> Span
+fn points_in(corners: &ExtremeScores, away: bool) -> IntRange
     ensures range { range_of_span result ≡ range_of (side_worth kinds.Points away) corners.now }
     ensures near { IsSpanWithin 255 result }
 {
-    let kind = Kind::Points;
-    span_of(corners.as_slice(), Look::Side { kind, away })
+    let kind = Measure::Points;
+    span_of(corners.as_slice(), Term::Side { kind, away })
 }
 
 // One span in the place of another in a club's sum.
-fn exchange(won: &mut [Span; 32], club: u8, old: Span, new: Span)
+fn exchange(won: &mut [IntRange; 32], club: u8, old: IntRange, new: IntRange)
     requires in_range { club < 32 }
     requires near { IsSpanWithin 2000 (spans.span_at won.old club) }
     requires small { IsSpanWithin 255 old × IsSpanWithin 255 new }
@@ -63,7 +68,7 @@ fn exchange(won: &mut [Span; 32], club: u8, old: Span, new: Span)
 }
 
 /// A club's match points less what is taken off it.
-pub fn points_of_club(won: &[Span; 32], season: &Season, club: u8) -> Span
+pub fn points_of_club(won: &[IntRange; 32], season: &Season, club: u8) -> IntRange
     requires in_range { club < 32 }
     requires near { IsSpanWithin 2000 (spans.span_at won.now club) }
     ensures range { range_of_span result ≡ points_by_table season.now won.now club }

@@ -3,31 +3,31 @@
 ghost use Rattle.std.specs.Prelude.{◌≡◌, ◌||◌, ◌==◌, ◌<◌, ℕ, false, true, IfOk, IfSome, IfNone};
 ghost use Rattle.std.specs.Prelude.{[], Option};
 ghost use Rattle.league_core.specs.declared.season.Score.{Score};
-ghost use Rattle.league_core.specs.Sums.{has_club};
-ghost use Rattle.league_core.specs.ClubSets.{clubs_in};
-ghost use Rattle.league_core.specs.Zones.{is_on, is_of_score, is_as_said};
-ghost use Rattle.league_core.specs.Options.{options_from};
-ghost use Rattle.check_bounds.specs.Zones.{AreScopesOf, IsTestWithin};
-ghost use Rattle.check_bounds.specs.Cells.{FitScopes};
-ghost use Rattle.check_bounds.specs.Zones.{is_mark};
+ghost use Rattle.league_core.specs.game.Sums.{has_club};
+ghost use Rattle.league_core.specs.game.ClubSets.{clubs_in};
+ghost use Rattle.league_core.specs.search.Zones.{is_on, is_of_score, is_as_said};
+ghost use Rattle.league_core.specs.search.Options.{options_from};
+ghost use Rattle.check_bounds.specs.inside.Zones.{AreScoreDomainsOf, IsTestWithin};
+ghost use Rattle.check_bounds.specs.inside.Cells.{FitScoreDomains};
+ghost use Rattle.check_bounds.specs.inside.Zones.{is_mark};
 
-use crate::corners::Corners;
-use crate::scope::Scope;
+use crate::extreme_scores::ExtremeScores;
+use crate::score_domain::ScoreDomain;
 use league_core::{ClubSet, Literal, OutOfMemory, Score, Season, Sheet, Test};
 use std::alloc::Global;
 
 /// The scopes of a season in which no literal is asked for.
-pub fn season_scopes(
+pub fn season_domains(
     alloc: Global,
     scores: &[Option<Score>],
     goal_limit: u8,
-) -> Result<Vec<Scope>, OutOfMemory>
+) -> Result<Vec<ScoreDomain>, OutOfMemory>
     ensures { IfOk result (λ scopes.
-        AreScopesOf scopes.items (options_from goal_limit [] 0 scores.now)) }
+        AreScoreDomainsOf scopes.items (options_from goal_limit [] 0 scores.now)) }
 {
     let mut scopes = Vec::new(alloc);
     for score in scores {
-        scopes.push(Scope::of(*score, goal_limit))?;
+        scopes.push(ScoreDomain::of(*score, goal_limit))?;
     }
     Ok(scopes)
 }
@@ -49,18 +49,24 @@ pub fn fixture_of(test: &Test) -> Option<u16>
 }
 
 /// The corners of each scope.
-pub fn all_corners(alloc: Global, scopes: &[Scope]) -> Result<Vec<Corners>, OutOfMemory>
-    ensures { IfOk result (λ corners. FitScopes scopes.now corners.items) }
+pub fn all_extremes(
+    alloc: Global,
+    scopes: &[ScoreDomain],
+) -> Result<Vec<ExtremeScores>, OutOfMemory>
+    ensures { IfOk result (λ corners. FitScoreDomains scopes.now corners.items) }
 {
     let mut corners = Vec::new(alloc);
     for scope in scopes {
-        corners.push(Corners::of(scope))?;
+        corners.push(ExtremeScores::of(scope))?;
     }
     Ok(corners)
 }
 
 /// The same lists of corners once more.
-pub fn copied_corners(alloc: Global, corners: &[Corners]) -> Result<Vec<Corners>, OutOfMemory>
+pub fn copied_extremes(
+    alloc: Global,
+    corners: &[ExtremeScores],
+) -> Result<Vec<ExtremeScores>, OutOfMemory>
     ensures { IfOk result (λ copied. copied.items ≡ corners.now) }
 {
     let mut copied = Vec::with_capacity(alloc, corners.len())?;

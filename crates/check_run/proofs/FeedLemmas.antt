@@ -1,42 +1,43 @@
--- A feed that is read entry by entry: what is known of it behind each entry, and where it ends.
+-- A feed that is read entry by entry: what is known of it after each entry, and where it ends.
 use Rattle.std.proofs.Common.{◌≡◌, ℕ, true, List, [], ◌∷◌, ◌++◌, Option, Some}
 use Rattle.std.proofs.Common.{option_map, Result, Ok, Err, refl, sym, ap, subst, ◌∙◌}
 use Rattle.std.proofs.Common.{append_assoc, append-nil}
 use Rattle.std.proofs.lemmas.List.Elements.{All-nil, All-push}
 use Rattle.league_core.specs.declared.sheet.Sheet.{Sheet}
 use Rattle.league_core.specs.declared.season.Event.{Event}
-use Rattle.league_core.specs.Results.{Results}
-use Rattle.league_core.specs.Seasons.{IsSeasonOf, season_after, epoch_of}
+use Rattle.league_core.specs.game.Results.{Results}
+use Rattle.league_core.specs.game.Seasons.{IsSeasonOf, season_after, epoch_of}
 use Rattle.league_core.proofs.LogLemmas.{IsEventOf-same, season_after_of, unplayed_of}
-use Rattle.port_core.specs.declared.answers.ReadStop.TheVariants.{ReadFault, LineTooLong}
-use Rattle.port_core.specs.declared.answers.ReadStop.TheVariants.{InputTooLong}
+use Rattle.port_core.specs.declared.line.ReadStop.TheVariants.{ReadFault, LineTooLong}
+use Rattle.port_core.specs.declared.line.ReadStop.TheVariants.{InputTooLong}
 use Rattle.port_core.specs.Contents.{Contents, with_lines}
 use Rattle.result_log.specs.declared.entry.Entry.{Entry}
 use Rattle.result_log.specs.declared.entry.Entry.TheVariants.{Change, Ask, Proofs, End}
 use Rattle.result_log.specs.declared.fault.FeedStop.{FeedStop}
 use Rattle.result_log.specs.declared.fault.FeedStop.TheVariants.{Fault, Read, OutOfMemory}
 use Rattle.result_log.specs.Records.{IsEntryAt}
-use Rattle.result_log.specs.Calls.{LineEntry, ReadsEntry, ReadsEntryAs}
-use Rattle.result_log.specs.Feeds.{EntryReading, Feed, entry_in, entry_reading_of, events_behind}
-use Rattle.result_log.specs.Feeds.{events_with, feed_of, with_entry}
-use Rattle.result_log.specs.Laws.{feed_behind}
+use Rattle.result_log.specs.inside.Calls.{LineEntry, ReadsEntry, ReadsEntryAs}
+use Rattle.result_log.specs.Feeds.{Feed, entry_in, feed_of, with_entry}
+use Rattle.result_log.specs.inside.FeedParts.{EntryReading, entry_reading_of, events_after}
+use Rattle.result_log.specs.inside.FeedParts.{events_with}
+use Rattle.result_log.specs.inside.Laws.{feed_after}
 use Rattle.result_log.proofs.FeedLemmas.{feed_of-first, season_after-entry}
-use Rattle.check_run.specs.Calls.{FeedState, IsEntryOf, IsStateOf, LeadsFeed, LeadsTo, ReadsFeedAs}
-use Rattle.check_run.specs.Calls.{EndsFeed, StopsFeed, feed_ended, state_unread}
-use Rattle.check_run.specs.Calls.{state_with, with_entries}
+use Rattle.check_run.specs.inside.Calls.{FeedSoFarView, IsEntryOf, IsStateOf, LeadsFeed, LeadsTo}
+use Rattle.check_run.specs.inside.Calls.{ReadsFeedAs, EndsFeed, StopsFeed, feed_ended, state_unread}
+use Rattle.check_run.specs.inside.Calls.{state_with, with_entries}
 use Rattle.port_core.proofs.ContentLemmas.{with_lines-append}
-use Rattle.check_run.proofs.ReadingLemmas.{told_behind, told_after, told_both}
+use Rattle.check_run.proofs.ReadingLemmas.{read_after, told_after, told_both}
 use Rattle.check_run.proofs.ReadingLemmas.{entry_read}
 
 -- ---- entries and their events
 
--- the events behind one entry more
-events_behind-push : (events : List Event) (entries : List Entry) (entry : Entry)
-    → events_behind events (entries ++ entry ∷ [])
-    ≡ events_with (events_behind events entries) entry
-events_behind-push events [] entry = refl
-events_behind-push events (first ∷ entries) entry =
-    events_behind-push (events_with events first) entries entry
+-- the events after one entry more
+events_after-push : (events : List Event) (entries : List Entry) (entry : Entry)
+    → events_after events (entries ++ entry ∷ [])
+    ≡ events_with (events_after events entries) entry
+events_after-push events [] entry = refl
+events_after-push events (first ∷ entries) entry =
+    events_after-push (events_with events first) entries entry
 
 -- nothing is read
 pub state-start : (sheet : Sheet) → IsStateOf sheet (state_unread sheet)
@@ -52,19 +53,19 @@ entry-of sheet season events Proofs of_sheet may_come = tt
 entry-of sheet season events End of_sheet may_come = tt
 
 -- the season of a state is one of the sheet
-pub state-season : (sheet : Sheet) (state : FeedState) → IsStateOf sheet state
+pub state-season : (sheet : Sheet) (state : FeedSoFarView) → IsStateOf sheet state
     → IsSeasonOf sheet state.season
 state-season sheet state is =
     subst (IsSeasonOf sheet) (sym is.season)
-    (season_after_of sheet (events_behind [] state.entries))
+    (season_after_of sheet (events_after [] state.entries))
 
 -- an entry more
-pub state-more : (sheet : Sheet) (state : FeedState) (entry : Entry) → IsStateOf sheet state
+pub state-more : (sheet : Sheet) (state : FeedSoFarView) (entry : Entry) → IsStateOf sheet state
     → IsEntryAt state.season state.events true entry
     → IsStateOf sheet (state_with state entry)
 state-more sheet state entry is may_come =
-    let events = events_behind [] state.entries in
-    let pushed = events_behind-push [] state.entries entry in
+    let events = events_after [] state.entries in
+    let pushed = events_after-push [] state.entries entry in
     let grown = season_after-entry sheet events entry in
     record {
       season = ap (λ (s : Results). Rattle.result_log.specs.Feeds.season_with s entry) is.season
@@ -77,16 +78,16 @@ state-more sheet state entry is may_come =
 
 -- ---- feeds
 
--- no entry in front
+-- no entry at the front
 pub leads-start : (sheet : Sheet) (contents : Contents)
     → LeadsFeed sheet contents (Some contents) []
 leads-start sheet contents = ([], refl, λ rest. refl)
 
 module _ (sheet : Sheet) (start : Contents) (before after : Option Contents)
     (entries : List Entry) (leads : LeadsFeed sheet start before entries) where
-  -- the events so far, and what a line is behind them
+  -- the events so far, and what a line is after them
   abbrev events : List Event
-  events = events_behind [] entries
+  events = events_after [] entries
 
   abbrev entry : LineEntry
   entry = entry_in sheet (season_after sheet events) (epoch_of events) true
@@ -98,26 +99,26 @@ module _ (sheet : Sheet) (start : Contents) (before after : Option Contents)
   -- the reading of the next entry makes the feed
   by_reading : (rest : Contents)
       → feed_of sheet true rest events
-      ≡ feed_behind sheet true events (entry_reading_of entry rest).rest
+      ≡ feed_after sheet true events (entry_reading_of entry rest).rest
       (entry_reading_of entry rest).gives
   by_reading rest = feed_of-first sheet true rest events
 
   -- the same where the reading is known
   by_known : (rest behind : Contents) (result : Result Entry FeedStop)
       → entry_reading_of entry rest ≡ record { gives = result; rest = behind }
-      → feed_of sheet true rest events ≡ feed_behind sheet true events behind result
+      → feed_of sheet true rest events ≡ feed_after sheet true events behind result
   by_known rest behind result is =
       by_reading rest
-      ∙ ap (λ (r : EntryReading). feed_behind sheet true events r.rest r.gives) is
+      ∙ ap (λ (r : EntryReading). feed_after sheet true events r.rest r.gives) is
 
   -- lines more that hold an entry
   more-lines : (told : Entry) (close : Contents → Feed) → (End ≡ told → ⊥)
-      → ((rest : Contents) → with_entries entries (feed_behind sheet true events rest (Ok told))
+      → ((rest : Contents) → with_entries entries (feed_after sheet true events rest (Ok told))
       ≡ close rest)
       → ReadsEntryAs entry before after (Ok told) → LeadsTo sheet start after close
   unfolding mid
   more-lines told close other closes reads =
-      let there = told_behind (entry_reading_of entry)
+      let there = read_after (entry_reading_of entry)
       (λ (rest : Contents). record { gives = Ok told; rest = rest }) before after mid.0 mid.1
       reads in
       let found = entry_read entry mid.0 told there.0 other there.2 in (
@@ -134,35 +135,35 @@ module _ (sheet : Sheet) (start : Contents) (before after : Option Contents)
             ∙ closes rest,
       )
 
-  -- an entry more in front of a feed
+  -- an entry more before a feed
   entry-front : (told : Entry) (rest : Contents)
       → with_entries entries (with_entry told (feed_of sheet true rest (events_with events told)))
       ≡ with_entries (entries ++ told ∷ [])
-      (feed_of sheet true rest (events_behind [] (entries ++ told ∷ [])))
+      (feed_of sheet true rest (events_after [] (entries ++ told ∷ [])))
   entry-front told rest =
       ap (λ (more : List Event).
       with_entries entries (with_entry told (feed_of sheet true rest more)))
-      (sym (events_behind-push [] entries told))
+      (sym (events_after-push [] entries told))
       ∙ ap (λ (all : List Entry). record {
         entries = all;
-        close = (feed_of sheet true rest (events_behind [] (entries ++ told ∷ []))).close;
-        rest = (feed_of sheet true rest (events_behind [] (entries ++ told ∷ []))).rest;
+        close = (feed_of sheet true rest (events_after [] (entries ++ told ∷ []))).close;
+        rest = (feed_of sheet true rest (events_after [] (entries ++ told ∷ []))).rest;
       })
       (sym (append_assoc entries (told ∷ [])
-      (feed_of sheet true rest (events_behind [] (entries ++ told ∷ []))).entries))
+      (feed_of sheet true rest (events_after [] (entries ++ told ∷ []))).entries))
 
-  -- the feed goes on behind an event
+  -- the feed goes on after an event
   pub change-more : (event : Event) → ReadsEntryAs entry before after (Ok (Change event))
       → LeadsFeed sheet start after (entries ++ Change event ∷ [])
   change-more event reads =
       more-lines (Change event) _ (λ same. absurd cc) (entry-front (Change event)) reads
 
-  -- and behind an ask
+  -- and after an ask
   pub ask-more : ReadsEntryAs entry before after (Ok Ask)
       → LeadsFeed sheet start after (entries ++ Ask ∷ [])
   ask-more reads = more-lines Ask _ (λ same. absurd cc) (entry-front Ask) reads
 
-  -- nothing more is in front of what ends the feed
+  -- nothing more is before what ends the feed
   close-front : (close : Result Entry FeedStop) (rest : Contents)
       → with_entries entries (record { entries = []; close = close; rest = rest })
       ≡ feed_ended entries close rest
@@ -178,12 +179,12 @@ module _ (sheet : Sheet) (start : Contents) (before after : Option Contents)
 
   -- a feed that is closed otherwise
   closed-end : (result : Result Entry FeedStop)
-      → ((rest : Contents) → feed_behind sheet true events rest result
+      → ((rest : Contents) → feed_after sheet true events rest result
       ≡ record { entries = []; close = result; rest = rest })
       → ReadsEntryAs entry before after result → ReadsFeedAs sheet start after entries result
   unfolding mid
   closed-end result closes reads =
-      let there = told_behind (entry_reading_of entry)
+      let there = read_after (entry_reading_of entry)
       (λ (rest : Contents). record { gives = result; rest = rest }) before after mid.0 mid.1
       reads in (
         there.0,
@@ -213,7 +214,7 @@ module _ (sheet : Sheet) (start : Contents) (before after : Option Contents)
         ∙ leads.2 (with_lines reads.0 rest)
         ∙ ap (with_entries entries)
         (by_reading (with_lines reads.0 rest)
-        ∙ ap (λ (r : EntryReading). feed_behind sheet true events r.rest r.gives) (reads.2 rest)
+        ∙ ap (λ (r : EntryReading). feed_after sheet true events r.rest r.gives) (reads.2 rest)
         ∙ sym (by_reading rest)),
   )
   feed-stops (Read (LineTooLong number)) reads =
@@ -224,38 +225,38 @@ module _ (sheet : Sheet) (start : Contents) (before after : Option Contents)
 
 -- ---- one step
 
--- what is read in a state is read behind its events
-reads_in : (sheet : Sheet) (state : FeedState) (before after : Option Contents)
+-- what is read in a state is read after its events
+reads_in : (sheet : Sheet) (state : FeedSoFarView) (before after : Option Contents)
     (result : Result Entry FeedStop) → IsStateOf sheet state
     → ReadsEntry (entry_in sheet state.season state.events true) before after result
-    → ReadsEntry (entry_in sheet (season_after sheet (events_behind [] state.entries))
-    (epoch_of (events_behind [] state.entries)) true) before after result
+    → ReadsEntry (entry_in sheet (season_after sheet (events_after [] state.entries))
+    (epoch_of (events_after [] state.entries)) true) before after result
 reads_in sheet state before after result is reads =
     let P : Results → Type 0 =
     λ s. ReadsEntry (entry_in sheet s state.events true) before after result in
     let Q : ℕ → Type 0 =
-    λ n. ReadsEntry (entry_in sheet (season_after sheet (events_behind [] state.entries)) n true)
+    λ n. ReadsEntry (entry_in sheet (season_after sheet (events_after [] state.entries)) n true)
     before after result in
     subst Q is.events (subst P is.season reads)
 
-module _ (sheet : Sheet) (start : Contents) (before after : Option Contents) (state : FeedState)
+module _ (sheet : Sheet) (start : Contents) (before after : Option Contents) (state : FeedSoFarView)
     (is : IsStateOf sheet state) (leads : LeadsFeed sheet start before state.entries) where
   -- an event
-  pub step-change : (new : FeedState) (event : Event)
+  pub step-change : (new : FeedSoFarView) (event : Event)
       → ReadsEntry (entry_in sheet state.season state.events true) before after
       (Ok (Change event))
       → new ≡ state_with state (Change event) → LeadsFeed sheet start after new.entries
   step-change new event reads same =
-      let P : FeedState → Type 0 = λ s. LeadsFeed sheet start after s.entries in
+      let P : FeedSoFarView → Type 0 = λ s. LeadsFeed sheet start after s.entries in
       subst P (sym same) (change-more sheet start before after state.entries leads event
       (reads_in sheet state before after (Ok (Change event)) is reads))
 
   -- an ask
-  pub step-ask : (new : FeedState)
+  pub step-ask : (new : FeedSoFarView)
       → ReadsEntry (entry_in sheet state.season state.events true) before after (Ok Ask)
       → new ≡ state_with state Ask → LeadsFeed sheet start after new.entries
   step-ask new reads same =
-      let P : FeedState → Type 0 = λ s. LeadsFeed sheet start after s.entries in
+      let P : FeedSoFarView → Type 0 = λ s. LeadsFeed sheet start after s.entries in
       subst P (sym same) (ask-more sheet start before after state.entries leads
       (reads_in sheet state before after (Ok Ask) is reads))
 

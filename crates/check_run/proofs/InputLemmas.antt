@@ -1,18 +1,19 @@
--- What an input comes to by its parts: the sheet, the feed behind it, and the report behind that.
+-- What an input comes to by its parts: the sheet, the feed after it, and the report after that.
 use Rattle.std.proofs.Common.{◌≡◌, ℕ, List, [], ◌∷◌, ◌++◌, Option, None, Some, option_map, map}
 use Rattle.std.proofs.Common.{Result, Ok, Err, refl, sym, ap, subst, ◌∙◌, true, false}
 use Rattle.std.specs.Io.KnownBytes.{IsAtEnd}
 use Rattle.league_core.specs.declared.sheet.Sheet.{Sheet}
-use Rattle.port_core.specs.declared.answers.ReadStop.{ReadStop}
-use Rattle.port_core.specs.declared.answers.ReadStop.TheVariants as read_stop
+use Rattle.port_core.specs.declared.line.ReadStop.{ReadStop}
+use Rattle.port_core.specs.declared.line.ReadStop.TheVariants as read_stop
 use Rattle.port_core.specs.Lines.{lines_of}
 use Rattle.port_core.specs.Contents.{Contents, with_lines, ended, number_at, contents_from}
-use Rattle.port_core.specs.Readers.{Reader, contents_to_come, NextGives, LeavesReader}
-use Rattle.port_core.specs.declared.answers.Line.TheVariants as line
+use Rattle.port_core.specs.Readers.{LineReaderView, contents_to_come}
+use Rattle.port_core.specs.inside.ReaderCalls.{NextGives, LeavesReader}
+use Rattle.port_core.specs.declared.line.Line.TheVariants as line
 use Rattle.fixture_sheet.specs.declared.fault.SheetFault.{SheetFault}
 use Rattle.fixture_sheet.specs.declared.fault.SheetStop.TheVariants as sheet_stop
 use Rattle.fixture_sheet.specs.Sheets.{SheetReading, sheet_reading_of}
-use Rattle.fixture_sheet.specs.Calls.{CountsSheet, ReadsSheet}
+use Rattle.fixture_sheet.specs.inside.Calls.{CountsSheet, ReadsSheet}
 use Rattle.result_log.specs.declared.entry.Entry.{Entry}
 use Rattle.result_log.specs.declared.entry.Entry.TheVariants.{Change, Ask, Proofs, End}
 use Rattle.result_log.specs.declared.fault.FeedFault.{FeedFault}
@@ -20,8 +21,8 @@ use Rattle.result_log.specs.declared.fault.FeedStop.TheVariants as feed_stop
 use Rattle.cert_check.specs.LineLists.{NumberedLine}
 use Rattle.cert_check.specs.Tokens.{counts, token_of}
 use Rattle.cert_check.specs.Machine.{Ending, whole_at, bad_line, no_proof, short}
-use Rattle.check_run.specs.declared.feed.ToldFeed.{ToldFeed}
-use Rattle.check_run.specs.declared.lines.ToldLines.{ToldLines}
+use Rattle.check_run.specs.declared.feed.FeedRead.{FeedRead}
+use Rattle.check_run.specs.declared.lines.ReportLines.{ReportLines}
 use Rattle.check_run.specs.declared.lines.LinesStop.TheVariants as lines_stop
 use Rattle.check_run.specs.declared.outcome.ReportFault.TheVariants.{BadLine, Short}
 use Rattle.check_run.specs.declared.outcome.CheckOutcome.{CheckOutcome}
@@ -29,21 +30,23 @@ use Rattle.check_run.specs.declared.outcome.CheckOutcome.TheVariants.{Refused, B
 use Rattle.check_run.specs.declared.outcome.CheckFailure.{CheckFailure}
 use Rattle.check_run.specs.declared.outcome.CheckFailure.TheVariants as failure
 use Rattle.check_run.specs.Outcomes.{outcome_of, outcome_of_sheet, outcome_of_feed, outcome_from}
-use Rattle.check_run.specs.Outcomes.{outcome_of_report, outcome_unproved, first_standing, numbered}
-use Rattle.check_run.specs.Calls.{WhereTold, ChecksBy, IsStoppedBy, EndsFeed, StopsFeed, ReadsLines}
-use Rattle.check_run.specs.Calls.{outcome_behind_sheet, outcome_behind_feed}
-use Rattle.check_run.specs.Outcomes.{ReportInput, Standing, outcome_at_end, outcome_by, part_there}
-use Rattle.check_run.specs.Outcomes.{standing_with}
-use Rattle.check_run.specs.Calls.{IsShort, answer_behind_check}
+use Rattle.check_run.specs.Outcomes.{outcome_of_report, outcome_unproved, first_progress, numbered}
+use Rattle.check_run.specs.inside.Calls.{IfRead, ChecksBy, IsStoppedBy, EndsFeed, StopsFeed}
+use Rattle.check_run.specs.inside.Calls.{ReadsLines, outcome_after_sheet, outcome_after_feed}
+use Rattle.check_run.specs.Outcomes.{ReportInput, ReportProgressView, outcome_at_end, outcome_by}
+use Rattle.check_run.specs.Outcomes.{part_there}
+use Rattle.check_run.specs.Outcomes.{progress_with}
+use Rattle.check_run.specs.inside.Calls.{IsShort, answer_after_check}
 use Rattle.std.proofs.Common.{Bool, append-nil, drop}
 use Rattle.std.specs.Prelude.{if◌then◌else◌}
-use Rattle.check_run.specs.Calls.{report_told, LeavesCheck, CountsCheck, CountsFeed, CountsLines}
+use Rattle.check_run.specs.inside.Calls.{report_read, LeavesCheck, CountsCheck, CountsFeed}
+use Rattle.check_run.specs.inside.Calls.{CountsLines}
 use Rattle.port_core.proofs.ContentLemmas.{with_lines-append}
-use Rattle.check_run.proofs.ReadingLemmas.{told_behind, told_after, told_both}
+use Rattle.check_run.proofs.ReadingLemmas.{read_after, told_after, told_both}
 use Rattle.check_run.proofs.ReadingLemmas.{sheet_read}
 use Rattle.std.proofs.lemmas.List.{map-append}
 
--- ---- lines in front
+-- ---- lines at the front
 
 -- what contents come to is what the rest comes to, where that is so of all that may follow these
 -- lines
@@ -64,25 +67,25 @@ checks-behind one two contents rest after front is same (Err failure.OutOfMemory
 
 -- ---- the sheet
 
--- behind a whole sheet
+-- after a whole sheet
 pub input-sheet : (before mid after : Option Contents) (sheet : Sheet)
     (result : Result CheckOutcome CheckFailure) → ReadsSheet before mid (Ok sheet)
-    → WhereTold mid (λ rest. ChecksBy (outcome_behind_sheet sheet) rest after result)
-    → WhereTold before (λ contents. ChecksBy outcome_of contents after result)
+    → IfRead mid (λ rest. ChecksBy (outcome_after_sheet sheet) rest after result)
+    → IfRead before (λ contents. ChecksBy outcome_of contents after result)
 input-sheet before mid after sheet result reads checks = λ contents is.
-    let there = told_behind (λ (c : Contents). sheet_reading_of c None)
+    let there = read_after (λ (c : Contents). sheet_reading_of c None)
     (λ (rest : Contents). record { gives = Ok sheet; rest = rest }) before mid contents is reads in
     let found = sheet_read contents sheet there.0 there.2 in
-    checks-behind outcome_of (outcome_behind_sheet sheet) contents there.0 after found.0 found.1
+    checks-behind outcome_of (outcome_after_sheet sheet) contents there.0 after found.0 found.1
     (λ other. ap (λ (r : SheetReading). outcome_of_sheet r.rest r.gives) (found.2 other)) result
     (checks there.0 there.1)
 
 -- at a refused line of it
 pub input-sheet_fault : (before after : Option Contents) (number : ℕ) (fault : SheetFault)
     → ReadsSheet before after (Err (sheet_stop.Fault number fault))
-    → WhereTold before (λ contents. ChecksBy outcome_of contents after (Ok (BadSheet number fault)))
+    → IfRead before (λ contents. ChecksBy outcome_of contents after (Ok (BadSheet number fault)))
 input-sheet_fault before after number fault reads = λ contents is.
-    let there = told_behind (λ (c : Contents). sheet_reading_of c None)
+    let there = read_after (λ (c : Contents). sheet_reading_of c None)
     (λ (rest : Contents). record { gives = Err (sheet_stop.Fault number fault); rest = rest })
     before after contents is reads in
     ap (λ (r : SheetReading). outcome_of_sheet r.rest r.gives) there.2
@@ -91,7 +94,7 @@ input-sheet_fault before after number fault reads = λ contents is.
 pub input-sheet_stop : (before after : Option Contents) (stop : ReadStop)
     (result : Result CheckOutcome CheckFailure) → IsStoppedBy stop result
     → ReadsSheet before after (Err (sheet_stop.Read stop))
-    → WhereTold before (λ contents. ChecksBy outcome_of contents after result)
+    → IfRead before (λ contents. ChecksBy outcome_of contents after result)
 input-sheet_stop before after read_stop.ReadFault result answers reads = λ contents is.
     let leads = reads.1 in
     subst (ChecksBy outcome_of contents after) (sym answers) (
@@ -101,14 +104,14 @@ input-sheet_stop before after read_stop.ReadFault result answers reads = λ cont
           (leads.2 (ended (Err read_stop.ReadFault))),
     )
 input-sheet_stop before after (read_stop.LineTooLong number) result answers reads = λ contents is.
-    let there = told_behind (λ (c : Contents). sheet_reading_of c None)
+    let there = read_after (λ (c : Contents). sheet_reading_of c None)
     (λ (rest : Contents).
     record { gives = Err (sheet_stop.Read (read_stop.LineTooLong number)); rest = rest })
     before after contents is reads in
     subst (ChecksBy outcome_of contents after) (sym answers)
     (ap (λ (r : SheetReading). outcome_of_sheet r.rest r.gives) there.2)
 input-sheet_stop before after (read_stop.InputTooLong number) result answers reads = λ contents is.
-    let there = told_behind (λ (c : Contents). sheet_reading_of c None)
+    let there = read_after (λ (c : Contents). sheet_reading_of c None)
     (λ (rest : Contents).
     record { gives = Err (sheet_stop.Read (read_stop.InputTooLong number)); rest = rest })
     before after contents is reads in
@@ -118,44 +121,45 @@ input-sheet_stop before after (read_stop.InputTooLong number) result answers rea
 -- ---- the feed
 
 module _ (sheet : Sheet) (before after : Option Contents) where
-  -- behind the record `proofs`
+  -- after the record `proofs`
   pub feed-proofs : (mid : Option Contents) (entries : List Entry)
       (result : Result CheckOutcome CheckFailure)
-      → WhereTold before (λ contents. EndsFeed sheet contents mid entries true)
-      → WhereTold mid (λ rest. ChecksBy (outcome_behind_feed sheet entries) rest after result)
-      → WhereTold before (λ contents. ChecksBy (outcome_behind_sheet sheet) contents after result)
+      → IfRead before (λ contents. EndsFeed sheet contents mid entries true)
+      → IfRead mid (λ rest. ChecksBy (outcome_after_feed sheet entries) rest after result)
+      → IfRead before (λ contents. ChecksBy (outcome_after_sheet sheet) contents after result)
   feed-proofs mid entries result ends checks = λ contents is.
       let leads = ends contents is in
       let there = told_after leads.0 mid contents leads.1 in
-      checks-behind (outcome_behind_sheet sheet) (outcome_behind_feed sheet entries) contents
+      checks-behind (outcome_after_sheet sheet) (outcome_after_feed sheet entries) contents
       there.0 after leads.0 there.2 (λ other. ap (outcome_of_feed sheet) (leads.2 other)) result
       (checks there.0 there.1)
 
   -- at a refused line of it
   pub feed-fault : (entries : List Entry) (number : ℕ) (fault : FeedFault) (contents : Contents)
       → StopsFeed sheet contents after entries (feed_stop.Fault number fault)
-      → ChecksBy (outcome_behind_sheet sheet) contents after (Ok (BadFeed number fault))
+      → ChecksBy (outcome_after_sheet sheet) contents after (Ok (BadFeed number fault))
   feed-fault entries number fault contents stops = ap (outcome_of_feed sheet) stops.2
 
   -- where it stops
   pub feed-stop : (entries : List Entry) (stop : ReadStop)
       (result : Result CheckOutcome CheckFailure) (contents : Contents) → IsStoppedBy stop result
       → StopsFeed sheet contents after entries (feed_stop.Read stop)
-      → ChecksBy (outcome_behind_sheet sheet) contents after result
+      → ChecksBy (outcome_after_sheet sheet) contents after result
   feed-stop entries read_stop.ReadFault result contents answers stops =
-      subst (ChecksBy (outcome_behind_sheet sheet) contents after) (sym answers)
+      subst (ChecksBy (outcome_after_sheet sheet) contents after) (sym answers)
       (stops.0, stops.1, ap (outcome_of_feed sheet) (stops.2 (ended (Err read_stop.ReadFault))))
   feed-stop entries (read_stop.LineTooLong number) result contents answers stops =
-      subst (ChecksBy (outcome_behind_sheet sheet) contents after) (sym answers)
+      subst (ChecksBy (outcome_after_sheet sheet) contents after) (sym answers)
       (ap (outcome_of_feed sheet) stops.2)
   feed-stop entries (read_stop.InputTooLong number) result contents answers stops =
-      subst (ChecksBy (outcome_behind_sheet sheet) contents after) (sym answers)
+      subst (ChecksBy (outcome_after_sheet sheet) contents after) (sym answers)
       (ap (outcome_of_feed sheet) stops.2)
 
 -- ---- the input's end
 
 -- what is still to come where nothing is left
-end_to_come : (reader : Reader) (left : Option (List ℕ)) (rest : Contents) → reader.held ≡ []
+end_to_come : (reader : LineReaderView) (left : Option (List ℕ)) (rest : Contents)
+    → reader.held ≡ []
     → IsAtEnd left → contents_to_come reader left ≡ Some rest
     → rest ≡ ended (Ok (number_at reader.position))
 end_to_come reader None rest none at_end is = absurd cc
@@ -168,11 +172,12 @@ end_to_come reader (Some bytes) rest none at_end is =
     cc
 
 -- the input ended before the record `proofs`
-pub feed-short : (sheet : Sheet) (reader : Reader) (left : Option (List ℕ)) (entries : List Entry)
+pub feed-short : (sheet : Sheet) (reader : LineReaderView) (left : Option (List ℕ))
+    (entries : List Entry)
     (contents : Contents) (outcome : CheckOutcome) → reader.held ≡ [] → IsAtEnd left
     → EndsFeed sheet contents (contents_to_come reader left) entries false
     → outcome ≡ Refused (number_at reader.position) Short
-    → ChecksBy (outcome_behind_sheet sheet) contents (contents_to_come reader left) (Ok outcome)
+    → ChecksBy (outcome_after_sheet sheet) contents (contents_to_come reader left) (Ok outcome)
 feed-short sheet reader left entries contents outcome none at_end ends is =
     ap (outcome_of_feed sheet) ends.2
     ∙ ap (λ (rest : Contents). outcome_unproved rest.ending)
@@ -180,18 +185,18 @@ feed-short sheet reader left entries contents outcome none at_end ends is =
     ∙ ap Some (sym is)
 
 -- that is what is answered, and where the reader is left
-pub short-checks : (sheet : Sheet) (reader : Reader) (left : Option (List ℕ))
+pub short-checks : (sheet : Sheet) (reader : LineReaderView) (left : Option (List ℕ))
     (entries : List Entry) (contents : Contents) (result : Result CheckOutcome CheckFailure)
     → LeavesReader reader left (Ok (line.End (number_at reader.position)))
     → EndsFeed sheet contents (contents_to_come reader left) entries false
     → IsShort reader result
-    → ChecksBy (outcome_behind_sheet sheet) contents (contents_to_come reader left) result
+    → ChecksBy (outcome_after_sheet sheet) contents (contents_to_come reader left) result
 short-checks sheet reader left entries contents (Ok outcome) leaves ends is =
     feed-short sheet reader left entries contents outcome leaves.1 leaves.2 ends is
 short-checks sheet reader left entries contents (Err failure.ReadFault) leaves ends is = absurd is
 short-checks sheet reader left entries contents (Err failure.OutOfMemory) leaves ends is = tt
 
-pub short-leaves : (reader : Reader) (left : Option (List ℕ))
+pub short-leaves : (reader : LineReaderView) (left : Option (List ℕ))
     (result : Result CheckOutcome CheckFailure)
     → LeavesReader reader left (Ok (line.End (number_at reader.position)))
     → IsShort reader result → LeavesCheck reader left result
@@ -201,7 +206,8 @@ short-leaves reader left (Ok outcome) leaves is =
 short-leaves reader left (Err failure.ReadFault) leaves is = absurd is
 short-leaves reader left (Err failure.OutOfMemory) leaves is = tt
 
-pub short-counts : (reader : Reader) (before now : ℕ) (result : Result CheckOutcome CheckFailure)
+pub short-counts : (reader : LineReaderView) (before now : ℕ)
+    (result : Result CheckOutcome CheckFailure)
     → now ≡ before → IsShort reader result → CountsCheck before now result
 short-counts reader before now (Ok outcome) same is = same
 short-counts reader before now (Err failure.ReadFault) same is = absurd is
@@ -210,54 +216,55 @@ short-counts reader before now (Err failure.OutOfMemory) same is = same
 -- ---- the report
 
 -- the report is whole
-pub report-told : (sheet : Sheet) (entries : List Entry) (told : ToldLines)
+pub report-told : (sheet : Sheet) (entries : List Entry) (told : ReportLines)
     (outcome : CheckOutcome) (contents : Contents) (after behind : Option Contents)
     → ReadsLines contents after (Ok told)
-    → outcome ≡ outcome_from (report_told sheet told) entries (first_standing sheet)
-    → ChecksBy (outcome_behind_feed sheet entries) contents behind (Ok outcome)
+    → outcome ≡ outcome_from (report_read sheet told) entries (first_progress sheet)
+    → ChecksBy (outcome_after_feed sheet entries) contents behind (Ok outcome)
 report-told sheet entries told outcome contents after behind reads is =
-    ap (outcome_behind_feed sheet entries) reads.2
+    ap (outcome_after_feed sheet entries) reads.2
     ∙ ap (λ (all : List NumberedLine). Some (outcome_from
-    (record { sheet = sheet; lines = all; end = told.end }) entries (first_standing sheet)))
+    (record { sheet = sheet; lines = all; end = told.end }) entries (first_progress sheet)))
     (sym reads.1)
     ∙ ap Some (sym is)
 
 -- a part that is whole, or not, leads to the input's end
-answer_by : (report : ReportInput) (standing : Standing) (ending : Ending)
-    (onward : Standing → CheckOutcome) (new : Reader)
-    → ((next : Standing) → answer_behind_check new (onward next)
+answer_by : (report : ReportInput) (standing : ReportProgressView) (ending : Ending)
+    (onward : ReportProgressView → CheckOutcome) (new : LineReaderView)
+    → ((next : ReportProgressView) → answer_after_check new (onward next)
     ≡ Ok (line.End (number_at new.position)))
-    → answer_behind_check new (outcome_by report standing ending onward)
+    → answer_after_check new (outcome_by report standing ending onward)
     ≡ Ok (line.End (number_at new.position))
 answer_by report standing (whole_at next unsettled) onward new behind = behind _
 answer_by report standing (bad_line at) onward new behind = refl
 answer_by report standing (no_proof at) onward new behind = refl
 answer_by report standing short onward new behind = refl
 
--- so does what is left behind the last part
-answer_at_end : (standing : Standing) (lines : List NumberedLine) (new : Reader)
-    → answer_behind_check new (outcome_at_end standing lines)
+-- so does what is left after the last part
+answer_at_end : (standing : ReportProgressView) (lines : List NumberedLine) (new : LineReaderView)
+    → answer_after_check new (outcome_at_end standing lines)
     ≡ Ok (line.End (number_at new.position))
 answer_at_end standing [] new = refl
 answer_at_end standing (first ∷ lines) new =
     by_test (counts (token_of first.text)) (answer_at_end standing lines new)
   where
     by_test : (test : Bool)
-        → answer_behind_check new (outcome_at_end standing lines)
+        → answer_after_check new (outcome_at_end standing lines)
         ≡ Ok (line.End (number_at new.position))
-        → answer_behind_check new
+        → answer_after_check new
         (if test then Refused first.number BadLine else outcome_at_end standing lines)
         ≡ Ok (line.End (number_at new.position))
     by_test true behind = refl
     by_test false behind = behind
 
 -- a report is judged at the input's end
-answer_from : (report : ReportInput) (entries : List Entry) (standing : Standing) (new : Reader)
-    → answer_behind_check new (outcome_from report entries standing)
+answer_from : (report : ReportInput) (entries : List Entry) (standing : ReportProgressView)
+    (new : LineReaderView)
+    → answer_after_check new (outcome_from report entries standing)
     ≡ Ok (line.End (number_at new.position))
 answer_from report [] standing new = answer_at_end standing (drop standing.at report.lines) new
 answer_from report (Change event ∷ entries) standing new =
-    answer_from report entries (standing_with standing (Change event)) new
+    answer_from report entries (progress_with standing (Change event)) new
 answer_from report (Ask ∷ entries) standing new =
     answer_by report standing (part_there report standing) (outcome_from report entries) new
     (λ next. answer_from report entries next new)
@@ -265,29 +272,29 @@ answer_from report (Proofs ∷ entries) standing new = answer_from report entrie
 answer_from report (End ∷ entries) standing new = answer_from report entries standing new
 
 -- where the reader is left then
-pub report-leaves : (sheet : Sheet) (entries : List Entry) (told : ToldLines)
-    (outcome : CheckOutcome) (new : Reader) (left : Option (List ℕ))
+pub report-leaves : (sheet : Sheet) (entries : List Entry) (told : ReportLines)
+    (outcome : CheckOutcome) (new : LineReaderView) (left : Option (List ℕ))
     → LeavesReader new left (Ok (line.End told.end))
-    → outcome ≡ outcome_from (report_told sheet told) entries (first_standing sheet)
+    → outcome ≡ outcome_from (report_read sheet told) entries (first_progress sheet)
     → LeavesCheck new left (Ok outcome)
 report-leaves sheet entries told outcome new left leaves is =
-    let answer = ap (answer_behind_check new) is
-    ∙ answer_from (report_told sheet told) entries (first_standing sheet) new in
+    let answer = ap (answer_after_check new) is
+    ∙ answer_from (report_read sheet told) entries (first_progress sheet) new in
     subst (LeavesReader new left) (sym answer) (refl, leaves.1, leaves.2)
 
 -- its lines stop
 pub report-stop : (sheet : Sheet) (entries : List Entry) (stop : ReadStop)
     (result : Result CheckOutcome CheckFailure) (contents : Contents) (after : Option Contents)
     → IsStoppedBy stop result → ReadsLines contents after (Err (lines_stop.Read stop))
-    → ChecksBy (outcome_behind_feed sheet entries) contents after result
+    → ChecksBy (outcome_after_feed sheet entries) contents after result
 report-stop sheet entries read_stop.ReadFault result contents after answers reads =
-    subst (ChecksBy (outcome_behind_feed sheet entries) contents after) (sym answers)
+    subst (ChecksBy (outcome_after_feed sheet entries) contents after) (sym answers)
     (reads.0, reads.1, refl)
 report-stop sheet entries (read_stop.LineTooLong number) result contents after answers reads =
-    subst (ChecksBy (outcome_behind_feed sheet entries) contents after) (sym answers)
+    subst (ChecksBy (outcome_after_feed sheet entries) contents after) (sym answers)
     (ap (outcome_of_report sheet entries contents.lines) reads)
 report-stop sheet entries (read_stop.InputTooLong number) result contents after answers reads =
-    subst (ChecksBy (outcome_behind_feed sheet entries) contents after) (sym answers)
+    subst (ChecksBy (outcome_after_feed sheet entries) contents after) (sym answers)
     (ap (outcome_of_report sheet entries contents.lines) reads)
 
 -- ---- its lines, one after the other
@@ -320,7 +327,7 @@ kept-more contents before after kept more number text old gives is = (
 
 -- the input's end
 pub kept-end : (contents : Contents) (before after : Option Contents) (kept : List NumberedLine)
-    (told : ToldLines) (text : List ℕ) (number : ℕ) → LinesKept contents before kept
+    (told : ReportLines) (text : List ℕ) (number : ℕ) → LinesKept contents before kept
     → NextGives before after text (Ok (line.End number)) → told.lines ≡ kept → told.end ≡ number
     → ReadsLines contents after (Ok told)
 unfolding LinesKept
@@ -358,7 +365,7 @@ kept-stop contents (Some rest) after kept text (read_stop.InputTooLong number) o
 -- ---- where a stop leaves the reader, and the count of faults
 
 -- the reader
-pub stop-leaves : (new : Reader) (left : Option (List ℕ)) (stop : ReadStop)
+pub stop-leaves : (new : LineReaderView) (left : Option (List ℕ)) (stop : ReadStop)
     (result : Result CheckOutcome CheckFailure) → IsStoppedBy stop result
     → LeavesReader new left (Err stop) → LeavesCheck new left result
 stop-leaves new left read_stop.ReadFault result answers leaves =
@@ -368,7 +375,7 @@ stop-leaves new left (read_stop.LineTooLong number) result answers leaves =
 stop-leaves new left (read_stop.InputTooLong number) result answers leaves =
     subst (LeavesCheck new left) (sym answers) leaves
 
--- the count, behind the sheet
+-- the count, after the sheet
 pub sheet-stop-counts : (before now : ℕ) (stop : ReadStop)
     (result : Result CheckOutcome CheckFailure) → IsStoppedBy stop result
     → CountsSheet {A = Sheet} before now (Err (sheet_stop.Read stop))
@@ -380,10 +387,10 @@ sheet-stop-counts before now (read_stop.LineTooLong number) result answers count
 sheet-stop-counts before now (read_stop.InputTooLong number) result answers counts =
     subst (CountsCheck before now) (sym answers) counts
 
--- behind the feed
+-- after the feed
 pub feed-stop-counts : (before now : ℕ) (stop : ReadStop)
     (result : Result CheckOutcome CheckFailure) → IsStoppedBy stop result
-    → CountsFeed {A = ToldFeed} before now (Err (feed_stop.Read stop))
+    → CountsFeed {A = FeedRead} before now (Err (feed_stop.Read stop))
     → CountsCheck before now result
 feed-stop-counts before now read_stop.ReadFault result answers counts =
     subst (CountsCheck before now) (sym answers) counts
@@ -392,7 +399,7 @@ feed-stop-counts before now (read_stop.LineTooLong number) result answers counts
 feed-stop-counts before now (read_stop.InputTooLong number) result answers counts =
     subst (CountsCheck before now) (sym answers) counts
 
--- behind the lines
+-- after the lines
 pub lines-stop-counts : (before now : ℕ) (stop : ReadStop)
     (result : Result CheckOutcome CheckFailure) → IsStoppedBy stop result
     → CountsLines before now (Err (lines_stop.Read stop)) → CountsCheck before now result

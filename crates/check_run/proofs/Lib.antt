@@ -1,5 +1,5 @@
 -- How a reading of a sheet and of an entry goes on whatever follows it, then feeds entry by entry,
--- what is behind them, and reports part by part; then the text of a proof line, of
+-- what comes after them, and reports part by part; then the text of a proof line, of
 -- a row, and of an answer.
 pub mod ReadingLemmas
 pub mod FeedLemmas

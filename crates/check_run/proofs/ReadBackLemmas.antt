@@ -6,7 +6,7 @@ use Rattle.cert_text.specs.Forms.{line_in}
 use Rattle.cert_text.proofs.ReadBackLemmas.{line_in-written}
 use Rattle.cert_check.specs.declared.token.Token.TheVariants.{Proof}
 use Rattle.cert_check.specs.Tokens.{token_of, token_of_line}
-use Rattle.check_run.specs.WrittenLines.{IsWritable}
+use Rattle.check_run.specs.inside.WrittenLines.{IsWritable}
 
 -- it is read as the line
 pub line_in-text : (x : ProofLine) → IsWritable x → line_in (text_of_proof_line x) ≡ Some x

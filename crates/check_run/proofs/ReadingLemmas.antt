@@ -2,7 +2,7 @@
 use Rattle.std.proofs.Common.{◌≡◌, ℕ, List, [], ◌∷◌, ◌++◌, Option, None, Some, option_map, Result}
 use Rattle.std.proofs.Common.{Ok, Err, refl, sym, ap, ◌∙◌}
 use Rattle.league_core.specs.declared.sheet.Sheet.{Sheet}
-use Rattle.port_core.specs.declared.answers.ReadStop.{ReadStop}
+use Rattle.port_core.specs.declared.line.ReadStop.{ReadStop}
 use Rattle.port_core.specs.Contents.{Contents, with_lines}
 use Rattle.port_core.proofs.ContentLemmas.{with_lines-append}
 use Rattle.fixture_sheet.specs.declared.fault.SheetFault.{SheetFault}
@@ -13,29 +13,29 @@ use Rattle.fixture_sheet.specs.Sheets.{SheetReading, sheet_reading_by, sheet_rea
 use Rattle.result_log.specs.declared.entry.Entry.{Entry}
 use Rattle.result_log.specs.declared.entry.Entry.TheVariants.{End}
 use Rattle.result_log.specs.declared.fault.FeedFault.{FeedFault}
-use Rattle.result_log.specs.Feeds.{EntryReading, entry_reading_by, entry_reading_from}
-use Rattle.result_log.specs.Calls.{LineEntry}
+use Rattle.result_log.specs.inside.FeedParts.{EntryReading, entry_reading_by, entry_reading_from}
+use Rattle.result_log.specs.inside.Calls.{LineEntry}
 
 -- ---- what is told
 
 -- two looks at what is told agree where the first one is told something
-pub told_behind : {A : Type 0} (f g : Contents → A) (before after : Option Contents)
+pub read_after : {A : Type 0} (f g : Contents → A) (before after : Option Contents)
     (contents : Contents) → before ≡ Some contents → option_map f before ≡ option_map g after
     → (rest : Contents) × (after ≡ Some rest) × (f contents ≡ g rest)
-told_behind f g before None contents is same =
+read_after f g before None contents is same =
     let none : Some (f contents) ≡ None = sym (ap (option_map f) is) ∙ same in absurd cc
-told_behind f g before (Some rest) contents is same =
+read_after f g before (Some rest) contents is same =
     let both : Some (f contents) ≡ Some (g rest) = sym (ap (option_map f) is) ∙ same in
     (rest, refl, cc)
 
--- where lines in front of it are told, it is told
+-- where lines before it are told, it is told
 pub told_after : (lines : List (ℕ × List ℕ)) (known : Option Contents) (contents : Contents)
     → Some contents ≡ option_map (with_lines lines) known
     → (rest : Contents) × (known ≡ Some rest) × (contents ≡ with_lines lines rest)
 told_after lines None contents is = absurd cc
 told_after lines (Some rest) contents is = (rest, refl, cc)
 
--- some lines and then others in front are all of them, where it is told
+-- some lines and then others at the front are all of them, where it is told
 pub told_both : (first second : List (ℕ × List ℕ)) (known : Option Contents)
     → option_map (with_lines first) (option_map (with_lines second) known)
     ≡ option_map (with_lines (first ++ second)) known
@@ -44,7 +44,7 @@ told_both first second (Some rest) = ap Some (sym (with_lines-append first secon
 
 -- ---- a sheet
 
--- lines that are a whole sheet, and what is behind them
+-- lines that are a whole sheet, and what comes after them
 pub IsSheetOf : List (ℕ × List ℕ) → Result ℕ ReadStop → Option Sheet → Sheet → Contents → Type 0
 IsSheetOf lines ending draft sheet rest =
     (front : List (ℕ × List ℕ))
@@ -52,7 +52,7 @@ IsSheetOf lines ending draft sheet rest =
     × ((other : Contents) → sheet_reading_from (front ++ other.lines) other.ending draft
     ≡ record { gives = Ok sheet; rest = other })
 
--- a line in front of them that goes on
+-- a line before them that goes on
 sheet-more : (line : ℕ × List ℕ) (lines : List (ℕ × List ℕ)) (ending : Result ℕ ReadStop)
     (draft next : Option Sheet) (sheet : Sheet) (rest : Contents)
     → content_taken draft line.1 ≡ Ok (SoFar next) → IsSheetOf lines ending next sheet rest
@@ -125,7 +125,7 @@ sheet_read contents sheet rest is =
 
 -- ---- an entry
 
--- lines up to an entry, and what is behind them
+-- lines up to an entry, and what comes after them
 pub IsEntryIn : LineEntry → List (ℕ × List ℕ) → Result ℕ ReadStop → Entry → Contents → Type 0
 IsEntryIn entry lines ending told rest =
     (front : List (ℕ × List ℕ))
@@ -133,7 +133,7 @@ IsEntryIn entry lines ending told rest =
     × ((other : Contents) → entry_reading_from entry (front ++ other.lines) other.ending
     ≡ record { gives = Ok told; rest = other })
 
--- a line in front of them that holds no record
+-- a line before them that holds no record
 entry-more : (entry : LineEntry) (line : ℕ × List ℕ) (lines : List (ℕ × List ℕ))
     (ending : Result ℕ ReadStop) (told : Entry) (rest : Contents) → entry line.1 ≡ Ok None
     → IsEntryIn entry lines ending told rest → IsEntryIn entry (line ∷ lines) ending told rest

@@ -1,4 +1,4 @@
--- A report part by part: what each part does, what may be left behind the last, and that what is
+-- A report part by part: what each part does, what may be left after the last, and that what is
 -- accepted tells the truth.
 use Rattle.std.proofs.Common.{◌≡◌, ◌≤◌, ◌<◌, ℕ, ◌+◌, suc, zero, Bool, true, false, List, [], ◌∷◌}
 use Rattle.std.proofs.Common.{None, Some, map, drop, length, Result, Ok, Err}
@@ -8,8 +8,8 @@ use Rattle.std.proofs.Math.Seq.{drop-nil}
 use Rattle.std.proofs.lemmas.List.{drop-map, length-map}
 use Rattle.league_core.specs.declared.sheet.Sheet.{Sheet}
 use Rattle.league_core.specs.declared.memory.OutOfMemory.{OutOfMemory}
-use Rattle.port_core.specs.declared.answers.ReadStop.{ReadStop}
-use Rattle.port_core.specs.declared.answers.ReadStop.TheVariants as read_stop
+use Rattle.port_core.specs.declared.line.ReadStop.{ReadStop}
+use Rattle.port_core.specs.declared.line.ReadStop.TheVariants as read_stop
 use Rattle.port_core.specs.Contents.{Contents}
 use Rattle.fixture_sheet.specs.declared.fault.SheetStop.{SheetStop}
 use Rattle.fixture_sheet.specs.declared.fault.SheetStop.TheVariants as sheet_stop
@@ -26,32 +26,33 @@ use Rattle.cert_check.specs.declared.stop.CheckStop.TheVariants as check_stop
 use Rattle.cert_check.specs.Tokens.{token_of, counts, counted_lines}
 use Rattle.cert_check.specs.LineLists.{NumberedLine, tokens_of, line_number_at}
 use Rattle.cert_check.specs.Machine.{Ending, whole_at, bad_line, no_proof, short}
-use Rattle.cert_check.specs.Calls.{basis_of, ChecksPart, ChecksEnd}
+use Rattle.cert_check.specs.Machine.{basis_of}
+use Rattle.cert_check.specs.inside.Calls.{ChecksPart, ChecksEnd}
 use Rattle.cert_check.proofs.TruthLemmas.{told_truly}
 use Rattle.check_run.specs.declared.outcome.ReportFault.TheVariants.{BadLine, NoProof, Short}
 use Rattle.check_run.specs.declared.outcome.CheckOutcome.{CheckOutcome}
 use Rattle.check_run.specs.declared.outcome.CheckOutcome.TheVariants.{Accepted, Refused}
-use Rattle.check_run.specs.Outcomes.{ReportInput, Standing, outcome_at_end, outcome_by}
+use Rattle.check_run.specs.Outcomes.{ReportInput, ReportProgressView, outcome_at_end, outcome_by}
 use Rattle.check_run.specs.Outcomes.{outcome_from}
 use Rattle.check_run.specs.Outcomes.{outcome_of, outcome_of_close, outcome_of_sheet}
 use Rattle.check_run.specs.Outcomes.{outcome_of_report, outcome_of_stop, outcome_unproved}
-use Rattle.check_run.specs.Outcomes.{part_there, first_standing, standing_with, standing_behind}
-use Rattle.check_run.specs.ReportTruths.{PartsTellTruly, HasTrueReport}
-use Rattle.check_run.specs.Calls.{GoesOverEntry, IsRefusedBy}
+use Rattle.check_run.specs.Outcomes.{part_there, first_progress, progress_with, progress_after}
+use Rattle.check_run.specs.inside.ReportTruths.{PartsTellTruly, HasTrueReport}
+use Rattle.check_run.specs.inside.Calls.{GoesOverEntry, IsRefusedBy}
 
 -- ---- an entry
 
 -- an event
-pub event-over : (report : ReportInput) (old new : Standing) (entry : Entry)
-    → new ≡ standing_with old entry
-    → ((onward : Standing → CheckOutcome)
-    → Rattle.check_run.specs.Outcomes.outcome_behind report old entry onward
-    ≡ onward (standing_with old entry))
+pub event-over : (report : ReportInput) (old new : ReportProgressView) (entry : Entry)
+    → new ≡ progress_with old entry
+    → ((onward : ReportProgressView → CheckOutcome)
+    → Rattle.check_run.specs.Outcomes.outcome_after report old entry onward
+    ≡ onward (progress_with old entry))
     → GoesOverEntry report old new entry None
 event-over report old new entry is behind = λ onward. behind onward ∙ ap onward (sym is)
 
 -- a part that is whole
-pub part-whole : (report : ReportInput) (old new : Standing) (part : PartAccepted)
+pub part-whole : (report : ReportInput) (old new : ReportProgressView) (part : PartAccepted)
     → ChecksPart (basis_of report.sheet old.season old.epoch) report.lines old.at (Ok part)
     → new ≡ record old {
       at = part.next;
@@ -68,7 +69,7 @@ part-whole report old new part checks is = λ onward.
     }) (sym checks.1) ∙ sym is)
 
 -- a part that is refused
-pub part-refused : (report : ReportInput) (old new : Standing) (stop : CheckStop)
+pub part-refused : (report : ReportInput) (old new : ReportProgressView) (stop : CheckStop)
     (outcome : CheckOutcome)
     → ChecksPart (basis_of report.sheet old.season old.epoch) report.lines old.at (Err stop)
     → IsRefusedBy report.end stop (Ok outcome) → GoesOverEntry report old new Ask (Some outcome)
@@ -86,7 +87,7 @@ part-refused report old new check_stop.Short outcome checks answers = λ onward.
 part-refused report old new check_stop.OutOfMemory outcome checks answers = absurd answers
 
 -- a part ends within the lines
-pub part-within : (report : ReportInput) (old : Standing) (part : PartAccepted)
+pub part-within : (report : ReportInput) (old : ReportProgressView) (part : PartAccepted)
     → ChecksPart (basis_of report.sheet old.season old.epoch) report.lines old.at (Ok part)
     → old.at ≤ length report.lines → part.next ≤ length report.lines
 part-within report old part checks room =
@@ -103,22 +104,22 @@ part-within report old part checks room =
       Rattle.std.proofs.lemmas.List.length-drop old.at (tokens_of report.lines),
     )
 
--- ---- what is left behind the last part
+-- ---- what is left after the last part
 
 -- a line that is passed over
-passed-over : (standing : Standing) (line : NumberedLine) (lines : List NumberedLine)
+passed-over : (standing : ReportProgressView) (line : NumberedLine) (lines : List NumberedLine)
     → counts (token_of line.text) ≡ false
     → outcome_at_end standing (line ∷ lines) ≡ outcome_at_end standing lines
 passed-over standing line lines passed = rw passed refl
 
 -- a line that counts
-counted-there : (standing : Standing) (line : NumberedLine) (lines : List NumberedLine)
+counted-there : (standing : ReportProgressView) (line : NumberedLine) (lines : List NumberedLine)
     → counts (token_of line.text) ≡ true
     → outcome_at_end standing (line ∷ lines) ≡ Refused line.number BadLine
 counted-there standing line lines there = rw there refl
 
 -- nothing that counts is left
-none-left : (standing : Standing) (lines : List NumberedLine)
+none-left : (standing : ReportProgressView) (lines : List NumberedLine)
     → filter counts (map (λ (l : NumberedLine). token_of l.text) lines) ≡ []
     → outcome_at_end standing lines ≡ Accepted standing.rows standing.unsettled
 none-left standing [] none = refl
@@ -133,7 +134,7 @@ none-left standing (line ∷ lines) none =
     by_test false is behind = passed-over standing line lines is ∙ behind (rw is at none)
 
 -- and back
-left-none : (standing : Standing) (lines : List NumberedLine) (rows unsettled : ℕ)
+left-none : (standing : ReportProgressView) (lines : List NumberedLine) (rows unsettled : ℕ)
     → outcome_at_end standing lines ≡ Accepted rows unsettled
     → filter counts (map (λ (l : NumberedLine). token_of l.text) lines) ≡ []
 left-none standing [] rows unsettled is = refl
@@ -150,7 +151,7 @@ left-none standing (line ∷ lines) rows unsettled is =
     by_test false passed behind =
         rw passed (behind (sym (passed-over standing line lines passed) ∙ is))
 
--- what passes a test is no more behind some of the list
+-- what passes a test is no more after some of the list
 filter-drop : (n : ℕ) (tokens : List Token)
     → length (filter counts (drop n tokens)) ≤ length (filter counts tokens)
 filter-drop zero tokens = omega arith
@@ -163,8 +164,9 @@ filter-drop (suc n) (token ∷ tokens) = by_test (counts token) refl (filter-dro
     by_test true is behind = rw is (omega arith)
     by_test false is behind = rw is behind
 
--- the first line that counts is so many behind
-first-left : (standing : Standing) (lines : List NumberedLine) (behind : ℕ) (token : Token)
+-- the first line that counts is so many after
+first-left : (standing : ReportProgressView) (lines : List NumberedLine) (behind : ℕ)
+    (token : Token)
     (later : List Token)
     → drop behind (map (λ (l : NumberedLine). token_of l.text) lines) ≡ token ∷ later
     → counts token ≡ true
@@ -193,7 +195,8 @@ first-left standing (line ∷ lines) (suc behind) token later there counted same
     by_test false is onward = passed-over standing line lines is ∙ onward (rw is at same)
 
 -- the same from a position on
-left-over : (standing : Standing) (lines : List NumberedLine) (from at : ℕ) (token : Token)
+left-over : (standing : ReportProgressView) (lines : List NumberedLine) (from at : ℕ)
+    (token : Token)
     (later : List Token) → from ≤ at → drop at (tokens_of lines) ≡ token ∷ later
     → counts token ≡ true
     → counted_lines (drop from (tokens_of lines)) ≡ counted_lines (drop at (tokens_of lines))
@@ -208,7 +211,7 @@ left-over standing (line ∷ lines) (suc from) (suc at) token later before there
     left-over standing lines from at token later (omega arith) there counted same
 
 -- nothing was left
-pub end-accepted : (standing : Standing) (lines : List NumberedLine)
+pub end-accepted : (standing : ReportProgressView) (lines : List NumberedLine)
     → ChecksEnd lines standing.at (Ok tt)
     → outcome_at_end standing (drop standing.at lines)
     ≡ Accepted standing.rows standing.unsettled
@@ -218,7 +221,8 @@ end-accepted standing lines none =
     ∙ none)
 
 -- something was
-pub end-refused : (standing : Standing) (lines : List NumberedLine) (end : ℕ) (stop : CheckStop)
+pub end-refused : (standing : ReportProgressView) (lines : List NumberedLine) (end : ℕ)
+    (stop : CheckStop)
     (result : Result CheckOutcome OutOfMemory) → ChecksEnd lines standing.at (Err stop)
     → IsRefusedBy end stop result
     → IfOk result (λ outcome. outcome ≡ outcome_at_end standing (drop standing.at lines))
@@ -235,8 +239,9 @@ end-refused standing lines end stop (Err want) checks answers = tt
 
 -- ---- one entry after the other
 
--- what is left from a place on is the entry there and what is behind it
-left_from : (report : ReportInput) (entries : List Entry) (at : ℕ) (other : Entry) (old : Standing)
+-- what is left from a place on is the entry there and what comes after it
+left_from : (report : ReportInput) (entries : List Entry) (at : ℕ) (other : Entry)
+    (old : ReportProgressView)
     → at < length entries
     → outcome_from report (drop at entries) old
     ≡ outcome_from report (get_or entries at other ∷ drop (at + 1) entries) old
@@ -247,7 +252,7 @@ left_from report entries at other old inside =
 
 -- an entry more is gone over
 pub entries-more : (report : ReportInput) (entries : List Entry) (at : ℕ) (other : Entry)
-    (first old new : Standing) → at < length entries
+    (first old new : ReportProgressView) → at < length entries
     → outcome_from report entries first ≡ outcome_from report (drop at entries) old
     → GoesOverEntry report old new (get_or entries at other) None
     → outcome_from report entries first ≡ outcome_from report (drop (at + 1) entries) new
@@ -257,7 +262,7 @@ entries-more report entries at other first old new inside same goes =
 
 -- the report is refused at an entry
 pub entries-end : (report : ReportInput) (entries : List Entry) (at : ℕ) (other : Entry)
-    (first old new : Standing) (outcome : CheckOutcome) → at < length entries
+    (first old new : ReportProgressView) (outcome : CheckOutcome) → at < length entries
     → outcome_from report entries first ≡ outcome_from report (drop at entries) old
     → GoesOverEntry report old new (get_or entries at other) (Some outcome)
     → outcome ≡ outcome_from report entries first
@@ -268,20 +273,20 @@ entries-end report entries at other first old new outcome inside same goes =
 -- ---- what is accepted
 
 -- a report that is accepted tells the truth
-truly_from : (report : ReportInput) (entries : List Entry) (standing : Standing)
+truly_from : (report : ReportInput) (entries : List Entry) (standing : ReportProgressView)
     (rows unsettled : ℕ) → outcome_from report entries standing ≡ Accepted rows unsettled
     → PartsTellTruly report entries standing
 truly_from report [] standing rows unsettled is =
     ap (filter counts) (drop-map (λ (l : NumberedLine). token_of l.text) standing.at report.lines)
     ∙ left-none standing (drop standing.at report.lines) rows unsettled is
 truly_from report (Change event ∷ entries) standing rows unsettled is =
-    truly_from report entries (standing_with standing (Change event)) rows unsettled is
+    truly_from report entries (progress_with standing (Change event)) rows unsettled is
 truly_from report (Ask ∷ entries) standing rows unsettled is =
     by_ending (part_there report standing) refl
     (λ next. truly_from report entries next rows unsettled) is
   where
     by_ending : (ending : Ending) → part_there report standing ≡ ending
-        → ((next : Standing) → outcome_from report entries next ≡ Accepted rows unsettled
+        → ((next : ReportProgressView) → outcome_from report entries next ≡ Accepted rows unsettled
         → PartsTellTruly report entries next)
         → outcome_by report standing ending (outcome_from report entries)
         ≡ Accepted rows unsettled
@@ -291,7 +296,7 @@ truly_from report (Ask ∷ entries) standing rows unsettled is =
       more,
       told_truly (basis_of report.sheet standing.season standing.epoch) report.lines standing.at
           next more whole,
-      onward (standing_behind report.sheet standing next more) is,
+      onward (progress_after report.sheet standing next more) is,
     )
     by_ending (bad_line at) whole onward is = absurd cc
     by_ending (no_proof at) whole onward is = absurd cc
@@ -316,7 +321,7 @@ unproved_accepts_nothing (Err stop) rows unsettled is = stop_accepts_nothing sto
 
 module _ (contents : Contents) (rows unsettled : ℕ) (sheet : Sheet) (behind : Contents)
     (is_sheet : sheet_reading_of contents None ≡ record { gives = Ok sheet; rest = behind }) where
-  -- by what ended the lines behind the feed
+  -- by what ended the lines after the feed
   by_lines : (entries : List Entry) (rest : Contents)
       → feed_of sheet true behind [] ≡ record { entries = entries; close = Ok Proofs; rest = rest }
       → (ending : Result ℕ ReadStop) → rest.ending ≡ ending
@@ -336,7 +341,7 @@ module _ (contents : Contents) (rows unsettled : ℕ) (sheet : Sheet) (behind : 
           sheet = sheet;
           lines = map Rattle.check_run.specs.Outcomes.numbered rest.lines;
           end = number;
-        }) entries (first_standing sheet) rows unsettled cc;
+        }) entries (first_progress sheet) rows unsettled cc;
   }
   by_lines entries rest is_feed (Err stop) whole is =
       absurd (stop_accepts_nothing stop rows unsettled is)

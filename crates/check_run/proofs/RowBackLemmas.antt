@@ -16,7 +16,7 @@ use Rattle.fixture_sheet.specs.Fields.{csv_record, record_of, without_padding, u
 use Rattle.fixture_sheet.specs.Fields.{has_return}
 use Rattle.cert_check.specs.declared.token.Token.TheVariants.{Row}
 use Rattle.cert_check.specs.Tokens.{token_of, token_of_row, token_of_record, begins_proof}
-use Rattle.check_run.specs.WrittenReports.{is_within_line, are_within_line}
+use Rattle.check_run.specs.inside.WrittenReports.{is_within_line, are_within_line}
 
 -- ---- a text without the line feed at its end
 
@@ -184,7 +184,7 @@ row_back first second fields plain opens within whole =
     (cut_read st.StartRecord [] [] body row written within) in
     ap (λ b. cond b (Rattle.cert_check.specs.Tokens.token_of_line
     (Rattle.cert_text.specs.Forms.line_in body)) (token_of_row body)) opens
-    ∙ ap (λ b. cond b Rattle.cert_check.specs.declared.token.Token.TheVariants.Neither
+    ∙ ap (λ b. cond b Rattle.cert_check.specs.declared.token.Token.TheVariants.Unknown
     (token_of_record (record_of body))) (no_return body (body_within row within))
     ∙ ap (λ found. token_of_record
     (option_and_then (λ fields. unless_empty (without_padding fields)) found)) read

@@ -10,10 +10,10 @@ use Rattle.std.proofs.lemmas.Bool.{and_parts, and_from, false≢true, ne_eqb, le
 use Rattle.std.proofs.lemmas.Fmt.{decimal_by_steps, decimal_nonempty}
 use Rattle.std.proofs.lemmas.Bool.Decides.{Decides-eqb}
 use Rattle.std.proofs.lemmas.Slice.Eq.{ends_is}
-use Rattle.port_core.specs.declared.answers.ReadStop.{ReadStop}
+use Rattle.port_core.specs.declared.line.ReadStop.{ReadStop}
 use Rattle.port_core.specs.Lines.{lines_of, text_of_line, onto_first}
 use Rattle.port_core.specs.Contents.{Contents, Position, content_at, contents_by, contents_from}
-use Rattle.port_core.specs.Contents.{is_skipped, line_stop, number_at, position_behind}
+use Rattle.port_core.specs.Contents.{is_skipped, line_stop, number_at, position_after}
 use Rattle.port_core.specs.Contents.{with_line, without_mark, without_return}
 use Rattle.csv.specs.Reading.{strip_bom}
 use Rattle.csv.specs.Writing.{default_writer, fields_text, row_body}
@@ -23,16 +23,17 @@ use Rattle.cert_text.specs.declared.proof_line.ProofLine.{ProofLine}
 use Rattle.cert_text.specs.Lines.{text_of_proof_line, is_printed}
 use Rattle.cert_text.proofs.PrintedLemmas.{line_printed}
 use Rattle.cert_check.specs.declared.token.Token.{Token}
-use Rattle.cert_check.specs.declared.token.Token.TheVariants.{Passed, Row, Proof, Neither}
+use Rattle.cert_check.specs.declared.token.Token.TheVariants.{Blank, Row, Proof, Unknown}
 use Rattle.cert_check.specs.Tokens.{token_of}
-use Rattle.cert_check.specs.declared.dues.RowWord.{RowWord}
-use Rattle.cert_check.specs.declared.dues.RowWord.TheVariants.{Clinched, Lost, Possible, Unsettled}
-use Rattle.cert_check.specs.Dues.{ask_fields, text_of_word, verdict_fields}
+use Rattle.cert_check.specs.declared.expected.RowWord.{RowWord}
+use Rattle.cert_check.specs.declared.expected.RowWord.TheVariants.{Clinched, Lost, Possible}
+use Rattle.cert_check.specs.declared.expected.RowWord.TheVariants.{Unsettled}
+use Rattle.cert_check.specs.ExpectedItems.{ask_fields, text_of_word, verdict_fields}
 use Rattle.cert_check.specs.LineLists.{tokens_of}
 use Rattle.check_run.specs.Outcomes.{numbered}
-use Rattle.check_run.specs.WrittenLines.{IsWritable}
-use Rattle.check_run.specs.WrittenReports.{is_within_line, are_within_line, written, IsLineTold}
-use Rattle.check_run.specs.WrittenReports.{AreTold}
+use Rattle.check_run.specs.inside.WrittenLines.{IsWritable}
+use Rattle.check_run.specs.inside.WrittenReports.{is_within_line, are_within_line, written}
+use Rattle.check_run.specs.inside.WrittenReports.{IsLineRead, AreRead}
 use Rattle.check_run.proofs.ReadBackLemmas.{token_of-text}
 use Rattle.check_run.proofs.RowBackLemmas.{last_passes, append_within, body_within, row_back}
 
@@ -223,19 +224,19 @@ verdict_body line name word small plain =
           within (whole_row (decimal line) name word);
     }
 
-body_of : (told : Token) → IsLineTold told → HasBody told
-body_of Passed is = absurd is
+body_of : (told : Token) → IsLineRead told → HasBody told
+body_of Blank is = absurd is
 body_of (Row fields) (inl ask) =
     subst (λ (row : List (List ℕ)). HasBody (Row row)) (sym ask.2) (ask_body ask.0 ask.1)
 body_of (Row fields) (inr verdict) =
     subst (λ (row : List (List ℕ)). HasBody (Row row)) (sym verdict.5)
     (verdict_body verdict.0 verdict.1 verdict.2 verdict.3 verdict.4)
 body_of (Proof line) is = proof_body line is
-body_of Neither is = absurd is
+body_of Unknown is = absurd is
 
 -- the lines of a report are those that were written
 pub written_back : (told : List Token) (position : Position) (lines : List (ℕ × List ℕ))
-    (end : ℕ) → AreTold told → position.lines ≢ 0
+    (end : ℕ) → AreRead told → position.lines ≢ 0
     → contents_from position (lines_of (flat_map written told))
     ≡ record { lines = lines; ending = Ok end }
     → tokens_of (map numbered lines) ≡ told
@@ -246,7 +247,7 @@ written_back (first ∷ told) position lines end are behind is =
     let rest = flat_map written told in
     let line = has.body ++ 10 ∷ [] in
     let number = number_at position in
-    let next = position_behind position (length line) in
+    let next = position_after position (length line) in
     let cut : lines_of (written first ++ rest) ≡ line ∷ lines_of rest =
     ap (λ bytes. lines_of (bytes ++ rest)) has.bytes
     ∙ ap lines_of (append_assoc has.body (10 ∷ []) rest)

@@ -2,13 +2,13 @@
 
 ghost use Rattle.std.specs.Prelude.{◌≡◌, ◌≤◌, ◌+◌, true, All, IfOk, IfSome, OnOk};
 ghost use Rattle.std.specs.Prelude.{length};
-ghost use Rattle.league_core.specs.Sheets.{IsWithinLimits};
+ghost use Rattle.league_core.specs.game.Sheets.{IsWithinLimits};
 ghost use Rattle.port_core.specs.Contents.{Contents, input_limit};
 ghost use Rattle.port_core.specs.Readers.{TakesInput, contents_to_come};
 ghost use Rattle.result_log.specs.Records.{IsEntryAt};
-ghost use Rattle.check_run.specs.Calls.{CountsFeed, IsEntryOf, IsStateOf, LeadsFeed, LeavesFeed};
-ghost use Rattle.check_run.specs.Calls.{LeavesStep, ReadsFeed, StepMovesOn, StepsFeed, WhereTold};
-ghost use Rattle.check_run.specs.Calls.{state_unread, state_with};
+ghost use Rattle.check_run.specs.inside.Calls.{CountsFeed, IsEntryOf, IsStateOf, LeadsFeed};
+ghost use Rattle.check_run.specs.inside.Calls.{LeavesFeed, LeavesStep, ReadsFeed, StepMovesOn};
+ghost use Rattle.check_run.specs.inside.Calls.{StepsFeed, IfRead, state_unread, state_with};
 
 use league_core::{OutOfMemory, Season, Sheet};
 use port_core::{LineReader, Source};
@@ -19,7 +19,7 @@ use std::marker::Model;
 /// A feed that was read to its end: its events and asks in their order, and whether the record
 /// `proofs` ended it, or the end of the input.
 #[derive(Drop)]
-pub struct ToldFeed {
+pub struct FeedRead {
     pub entries: Vec<Entry>,
     pub proofs: bool,
 }
@@ -33,9 +33,9 @@ pub struct FeedSoFar {
 }
 
 impl Model for FeedSoFar {
-    ghost use Rattle.check_run.specs.Calls.{FeedState};
+    ghost use Rattle.check_run.specs.inside.Calls.{FeedSoFarView};
 
-    ghost Value = { FeedState };
+    ghost Value = { FeedSoFarView };
 
     ghost view = { λ feed. record {
       entries = feed.entries.items;
@@ -78,11 +78,11 @@ pub fn read_feed<S: Source>(
     unread: FeedSoFar,
     reader: &mut LineReader,
     source: &mut S,
-) -> Result<ToldFeed, FeedStop>
+) -> Result<FeedRead, FeedStop>
     requires limits { IsWithinLimits sheet.now }
     requires start { unread ≡ state_unread sheet.now }
     // Where the source tells its bytes: what was still to come, and what is.
-    ensures reads { WhereTold (contents_to_come reader.old (S.left source.old)) (λ contents.
+    ensures reads { IfRead (contents_to_come reader.old (S.left source.old)) (λ contents.
         ReadsFeed sheet.now contents (contents_to_come reader.new (S.left source.new)) result) }
     ensures entries { IfOk result (λ feed. All (IsEntryOf sheet.now) feed.entries.items) }
     ensures few { IfOk result (λ feed. length feed.entries.items ≤ input_limit) }
@@ -96,7 +96,7 @@ pub fn read_feed<S: Source>(
             Ok(None) => {}
             Ok(Some(proofs)) => {
                 let entries = feed.entries;
-                return Ok(ToldFeed { entries, proofs });
+                return Ok(FeedRead { entries, proofs });
             }
             Err(stop) => return Err(stop),
         }

@@ -1,12 +1,12 @@
-//! A whole input: a sheet, its feed, and the report behind the record `proofs`.
+//! A whole input: a sheet, its feed, and the report after the record `proofs`.
 
 ghost use Rattle.std.specs.Prelude.{◌≡◌, ◌≤◌, All, length};
-ghost use Rattle.league_core.specs.Sheets.{IsWithinLimits};
+ghost use Rattle.league_core.specs.game.Sheets.{IsWithinLimits};
 ghost use Rattle.port_core.specs.Contents.{input_limit};
 ghost use Rattle.port_core.specs.Readers.{TakesInput, contents_to_come};
-ghost use Rattle.check_run.specs.Calls.{ChecksBy, ChecksInput, CountsCheck, IsEntryOf, LeavesCheck};
-ghost use Rattle.check_run.specs.Calls.{WhereTold, outcome_behind_feed, outcome_behind_sheet};
-ghost use Rattle.check_run.specs.Calls.{IsShort, IsStoppedBy};
+ghost use Rattle.check_run.specs.inside.Calls.{ChecksBy, ChecksInput, CountsCheck, IsEntryOf};
+ghost use Rattle.check_run.specs.inside.Calls.{LeavesCheck, IfRead, outcome_after_feed};
+ghost use Rattle.check_run.specs.inside.Calls.{outcome_after_sheet, IsShort, IsStoppedBy};
 
 use crate::feed::{FeedSoFar, read_feed};
 use crate::lines::{LinesStop, read_lines};
@@ -48,7 +48,7 @@ pub fn check_input<S: Source>(
     }
 }
 
-// What is behind the sheet.
+// What comes after the sheet.
 fn check_feed<S: Source>(
     alloc: Global,
     sheet: &Sheet,
@@ -56,8 +56,8 @@ fn check_feed<S: Source>(
     source: &mut S,
 ) -> Result<CheckOutcome, CheckFailure>
     requires { IsWithinLimits sheet.now }
-    ensures outcome { WhereTold (contents_to_come reader.old (S.left source.old)) (λ contents.
-        ChecksBy (outcome_behind_sheet sheet.now) contents
+    ensures outcome { IfRead (contents_to_come reader.old (S.left source.old)) (λ contents.
+        ChecksBy (outcome_after_sheet sheet.now) contents
         (contents_to_come reader.new (S.left source.new)) result) }
     ensures leaves { LeavesCheck reader.new (S.left source.new) result }
     ensures takes { TakesInput reader.old reader.new (S.left source.old) (S.left source.new) }
@@ -78,7 +78,7 @@ fn check_feed<S: Source>(
     }
 }
 
-// What is behind the feed.
+// What comes after the feed.
 fn check_report<S: Source>(
     alloc: Global,
     sheet: &Sheet,
@@ -89,8 +89,8 @@ fn check_report<S: Source>(
     requires limits { IsWithinLimits sheet.now }
     requires entries { All (IsEntryOf sheet.now) entries.now }
     requires few { length entries.now ≤ input_limit }
-    ensures outcome { WhereTold (contents_to_come reader.old (S.left source.old)) (λ contents.
-        ChecksBy (outcome_behind_feed sheet.now entries.now) contents
+    ensures outcome { IfRead (contents_to_come reader.old (S.left source.old)) (λ contents.
+        ChecksBy (outcome_after_feed sheet.now entries.now) contents
         (contents_to_come reader.new (S.left source.new)) result) }
     ensures leaves { LeavesCheck reader.new (S.left source.new) result }
     ensures takes { TakesInput reader.old reader.new (S.left source.old) (S.left source.new) }
@@ -107,7 +107,7 @@ fn check_report<S: Source>(
     }
 }
 
-// The input ended before the record `proofs`. A line has a byte at least, so the number behind the
+// The input ended before the record `proofs`. A line has a byte at least, so the number after the
 // last one is never too great.
 fn short(reader: &LineReader) -> Result<CheckOutcome, CheckFailure>
     ensures { IsShort reader.now result }

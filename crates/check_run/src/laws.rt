@@ -1,11 +1,11 @@
 //! Laws: functions that do nothing, each with a law as its contract.
 //!
-//! The statements are in `specs/ReportTruths.antt`, `specs/WrittenLines.antt` and
-//! `specs/WrittenReports.antt`.
+//! The statements are in `specs/inside/ReportTruths.antt`, `specs/inside/WrittenLines.antt` and
+//! `specs/inside/WrittenReports.antt`.
 
-ghost use Rattle.check_run.specs.ReportTruths.{AcceptedInputsTellTruly};
-ghost use Rattle.check_run.specs.WrittenLines.{WrittenLinesAreTokens, WrittenLinesReadBack};
-ghost use Rattle.check_run.specs.WrittenReports.{WrittenReportsReadBack};
+ghost use Rattle.check_run.specs.inside.ReportTruths.{AcceptedInputsTellTruly};
+ghost use Rattle.check_run.specs.inside.WrittenLines.{WrittenLinesAreTokens, WrittenLinesReadBack};
+ghost use Rattle.check_run.specs.inside.WrittenReports.{WrittenReportsReadBack};
 
 /// An input whose report is accepted has one that tells the truth: each row that says clinched,
 /// lost or possible is so in the season at its ask, for every finish and every drawing of lots.

@@ -2,7 +2,7 @@
 //! and the report, which is judged when all of it was read.
 //!
 //! What an input comes to is in `specs/Outcomes.antt`; what the calls promise, in
-//! `specs/Calls.antt`.
+//! `specs/inside/Calls.antt`.
 #![tactic(auto)]
 
 mod feed;
@@ -12,8 +12,8 @@ mod lines;
 mod outcome;
 mod report;
 
-pub use feed::ToldFeed;
+pub use feed::FeedRead;
 pub use input::check_input;
 pub use laws::{accepted_inputs_tell_truly, written_lines_read_back, written_reports_read_back};
-pub use lines::{LinesStop, ToldLines};
+pub use lines::{LinesStop, ReportLines};
 pub use outcome::{CheckFailure, CheckOutcome, ReportFault};

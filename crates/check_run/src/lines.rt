@@ -1,8 +1,8 @@
-//! The lines of an input behind its feed.
+//! The lines of an input after its feed.
 
 ghost use Rattle.std.specs.Prelude.{◌≡◌, []};
 ghost use Rattle.port_core.specs.Readers.{TakesInput, contents_to_come};
-ghost use Rattle.check_run.specs.Calls.{CountsLines, LeavesLines, ReadsLines, WhereTold};
+ghost use Rattle.check_run.specs.inside.Calls.{CountsLines, LeavesLines, ReadsLines, IfRead};
 
 use cert_check::LineList;
 use league_core::OutOfMemory;
@@ -10,7 +10,7 @@ use port_core::{Line, LineReader, ReadStop, Source};
 
 /// The lines of a report, and the number after the last line of the input.
 #[derive(Drop)]
-pub struct ToldLines {
+pub struct ReportLines {
     pub lines: LineList,
     pub end: u64,
 }
@@ -37,10 +37,10 @@ pub fn read_lines<S: Source>(
     empty: LineList,
     reader: &mut LineReader,
     source: &mut S,
-) -> Result<ToldLines, LinesStop>
+) -> Result<ReportLines, LinesStop>
     requires { empty ≡ [] }
     // Where the source tells its bytes: what was still to come, and what is.
-    ensures reads { WhereTold (contents_to_come reader.old (S.left source.old)) (λ contents.
+    ensures reads { IfRead (contents_to_come reader.old (S.left source.old)) (λ contents.
         ReadsLines contents (contents_to_come reader.new (S.left source.new)) result) }
     ensures leaves { LeavesLines reader.new (S.left source.new) result }
     ensures takes { TakesInput reader.old reader.new (S.left source.old) (S.left source.new) }
@@ -50,7 +50,7 @@ pub fn read_lines<S: Source>(
     'lines: loop {
         match reader.next(source) {
             Ok(Line::Text { number }) => lines.add(number, reader.text())?,
-            Ok(Line::End { number }) => return Ok(ToldLines { lines, end: number }),
+            Ok(Line::End { number }) => return Ok(ReportLines { lines, end: number }),
             Err(stop) => return Err(LinesStop::Read(stop)),
         }
     }

@@ -1,15 +1,14 @@
 //! A report, part by part: one for each ask of the feed.
 
 ghost use Rattle.std.specs.Prelude.{◌≡◌, ◌≤◌, ◌+◌, All, IfOk, drop, length};
-ghost use Rattle.league_core.specs.Sheets.{IsWithinLimits};
-ghost use Rattle.league_core.specs.Seasons.{IsLeague};
+ghost use Rattle.league_core.specs.game.Sheets.{IsWithinLimits};
+ghost use Rattle.league_core.specs.game.Seasons.{IsLeague};
 ghost use Rattle.port_core.specs.Contents.{input_limit};
-ghost use Rattle.check_run.specs.Outcomes.{first_standing, outcome_from, outcome_at_end};
-ghost use Rattle.check_run.specs.Calls.{CountsOn, GoesOverEntry, IsCounted, IsEntryOf};
-ghost use Rattle.check_run.specs.Calls.{IsRefusedBy};
-ghost use Rattle.check_run.specs.Calls.{report_told};
+ghost use Rattle.check_run.specs.Outcomes.{first_progress, outcome_from, outcome_at_end};
+ghost use Rattle.check_run.specs.inside.Calls.{CountsOn, GoesOverEntry, IsCounted, IsEntryOf};
+ghost use Rattle.check_run.specs.inside.Calls.{IsRefusedBy, report_read};
 
-use crate::lines::ToldLines;
+use crate::lines::ReportLines;
 use crate::outcome::{CheckOutcome, ReportFault};
 use cert_check::{Accepted, CheckStop, check, check_end};
 use league_core::{OutOfMemory, Season, Sheet};
@@ -19,7 +18,7 @@ use std::marker::Model;
 
 // How far a report is read, and the feed beside it.
 #[derive(Drop)]
-struct Reached {
+struct ReportProgress {
     season: Season,
     epoch: u64,
     at: usize,
@@ -27,10 +26,10 @@ struct Reached {
     unsettled: u64,
 }
 
-impl Model for Reached {
-    ghost use Rattle.check_run.specs.Outcomes.{Standing};
+impl Model for ReportProgress {
+    ghost use Rattle.check_run.specs.Outcomes.{ReportProgressView};
 
-    ghost Value = { Standing };
+    ghost Value = { ReportProgressView };
 
     ghost view = { λ reached. record {
       season = reached.season;
@@ -41,11 +40,11 @@ impl Model for Reached {
     } };
 }
 
-impl Reached {
-    fn begin(alloc: Global, sheet: &Sheet) -> Result<Reached, OutOfMemory>
-        ensures { IfOk result (λ reached. reached ≡ first_standing sheet.now) }
+impl ReportProgress {
+    fn begin(alloc: Global, sheet: &Sheet) -> Result<ReportProgress, OutOfMemory>
+        ensures { IfOk result (λ reached. reached ≡ first_progress sheet.now) }
     {
-        Ok(Reached {
+        Ok(ReportProgress {
             season: Season::unplayed(alloc, sheet.clubs.len(), sheet.fixtures.len())?,
             epoch: 0,
             at: 0,
@@ -59,7 +58,7 @@ impl Reached {
         &mut self,
         alloc: Global,
         sheet: &Sheet,
-        told: &ToldLines,
+        told: &ReportLines,
         entry: &Entry,
     ) -> Result<Option<CheckOutcome>, OutOfMemory>
         requires league { IsLeague sheet.now self.old.season }
@@ -67,7 +66,7 @@ impl Reached {
         requires room { self.old.at ≤ length told.now.lines }
         requires few { IsCounted self.old }
         ensures goes { IfOk result
-            (GoesOverEntry (report_told sheet.now told.now) self.old self.new entry.now) }
+            (GoesOverEntry (report_read sheet.now told.now) self.old self.new entry.now) }
         ensures league { IsLeague sheet.now self.new.season }
         ensures room { self.new.at ≤ length told.now.lines }
         ensures counts { CountsOn self.old self.new }
@@ -88,13 +87,13 @@ impl Reached {
         &mut self,
         alloc: Global,
         sheet: &Sheet,
-        told: &ToldLines,
+        told: &ReportLines,
     ) -> Result<Option<CheckOutcome>, OutOfMemory>
         requires league { IsLeague sheet.now self.old.season }
         requires room { self.old.at ≤ length told.now.lines }
         requires few { IsCounted self.old }
         ensures goes { IfOk result
-            (GoesOverEntry (report_told sheet.now told.now) self.old self.new Entry.Ask) }
+            (GoesOverEntry (report_read sheet.now told.now) self.old self.new Entry.Ask) }
         ensures season { self.new.season ≡ self.old.season }
         ensures room { self.new.at ≤ length told.now.lines }
         ensures counts { CountsOn self.old self.new }
@@ -123,7 +122,7 @@ impl Reached {
     }
 
     // Nothing that counts may be left.
-    fn end(&self, alloc: Global, told: &ToldLines) -> Result<CheckOutcome, OutOfMemory>
+    fn end(&self, alloc: Global, told: &ReportLines) -> Result<CheckOutcome, OutOfMemory>
         requires { self.now.at ≤ length told.now.lines }
         ensures { IfOk result (λ outcome. outcome
             ≡ outcome_at_end self.now (drop self.now.at told.now.lines)) }
@@ -164,15 +163,15 @@ pub fn report_outcome(
     alloc: Global,
     sheet: &Sheet,
     entries: &[Entry],
-    told: &ToldLines,
+    told: &ReportLines,
 ) -> Result<CheckOutcome, OutOfMemory>
     requires limits { IsWithinLimits sheet.now }
     requires entries { All (IsEntryOf sheet.now) entries.now }
     requires few { length entries.now ≤ input_limit }
     ensures { IfOk result (λ outcome. outcome
-        ≡ outcome_from (report_told sheet.now told.now) entries.now (first_standing sheet.now)) }
+        ≡ outcome_from (report_read sheet.now told.now) entries.now (first_progress sheet.now)) }
 {
-    let mut reached = Reached::begin(alloc, sheet)?;
+    let mut reached = ReportProgress::begin(alloc, sheet)?;
     for entry in entries {
         match reached.go_over(alloc, sheet, told, entry)? {
             None => {}

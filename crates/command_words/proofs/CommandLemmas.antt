@@ -55,7 +55,7 @@ refused_by : (words : List Text) (e : Error) → (kind_of e ≡ kind.OutOfMemory
 refused_by words e not_memory (inl memory) = absurd (not_memory memory)
 refused_by words e not_memory (inr among) = taken-fault words (fault_of app words) e among refl
 
--- one that fails, and not for want of memory, has none
+-- one that fails, and not since memory ran out, has none
 pub refused-rows : (made : App) (words : List Text) (e : Error) → made ≡ app
     → (kind_of e ≡ kind.OutOfMemory → ⊥)
     → (is_simple_and_free made ≡ true → HasKind (fault_of made words) e) → None ≡ rows_taken words

@@ -1,5 +1,5 @@
 -- The words of the command: the program's own name, a mode, two options and a flag, which may stand
--- before the mode or behind it. Which words such a command takes is clap's own rule for a simple
+-- before the mode or after it. Which words such a command takes is clap's own rule for a simple
 -- command. Words that ask for help are none of them.
 use Rattle.std.specs.Prelude.{ℕ, Bool, true, false, ◌&&◌, nat_le, List, [], ◌∷◌, length, Option}
 use Rattle.std.specs.Prelude.{Some, None, if◌then◌else◌, option_and_then, option_map, bytes_eq}

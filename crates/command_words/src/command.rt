@@ -19,7 +19,7 @@ pub enum Mode {
 #[derive(Clone, Copy, Debug, PartialEq, Eq)]
 pub struct Command {
     pub mode: Mode,
-    /// Whether refutations are written behind the verdicts that they show.
+    /// Whether refutations are written after the verdicts that they show.
     pub proofs: bool,
     /// From 1 to 8.
     pub workers: u8,

@@ -10,15 +10,14 @@ use lib.ListN.{get_elem?}
 use Rattle.atomic_table.specs.Table.{Me, step, keeps, opening, Allows, Splits, Joins}
 use Rattle.atomic_table.proofs.Lists.{at_set, at_snoc, set_again}
 use Rattle.league_core.specs.declared.season.Event.{Event}
-use Rattle.league_core.specs.Codes.{has_code}
+use Rattle.league_core.specs.inside.Codes.{has_code}
 use Rattle.epoch_cancel.specs.declared.view.View.{View}
-use Rattle.epoch_cancel.specs.Packs.{last_code, pack_of}
-use Rattle.epoch_cancel.specs.Views.{owner_of, nobody, view_told, view_looked}
-use Rattle.epoch_cancel.specs.Views.{view_longer, view_beside}
-use Rattle.epoch_cancel.specs.Rule.{FitsLog, IsRuled}
-use Rattle.epoch_cancel.specs.Moves.{StoresWord, ComparesLists, FindsEpoch}
+use Rattle.epoch_cancel.specs.inside.Packs.{last_code, pack_of}
+use Rattle.epoch_cancel.specs.inside.Views.{owner_of, nobody, view_told, view_looked, view_longer}
+use Rattle.epoch_cancel.specs.inside.Views.{view_beside}
+use Rattle.epoch_cancel.specs.inside.Rule.{FitsLog, IsRuled}
+use Rattle.epoch_cancel.specs.inside.Moves.{StoresWord, ComparesLists, FindsEpoch}
 use Rattle.epoch_cancel.proofs.PrefixLemmas.{prefix_self, prefix_nothing, prefix_shorter}
-use Rattle.epoch_cancel.proofs.PrefixLemmas.{prefix_length}
 use Rattle.epoch_cancel.proofs.PackLemmas.{code_of-below, last_code-push, pack_of-epoch}
 use Rattle.epoch_cancel.proofs.PackLemmas.{pack_names_event}
 use Rattle.epoch_cancel.proofs.ViewLemmas.{fits_set, nobody_fits, others_told, owner_told}
@@ -150,8 +149,7 @@ finds slots by me state ruled many at small =
         refl,
         refl,
         subst (λ n. me.0.newest ≤ n) (sym present) mine.newest,
-        subst (λ n. length me.0.list ≤ n) (sym present)
-            (prefix_length me.0.list ruled.log mine.list),
+        (ruled.log, ap (λ ws. slice_index ws 0) ruled.word, present, mine.list),
       ),
     )
 

@@ -9,9 +9,9 @@ use Rattle.std.proofs.lemmas.Nat.{div-mul-add}
 use Rattle.league_core.specs.declared.season.Event.{Event}
 use Rattle.league_core.specs.declared.season.Event.TheVariants.{Set, Clear, Deduct}
 use Rattle.league_core.specs.declared.season.Score.{Score}
-use Rattle.league_core.specs.Results.{is_score}
-use Rattle.league_core.specs.Codes.{has_code}
-use Rattle.epoch_cancel.specs.Packs.{code_of, last_code, pack_of}
+use Rattle.league_core.specs.game.Results.{is_score}
+use Rattle.league_core.specs.inside.Codes.{has_code}
+use Rattle.epoch_cancel.specs.inside.Packs.{code_of, last_code, pack_of}
 
 -- ---- codes
 

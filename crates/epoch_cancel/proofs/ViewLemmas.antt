@@ -10,9 +10,9 @@ use lib.ListN.{get_elem?}
 use Rattle.atomic_table.proofs.Lists.{at_set}
 use Rattle.league_core.specs.declared.season.Event.{Event}
 use Rattle.epoch_cancel.specs.declared.view.View.{View}
-use Rattle.epoch_cancel.specs.Views.{nobody, longer_of, view_told, view_looked}
-use Rattle.epoch_cancel.specs.Views.{view_longer, view_beside}
-use Rattle.epoch_cancel.specs.Rule.{FitsLog}
+use Rattle.epoch_cancel.specs.inside.Views.{nobody, longer_of, view_told, view_looked, view_longer}
+use Rattle.epoch_cancel.specs.inside.Views.{view_beside}
+use Rattle.epoch_cancel.specs.inside.Rule.{FitsLog}
 use Rattle.epoch_cancel.proofs.PrefixLemmas.{prefix_self, prefix_nothing, prefix_more}
 use Rattle.epoch_cancel.proofs.PrefixLemmas.{prefix_whole}
 

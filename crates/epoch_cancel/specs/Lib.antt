@@ -1,6 +1,2 @@
--- Read in this order: it is the order in which the notions rest on each other.
-pub mod Packs
-pub mod Seats
-pub mod Views
-pub mod Rule
-pub mod Moves
+-- All words of this crate stand in inside/: no promise of the program rests on them.
+pub mod inside

@@ -1,9 +1,9 @@
 //! One number for a list of events.
 
 ghost use Rattle.std.specs.Prelude.{◌≡◌, ◌+◌, ◌*◌, ◌<◌, ◌≤◌, All, IsTrue, length};
-ghost use Rattle.league_core.specs.Codes.{has_code};
-ghost use Rattle.league_core.specs.Limits.{most_events};
-ghost use Rattle.epoch_cancel.specs.Packs.{code_of, pack_of};
+ghost use Rattle.league_core.specs.inside.Codes.{has_code};
+ghost use Rattle.league_core.specs.game.Limits.{most_events};
+ghost use Rattle.epoch_cancel.specs.inside.Packs.{code_of, pack_of};
 
 use league_core::{Event, Score};
 

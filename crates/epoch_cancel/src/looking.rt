@@ -1,7 +1,7 @@
 //! What a worker does by itself: it looks at the word, and waits for nobody.
 
 ghost use Rattle.std.specs.Prelude.{◌≡◌};
-ghost use Rattle.epoch_cancel.specs.Seats.{IsCancelled, Looks};
+ghost use Rattle.epoch_cancel.specs.inside.Seats.{IsCancelled, Looks};
 
 use crate::code::EPOCH;
 use crate::seats::Eye;

@@ -14,7 +14,7 @@ pub struct Owner {
 
 impl Model for Owner {
     ghost use Rattle.std.specs.Prelude.{◌≡◌, true, length};
-    ghost use Rattle.epoch_cancel.specs.Seats.{SeatView, seat_of};
+    ghost use Rattle.epoch_cancel.specs.inside.Seats.{SeatView, seat_of};
 
     ghost Value = { SeatView };
 
@@ -32,7 +32,7 @@ pub struct Front {
 
 impl Model for Front {
     ghost use Rattle.std.specs.Prelude.{◌≡◌, false};
-    ghost use Rattle.epoch_cancel.specs.Seats.{SeatView, seat_of};
+    ghost use Rattle.epoch_cancel.specs.inside.Seats.{SeatView, seat_of};
 
     ghost Value = { SeatView };
 
@@ -49,7 +49,7 @@ pub struct Eye {
 
 impl Model for Eye {
     ghost use Rattle.std.specs.Prelude.{◌≡◌, false};
-    ghost use Rattle.epoch_cancel.specs.Seats.{EyeView};
+    ghost use Rattle.epoch_cancel.specs.inside.Seats.{EyeView};
 
     ghost Value = { EyeView };
 

@@ -2,9 +2,9 @@
 
 ghost use Rattle.std.specs.Prelude.{◌≡◌, ◌+◌, ◌<◌, IsTrue, length};
 ghost use mathlib.Core.List.{IsPrefix};
-ghost use Rattle.league_core.specs.Codes.{has_code};
-ghost use Rattle.league_core.specs.Limits.{most_events};
-ghost use Rattle.epoch_cancel.specs.Seats.{seat_told};
+ghost use Rattle.league_core.specs.inside.Codes.{has_code};
+ghost use Rattle.league_core.specs.game.Limits.{most_events};
+ghost use Rattle.epoch_cancel.specs.inside.Seats.{seat_told};
 
 use crate::code::word_of;
 use crate::seats::{Eye, Front, Owner};

@@ -20,8 +20,8 @@ pub struct View {
 pub struct Law;
 
 impl TableRule<(), View, Snapshot<Vec<Event>>> for Law {
-    ghost use Rattle.epoch_cancel.specs.Rule.{IsRuled};
-    ghost use Rattle.epoch_cancel.specs.Views.{owner_of};
+    ghost use Rattle.epoch_cancel.specs.inside.Rule.{IsRuled};
+    ghost use Rattle.epoch_cancel.specs.inside.Views.{owner_of};
 
     ghost holds = { λ _. IsRuled };
 
@@ -32,7 +32,7 @@ impl TableRule<(), View, Snapshot<Vec<Event>>> for Law {
 pub struct Store;
 
 impl Play<(), View> for Store {
-    ghost use Rattle.epoch_cancel.specs.Moves.{StoresWord};
+    ghost use Rattle.epoch_cancel.specs.inside.Moves.{StoresWord};
 
     ghost then = { StoresWord };
 }
@@ -41,7 +41,7 @@ impl Play<(), View> for Store {
 pub struct Compare;
 
 impl Play<(), View> for Compare {
-    ghost use Rattle.epoch_cancel.specs.Moves.{ComparesLists};
+    ghost use Rattle.epoch_cancel.specs.inside.Moves.{ComparesLists};
 
     ghost then = { ComparesLists };
 }
@@ -50,7 +50,7 @@ impl Play<(), View> for Compare {
 pub struct Look;
 
 impl Play<(), View> for Look {
-    ghost use Rattle.epoch_cancel.specs.Moves.{FindsEpoch};
+    ghost use Rattle.epoch_cancel.specs.inside.Moves.{FindsEpoch};
 
     ghost then = { FindsEpoch };
 }
@@ -59,7 +59,7 @@ impl Play<(), View> for Look {
 pub struct Note;
 
 impl Split<View> for Note {
-    ghost use Rattle.epoch_cancel.specs.Views.{view_noted};
+    ghost use Rattle.epoch_cancel.specs.inside.Views.{view_noted};
 
     ghost left = { λ view. view };
 
@@ -70,7 +70,7 @@ impl Split<View> for Note {
 pub struct Fresh;
 
 impl Split<View> for Fresh {
-    ghost use Rattle.epoch_cancel.specs.Views.{view_fresh};
+    ghost use Rattle.epoch_cancel.specs.inside.Views.{view_fresh};
 
     ghost left = { λ view. view };
 
@@ -81,7 +81,7 @@ impl Split<View> for Fresh {
 pub struct Longer;
 
 impl Join<View> for Longer {
-    ghost use Rattle.epoch_cancel.specs.Views.{nobody, view_longer};
+    ghost use Rattle.epoch_cancel.specs.inside.Views.{nobody, view_longer};
 
     ghost both = { view_longer };
 
@@ -92,7 +92,7 @@ impl Join<View> for Longer {
 pub struct Told;
 
 impl Join<View> for Told {
-    ghost use Rattle.epoch_cancel.specs.Views.{nobody, view_beside};
+    ghost use Rattle.epoch_cancel.specs.inside.Views.{nobody, view_beside};
 
     ghost both = { view_beside };
 

@@ -2,10 +2,10 @@
 
 ghost use Rattle.std.specs.Prelude.{◌≡◌, ◌+◌, ◌<◌, ◌≤◌, All, IfOk, IsTrue, length, replicate};
 ghost use mathlib.Core.List.{IsPrefix};
-ghost use Rattle.league_core.specs.Codes.{has_code};
-ghost use Rattle.league_core.specs.Limits.{most_events};
-ghost use Rattle.epoch_cancel.specs.Packs.{pack_of};
-ghost use Rattle.epoch_cancel.specs.Seats.{new_eye, seat_of};
+ghost use Rattle.league_core.specs.inside.Codes.{has_code};
+ghost use Rattle.league_core.specs.game.Limits.{most_events};
+ghost use Rattle.epoch_cancel.specs.inside.Packs.{pack_of};
+ghost use Rattle.epoch_cancel.specs.inside.Seats.{new_eye, seat_of};
 
 use crate::code::pack;
 use crate::seats::{Eye, Front, Owner};

@@ -4,17 +4,17 @@ use Rattle.std.proofs.Common.{refl, true}
 use Rattle.league_core.specs.declared.sheet.Sheet.{Sheet}
 use Rattle.league_core.specs.declared.question.Question.{Question}
 use Rattle.league_core.specs.declared.zone.Literal.{Literal}
-use Rattle.league_core.specs.Results.{Results}
-use Rattle.league_core.specs.Sums.{has_club}
-use Rattle.league_core.specs.HeadToHead.{by_first_difference, by_head_to_head}
-use Rattle.league_core.specs.Ahead.{by_overall, by_first_sums, rank_of}
-use Rattle.league_core.specs.Proposals.{proposed_finish}
+use Rattle.league_core.specs.game.Results.{Results}
+use Rattle.league_core.specs.game.Sums.{has_club}
+use Rattle.league_core.specs.game.HeadToHead.{by_first_difference, by_head_to_head}
+use Rattle.league_core.specs.game.Ahead.{by_overall, by_first_sums, rank_of}
+use Rattle.league_core.specs.search.Proposals.{proposed_finish}
 use Rattle.score_box.specs.declared.totals.Totals.{Totals}
-use Rattle.score_box.specs.Totals.{points_column, difference_column}
-use Rattle.score_box.specs.Totals.{goals_column, away_goals_column, wins_column, away_wins_column}
+use Rattle.score_box.specs.inside.Totals.{points_column, difference_column, goals_column}
+use Rattle.score_box.specs.inside.Totals.{away_goals_column, wins_column, away_wins_column}
 use Rattle.example_finish.specs.declared.criterion.Criterion.TheVariants.{Record}
 use Rattle.example_finish.specs.declared.criterion.Criterion.TheVariants.{Goals, Overall}
-use Rattle.example_finish.specs.ProposedTotals.{AreTotalsAmong, AreTotalsOver, by_criterion}
+use Rattle.example_finish.specs.inside.ProposedTotals.{AreTotalsAmong, AreTotalsOver, by_criterion}
 
 -- nothing is taken off in the proposed finish but what is taken off in the season
 pub deductions_stay : (sheet : Sheet) (season : Results) (question : Question)

@@ -9,19 +9,19 @@ use Rattle.std.proofs.lemmas.Int.{ints}
 use Rattle.std.proofs.lemmas.Bool.{or_left, or_right, or_cases, cases_lt, ltb-true}
 use Rattle.std.proofs.lemmas.Bool.{lt-ltb, le-ltb, eqb-true, ne_eqb, true≢false}
 use Rattle.league_core.specs.declared.season.Score.{Score}
-use Rattle.league_core.specs.Sums.{match_points, goal_difference}
-use Rattle.league_core.specs.Options.{score_of, is_home_win, is_draw, is_away_win}
-use Rattle.league_core.specs.Proposals.{weighed_together, option_order, first_option}
+use Rattle.league_core.specs.game.Sums.{match_points, goal_difference}
+use Rattle.league_core.specs.search.Options.{score_of, is_home_win, is_draw, is_away_win}
+use Rattle.league_core.specs.search.Proposals.{weighed_together, option_order, first_option}
 use Rattle.league_core.proofs.OutcomeLemmas.{outcome_cases}
 use Rattle.league_core.proofs.OptionLemmas.{has_score-first}
 use Rattle.league_core.proofs.ProposalLemmas.{option_order_total, first_option_of}
 use Rattle.score_box.specs.declared.cell.Cell.{Cell}
-use Rattle.score_box.specs.declared.cell.goals.Goals.{Goals}
-use Rattle.score_box.specs.Cells.{keeps_outcome, IsAllowed, AllowsNone, IsBetween, IsSpanOf}
-use Rattle.score_box.specs.Cells.{IsCellOf}
+use Rattle.score_box.specs.declared.cell.goals.GoalRange.{GoalRange}
+use Rattle.score_box.specs.inside.Cells.{keeps_outcome, IsAllowed, AllowsNone, IsBetween, IsSpanOf}
+use Rattle.score_box.specs.inside.Cells.{IsCellOf}
 use Rattle.score_box.proofs.CellLemmas.{IsInRanges, ranges_of, allows_from}
-use Rattle.example_finish.specs.Firsts.{IsFirstScore, IsFirstAmong, is_any, is_win}
-use Rattle.example_finish.specs.Firsts.{is_no_home_win, is_no_away_win}
+use Rattle.example_finish.specs.inside.Firsts.{IsFirstScore, IsFirstAmong, is_any, is_win}
+use Rattle.example_finish.specs.inside.Firsts.{is_no_home_win, is_no_away_win}
 use Rattle.example_finish.proofs.OrderLemmas.{IsNoGreater, not_before}
 use Rattle.example_finish.proofs.OrderLemmas.{home_win_points, draw_points, away_win_points}
 
@@ -54,7 +54,8 @@ away_win_kept cell score loses =
     ∙ ap (λ b. cond b cell.draw cell.away_win) (no_draw score loses)
 
 -- so a home win between the ends is one of the cell's
-home_win_between : (cell : Cell) (goals : Goals) (score : Score) → IsSpanOf cell is_home_win goals
+home_win_between : (cell : Cell) (goals : GoalRange) (score : Score)
+    → IsSpanOf cell is_home_win goals
     → IsBetween goals score → is_home_win score ≡ true → IsAllowed cell is_home_win score
 home_win_between cell goals score span between wins =
     let one = ranges_of cell span.home_least.0 span.home_least.1.allowed in
@@ -80,7 +81,8 @@ home_win_between cell goals score span between wins =
     }
 
 -- so is an away win
-away_win_between : (cell : Cell) (goals : Goals) (score : Score) → IsSpanOf cell is_away_win goals
+away_win_between : (cell : Cell) (goals : GoalRange) (score : Score)
+    → IsSpanOf cell is_away_win goals
     → IsBetween goals score → is_away_win score ≡ true → IsAllowed cell is_away_win score
 away_win_between cell goals score span between loses =
     let one = ranges_of cell span.home_least.0 span.home_least.1.allowed in
@@ -161,7 +163,8 @@ fewer score other home away =
     ]
 
 -- the least draw is the first
-pub draw_is_first : (cell : Cell) (goals : Goals) (home away : Bool) → IsSpanOf cell is_draw goals
+pub draw_is_first : (cell : Cell) (goals : GoalRange) (home away : Bool)
+    → IsSpanOf cell is_draw goals
     → IsAllowed cell is_draw (score_of goals.home_least goals.away_least)
     → IsFirstScore cell is_draw home away (score_of goals.home_least goals.away_least)
 draw_is_first cell goals home away span allowed = record {
@@ -180,7 +183,7 @@ draw_is_first cell goals home away span allowed = record {
 }
 
 -- of sides with one wish the home win with the fewest goals is the first
-pub small_home_win_is_first : (cell : Cell) (goals : Goals) (wish : Bool)
+pub small_home_win_is_first : (cell : Cell) (goals : GoalRange) (wish : Bool)
     → IsSpanOf cell is_home_win goals
     → IsFirstScore cell is_home_win wish wish (score_of goals.home_least goals.away_least)
 small_home_win_is_first cell goals wish span =
@@ -210,7 +213,7 @@ small_home_win_is_first cell goals wish span =
           ));
     }
 
-pub small_away_win_is_first : (cell : Cell) (goals : Goals) (wish : Bool)
+pub small_away_win_is_first : (cell : Cell) (goals : GoalRange) (wish : Bool)
     → IsSpanOf cell is_away_win goals
     → IsFirstScore cell is_away_win wish wish (score_of goals.home_least goals.away_least)
 small_away_win_is_first cell goals wish span =
@@ -241,7 +244,7 @@ small_away_win_is_first cell goals wish span =
     }
 
 -- of sides of which the home side alone is wished points, the widest home win is the first
-pub wide_home_win_is_first : (cell : Cell) (goals : Goals) → IsSpanOf cell is_home_win goals
+pub wide_home_win_is_first : (cell : Cell) (goals : GoalRange) → IsSpanOf cell is_home_win goals
     → IsAllowed cell is_home_win (score_of goals.home_most goals.away_least)
     → IsFirstScore cell is_home_win true false (score_of goals.home_most goals.away_least)
 wide_home_win_is_first cell goals span allowed = record {
@@ -264,7 +267,7 @@ wide_home_win_is_first cell goals span allowed = record {
               inr (omega (arith, ints), inr (omega (arith, ints), inr (omega (arith, ints), tt)))
         ]
 
-pub wide_away_win_is_first : (cell : Cell) (goals : Goals) → IsSpanOf cell is_away_win goals
+pub wide_away_win_is_first : (cell : Cell) (goals : GoalRange) → IsSpanOf cell is_away_win goals
     → IsAllowed cell is_away_win (score_of goals.home_least goals.away_most)
     → IsFirstScore cell is_away_win false true (score_of goals.home_least goals.away_most)
 wide_away_win_is_first cell goals span allowed = record {
@@ -289,7 +292,7 @@ wide_away_win_is_first cell goals span allowed = record {
 
 -- of sides of which the away side alone is wished points, the narrowest home win with the fewest
 -- goals is the first
-pub narrow_home_win_is_first : (cell : Cell) (goals : Goals) (away : ℕ)
+pub narrow_home_win_is_first : (cell : Cell) (goals : GoalRange) (away : ℕ)
     → IsSpanOf cell is_home_win goals → away ≡ min goals.away_most (goals.home_least - 1)
     → IsFirstScore cell is_home_win false true (score_of goals.home_least away)
 narrow_home_win_is_first cell goals away span is_min =
@@ -337,7 +340,7 @@ narrow_home_win_is_first cell goals away span is_min =
               ]
         ]
 
-pub narrow_away_win_is_first : (cell : Cell) (goals : Goals) (home : ℕ)
+pub narrow_away_win_is_first : (cell : Cell) (goals : GoalRange) (home : ℕ)
     → IsSpanOf cell is_away_win goals → home ≡ min goals.home_most (goals.away_least - 1)
     → IsFirstScore cell is_away_win true false (score_of home goals.away_least)
 narrow_away_win_is_first cell goals home span is_min =

@@ -8,11 +8,11 @@ use Rattle.std.specs.Ordering.{ordering_then}
 use Rattle.std.proofs.lemmas.Bool.{false≢true, or_cases, or_left}
 use Rattle.std.proofs.lemmas.Int.{ints}
 use Rattle.league_core.specs.declared.season.Score.{Score}
-use Rattle.league_core.specs.Sums.{match_points, goal_difference}
-use Rattle.league_core.specs.HeadToHead.{greater_first, by_first_difference}
-use Rattle.league_core.specs.Finishes.{same_score}
-use Rattle.league_core.specs.Options.{has_score, is_home_win, is_draw, is_away_win}
-use Rattle.league_core.specs.Proposals.{weighed, weighed_together, first_option}
+use Rattle.league_core.specs.game.Sums.{match_points, goal_difference}
+use Rattle.league_core.specs.game.HeadToHead.{greater_first, by_first_difference}
+use Rattle.league_core.specs.game.Finishes.{same_score}
+use Rattle.league_core.specs.search.Options.{has_score, is_home_win, is_draw, is_away_win}
+use Rattle.league_core.specs.search.Proposals.{weighed, weighed_together, first_option}
 use Rattle.league_core.proofs.OutcomeLemmas.{outcome_cases}
 use Rattle.league_core.proofs.OptionLemmas.{same_score-true}
 use Rattle.league_core.proofs.ProposalLemmas.{first_option_is}

@@ -1,7 +1,7 @@
 -- Where a club stands in a group, step by step: by one order, and within the clubs that it leaves
 -- level by the next one.
-use Rattle.std.proofs.Common.{◌≡◌, ◌≢◌, ℕ, ◌<◌, ◌≤◌, Bool, true, false, ◌&&◌, ◌||◌}
-use Rattle.std.proofs.Common.{◌==◌, List, [], ◌∷◌, length, filter, refl, sym, ap}
+use Rattle.std.proofs.Common.{◌≡◌, ℕ, ◌<◌, ◌≤◌, Bool, true, false, ◌&&◌, ◌||◌}
+use Rattle.std.proofs.Common.{◌==◌, List, [], ◌∷◌, ◌++◌, length, filter, refl, sym, ap}
 use Rattle.std.proofs.Common.{◌∙◌}
 use Rattle.std.proofs.Common.{arith}
 use Rattle.std.specs.declared.cmp.Ordering.{Ordering}
@@ -9,20 +9,20 @@ use Rattle.std.specs.declared.cmp.Ordering.TheVariants.{Less, Equal, Greater}
 use Rattle.std.specs.Ordering.{is_eq, is_lt, int_eq, ordering_then}
 use Rattle.std.specs.Cmp.{IsTotalOrder}
 use Rattle.std.proofs.lemmas.Bool.{and_from, and_parts}
-use Rattle.std.proofs.lemmas.Bool.{eqb-true, eq-eqb, ne_eqb, false≢true}
+use Rattle.std.proofs.lemmas.Bool.{eqb-true, false≢true}
 use Rattle.std.proofs.lemmas.Cmp.{eq_by_cmp_equiv, tied_itself, int_cmp_total}
 use Rattle.league_core.specs.declared.sheet.Sheet.{Sheet}
 use Rattle.league_core.specs.declared.sheet.Order.TheVariants.{OverallFirst}
 use Rattle.league_core.specs.declared.club_set.ClubSet.{ClubSet}
-use Rattle.league_core.specs.Results.{Results}
-use Rattle.league_core.specs.Sheets.{clubs_of}
-use Rattle.league_core.specs.Sums.{has_club, points_of}
-use Rattle.league_core.specs.ClubSets.{clubs_in}
-use Rattle.league_core.specs.HeadToHead.{by_head_to_head, level_with}
-use Rattle.league_core.specs.Ahead.{lead_in, by_first_sums}
-use Rattle.league_core.specs.Ahead.{level_overall, standing_by, standing_in}
-use Rattle.league_core.specs.Ranking.{tied_group_of}
-use Rattle.league_core.specs.LotsFor.{order_without_lots}
+use Rattle.league_core.specs.game.Results.{Results}
+use Rattle.league_core.specs.game.Sheets.{clubs_of}
+use Rattle.league_core.specs.game.Sums.{has_club, points_of}
+use Rattle.league_core.specs.game.ClubSets.{clubs_in}
+use Rattle.league_core.specs.game.HeadToHead.{by_head_to_head, level_with}
+use Rattle.league_core.specs.game.Ahead.{lead_in, by_first_sums, level_overall, standing_by}
+use Rattle.league_core.specs.game.Ahead.{standing_in}
+use Rattle.league_core.specs.game.Ranking.{tied_group_of}
+use Rattle.league_core.specs.inside.LotsFor.{order_without_lots}
 use Rattle.league_core.proofs.OrderingLemmas.{then_agree}
 use Rattle.league_core.proofs.StandingLemmas.{by_head_to_head_total, by_first_sums_total}
 use Rattle.league_core.proofs.StandingLemmas.{lead_within_total}
@@ -32,67 +32,23 @@ use Rattle.league_core.proofs.ClubSetLemmas.{clubs_below-filter, clubs_below-fil
 use Rattle.league_core.proofs.ClubSetLemmas.{has_club-range}
 use Rattle.league_core.proofs.RankingLemmas.{tied_group_of-tied}
 use Rattle.final_rank.proofs.TierLemmas.{by_points, by_points_total, is_of_sheet}
-use Rattle.tie_criteria.proofs.MemberLemmas.{IsTakenOff, each_next, each_left, empty_left}
+use Rattle.league_core.proofs.SeenLemmas.{passed_next}
 use Rattle.example_finish.specs.declared.standing.Standing.{Standing}
-use Rattle.example_finish.specs.GroupStandings.{IsStandingOf, next_after}
+use Rattle.example_finish.specs.inside.GroupStandings.{IsStandingOf, next_after}
 
--- of the clubs of a group that are not left, those that pass a test are found
-pub record AreFoundIn (group left found : ClubSet) (test : ℕ → Bool) : Type 0 where
-  pub seen : (x : ℕ) → has_club (clubs_in group) x ≡ true → has_club (clubs_in left) x ≡ false
-      → has_club (clubs_in found) x ≡ test x
-  pub waiting : (x : ℕ) → has_club (clubs_in left) x ≡ true
-      → has_club (clubs_in found) x ≡ false
-  pub outside : (x : ℕ) → has_club (clubs_in group) x ≡ false
-      → has_club (clubs_in found) x ≡ false
-
-pub found_none : (group found : ClubSet) (test : ℕ → Bool) → clubs_in found ≡ []
-    → AreFoundIn group group found test
-found_none group found test empty = record {
-  seen = λ x has gone. absurd (false≢true (sym gone ∙ has));
-  waiting = λ x has. empty_left found x empty;
-  outside = λ x out. empty_left found x empty;
+-- the clubs so far around a club, and the next one
+pub standing_next : (order : ℕ → ℕ → Ordering) (seen : List ℕ) (club at : ℕ) (old new : Standing)
+    → ((x : ℕ) → has_club (clubs_in new.ahead) x
+    ≡ (has_club (clubs_in old.ahead) x || ((at == x) && is_lt (order x club))))
+    → ((x : ℕ) → has_club (clubs_in new.level) x
+    ≡ (has_club (clubs_in old.level) x || ((at == x) && is_eq (order x club))))
+    → IsStandingOf order seen club old → IsStandingOf order (seen ++ at ∷ []) club new
+standing_next order seen club at old new ahead level is = record {
+  ahead = passed_next (λ x. is_lt (order x club)) seen (clubs_in old.ahead) (clubs_in new.ahead)
+      at ahead is.ahead;
+  level = passed_next (λ x. is_eq (order x club)) seen (clubs_in old.level) (clubs_in new.level)
+      at level is.level;
 }
-
-pub found_next : (group left rest found more : ClubSet) (test : ℕ → Bool) (at : ℕ)
-    → IsTakenOff left rest at → has_club (clubs_in group) at ≡ true
-    → AreFoundIn group left found test
-    → ((x : ℕ) → has_club (clubs_in more) x
-    ≡ (has_club (clubs_in found) x || ((at == x) && test x)))
-    → AreFoundIn group rest more test
-found_next group left rest found more test at taken inside so_far is =
-    let apart : (x : ℕ) → x ≢ at
-    → has_club (clubs_in more) x ≡ has_club (clubs_in found) x =
-    λ x other. is x ∙ ap (λ b. has_club (clubs_in found) x || (b && test x))
-    (ne_eqb at x (λ same. other (sym same))) ∙ or_false (has_club (clubs_in found) x) in
-    record {
-      seen = each_next (λ x. has_club (clubs_in found) x ≡ test x)
-          (λ x. has_club (clubs_in more) x ≡ test x) group left rest at taken
-          (λ x other before. apart x other ∙ before)
-          (is at
-          ∙ ap (λ b. b || ((at == at) && test at)) (so_far.waiting at taken.among)
-          ∙ ap (λ b. b && test at) (eq-eqb at at refl))
-          so_far.seen;
-      waiting = each_left (λ x. has_club (clubs_in found) x ≡ false)
-          (λ x. has_club (clubs_in more) x ≡ false) left rest at taken
-          (λ x other before. apart x other ∙ before) so_far.waiting;
-      outside = λ x out.
-          apart x (λ same. false≢true (sym out ∙ ap (has_club (clubs_in group)) same ∙ inside))
-          ∙ so_far.outside x out;
-    }
-  where
-    or_false : (b : Bool) → (b || false) ≡ b
-    or_false true = refl
-    or_false false = refl
-
-pub found_all : (group left found : ClubSet) (test : ℕ → Bool)
-    → ((x : ℕ) → has_club (clubs_in left) x ≡ false) → AreFoundIn group left found test
-    → (x : ℕ) → has_club (clubs_in found) x ≡ (has_club (clubs_in group) x && test x)
-found_all group left found test none all x = by (has_club (clubs_in group) x) refl
-  where
-    by : (b : Bool) → has_club (clubs_in group) x ≡ b
-        → has_club (clubs_in found) x ≡ (has_club (clubs_in group) x && test x)
-    by true has = all.seen x has (none x) ∙ sym (ap (λ b. b && test x) has)
-    by false out = all.outside x out ∙ sym (ap (λ b. b && test x) out)
 
 -- orders that agree on the clubs of a group leave a club where it stands
 pub standing_agrees : (order other : ℕ → ℕ → Ordering) (group : List ℕ) (club : ℕ)

@@ -5,10 +5,10 @@ use Rattle.std.proofs.Common.{Greater, refl, arith}
 use Rattle.std.specs.Ordering.{ordering_then}
 use Rattle.std.proofs.lemmas.Bool.{lt-ltb, le-ltb, eq-eqb, ne_eqb, ltb-true, eqb-true}
 use Rattle.league_core.specs.declared.season.Score.{Score}
-use Rattle.league_core.specs.Sums.{match_points, goal_difference}
-use Rattle.league_core.specs.HeadToHead.{greater_first, by_first_difference}
-use Rattle.league_core.specs.Options.{is_home_win, is_draw, is_away_win}
-use Rattle.league_core.specs.Proposals.{weighed, weighed_together, wishes_met, option_order}
+use Rattle.league_core.specs.game.Sums.{match_points, goal_difference}
+use Rattle.league_core.specs.game.HeadToHead.{greater_first, by_first_difference}
+use Rattle.league_core.specs.search.Options.{is_home_win, is_draw, is_away_win}
+use Rattle.league_core.specs.search.Proposals.{weighed, weighed_together, wishes_met, option_order}
 use Rattle.league_core.proofs.OrderingLemmas.{greater_first-greater, greater_first-same}
 
 then_first : (first second : Ordering) → first ≡ Greater → ordering_then first second ≢ Less

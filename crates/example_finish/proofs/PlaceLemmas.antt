@@ -12,19 +12,19 @@ use Rattle.std.proofs.lemmas.Cmp.{tied_itself}
 use Rattle.league_core.specs.declared.sheet.Sheet.{Sheet}
 use Rattle.league_core.specs.declared.question.Claim.TheVariants.{Inside, Outside}
 use Rattle.league_core.specs.declared.club_set.ClubSet.{ClubSet}
-use Rattle.league_core.specs.Results.{Results}
-use Rattle.league_core.specs.Sheets.{IsWithinLimits, clubs_of}
-use Rattle.league_core.specs.Sums.{has_club}
-use Rattle.league_core.specs.ClubSets.{clubs_in}
-use Rattle.league_core.specs.Ahead.{standing_in}
-use Rattle.league_core.specs.Ranking.{ranks_before, place_of, tied_group_of, lot_of}
-use Rattle.league_core.specs.LotsFor.{lots_for_claim, order_without_lots}
+use Rattle.league_core.specs.game.Results.{Results}
+use Rattle.league_core.specs.game.Sheets.{IsWithinLimits, clubs_of}
+use Rattle.league_core.specs.game.Sums.{has_club}
+use Rattle.league_core.specs.game.ClubSets.{clubs_in}
+use Rattle.league_core.specs.game.Ahead.{standing_in}
+use Rattle.league_core.specs.game.Ranking.{ranks_before, place_of, tied_group_of, lot_of}
+use Rattle.league_core.specs.inside.LotsFor.{lots_for_claim, order_without_lots}
 use Rattle.league_core.proofs.RankingLemmas.{ranks_before-itself}
 use Rattle.league_core.proofs.ClubCountLemmas.{count_suc, length-passing}
 use Rattle.final_rank.proofs.TierLemmas.{by_points_total}
 use Rattle.final_rank.proofs.SpanLemmas.{best_place_of-around, worst_place_of-around}
 use Rattle.example_finish.specs.declared.standing.Standing.{Standing}
-use Rattle.example_finish.specs.GroupStandings.{IsStandingOf, by_points_in}
+use Rattle.example_finish.specs.inside.GroupStandings.{IsStandingOf, by_points_in}
 
 -- first in the lots a club comes right behind the clubs ahead of it
 pub place_inside : (sheet : Sheet) (season : Results) (club : ℕ) (standing : Standing)

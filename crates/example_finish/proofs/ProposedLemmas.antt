@@ -12,25 +12,25 @@ use Rattle.league_core.specs.declared.sheet.Fixture.{Fixture}
 use Rattle.league_core.specs.declared.season.Score.{Score}
 use Rattle.league_core.specs.declared.question.Question.{Question}
 use Rattle.league_core.specs.declared.zone.Literal.{Literal}
-use Rattle.league_core.specs.Results.{Results, is_score, is_score_or_none, are_results}
-use Rattle.league_core.specs.Seasons.{IsSeasonOf}
-use Rattle.league_core.specs.Sheets.{IsWithinLimits}
-use Rattle.league_core.specs.Finishes.{may_end}
-use Rattle.league_core.specs.Options.{meets, options_of, options_in}
-use Rattle.league_core.specs.Options.{has_option, has_finish}
-use Rattle.league_core.specs.Proposals.{is_wished, first_option, first_options, proposed_finish}
+use Rattle.league_core.specs.game.Results.{Results, is_score, is_score_or_none, are_results}
+use Rattle.league_core.specs.game.Seasons.{IsSeasonOf}
+use Rattle.league_core.specs.game.Sheets.{IsWithinLimits}
+use Rattle.league_core.specs.game.Finishes.{may_end}
+use Rattle.league_core.specs.search.Options.{meets, options_of, options_in, has_option, has_finish}
+use Rattle.league_core.specs.search.Proposals.{is_wished, first_option, first_options}
+use Rattle.league_core.specs.search.Proposals.{proposed_finish}
 use Rattle.league_core.proofs.PlainLemmas.{list_all-at}
 use Rattle.league_core.proofs.OptionLemmas.{length-options_from, get_or-options_from}
 use Rattle.league_core.proofs.OptionLemmas.{has_score-options_of}
 use Rattle.league_core.proofs.ProposalLemmas.{is_some-first_option, first_option_is}
 use Rattle.league_core.proofs.FinishLemmas.{may_end_is_score}
 use Rattle.league_core.proofs.LiteralLemmas as literals
-use Rattle.score_box.specs.Unplayed.{is_unplayed, unplayed_in}
+use Rattle.score_box.specs.inside.Unplayed.{is_unplayed, unplayed_in}
 use Rattle.score_box.proofs.SplitLemmas.{keeps_played}
 use Rattle.example_finish.specs.declared.wishes.Wishes.{Wishes}
 use Rattle.example_finish.specs.declared.outcome.Outcome.{Outcome}
-use Rattle.example_finish.specs.FirstOutcomes.{IsOutcomeOf, HasOutcome}
-use Rattle.example_finish.specs.Wished.{has_wish, AreWishesOf}
+use Rattle.example_finish.specs.inside.FirstOutcomes.{IsOutcomeOf, HasOutcome}
+use Rattle.example_finish.specs.inside.Wished.{has_wish, AreWishesOf}
 use Rattle.example_finish.proofs.UnplayedLemmas.{each_fixture}
 
 -- where the zone has a finish each fixture has an option

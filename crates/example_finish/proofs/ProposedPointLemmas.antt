@@ -9,21 +9,23 @@ use Rattle.std.proofs.lemmas.Int.{ints}
 use Rattle.std.proofs.lemmas.List.{take_more, take_all, get_or-set_same, get_or-set_other}
 use Rattle.std.proofs.Math.Nat.{eq-or-lt_of_le}
 use Rattle.league_core.specs.declared.sheet.Sheet.{Sheet}
-use Rattle.league_core.specs.Results.{Results}
+use Rattle.league_core.specs.game.Results.{Results}
 use Rattle.league_core.specs.declared.sheet.Fixture.{Fixture}
 use Rattle.league_core.specs.declared.season.Score.{Score}
-use Rattle.league_core.specs.Seasons.{IsSeasonOf}
-use Rattle.league_core.specs.Sums.{match_points, worth_to, if_played, points_of}
-use Rattle.league_core.specs.PointRanges.{total_of}
-use Rattle.league_core.specs.Options.{has_finish}
+use Rattle.league_core.specs.game.Seasons.{IsSeasonOf}
+use Rattle.league_core.specs.game.Sums.{match_points, worth_to, if_played, points_of}
+use Rattle.league_core.specs.search.PointRanges.{total_of}
+use Rattle.league_core.specs.search.Options.{has_finish}
 use Rattle.league_core.proofs.PointsLemmas.{IsWorth, match_worth}
 use Rattle.league_core.proofs.PointRangeLemmas.{total_of-append}
-use Rattle.score_box.specs.Ends.{end_at}
-use Rattle.score_box.specs.Unplayed.{unplayed_in}
+use Rattle.score_box.specs.inside.Ends.{end_at}
+use Rattle.score_box.specs.inside.Unplayed.{unplayed_in}
 use Rattle.example_finish.specs.declared.outcome.Outcome.{Outcome}
-use Rattle.example_finish.specs.FirstOutcomes.{IsOutcomeOf, HasOutcome}
-use Rattle.example_finish.specs.ProposalViews.{Asked, sheet_asked, season_asked, finish_asked}
-use Rattle.example_finish.specs.ProposedPoints.{ArePointsOver, ArePointsNear, points_proposed}
+use Rattle.example_finish.specs.inside.FirstOutcomes.{IsOutcomeOf, HasOutcome}
+use Rattle.example_finish.specs.inside.ProposalViews.{ProposedView, sheet_asked, season_asked}
+use Rattle.example_finish.specs.inside.ProposalViews.{finish_asked}
+use Rattle.example_finish.specs.inside.ProposedPoints.{ArePointsOver, ArePointsNear}
+use Rattle.example_finish.specs.inside.ProposedPoints.{points_proposed}
 use Rattle.example_finish.proofs.CriterionLemmas.{deductions_stay}
 use Rattle.example_finish.proofs.ProposedTotalLemmas.{sum_proposed}
 
@@ -61,7 +63,7 @@ two_sides match score club apart old middle new home away home_is away_is first 
         (ne_eqb match.home club other))
 
 -- what a match that is taken is worth
-pub taken_worth : (asked : Asked) (club k : ℕ) (sides : Fixture) (score : Score)
+pub taken_worth : (asked : ProposedView) (club k : ℕ) (sides : Fixture) (score : Score)
     → sides ≡ get_or (sheet_asked asked).fixtures k (record { home = 0; away = 0 })
     → get_or (finish_asked asked).scores k None ≡ Some score
     → worth_to match_points club sides score ≡ points_proposed asked club k
@@ -69,7 +71,7 @@ taken_worth asked club k sides score is taken i =
     if_played (worth_to match_points club) (is i) (sym taken i)
 
 -- what it is worth by its outcome
-pub worth_by_outcome : (asked : Asked) (club k : ℕ) (sides : Fixture) (outcome : Outcome)
+pub worth_by_outcome : (asked : ProposedView) (club k : ℕ) (sides : Fixture) (outcome : Outcome)
     (old middle new home away : ℤ)
     → sides ≡ get_or (sheet_asked asked).fixtures k (record { home = 0; away = 0 })
     → sides.home ≢ sides.away
@@ -93,7 +95,7 @@ worth_by_outcome asked club k sides outcome old middle new home away is apart ha
         ∙ ap (λ n. old +ℤ n) (taken_worth asked club k sides score is taken)
 
 -- it is none to three points
-proposed_worth : (asked : Asked) (club k : ℕ) → IsWorth (points_proposed asked club k)
+proposed_worth : (asked : ProposedView) (club k : ℕ) → IsWorth (points_proposed asked club k)
 proposed_worth asked club k =
     of_score (get_or (sheet_asked asked).fixtures k (record { home = 0; away = 0 }))
     (get_or (finish_asked asked).scores k None)
@@ -104,7 +106,8 @@ proposed_worth asked club k =
     of_score match (Some score) = match_worth club match score
 
 -- the points with so many of the matches that are not played
-pub record ArePointsWith (asked : Asked) (matches : List ℕ) (i : ℕ) (points : List ℤ) : Type 0
+pub record ArePointsWith (asked : ProposedView) (matches : List ℕ) (i : ℕ) (points : List ℤ) : Type
+    0
   where
     pub sums : (club : ℕ) → club < length (sheet_asked asked).clubs → end_at points club
         ≡ (points_of (sheet_asked asked) (season_asked asked) club
@@ -112,7 +115,7 @@ pub record ArePointsWith (asked : Asked) (matches : List ℕ) (i : ℕ) (points 
     pub near : ArePointsNear (200000 + 3 * i) points
 
 -- with none of them
-pub with_no_match : (asked : Asked) (matches : List ℕ) (points : List ℤ)
+pub with_no_match : (asked : ProposedView) (matches : List ℕ) (points : List ℤ)
     → ArePointsOver (sheet_asked asked) (season_asked asked) points → ArePointsNear 200000 points
     → ArePointsWith asked matches 0 points
 with_no_match asked matches points are near = record {
@@ -121,7 +124,7 @@ with_no_match asked matches points are near = record {
 }
 
 -- with one match more
-pub with_one_match : (asked : Asked) (matches : List ℕ) (i k : ℕ) (old new : List ℤ)
+pub with_one_match : (asked : ProposedView) (matches : List ℕ) (i k : ℕ) (old new : List ℤ)
     → i < length matches → k ≡ get_or matches i 0 → ArePointsWith asked matches i old
     → ((club : ℕ) → end_at new club ≡ (end_at old club +ℤ points_proposed asked club k))
     → ArePointsWith asked matches (i + 1) new
@@ -146,7 +149,7 @@ with_one_match asked matches i k old new within is so_far grows = record {
 }
 
 -- with all of them they are the points of the proposed finish
-pub with_all_matches : (asked : Asked) (i : ℕ) (points : List ℤ)
+pub with_all_matches : (asked : ProposedView) (i : ℕ) (points : List ℤ)
     → IsSeasonOf (sheet_asked asked) (season_asked asked)
     → has_finish asked.setting.sheet asked.setting.season asked.setting.zone ≡ true
     → length (unplayed_in (season_asked asked).scores) ≤ i

@@ -3,40 +3,43 @@
 use Rattle.std.proofs.Common.{◌≡◌, ℕ, zero, suc, ◌+◌, ◌*◌, ◌<◌, ◌≤◌, ℤ, pos, ◌+ℤ◌}
 use Rattle.std.proofs.Common.{◌&&◌, ◌==◌, Bool, true}
 use Rattle.std.proofs.Common.{false, cond, List, [], ◌∷◌, length, get_or, take, Option, Some}
-use Rattle.std.proofs.Common.{None, ◌≢◌, inl, inr, set, refl, sym, ap, ◌∙◌, subst, arith}
-use Rattle.std.proofs.lemmas.Bool.{true≢false, cases_eq, ne_eqb}
+use Rattle.std.proofs.Common.{None, inl, inr, refl, sym, ap, ◌∙◌, subst, arith}
+use Rattle.std.proofs.lemmas.Bool.{true≢false, cases_Bool, ne_eqb}
 use Rattle.std.specs.List.{range_with_len}
-use Rattle.tie_criteria.specs.Groups.{IsGroupOf}
+use Rattle.tie_criteria.specs.inside.Groups.{IsGroupOf}
 use Rattle.std.proofs.lemmas.Int.{ints}
-use Rattle.std.proofs.lemmas.List.{take_more, take_all, get_or-set_same, get_or-set_other}
+use Rattle.std.proofs.lemmas.List.{take_more, take_all}
 use Rattle.league_core.specs.declared.sheet.Sheet.{Sheet}
 use Rattle.league_core.specs.declared.sheet.Fixture.{Fixture}
 use Rattle.league_core.specs.declared.season.Score.{Score}
-use Rattle.league_core.specs.Results.{Results}
-use Rattle.league_core.specs.Seasons.{IsSeasonOf}
-use Rattle.league_core.specs.Sheets.{IsWithinLimits, clubs_of}
-use Rattle.league_core.specs.Sums.{Worth, has_club, worth_to, worth_among, if_played, sum_over}
-use Rattle.league_core.specs.Sums.{sum_of, sum_among}
-use Rattle.league_core.specs.PointRanges.{total_of}
-use Rattle.league_core.specs.Options.{options_in, has_finish}
-use Rattle.league_core.specs.Proposals.{is_wished, first_option, proposed_finish}
+use Rattle.league_core.specs.game.Results.{Results}
+use Rattle.league_core.specs.game.Seasons.{IsSeasonOf}
+use Rattle.league_core.specs.game.Sheets.{IsWithinLimits, clubs_of}
+use Rattle.league_core.specs.game.Sums.{Worth, has_club, worth_to, worth_among, if_played, sum_over}
+use Rattle.league_core.specs.game.Sums.{sum_of, sum_among}
+use Rattle.league_core.specs.search.PointRanges.{total_of}
+use Rattle.league_core.specs.search.Options.{options_in, has_finish}
+use Rattle.league_core.specs.search.Proposals.{is_wished, first_option, proposed_finish}
 use Rattle.league_core.proofs.PointRangeLemmas.{total_of-append}
 use Rattle.league_core.proofs.OptionLemmas.{length-options_from}
+use Rattle.league_core.proofs.SeenLemmas.{IsFilled}
 use Rattle.final_rank.proofs.PointsLemmas.{sum_over-among_all}
 use Rattle.final_rank.proofs.TierLemmas.{is_of_sheet, below_clubs}
 use Rattle.score_box.specs.declared.totals.Totals.{Totals}
-use Rattle.score_box.specs.Totals.{Column, worth_in, total_in, AreTotals, AreTotalsNear}
-use Rattle.score_box.specs.Totals.{totals_at, no_totals, AreTogether, TotalsGrowBy}
-use Rattle.score_box.specs.Unplayed.{is_unplayed, unplayed_in}
+use Rattle.score_box.specs.inside.Totals.{Column, worth_in, total_in, AreTotals, AreTotalsNear}
+use Rattle.score_box.specs.inside.Totals.{totals_at, no_totals, AreTogether, TotalsGrowBy}
+use Rattle.score_box.specs.inside.Unplayed.{is_unplayed, unplayed_in}
 use Rattle.score_box.proofs.SplitLemmas.{sum_split, keeps_played, worth_at_fixture}
 use Rattle.score_box.proofs.TotalLemmas.{same_totals, near_none, near_together, near_wider}
 use Rattle.score_box.proofs.TotalLemmas.{each_column}
-use Rattle.example_finish.specs.ProposalViews.{Asked, sheet_asked, season_asked, finish_asked}
-use Rattle.example_finish.specs.ProposedTotals.{AreTotalsFor, AreTotalsOver, worth_proposed}
+use Rattle.example_finish.specs.inside.ProposalViews.{ProposedView, sheet_asked, season_asked}
+use Rattle.example_finish.specs.inside.ProposalViews.{finish_asked}
+use Rattle.example_finish.specs.inside.ProposedTotals.{AreTotalsFor, AreTotalsOver, worth_proposed}
+use Rattle.example_finish.specs.inside.ProposedTotals.{AreTotalsAllNear}
 use Rattle.example_finish.proofs.ProposedLemmas.{first_options-at, length-first_options}
 
 -- the proposed finish has a score for each match, and keeps those of the matches that are played
-pub length-proposed : (asked : Asked) → IsSeasonOf (sheet_asked asked) (season_asked asked)
+pub length-proposed : (asked : ProposedView) → IsSeasonOf (sheet_asked asked) (season_asked asked)
     → length (finish_asked asked).scores ≡ length (sheet_asked asked).fixtures
 unfolding proposed_finish
 length-proposed asked of_sheet =
@@ -50,7 +53,7 @@ length-proposed asked of_sheet =
     setting.sheet.fixtures (options_in setting.sheet setting.season setting.zone) same
     ∙ sym same
 
-proposed_keeps : (asked : Asked) → IsSeasonOf (sheet_asked asked) (season_asked asked)
+proposed_keeps : (asked : ProposedView) → IsSeasonOf (sheet_asked asked) (season_asked asked)
     → has_finish asked.setting.sheet asked.setting.season asked.setting.zone ≡ true → (k : ℕ)
     → is_unplayed (get_or (season_asked asked).scores k None) ≡ false
     → get_or (finish_asked asked).scores k None ≡ get_or (season_asked asked).scores k None
@@ -79,7 +82,7 @@ proposed_keeps asked of_sheet some k played =
         let rest = played_within scores k is in omega arith
 
 -- what matches add up to in the proposed finish
-pub sum_proposed : (asked : Asked) → IsSeasonOf (sheet_asked asked) (season_asked asked)
+pub sum_proposed : (asked : ProposedView) → IsSeasonOf (sheet_asked asked) (season_asked asked)
     → has_finish asked.setting.sheet asked.setting.season asked.setting.zone ≡ true
     → (value : Fixture → Score → ℤ)
     → sum_over value (sheet_asked asked).fixtures (finish_asked asked).scores
@@ -92,7 +95,7 @@ sum_proposed asked of_sheet some value =
     (proposed_keeps asked of_sheet some)
 
 -- the rows of some clubs with so many of the group's matches that are not played
-pub record AreTotalsWith (asked : Asked) (group rows : List ℕ) (matches : List ℕ) (i : ℕ)
+pub record AreTotalsWith (asked : ProposedView) (group rows : List ℕ) (matches : List ℕ) (i : ℕ)
     (table : List Totals) : Type 0 where
   pub sums : (club : ℕ) → has_club rows club ≡ true → AreTotals (λ worth.
       sum_among group worth (sheet_asked asked) (season_asked asked) club
@@ -101,7 +104,7 @@ pub record AreTotalsWith (asked : Asked) (group rows : List ℕ) (matches : List
   pub near : (club : ℕ) → AreTotalsNear (5000000 + 255 * i) (totals_at table club)
 
 -- with one match more
-pub with_one_more : (asked : Asked) (group rows : List ℕ) (matches : List ℕ) (i k : ℕ)
+pub with_one_more : (asked : ProposedView) (group rows : List ℕ) (matches : List ℕ) (i k : ℕ)
     (old new : List Totals) → i < length matches → k ≡ get_or matches i 0
     → AreTotalsWith asked group rows matches i old
     → ((club : ℕ) → has_club rows club ≡ true
@@ -126,7 +129,7 @@ with_one_more asked group rows matches i k old new within is so_far grows near =
 }
 
 -- with all of them they are what the proposed finish adds up to
-pub with_all : (asked : Asked) (group rows : List ℕ) (i : ℕ) (table : List Totals)
+pub with_all : (asked : ProposedView) (group rows : List ℕ) (i : ℕ) (table : List Totals)
     → IsSeasonOf (sheet_asked asked) (season_asked asked)
     → has_finish asked.setting.sheet asked.setting.season asked.setting.zone ≡ true
     → length (unplayed_in (season_asked asked).scores) ≤ i
@@ -140,7 +143,7 @@ with_all asked group rows i table of_sheet some past all club has column =
     ∙ sym (sum_proposed asked of_sheet some (worth_among group (worth_in column) club))
 
 -- a match without both its sides in the group adds nothing
-pub none_added : (asked : Asked) (group : List ℕ) (club k : ℕ) (sides : Fixture)
+pub none_added : (asked : ProposedView) (group : List ℕ) (club k : ℕ) (sides : Fixture)
     (totals : Totals)
     → sides ≡ get_or (sheet_asked asked).fixtures k (record { home = 0; away = 0 })
     → (has_club group sides.home && has_club group sides.away) ≡ false
@@ -158,7 +161,7 @@ none_added asked group club k sides totals is out =
     nothing worth (Some score) = ap (λ b. cond b (worth_to worth club sides score) (pos 0)) out
 
 -- a match of which neither side is one of some clubs adds nothing to theirs
-pub none_passed : (asked : Asked) (group rows : List ℕ) (club k : ℕ) (sides : Fixture)
+pub none_passed : (asked : ProposedView) (group rows : List ℕ) (club k : ℕ) (sides : Fixture)
     (totals : Totals)
     → sides ≡ get_or (sheet_asked asked).fixtures k (record { home = 0; away = 0 })
     → has_club rows club ≡ true → has_club rows sides.home ≡ false
@@ -191,7 +194,8 @@ none_passed asked group rows club k sides totals is has home away =
         ∙ none_either_way both
 
 -- another adds what it is worth
-pub one_added : (asked : Asked) (group : List ℕ) (club k : ℕ) (sides : Fixture) (score : Score)
+pub one_added : (asked : ProposedView) (group : List ℕ) (club k : ℕ) (sides : Fixture)
+    (score : Score)
     (old new : Totals)
     → sides ≡ get_or (sheet_asked asked).fixtures k (record { home = 0; away = 0 })
     → get_or (finish_asked asked).scores k None ≡ Some score
@@ -247,34 +251,23 @@ pub all_wider : (bound more : ℕ) (table : List Totals) → bound ≤ more
 all_wider bound more table fewer near club =
     near_wider bound more (totals_at table club) fewer (near club)
 
--- rows of which the one is set, where it and all others are near zero, are near zero
-pub all_near_set : (bound : ℕ) (table : List Totals) (club : ℕ) (row : Totals)
-    → club < length table → ((x : ℕ) → AreTotalsNear bound (totals_at table x))
-    → AreTotalsNear bound row → (x : ℕ) → AreTotalsNear bound (totals_at (set table club row) x)
-all_near_set bound table club row within near here x =
-    elim (cases_eq club x) as (λ _. AreTotalsNear bound (totals_at (set table club row) x)) [
-      | inl same ↦
-          subst (λ (k : ℕ). AreTotalsNear bound (totals_at (set table club row) k)) same
-          (subst (AreTotalsNear bound)
-          (sym (get_or-set_same table club row no_totals within)) here)
-      | inr other ↦
-          subst (AreTotalsNear bound)
-          (sym (get_or-set_other table club x row no_totals (λ e. other (sym e)))) (near x)
-    ]
-
--- a row that is set, and the others
-pub row_set : (table : List Totals) (club : ℕ) (row : Totals) → club < length table
-    → totals_at (set table club row) club ≡ row
-row_set table club row within = get_or-set_same table club row no_totals within
-
-pub row_kept : (table : List Totals) (club x : ℕ) (row : Totals) → x ≢ club
-    → totals_at (set table club row) x ≡ totals_at table x
-row_kept table club x row other = get_or-set_other table club x row no_totals other
-
 -- the row of no match is near zero
 pub none_near : (bound : ℕ) (row : Totals) → row ≡ no_totals → AreTotalsNear bound row
 none_near bound row is =
     subst (AreTotalsNear bound) (sym is) (near_wider 0 bound no_totals (omega arith) near_none)
+
+-- a row that is what a club's matches add up to, and near zero
+abbrev pub IsRowOf : (ℕ → Worth → ℤ) → ℕ → Totals → Type 0
+IsRowOf sums club row = AreTotals (sums club) row × AreTotalsNear 5000000 row
+
+-- with such rows of some clubs, and none of others, all rows are near zero
+pub filled_near : (sums : ℕ → Worth → ℤ) (seen : List ℕ) (table : List Totals)
+    → IsFilled no_totals (IsRowOf sums) 24 seen table → AreTotalsAllNear 5000000 table
+filled_near sums seen table filled club =
+    elim (cases_Bool (has_club seen club)) as (λ _. AreTotalsNear 5000000 (totals_at table club)) [
+      | inl has ↦ (filled.rows club has).1
+      | inr out ↦ none_near 5000000 (totals_at table club) (filled.others club out)
+    ]
 
 -- all clubs of a sheet, as they were read
 pub all_clubs : (sheet read : Sheet) (group : List ℕ) (clubs : ℕ) → read ≡ sheet

@@ -7,7 +7,7 @@ use Rattle.std.proofs.Math.Nat.{eq-or-lt_of_le}
 use Rattle.std.proofs.lemmas.Bool.{cases_Bool}
 use Rattle.std.proofs.lemmas.List.{get_or_append_left, get_or_push, length_push, append-nil}
 use Rattle.league_core.specs.declared.season.Score.{Score}
-use Rattle.score_box.specs.Unplayed.{is_unplayed, unplayed_below, unplayed_in}
+use Rattle.score_box.specs.inside.Unplayed.{is_unplayed, unplayed_below, unplayed_in}
 use Rattle.score_box.proofs.PathLemmas.{unplayed_below-suc}
 
 -- what holds of each number of a list

@@ -1,8 +1,8 @@
 //! What clubs are compared by, and the comparison.
 
 ghost use Rattle.std.specs.Prelude.{◌≡◌};
-ghost use Rattle.score_box.specs.Totals.{totals_at};
-ghost use Rattle.example_finish.specs.ProposedTotals.{by_criterion};
+ghost use Rattle.score_box.specs.inside.Totals.{totals_at};
+ghost use Rattle.example_finish.specs.inside.ProposedTotals.{by_criterion};
 
 use league_core::{Season, Sheet};
 use score_box::Totals;

@@ -2,15 +2,15 @@
 
 ghost use Rattle.std.specs.Prelude.{◌≡◌, ◌<◌, ◌&&◌, int_le, IfNone, IfOk, IfSome, IsTrue, List};
 ghost use Rattle.std.specs.Prelude.{ℕ, length, nat_le};
-ghost use Rattle.league_core.specs.Seasons.{IsLeague};
-ghost use Rattle.league_core.specs.Questions.{holds_at, is_in_window};
-ghost use Rattle.league_core.specs.LotsFor.{lots_for_claim};
-ghost use Rattle.league_core.specs.Ranking.{are_lots, is_inside};
-ghost use Rattle.league_core.specs.Sums.{points_of};
-ghost use Rattle.league_core.specs.Proposals.{proposed_finish};
-ghost use Rattle.score_box.specs.Settings.{HasFinish};
-ghost use Rattle.example_finish.specs.ProposalViews.{sheet_asked, finish_asked};
-ghost use Rattle.example_finish.specs.ProposedPoints.{ArePointsOver, ArePointsNear};
+ghost use Rattle.league_core.specs.game.Seasons.{IsLeague};
+ghost use Rattle.league_core.specs.game.Questions.{holds_at, is_in_window};
+ghost use Rattle.league_core.specs.inside.LotsFor.{lots_for_claim};
+ghost use Rattle.league_core.specs.game.Ranking.{are_lots, is_inside};
+ghost use Rattle.league_core.specs.game.Sums.{points_of};
+ghost use Rattle.league_core.specs.search.Proposals.{proposed_finish};
+ghost use Rattle.score_box.specs.inside.Settings.{HasFinish};
+ghost use Rattle.example_finish.specs.inside.ProposalViews.{sheet_asked, finish_asked};
+ghost use Rattle.example_finish.specs.inside.ProposedPoints.{ArePointsOver, ArePointsNear};
 
 use crate::lead::{stand_by_points, stand_in};
 use crate::proposed::Proposed;

@@ -2,16 +2,17 @@
 
 ghost use Rattle.std.specs.Prelude.{◌≡◌, ◌≤◌, ◌||◌, ◌==◌, ℕ, IsTrue, length};
 ghost use Rattle.league_core.specs.declared.sheet.Order.TheVariants.{OverallFirst};
-ghost use Rattle.league_core.specs.Sheets.{clubs_of};
-ghost use Rattle.league_core.specs.Sums.{has_club};
-ghost use Rattle.league_core.specs.ClubSets.{clubs_in};
-ghost use Rattle.league_core.specs.HeadToHead.{by_head_to_head};
-ghost use Rattle.league_core.specs.Ahead.{by_overall, by_first_sums, lead_in, standing_by};
-ghost use Rattle.league_core.specs.Ahead.{standing_in};
-ghost use Rattle.tie_criteria.specs.Groups.{IsGroupOf};
-ghost use Rattle.example_finish.specs.ProposalViews.{sheet_asked, finish_asked};
-ghost use Rattle.example_finish.specs.ProposedPoints.{ArePointsOver};
-ghost use Rattle.example_finish.specs.GroupStandings.{IsStandingOf, next_after, by_points_in};
+ghost use Rattle.league_core.specs.game.Sheets.{clubs_of};
+ghost use Rattle.league_core.specs.game.Sums.{has_club};
+ghost use Rattle.league_core.specs.game.ClubSets.{clubs_in};
+ghost use Rattle.league_core.specs.game.HeadToHead.{by_head_to_head};
+ghost use Rattle.league_core.specs.game.Ahead.{by_overall, by_first_sums, lead_in, standing_by};
+ghost use Rattle.league_core.specs.game.Ahead.{standing_in};
+ghost use Rattle.tie_criteria.specs.inside.Groups.{IsGroupOf};
+ghost use Rattle.example_finish.specs.inside.ProposalViews.{sheet_asked, finish_asked};
+ghost use Rattle.example_finish.specs.inside.ProposedPoints.{ArePointsOver};
+ghost use Rattle.example_finish.specs.inside.GroupStandings.{IsStandingOf, next_after};
+ghost use Rattle.example_finish.specs.inside.GroupStandings.{by_points_in};
 
 use crate::criterion::{Comparison, Criterion};
 use crate::proposed::Proposed;

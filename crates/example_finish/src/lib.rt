@@ -1,8 +1,8 @@
 //! The finish that is proposed for a zone, and whether a finish is an example of a question.
 //!
 //! No list of scores is ever made: the option that a fixture takes is read off its cell. The
-//! meaning is league_core's `specs/Proposals.antt` and `specs/Questions.antt`; read these first,
-//! then `specs/Firsts.antt` here.
+//! meaning is league_core's `specs/search/Proposals.antt` and `specs/game/Questions.antt`; read
+//! these first, then `specs/inside/Firsts.antt` here.
 #![tactic(auto)]
 
 mod criterion;

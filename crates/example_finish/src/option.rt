@@ -3,11 +3,11 @@
 ghost use Rattle.std.specs.Prelude.{◌≡◌, ◌+◌, Bool, true, false, List};
 ghost use Rattle.score_box.specs.declared.cell.Cell.{Cell};
 ghost use Rattle.league_core.specs.declared.season.Score.{Score};
-ghost use Rattle.league_core.specs.Options.{is_home_win, is_away_win};
-ghost use Rattle.league_core.specs.Proposals.{first_option};
-ghost use Rattle.score_box.specs.Cells.{IsCellOf};
-ghost use Rattle.example_finish.specs.Firsts.{IsFirstAmong, is_any, is_win, is_no_home_win};
-ghost use Rattle.example_finish.specs.Firsts.{is_no_away_win, IsFirstScore};
+ghost use Rattle.league_core.specs.search.Options.{is_home_win, is_away_win};
+ghost use Rattle.league_core.specs.search.Proposals.{first_option};
+ghost use Rattle.score_box.specs.inside.Cells.{IsCellOf};
+ghost use Rattle.example_finish.specs.inside.Firsts.{IsFirstAmong, is_any, is_win, is_no_home_win};
+ghost use Rattle.example_finish.specs.inside.Firsts.{is_no_away_win, IsFirstScore};
 
 use crate::wins::{
     least_draw, narrow_away_win, narrow_home_win, small_away_win, small_home_win, wide_away_win,

@@ -3,11 +3,11 @@
 
 ghost use Rattle.std.specs.Prelude.{◌≡◌, ◌≤ℤ◌, Bool, true, false, pos, List, Some};
 ghost use Rattle.league_core.specs.declared.season.Score.{Score};
-ghost use Rattle.league_core.specs.Sums.{match_points};
-ghost use Rattle.league_core.specs.Proposals.{first_option};
-ghost use Rattle.score_box.specs.Cells.{IsCellOf};
-ghost use Rattle.score_box.specs.Points.{AreOutcomesAmong};
-ghost use Rattle.example_finish.specs.FirstOutcomes.{IsOutcomeOf};
+ghost use Rattle.league_core.specs.game.Sums.{match_points};
+ghost use Rattle.league_core.specs.search.Proposals.{first_option};
+ghost use Rattle.score_box.specs.inside.Cells.{IsCellOf};
+ghost use Rattle.score_box.specs.inside.Points.{AreOutcomesAmong};
+ghost use Rattle.example_finish.specs.inside.FirstOutcomes.{IsOutcomeOf};
 
 use crate::option::first_option;
 use league_core::Score;

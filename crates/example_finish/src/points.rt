@@ -2,10 +2,11 @@
 
 ghost use Rattle.std.specs.Prelude.{◌≡◌, ℕ, ◌<◌, pos, ◌+ℤ◌, ◌≤ℤ◌, length};
 ghost use Rattle.std.specs.Prelude.{if◌then◌else◌, ◌==◌};
-ghost use Rattle.score_box.specs.Ends.{end_at};
-ghost use Rattle.example_finish.specs.ProposalViews.{sheet_asked, season_asked, finish_asked};
-ghost use Rattle.example_finish.specs.ProposedPoints.{ArePointsOver, ArePointsNear};
-ghost use Rattle.example_finish.specs.ProposedPoints.{points_proposed};
+ghost use Rattle.score_box.specs.inside.Ends.{end_at};
+ghost use Rattle.example_finish.specs.inside.ProposalViews.{sheet_asked, season_asked};
+ghost use Rattle.example_finish.specs.inside.ProposalViews.{finish_asked};
+ghost use Rattle.example_finish.specs.inside.ProposedPoints.{ArePointsOver, ArePointsNear};
+ghost use Rattle.example_finish.specs.inside.ProposedPoints.{points_proposed};
 
 use crate::proposed::Proposed;
 use score_box::ZoneBox;

@@ -1,12 +1,13 @@
 //! The proposed finish of a zone, looked at and not written out.
 
 ghost use Rattle.std.specs.Prelude.{◌≡◌, ◌<◌, Some, None, length, slice_index_or};
-ghost use Rattle.league_core.specs.Seasons.{IsSeasonOf};
-ghost use Rattle.league_core.specs.Sheets.{IsWithinLimits};
-ghost use Rattle.score_box.specs.Settings.{HasFinish};
-ghost use Rattle.score_box.specs.Ends.{IsMatch};
-ghost use Rattle.example_finish.specs.FirstOutcomes.{HasOutcome};
-ghost use Rattle.example_finish.specs.ProposalViews.{sheet_asked, season_asked, finish_asked};
+ghost use Rattle.league_core.specs.game.Seasons.{IsSeasonOf};
+ghost use Rattle.league_core.specs.game.Sheets.{IsWithinLimits};
+ghost use Rattle.score_box.specs.inside.Settings.{HasFinish};
+ghost use Rattle.score_box.specs.inside.Ends.{IsMatch};
+ghost use Rattle.example_finish.specs.inside.FirstOutcomes.{HasOutcome};
+ghost use Rattle.example_finish.specs.inside.ProposalViews.{sheet_asked, season_asked};
+ghost use Rattle.example_finish.specs.inside.ProposalViews.{finish_asked};
 
 use crate::outcome::{Outcome, first_outcome};
 use crate::proposal::option_of;
@@ -25,9 +26,9 @@ pub struct Proposed<'a> {
 }
 
 impl<'a> Model for Proposed<'a> {
-    ghost use Rattle.example_finish.specs.ProposalViews.{Asked, IsProposalFor};
+    ghost use Rattle.example_finish.specs.inside.ProposalViews.{ProposedView, IsProposalFor};
 
-    ghost Value = { Asked };
+    ghost Value = { ProposedView };
 
     ghost view = { λ p. record { setting = p.zone_box.now; question = p.question.now } };
 

@@ -4,17 +4,16 @@ ghost use Rattle.std.specs.Prelude.{◌≡◌, ◌<◌, ◌≤◌, ◌||◌, ◌
 ghost use Rattle.std.specs.List.{range_with_len};
 ghost use Rattle.std.specs.Ordering.{is_lt, is_eq};
 ghost use Rattle.league_core.specs.declared.sheet.Sheet.{Sheet};
-ghost use Rattle.league_core.specs.Results.{Results};
-ghost use Rattle.league_core.specs.Sheets.{IsWithinLimits, clubs_of};
-ghost use Rattle.league_core.specs.Sums.{has_club};
-ghost use Rattle.league_core.specs.Ranking.{place_of};
-ghost use Rattle.league_core.specs.LotsFor.{lots_for_claim, order_without_lots};
-ghost use Rattle.league_core.specs.ClubSets.{clubs_in};
-ghost use Rattle.example_finish.specs.ProposedTotals.{by_criterion};
-ghost use Rattle.example_finish.specs.GroupStandings.{IsStandingOf, by_number_in};
+ghost use Rattle.league_core.specs.game.Results.{Results};
+ghost use Rattle.league_core.specs.game.Sheets.{IsWithinLimits, clubs_of};
+ghost use Rattle.league_core.specs.game.Sums.{has_club};
+ghost use Rattle.league_core.specs.game.Ranking.{place_of};
+ghost use Rattle.league_core.specs.inside.LotsFor.{lots_for_claim, order_without_lots};
+ghost use Rattle.league_core.specs.game.ClubSets.{clubs_in};
+ghost use Rattle.example_finish.specs.inside.ProposedTotals.{by_criterion};
+ghost use Rattle.example_finish.specs.inside.GroupStandings.{IsStandingOf, by_number_in};
 
 use crate::criterion::Comparison;
-use league_core::limits::SET_WIDTH;
 use league_core::{Claim, ClubSet};
 
 /// The clubs of a group that come before one of its clubs, and those level with it, itself among
@@ -36,14 +35,8 @@ impl Standing {
             ahead: ClubSet::empty(),
             level: ClubSet::empty(),
         };
-        let mut left = group;
-        for _step in 0..SET_WIDTH {
-            if left.is_empty() {
-                return standing;
-            }
-            let other = left.first_club();
+        for other in group.clubs() {
             standing = standing.with(comparison, club, other);
-            left = left.without(ClubSet::single(other));
         }
         standing
     }

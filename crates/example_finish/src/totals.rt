@@ -1,17 +1,17 @@
 //! What the matches of the proposed finish add up to for clubs.
 
 ghost use Rattle.std.specs.Prelude.{◌≡◌, ◌≢◌, ℕ, ◌<◌, ◌+◌, ◌&&◌, ◌||◌, IsTrue, length};
-ghost use Rattle.league_core.specs.Sums.{has_club, worth_to};
-ghost use Rattle.league_core.specs.ClubSets.{clubs_in};
-ghost use Rattle.tie_criteria.specs.Groups.{IsGroupOf};
-ghost use Rattle.score_box.specs.Totals.{totals_at, no_totals, AreTotalsNear};
-ghost use Rattle.score_box.specs.Totals.{TotalsGrowBy};
-ghost use Rattle.example_finish.specs.ProposalViews.{sheet_asked, season_asked, finish_asked};
-ghost use Rattle.example_finish.specs.ProposedTotals.{AreTotalsAmong, AreTotalsFor, AreTotalsOver};
-ghost use Rattle.example_finish.specs.ProposedTotals.{AreTotalsAllNear, worth_proposed};
+ghost use Rattle.league_core.specs.game.Sums.{has_club, worth_to};
+ghost use Rattle.league_core.specs.game.ClubSets.{clubs_in};
+ghost use Rattle.tie_criteria.specs.inside.Groups.{IsGroupOf};
+ghost use Rattle.score_box.specs.inside.Totals.{totals_at, no_totals, AreTotalsNear, TotalsGrowBy};
+ghost use Rattle.example_finish.specs.inside.ProposalViews.{sheet_asked, season_asked};
+ghost use Rattle.example_finish.specs.inside.ProposalViews.{finish_asked};
+ghost use Rattle.example_finish.specs.inside.ProposedTotals.{AreTotalsAmong, AreTotalsFor};
+ghost use Rattle.example_finish.specs.inside.ProposedTotals.{AreTotalsOver, AreTotalsAllNear};
+ghost use Rattle.example_finish.specs.inside.ProposedTotals.{worth_proposed};
 
 use crate::proposed::Proposed;
-use league_core::limits::SET_WIDTH;
 use league_core::{ClubSet, Fixture, Score};
 use score_box::{Totals, ZoneBox};
 
@@ -134,14 +134,8 @@ fn played_among(zone_box: &ZoneBox, group: ClubSet) -> [Totals; 24]
 {
     let _sheet = zone_box.sheet();
     let mut table = no_rows();
-    let mut left = group;
-    for _step in 0..SET_WIDTH {
-        if left.is_empty() {
-            return table;
-        }
-        let club = left.first_club();
+    for club in group.clubs() {
         table[club as usize] = zone_box.totals_among(group, club);
-        left = left.without(ClubSet::single(club));
     }
     table
 }
@@ -156,14 +150,8 @@ fn played_over(zone_box: &ZoneBox, group: ClubSet) -> [Totals; 24]
 {
     let _sheet = zone_box.sheet();
     let mut table = no_rows();
-    let mut left = group;
-    for _step in 0..SET_WIDTH {
-        if left.is_empty() {
-            return table;
-        }
-        let club = left.first_club();
+    for club in group.clubs() {
         table[club as usize] = zone_box.totals(club);
-        left = left.without(ClubSet::single(club));
     }
     table
 }

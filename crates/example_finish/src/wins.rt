@@ -2,8 +2,8 @@
 //! goals, with a wide margin or with a narrow one.
 
 ghost use Rattle.std.specs.Prelude.{Bool, true, false};
-ghost use Rattle.league_core.specs.Options.{is_home_win, is_draw, is_away_win};
-ghost use Rattle.example_finish.specs.Firsts.{IsFirstAmong};
+ghost use Rattle.league_core.specs.search.Options.{is_home_win, is_draw, is_away_win};
+ghost use Rattle.example_finish.specs.inside.Firsts.{IsFirstAmong};
 
 use league_core::Score;
 use score_box::Cell;

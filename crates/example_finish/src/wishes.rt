@@ -1,7 +1,7 @@
 //! Which clubs the proposed finish wishes points.
 
 ghost use Rattle.std.specs.Prelude.{◌<◌, ◌≡◌, false, length, slice_index_or};
-ghost use Rattle.example_finish.specs.Wished.{AreWished, AreWishesOf, has_wish};
+ghost use Rattle.example_finish.specs.inside.Wished.{AreWished, AreWishesOf, has_wish};
 
 use league_core::{Claim, ClubSet, Question};
 use score_box::ZoneBox;

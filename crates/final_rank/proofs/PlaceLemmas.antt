@@ -2,9 +2,9 @@
 use Rattle.std.proofs.Common.{◌≡◌, ℕ, ◌<◌, ◌≤◌, true, List, length, sym, subst}
 use Rattle.league_core.specs.declared.sheet.Sheet.{Sheet}
 use Rattle.league_core.specs.declared.question.Claim.TheVariants.{Inside, Outside}
-use Rattle.league_core.specs.Results.{Results}
-use Rattle.league_core.specs.Ranking.{are_lots, place_of}
-use Rattle.league_core.specs.LotsFor.{lots_for_claim, best_place_of, worst_place_of}
+use Rattle.league_core.specs.game.Results.{Results}
+use Rattle.league_core.specs.game.Ranking.{are_lots, place_of}
+use Rattle.league_core.specs.inside.LotsFor.{lots_for_claim, best_place_of, worst_place_of}
 use Rattle.league_core.proofs.LotsLemmas.{place_of-first, place_of-last, lots_for_claim-are_lots}
 use Rattle.league_core.proofs.LotsLemmas.{lots_for_claim-favoured}
 use Rattle.final_rank.specs.Places.{IsBestPlace, IsWorstPlace}

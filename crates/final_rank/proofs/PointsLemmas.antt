@@ -12,15 +12,15 @@ use Rattle.league_core.specs.declared.sheet.Sheet.{Sheet}
 use Rattle.league_core.specs.declared.sheet.Fixture.{Fixture}
 use Rattle.league_core.specs.declared.season.Score.{Score}
 use Rattle.league_core.specs.declared.question.Claim.TheVariants.{Inside}
-use Rattle.league_core.specs.Results.{Results, are_results}
-use Rattle.league_core.specs.Sheets.{IsWithinLimits, is_fixture}
-use Rattle.league_core.specs.Sums.{Worth, has_club, if_played, worth_to, worth_among, sum_over}
-use Rattle.league_core.specs.Sums.{sum_of, match_points, points_of}
-use Rattle.league_core.specs.Questions.{full_question}
+use Rattle.league_core.specs.game.Results.{Results, are_results}
+use Rattle.league_core.specs.game.Sheets.{IsWithinLimits, is_fixture}
+use Rattle.league_core.specs.game.Sums.{Worth, has_club, if_played, worth_to, worth_among, sum_over}
+use Rattle.league_core.specs.game.Sums.{sum_of, match_points, points_of}
+use Rattle.league_core.specs.game.Questions.{full_question}
 use Rattle.league_core.proofs.PointsLemmas.{points_in_full_window, results-deductions}
 use Rattle.tie_criteria.specs.declared.mini_table.Row.{Row}
-use Rattle.tie_criteria.specs.MiniTables.{row_of}
-use Rattle.final_rank.specs.Tables.{ArePoints}
+use Rattle.tie_criteria.specs.inside.MiniTables.{row_of}
+use Rattle.final_rank.specs.inside.Tables.{ArePoints}
 use Rattle.final_rank.proofs.TierLemmas.{is_of_sheet}
 
 -- in a group that has both its clubs a match counts

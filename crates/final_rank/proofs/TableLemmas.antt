@@ -8,7 +8,7 @@ use Rattle.std.proofs.lemmas.List.{map-id}
 use Rattle.std.proofs.lemmas.List.FromFn.{filter_of_map_range_with_len_more}
 use Rattle.std.proofs.lemmas.List.Sums.{prefix_len-le-length}
 use mir.Val.{bool_byte}
-use Rattle.league_core.specs.LotsFor.{others_of}
+use Rattle.league_core.specs.search.Zones.{others_of}
 
 -- of one club more, all but the one are the others so far, and this club where it is another
 pub others_of-suc : (clubs club : ℕ)

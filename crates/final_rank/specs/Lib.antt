@@ -1,5 +1,3 @@
--- Read in this order: it is the order in which the notions rest on each other.
-pub mod Around
-pub mod Tables
-pub mod Spans
+-- One module: the places that a club can have.
 pub mod Places
+pub mod inside

@@ -1,8 +1,8 @@
 -- The least and the greatest place of a club over all drawings of lots.
 use Rattle.std.specs.Prelude.{◌≡◌, ◌≤◌, ℕ, IsTrue, List, length}
 use Rattle.league_core.specs.declared.sheet.Sheet.{Sheet}
-use Rattle.league_core.specs.Results.{Results}
-use Rattle.league_core.specs.Ranking.{are_lots, place_of}
+use Rattle.league_core.specs.game.Results.{Results}
+use Rattle.league_core.specs.game.Ranking.{are_lots, place_of}
 
 -- with some lots the club has the place, and with no lots a lesser one
 pub record IsBestPlace (sheet : Sheet) (season : Results) (club place : ℕ) : Type 0 where

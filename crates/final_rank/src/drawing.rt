@@ -1,7 +1,8 @@
 //! The two drawings of lots that matter for one club: it comes first in the one, last in the other.
 
 ghost use Rattle.std.specs.Prelude.{◌≡◌, ◌<◌, ◌++◌, IfOk, OnOk};
-ghost use Rattle.league_core.specs.LotsFor.{others_of, first_lots, last_lots, lots_for_claim};
+ghost use Rattle.league_core.specs.search.Zones.{others_of};
+ghost use Rattle.league_core.specs.inside.LotsFor.{first_lots, last_lots, lots_for_claim};
 
 use league_core::{Claim, Lots, OutOfMemory};
 use std::alloc::{AllocError, Global};

@@ -14,4 +14,4 @@ pub use blocks::points;
 pub use drawing::lots_for;
 pub use final_table::table;
 pub use places::{best_place, place, worst_place};
-pub use span::{Span, spans};
+pub use span::{PlaceRange, spans};

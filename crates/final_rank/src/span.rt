@@ -1,8 +1,8 @@
 //! The places that a season leaves each club, whatever the lots.
 
 ghost use Rattle.std.specs.Prelude.{◌≡◌, IfOk};
-ghost use Rattle.league_core.specs.Seasons.{IsLeague};
-ghost use Rattle.final_rank.specs.Spans.{spans_of};
+ghost use Rattle.league_core.specs.game.Seasons.{IsLeague};
+ghost use Rattle.final_rank.specs.inside.Spans.{spans_of};
 
 use crate::around::Around;
 use crate::blocks::blocks;
@@ -11,13 +11,13 @@ use std::alloc::Global;
 
 /// A club's least and greatest place over all drawings of lots, from 1.
 #[derive(Clone, Copy, Debug, PartialEq, Eq)]
-pub struct Span {
+pub struct PlaceRange {
     pub best: u8,
     pub worst: u8,
 }
 
 /// The spans of all clubs in this season, in the sheet's order: the clubs are put in blocks once.
-pub fn spans(alloc: Global, sheet: &Sheet, season: &Season) -> Result<Vec<Span>, OutOfMemory>
+pub fn spans(alloc: Global, sheet: &Sheet, season: &Season) -> Result<Vec<PlaceRange>, OutOfMemory>
     requires league { IsLeague sheet.now season.now }
     ensures { IfOk result (λ found. found.items ≡ spans_of sheet.now season.now) }
 {

@@ -10,34 +10,34 @@ use Rattle.csv.specs.Reading.{default_config, strip_bom}
 use Rattle.csv.specs.declared.parser.State.TheVariants as state
 use Rattle.csv.proofs.RoundTrip.{record-same, start-same}
 use Rattle.fixture_sheet.specs.Fields.{csv_record}
-use Rattle.fixture_sheet.specs.PlainLines.{between_commas, has_sign, is_sign, with_front}
+use Rattle.fixture_sheet.specs.inside.PlainLines.{between_commas, has_sign, is_sign, with_prefix}
 
--- nothing in front of a first field changes nothing
-with_front-none : (front : List ℕ) (fields : List (List ℕ))
-    → with_front [] (with_front front fields) ≡ with_front front fields
-with_front-none front [] = refl
-with_front-none front (field ∷ fields) = refl
+-- nothing before a first field changes nothing
+with_prefix-none : (front : List ℕ) (fields : List (List ℕ))
+    → with_prefix [] (with_prefix front fields) ≡ with_prefix front fields
+with_prefix-none front [] = refl
+with_prefix-none front (field ∷ fields) = refl
 
-with_front-cond : (test : Bool) (first second : List (List ℕ)) → with_front [] first ≡ first
-    → with_front [] second ≡ second
-    → with_front [] (cond test first second) ≡ cond test first second
-with_front-cond true first second one other = one
-with_front-cond false first second one other = other
+with_prefix-cond : (test : Bool) (first second : List (List ℕ)) → with_prefix [] first ≡ first
+    → with_prefix [] second ≡ second
+    → with_prefix [] (cond test first second) ≡ cond test first second
+with_prefix-cond true first second one other = one
+with_prefix-cond false first second one other = other
 
 -- there is a first field
 pub between_commas-some : (text : List ℕ)
-    → with_front [] (between_commas text) ≡ between_commas text
+    → with_prefix [] (between_commas text) ≡ between_commas text
 between_commas-some [] = refl
 between_commas-some (byte ∷ bytes) =
-    with_front-cond (byte == 44) ([] ∷ between_commas bytes)
-    (with_front (byte ∷ []) (between_commas bytes)) refl
-    (with_front-none (byte ∷ []) (between_commas bytes))
+    with_prefix-cond (byte == 44) ([] ∷ between_commas bytes)
+    (with_prefix (byte ∷ []) (between_commas bytes)) refl
+    (with_prefix-none (byte ∷ []) (between_commas bytes))
 
--- two pieces in front of a first field, one by one
-with_front-more : (front : List ℕ) (byte : ℕ) (fields : List (List ℕ))
-    → with_front (front ++ byte ∷ []) fields ≡ with_front front (with_front (byte ∷ []) fields)
-with_front-more front byte [] = refl
-with_front-more front byte (field ∷ fields) =
+-- two pieces before a first field, one by one
+with_prefix-more : (front : List ℕ) (byte : ℕ) (fields : List (List ℕ))
+    → with_prefix (front ++ byte ∷ []) fields ≡ with_prefix front (with_prefix (byte ∷ []) fields)
+with_prefix-more front byte [] = refl
+with_prefix-more front byte (field ∷ fields) =
     ap (λ first. first ∷ fields) (append_assoc front (byte ∷ []) field)
 
 pub at-comma : (byte : ℕ) (bytes : List ℕ) → (byte == 44) ≡ true
@@ -45,23 +45,23 @@ pub at-comma : (byte : ℕ) (bytes : List ℕ) → (byte == 44) ≡ true
 at-comma byte bytes comma = rw comma refl
 
 pub at-byte : (byte : ℕ) (bytes : List ℕ) → (byte == 44) ≡ false
-    → between_commas (byte ∷ bytes) ≡ with_front (byte ∷ []) (between_commas bytes)
+    → between_commas (byte ∷ bytes) ≡ with_prefix (byte ∷ []) (between_commas bytes)
 at-byte byte bytes other = rw other refl
 
--- a comma ends the field in front of it
+-- a comma ends the field before it
 pub front-comma : (front : List ℕ) (byte : ℕ) (bytes : List ℕ) → (byte == 44) ≡ true
-    → with_front front (between_commas (byte ∷ bytes)) ≡ front ∷ between_commas bytes
+    → with_prefix front (between_commas (byte ∷ bytes)) ≡ front ∷ between_commas bytes
 front-comma front byte bytes comma =
-    ap (with_front front) (at-comma byte bytes comma)
+    ap (with_prefix front) (at-comma byte bytes comma)
     ∙ ap (λ field. field ∷ between_commas bytes) (append-nil front)
 
 -- any other byte joins it
 pub front-byte : (front : List ℕ) (byte : ℕ) (bytes : List ℕ) → (byte == 44) ≡ false
-    → with_front front (between_commas (byte ∷ bytes))
-    ≡ with_front (front ++ byte ∷ []) (between_commas bytes)
+    → with_prefix front (between_commas (byte ∷ bytes))
+    ≡ with_prefix (front ++ byte ∷ []) (between_commas bytes)
 front-byte front byte bytes other =
-    ap (with_front front) (at-byte byte bytes other)
-    ∙ sym (with_front-more front byte (between_commas bytes))
+    ap (with_prefix front) (at-byte byte bytes other)
+    ∙ sym (with_prefix-more front byte (between_commas bytes))
 
 -- a byte that is no sign is no quote, no CR, no LF, and does not begin a byte order mark
 no_sign : (byte : ℕ) → is_sign byte ≡ false
@@ -102,7 +102,7 @@ machine-start fields field (byte ∷ bytes) plain =
 -- csv cuts the rest of a text without signs at its commas
 machine-cuts : (text : List ℕ) → has_sign text ≡ false → (fields : List (List ℕ)) (field : List ℕ)
     → next_record default_config state.InField fields field text
-    ≡ Some (fields ++ with_front field (between_commas text), state.StartRecord, [])
+    ≡ Some (fields ++ with_prefix field (between_commas text), state.StartRecord, [])
 unfolding next_record
 machine-cuts [] plain fields field = rw (append-nil field) refl
 machine-cuts (byte ∷ bytes) plain fields field =
@@ -114,7 +114,7 @@ machine-cuts (byte ∷ bytes) plain fields field =
           ∙ machine-start (fields ++ field ∷ []) [] bytes signs.1
           ∙ machine-cuts bytes signs.1 (fields ++ field ∷ []) []
           ∙ ap (λ all. Some (all, state.StartRecord, []))
-          (append_assoc fields (field ∷ []) (with_front [] (between_commas bytes))
+          (append_assoc fields (field ∷ []) (with_prefix [] (between_commas bytes))
           ∙ ap (λ rest. fields ++ field ∷ rest) (between_commas-some bytes)
           ∙ sym (ap (λ rest. fields ++ rest) (front-comma field byte bytes comma)))
       | inr other ↦

@@ -9,9 +9,9 @@ use Rattle.std.proofs.lemmas.List.{length_push}
 use Rattle.std.proofs.lemmas.List.Folds.{list_all-append, list_any-append}
 use Rattle.league_core.specs.declared.sheet.Sheet.{Sheet}
 use Rattle.league_core.specs.declared.sheet.Club.{Club}
-use Rattle.league_core.specs.Limits.{most_clubs, most_lines}
-use Rattle.league_core.specs.Sheets.{is_club, is_line, are_different, same_name}
-use Rattle.fixture_sheet.specs.Drafts.{IsDraft}
+use Rattle.league_core.specs.game.Limits.{most_clubs, most_lines}
+use Rattle.league_core.specs.game.Sheets.{is_club, is_line, are_different, same_name}
+use Rattle.fixture_sheet.specs.inside.Drafts.{IsDraft}
 use Rattle.fixture_sheet.specs.Records.{has_name, is_past_clubs, line_added}
 use Rattle.fixture_sheet.proofs.NameLemmas.{bytes_eq-swap}
 

@@ -1,11 +1,12 @@
--- What the lines passed give, where the source tells its bytes: the contents in front of those that
+-- What the lines passed give, where the source tells its bytes: the contents before those that
 -- are still to come.
 use Rattle.std.proofs.Common.{◌≡◌, ℕ, Bool, List, ◌++◌, Option, None, Some, option_map, ap, sym}
 use Rattle.std.proofs.Common.{◌∙◌}
 use Rattle.std.proofs.lemmas.List.{append_cancel_right}
 use Rattle.port_core.specs.Lines.{lines_of}
 use Rattle.port_core.specs.Contents.{Contents, contents_from, with_lines}
-use Rattle.port_core.specs.Readers.{Reader, PassesTo, contents_to_come}
+use Rattle.port_core.specs.Readers.{LineReaderView, contents_to_come}
+use Rattle.port_core.specs.inside.ReaderCalls.{PassesTo}
 
 -- contents that are told, or else these
 abbrev told_or : Contents → Option Contents → Contents
@@ -13,7 +14,7 @@ told_or other None = other
 told_or other (Some contents) = contents
 
 -- so a clause that names the contents read names those that the lines passed give
-pub PassesTo-gives : (old new : Reader) (before after : List ℕ)
+pub PassesTo-gives : (old new : LineReaderView) (before after : List ℕ)
     (ended ended' : Bool) (given lines : List (ℕ × List ℕ))
     → PassesTo old new (Some before) (Some after) ended ended' given
     → contents_to_come old (Some before)

@@ -3,23 +3,24 @@ use Rattle.std.proofs.Common.{◌≡◌, ℕ, Bool, List, ◌++◌, Option, None
 use Rattle.std.proofs.Common.{refl, sym, ap, subst, ◌∙◌, inl, inr}
 use Rattle.std.specs.Io.KnownBytes.{prepend_known}
 use Rattle.league_core.specs.declared.sheet.Sheet.{Sheet}
-use Rattle.port_core.specs.declared.answers.ReadStop.{ReadStop}
-use Rattle.port_core.specs.declared.answers.ReadStop.TheVariants.{ReadFault, LineTooLong}
-use Rattle.port_core.specs.declared.answers.ReadStop.TheVariants.{InputTooLong}
+use Rattle.port_core.specs.declared.line.ReadStop.{ReadStop}
+use Rattle.port_core.specs.declared.line.ReadStop.TheVariants.{ReadFault, LineTooLong}
+use Rattle.port_core.specs.declared.line.ReadStop.TheVariants.{InputTooLong}
 use Rattle.port_core.specs.Lines.{lines_of}
 use Rattle.port_core.specs.Contents.{Contents, contents_from, with_lines}
-use Rattle.port_core.specs.Readers.{Reader, PassesTo, ReadsInNeed, StopsAtAnswer, TakesInput}
-use Rattle.port_core.specs.Readers.{contents_to_come}
+use Rattle.port_core.specs.Readers.{LineReaderView, TakesInput, contents_to_come}
+use Rattle.port_core.specs.inside.ReaderCalls.{PassesTo, ReadsInNeed, StopsAtAnswer}
 use Rattle.port_core.proofs.TakingLemmas.{TakesInput-more}
 use Rattle.fixture_sheet.specs.declared.fault.SheetStop.{SheetStop}
 use Rattle.fixture_sheet.specs.declared.fault.SheetStop.TheVariants.{Fault, Read, OutOfMemory}
-use Rattle.fixture_sheet.specs.Calls.{Leads}
-use Rattle.fixture_sheet.specs.LastReads.{LeadsToDraft, ReadsOnWay, StopsAtSheet, StopsAtSheetLine}
+use Rattle.fixture_sheet.specs.inside.Calls.{Leads}
+use Rattle.fixture_sheet.specs.LastReads.{ReadsOnWay}
+use Rattle.fixture_sheet.specs.inside.SheetReads.{LeadsToDraft, StopsAtSheet, StopsAtSheetLine}
 
 -- ---- ways
 
--- lines passed stand in front of what is still to come
-pub passed-to-come : (old new : Reader) (left left' : Option (List ℕ)) (ended ended' : Bool)
+-- lines passed stand before what is still to come
+pub passed-to-come : (old new : LineReaderView) (left left' : Option (List ℕ)) (ended ended' : Bool)
     (given : List (ℕ × List ℕ)) → PassesTo old new left left' ended ended' given
     → contents_to_come old left ≡ option_map (with_lines given) (contents_to_come new left')
 passed-to-come old new None None ended ended' given passes = refl
@@ -31,7 +32,7 @@ passed-to-come old new (Some before) (Some after) ended ended' given passes =
 
 module _ {S : Type 0} (left : S → Option (List ℕ)) (reads : S → List ℕ → S → Type 0) where
   -- one answer of the reader is a way on which nothing is given
-  pub way-need : (old new : Reader) (before after : S)
+  pub way-need : (old new : LineReaderView) (before after : S)
       → ReadsInNeed left reads old new before after
       → ReadsOnWay left reads (λ first then. first ≡ then) old new before after
   way-need old new before after need =
@@ -51,7 +52,8 @@ module _ {S : Type 0} (left : S → Option (List ℕ)) (reads : S → List ℕ �
       ]
 
   -- one way and then another are a way
-  pub way-more : (First Second : Option Contents → Option Contents → Type 0) (a b c : Reader)
+  pub way-more : (First Second : Option Contents → Option Contents → Type 0)
+      (a b c : LineReaderView)
       (first second third : S)
       → ((then : Option Contents) → Second (contents_to_come b (left second)) then
       → First (contents_to_come a (left first)) then)
@@ -91,7 +93,7 @@ module _ {S : Type 0} (left : S → Option (List ℕ)) (reads : S → List ℕ �
   -- ---- of a sheet
 
   -- an answer of the reader is a record's, or a stop
-  pub line-stops : (old new : Reader) (before after : S) (stop : ReadStop)
+  pub line-stops : (old new : LineReaderView) (before after : S) (stop : ReadStop)
       → StopsAtAnswer left reads old new before after (Err stop)
       → StopsAtSheetLine left reads old new before after (Err (Read stop))
   line-stops old new before after ReadFault stops = tt
@@ -99,7 +101,7 @@ module _ {S : Type 0} (left : S → Option (List ℕ)) (reads : S → List ℕ �
   line-stops old new before after (InputTooLong number) stops = stops
 
   -- one record more on the way to a sheet
-  pub sheet-further : (a b c : Reader) (first second third : S) (draft : Option Sheet)
+  pub sheet-further : (a b c : LineReaderView) (first second third : S) (draft : Option Sheet)
       → Leads (contents_to_come a (left first)) (contents_to_come b (left second)) draft
       → TakesInput a b (left first) (left second)
       → ReadsOnWay left reads LeadsToDraft a b first second
@@ -113,8 +115,8 @@ module _ {S : Type 0} (left : S → Option (List ℕ)) (reads : S → List ℕ �
       (draft, subst P same leads))
       takes one (way-need b c second third two)
 
-  -- the sheet, or what comes in its place, behind them
-  pub sheet-stops : (a b c : Reader) (first second third : S) (draft : Option Sheet)
+  -- the sheet, or what comes in its place, after them
+  pub sheet-stops : (a b c : LineReaderView) (first second third : S) (draft : Option Sheet)
       (stop : SheetStop)
       → Leads (contents_to_come a (left first)) (contents_to_come b (left second)) draft
       → TakesInput a b (left first) (left second)

@@ -1,5 +1,5 @@
 -- A text without LF and CR is one record for csv: no byte of it ends a record, so that nothing is
--- left behind the one that is read.
+-- left after the one that is read.
 use Rattle.std.proofs.Common.{◌≡◌, ◌≢◌, ◌==◌, ◌||◌, ℕ, Bool, true, false, cond, List, [], ◌∷◌, ◌++◌}
 use Rattle.std.proofs.Common.{Some, None, refl, sym, ap, ◌∙◌}
 use Rattle.std.specs.List.{list_any}
@@ -15,7 +15,7 @@ use Rattle.csv.specs.declared.parser.Action.{Action}
 use Rattle.csv.specs.declared.parser.Action.TheVariants as action
 use Rattle.csv.specs.declared.parser.Terminator.TheVariants as terminator
 use Rattle.port_core.specs.Lines.{HasNoLineFeed}
-use Rattle.fixture_sheet.specs.Laws.{LinesAreOneRecord}
+use Rattle.fixture_sheet.specs.inside.Laws.{LinesAreOneRecord}
 
 -- of two choices neither ends a record
 goes-if : (test : Bool) (x y : State × Action) → is_end x.1 ≡ false → is_end y.1 ≡ false
@@ -66,7 +66,7 @@ module _ (byte : ℕ) (return : (byte == 13) ≡ false) (feed : (byte == 10) ≡
       goes-if (byte == 10) (state.StartRecord, action.Skip) (start_record default_config byte) refl
       start_record-goes
 
--- the end of a text leaves nothing behind it
+-- the end of a text leaves nothing after it
 at-end : (ends : Bool) (fields : List (List ℕ)) (read : Read)
     → cond ends (Some (fields, state.StartRecord, [])) None ≡ Some read → read.2 ≡ []
 at-end true fields read is =

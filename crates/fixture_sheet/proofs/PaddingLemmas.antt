@@ -6,8 +6,8 @@ use Rattle.std.proofs.lemmas.Bool.{cases_Bool, ne_eqb}
 use Rattle.std.proofs.lemmas.List.{take_more}
 use Rattle.fixture_sheet.specs.Fields.{is_blank, record_of, unless_empty, with_field}
 use Rattle.fixture_sheet.specs.Fields.{without_padding}
-use Rattle.fixture_sheet.specs.PlainLines.{between_commas, has_sign, with_byte, with_front}
-use Rattle.fixture_sheet.specs.PlainLines.{without_commas}
+use Rattle.fixture_sheet.specs.inside.PlainLines.{between_commas, has_sign, with_byte, with_prefix}
+use Rattle.fixture_sheet.specs.inside.PlainLines.{without_commas}
 use Rattle.fixture_sheet.proofs.CommaLemmas.{at-byte, at-comma, between_commas-some}
 use Rattle.fixture_sheet.proofs.CommaLemmas.{csv_record-empty, csv_record-plain}
 
@@ -17,24 +17,24 @@ fields_left [] = []
 fields_left (byte ∷ bytes) = between_commas (byte ∷ bytes)
 
 -- before a field any field counts
-with_field-more : (field : List ℕ) (fields : List (List ℕ)) → with_front [] fields ≡ fields
+with_field-more : (field : List ℕ) (fields : List (List ℕ)) → with_prefix [] fields ≡ fields
     → with_field field fields ≡ field ∷ fields
 with_field-more field [] some = absurd (cc)
 with_field-more field (next ∷ fields) some = refl
 
 -- a byte more in the first field, before or after the empty ones at the end go
-with_front-field : (byte : ℕ) (field : List ℕ) (fields : List (List ℕ))
-    → with_field (byte ∷ field) fields ≡ with_front (byte ∷ []) (with_field field fields)
-with_front-field byte [] [] = refl
-with_front-field byte (first ∷ field) [] = refl
-with_front-field byte field (next ∷ fields) = refl
+with_prefix-field : (byte : ℕ) (field : List ℕ) (fields : List (List ℕ))
+    → with_field (byte ∷ field) fields ≡ with_prefix (byte ∷ []) (with_field field fields)
+with_prefix-field byte [] [] = refl
+with_prefix-field byte (first ∷ field) [] = refl
+with_prefix-field byte field (next ∷ fields) = refl
 
-without_padding-front : (byte : ℕ) (fields : List (List ℕ)) → with_front [] fields ≡ fields
-    → without_padding (with_front (byte ∷ []) fields)
-    ≡ with_front (byte ∷ []) (without_padding fields)
+without_padding-front : (byte : ℕ) (fields : List (List ℕ)) → with_prefix [] fields ≡ fields
+    → without_padding (with_prefix (byte ∷ []) fields)
+    ≡ with_prefix (byte ∷ []) (without_padding fields)
 without_padding-front byte [] some = absurd (cc)
 without_padding-front byte (field ∷ fields) some =
-    with_front-field byte field (without_padding fields)
+    with_prefix-field byte field (without_padding fields)
 
 left-comma : (byte : ℕ) (left : List ℕ) → (byte == 44) ≡ true
     → with_field [] (fields_left left) ≡ fields_left (with_byte byte left)
@@ -44,7 +44,7 @@ left-comma byte (next ∷ left) comma =
     ∙ sym (at-comma byte (next ∷ left) comma)
 
 left-byte : (byte : ℕ) (left : List ℕ) → (byte == 44) ≡ false
-    → with_front (byte ∷ []) (fields_left left) ≡ fields_left (with_byte byte left)
+    → with_prefix (byte ∷ []) (fields_left left) ≡ fields_left (with_byte byte left)
 left-byte byte [] other =
     let alone : with_byte byte [] ≡ byte ∷ [] = rw other refl in
     sym (at-byte byte [] other) ∙ sym (ap fields_left alone)
@@ -62,7 +62,7 @@ without_padding-commas (byte ∷ bytes) = elim (cases_Bool (byte == 44)) [
   | inr other ↦
       ap without_padding (at-byte byte bytes other)
       ∙ without_padding-front byte (between_commas bytes) (between_commas-some bytes)
-      ∙ ap (with_front (byte ∷ [])) (without_padding-commas bytes)
+      ∙ ap (with_prefix (byte ∷ [])) (without_padding-commas bytes)
       ∙ left-byte byte (without_commas bytes) other
 ]
 
@@ -76,7 +76,7 @@ record_of-plain (byte ∷ bytes) plain =
     (csv_record-plain byte bytes plain)
     ∙ ap unless_empty (without_padding-commas (byte ∷ bytes))
 
-unless_empty-some : (fields : List (List ℕ)) → with_front [] fields ≡ fields
+unless_empty-some : (fields : List (List ℕ)) → with_prefix [] fields ≡ fields
     → unless_empty fields ≡ Some fields
 unless_empty-some [] some = absurd (cc)
 unless_empty-some (field ∷ fields) some = refl

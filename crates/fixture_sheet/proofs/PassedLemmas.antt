@@ -1,13 +1,14 @@
 -- Lemmas on the lines that a call passed, and on where it leaves the reader.
 use Rattle.std.proofs.Common.{◌≡◌, ℕ, Bool, List, [], Option, Result, refl, sym, subst, arith}
 use Rattle.std.proofs.lemmas.Bool.Decides.{nat_tests}
-use Rattle.port_core.specs.declared.answers.Line.{Line}
-use Rattle.port_core.specs.declared.answers.Line.TheVariants.{Text, End}
-use Rattle.port_core.specs.declared.answers.ReadStop.{ReadStop}
+use Rattle.port_core.specs.declared.line.Line.{Line}
+use Rattle.port_core.specs.declared.line.Line.TheVariants.{Text, End}
+use Rattle.port_core.specs.declared.line.ReadStop.{ReadStop}
 use Rattle.port_core.specs.Contents.{Position, number_at}
-use Rattle.port_core.specs.Readers.{Reader, PassesTo, given_by, LeavesReader}
+use Rattle.port_core.specs.Readers.{LineReaderView}
+use Rattle.port_core.specs.inside.ReaderCalls.{PassesTo, given_by, LeavesReader}
 use Rattle.port_core.proofs.PassingLemmas.{passes-none, passes-more}
-use Rattle.fixture_sheet.specs.Calls.{PassesLines, PassesUpTo, refused_before}
+use Rattle.fixture_sheet.specs.inside.Calls.{PassesLines, PassesUpTo, refused_before}
 
 -- ---- the answer that a call's answer came of
 
@@ -22,7 +23,7 @@ pub refused-end : (position : Position) (number : ℕ) → number ≡ number_at 
 refused-end position number is = grind (arith, nat_tests)
 
 -- the same answer passes and leaves the same
-pub passes-as : (old new : Reader) (left left' : Option (List ℕ)) (ended ended' : Bool)
+pub passes-as : (old new : LineReaderView) (left left' : Option (List ℕ)) (ended ended' : Bool)
     (answer same : Result Line ReadStop) → same ≡ answer
     → PassesTo old new left left' ended ended' (given_by answer new.text)
     → PassesTo old new left left' ended ended' (given_by same new.text)
@@ -31,7 +32,7 @@ passes-as old new left left' ended ended' answer same is passes =
     λ a. PassesTo old new left left' ended ended' (given_by a new.text) in
     subst P (sym is) passes
 
-pub leaves-as : (new : Reader) (left : Option (List ℕ)) (answer same : Result Line ReadStop)
+pub leaves-as : (new : LineReaderView) (left : Option (List ℕ)) (answer same : Result Line ReadStop)
     → same ≡ answer → LeavesReader new left answer → LeavesReader new left same
 leaves-as new left answer same is leaves =
     let P : Result Line ReadStop → Type 0 = λ a. LeavesReader new left a in
@@ -40,19 +41,19 @@ leaves-as new left answer same is leaves =
 -- ---- lines passed in turn
 
 -- none yet
-pub PassesLines-none : (old : Reader) (left : Option (List ℕ)) (ended : Bool)
+pub PassesLines-none : (old : LineReaderView) (left : Option (List ℕ)) (ended : Bool)
     → PassesLines old old left left ended ended
 PassesLines-none old left ended = ([], passes-none _ _ _ _ _ refl (λ unsaid. unsaid))
 
 -- more of them
-pub PassesLines-more : (first mid last : Reader) (left left' left'' : Option (List ℕ))
+pub PassesLines-more : (first mid last : LineReaderView) (left left' left'' : Option (List ℕ))
     (x y z : Bool) (given : List (ℕ × List ℕ)) → PassesLines first mid left left' x y
     → PassesTo mid last left' left'' y z given → PassesLines first last left left'' x z
 PassesLines-more first mid last left left' left'' x y z given front behind =
     (_, passes-more _ _ _ _ _ _ _ _ _ front.0 given front.1 behind)
 
 -- those up to an answer of the reader
-pub PassesUpTo-behind : (first mid last : Reader) (left left' left'' : Option (List ℕ))
+pub PassesUpTo-behind : (first mid last : LineReaderView) (left left' left'' : Option (List ℕ))
     (x y z : Bool) (answer : Result Line ReadStop) → PassesLines first mid left left' x y
     → PassesTo mid last left' left'' y z (given_by answer last.text)
     → PassesUpTo first last left left'' x z answer

@@ -2,11 +2,11 @@
 use Rattle.std.proofs.Common.{◌≡◌, ℕ, List, [], ◌∷◌, ◌++◌, Option, Some, None, option_map, IfSome}
 use Rattle.std.proofs.Common.{Result, Ok, Err, refl, sym, ap, subst, ◌∙◌, append_assoc}
 use Rattle.league_core.specs.declared.sheet.Sheet.{Sheet}
-use Rattle.port_core.specs.declared.answers.ReadStop.{ReadStop}
-use Rattle.port_core.specs.declared.answers.ReadStop.TheVariants.{ReadFault, LineTooLong}
-use Rattle.port_core.specs.declared.answers.ReadStop.TheVariants.{InputTooLong}
+use Rattle.port_core.specs.declared.line.ReadStop.{ReadStop}
+use Rattle.port_core.specs.declared.line.ReadStop.TheVariants.{ReadFault, LineTooLong}
+use Rattle.port_core.specs.declared.line.ReadStop.TheVariants.{InputTooLong}
 use Rattle.port_core.specs.Contents.{Contents, ended, with_line, with_lines}
-use Rattle.port_core.specs.Readers.{NextGives}
+use Rattle.port_core.specs.inside.ReaderCalls.{NextGives}
 use Rattle.fixture_sheet.specs.declared.fault.SheetFault.{SheetFault}
 use Rattle.fixture_sheet.specs.declared.fault.SheetStop.{SheetStop}
 use Rattle.fixture_sheet.specs.declared.fault.SheetStop.TheVariants.{Fault, Read}
@@ -14,14 +14,14 @@ use Rattle.fixture_sheet.specs.declared.record.Progress.{Progress}
 use Rattle.fixture_sheet.specs.declared.record.Progress.TheVariants.{SoFar, Whole}
 use Rattle.fixture_sheet.specs.Records.{content_taken}
 use Rattle.fixture_sheet.specs.Sheets.{sheet_reading_by, sheet_reading_from, sheet_reading_of}
-use Rattle.fixture_sheet.specs.Calls.{Leads, ReadsSheetAs, ReadsSheet, StepReads, TakesLines}
+use Rattle.fixture_sheet.specs.inside.Calls.{Leads, ReadsSheetAs, ReadsSheet, StepReads, TakesLines}
 
 -- nothing was read yet
 pub leads-nothing : (start : Option Contents) → Leads start start None
 leads-nothing None = ([], refl, λ rest. refl)
 leads-nothing (Some contents) = ([], refl, λ rest. refl)
 
--- one line more goes behind those in front
+-- one line more goes after those before
 with_lines-push : (lines : List (ℕ × List ℕ)) (number : ℕ) (text : List ℕ) (rest : Contents)
     → with_lines lines (with_line number text rest)
     ≡ with_lines (lines ++ (number, text) ∷ []) rest

@@ -25,7 +25,7 @@ list_all-take p (suc i) (x ∷ xs) all =
 digit_value-lt : (byte : ℕ) → is_ascii_digit byte ≡ true → digit_value byte < 10
 digit_value-lt byte digit = grind (arith, nat_tests)
 
--- a digit writes how far it stands behind `0`
+-- a digit writes how far it comes after `0`
 digit_value-from : (byte : ℕ) → is_ascii_digit byte ≡ true → digit_value byte ≡ byte - 48
 digit_value-from byte digit = grind (arith, nat_tests)
 

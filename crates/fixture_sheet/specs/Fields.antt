@@ -1,5 +1,5 @@
 -- The record that a line is. Which fields a text has is csv's own rule for a text read alone:
--- commas, double quotes, no trimming, and a byte order mark at its front counts for nothing. That
+-- commas, double quotes, no trimming, and a byte order mark at its prefix counts for nothing. That
 -- empty fields at the end do not count is the project's rule, since spreadsheets pad their rows.
 use Rattle.std.specs.Prelude.{ℕ, Bool, true, false, ◌==◌, List, [], ◌∷◌, get_or, Option, Some, None}
 use Rattle.std.specs.Prelude.{option_map, option_and_then, if◌then◌else◌}
@@ -25,7 +25,7 @@ abbrev pub is_blank : List ℕ → Bool
 is_blank [] = true
 is_blank (byte ∷ bytes) = false
 
--- one more field in front: it does not count where it is blank and no field behind it counts
+-- one more field at the front: it does not count where it is blank and no field after it counts
 abbrev pub with_field : List ℕ → List (List ℕ) → List (List ℕ)
 with_field field [] = if is_blank field then [] else field ∷ []
 with_field field (next ∷ fields) = field ∷ next ∷ fields

@@ -3,7 +3,7 @@
 -- refuse.
 use Rattle.std.specs.Prelude.{ℕ, Bool, not, ◌||◌, ◌==◌, nat_le, nat_lt, List, [], ◌∷◌, ◌++◌, length}
 use Rattle.std.specs.Prelude.{Option, None, Some, Result, Ok, Err, if◌then◌else◌, option_and_then}
-use Rattle.std.specs.Prelude.{option_map, position, bytes_eq, codes}
+use Rattle.std.specs.Prelude.{option_map, position, bytes_eq, codes, map}
 use Rattle.std.specs.List.{list_any}
 use Rattle.std.specs.Option.{ok_or}
 use Rattle.league_core.specs.declared.sheet.Sheet.{Sheet}
@@ -11,9 +11,9 @@ use Rattle.league_core.specs.declared.sheet.Club.{Club}
 use Rattle.league_core.specs.declared.sheet.Fixture.{Fixture}
 use Rattle.league_core.specs.declared.sheet.Order.{Order}
 use Rattle.league_core.specs.declared.sheet.Order.TheVariants.{HeadFirst, OverallFirst}
-use Rattle.league_core.specs.Limits.{most_clubs, most_fixtures, most_lines, most_rank}
-use Rattle.league_core.specs.Limits.{most_goal_limit, most_budget}
-use Rattle.league_core.specs.Sheets.{is_line}
+use Rattle.league_core.specs.game.Limits.{most_clubs, most_fixtures, most_lines, most_rank}
+use Rattle.league_core.specs.game.Limits.{most_goal_limit, most_budget}
+use Rattle.league_core.specs.game.Sheets.{is_line}
 use Rattle.fixture_sheet.specs.declared.fault.SheetFault.{SheetFault}
 use Rattle.fixture_sheet.specs.declared.fault.SheetFault.TheVariants.{NoLeague, BadField, ClubTwice}
 use Rattle.fixture_sheet.specs.declared.fault.SheetFault.TheVariants.{UnknownClub, SelfMatch}
@@ -24,7 +24,10 @@ use Rattle.fixture_sheet.specs.declared.record.Progress.{Progress}
 use Rattle.fixture_sheet.specs.declared.record.Progress.TheVariants.{SoFar, Whole}
 use Rattle.fixture_sheet.specs.Fields.{has_return, record_of, field}
 use Rattle.fixture_sheet.specs.Texts.{number_written, number_within, text_of, name_of}
-use Rattle.fixture_sheet.specs.Drafts.{names_of}
+
+-- the clubs' names, in the order of the sheet
+abbrev pub names_of : Sheet → List (List ℕ)
+names_of sheet = map (λ (club : Club). club.name) sheet.clubs
 
 -- a value, and what is made of it; a refusal stays
 abbrev pub and_then : {A B : Type 0} → (A → Result B SheetFault) → Result A SheetFault
@@ -60,8 +63,8 @@ order_named word =
     else None
 
 -- the order of the criteria: the head-to-head record first where the record does not name one
-abbrev pub order_told : List (List ℕ) → Option Order
-order_told fields = if nat_lt (length fields) 5 then Some HeadFirst else order_named
+abbrev pub order_in : List (List ℕ) → Option Order
+order_in fields = if nat_lt (length fields) 5 then Some HeadFirst else order_named
     (field 4 fields)
 
 -- the sheet that a league's record begins: a name, a goal limit from 1 to 20, a budget, and an
@@ -71,7 +74,7 @@ league_of fields =
     option_and_then (λ name.
     option_and_then (λ goal_limit.
     option_and_then (λ budget. option_map (λ order. sheet_begun name goal_limit budget order)
-    (order_told fields))
+    (order_in fields))
     (budget_of fields))
     (number_within 1 most_goal_limit (field 2 fields)))
     (name_of (field 1 fields))
@@ -182,7 +185,7 @@ so_far sheet = Ok (SoFar (Some sheet))
 abbrev pub whole : Sheet → Result Progress SheetFault
 whole sheet = Ok (Whole sheet)
 
--- a record behind the first one, by its first field
+-- a record after the first one, by its first field
 abbrev pub later_taken : Sheet → List (List ℕ) → Result Progress SheetFault
 later_taken sheet fields =
     if bytes_eq (field 0 fields) (codes "club") then and_then so_far (club_taken sheet fields)

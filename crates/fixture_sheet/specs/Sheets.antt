@@ -2,7 +2,7 @@
 -- first line that is refused, with its number, or the stop of the input.
 use Rattle.std.specs.Prelude.{ℕ, List, [], ◌∷◌, Option, None, Some, Result, Ok, Err}
 use Rattle.league_core.specs.declared.sheet.Sheet.{Sheet}
-use Rattle.port_core.specs.declared.answers.ReadStop.{ReadStop}
+use Rattle.port_core.specs.declared.line.ReadStop.{ReadStop}
 use Rattle.port_core.specs.Contents.{Contents, ended}
 use Rattle.fixture_sheet.specs.declared.fault.SheetFault.{SheetFault}
 use Rattle.fixture_sheet.specs.declared.fault.SheetFault.TheVariants.{NoLeague, NoSeason}
@@ -12,7 +12,7 @@ use Rattle.fixture_sheet.specs.declared.record.Progress.{Progress}
 use Rattle.fixture_sheet.specs.declared.record.Progress.TheVariants.{SoFar, Whole}
 use Rattle.fixture_sheet.specs.Records.{content_taken}
 
--- a reading of a sheet: what it gives, and the contents behind what it read
+-- a reading of a sheet: what it gives, and the contents after what it read
 pub record SheetReading : Type 0 where
   pub gives : Result Sheet SheetStop
   pub rest : Contents
@@ -28,7 +28,7 @@ sheet_given_at_end draft (Ok number) = Err (Fault number (fault_at_end draft))
 sheet_given_at_end draft (Err stop) = Err (Read stop)
 
 -- what a line's content leads to, by what it makes of the sheet so far: the sheet, the refusal of
--- the line of this number, or what comes of the lines behind it
+-- the line of this number, or what comes of the lines after it
 abbrev pub sheet_reading_by : ℕ → Contents → (Option Sheet → SheetReading)
     → Result Progress SheetFault
     → SheetReading

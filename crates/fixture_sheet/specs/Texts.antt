@@ -5,7 +5,7 @@ use Rattle.std.specs.List.{list_all}
 use Rattle.std.specs.Char.{is_ascii_digit}
 use Rattle.std.specs.Str.{is_utf8}
 use Rattle.std.specs.Str.Parse.{digits_value}
-use Rattle.league_core.specs.Sheets.{is_name}
+use Rattle.league_core.specs.game.Sheets.{is_name}
 
 -- the value, where the test says so
 abbrev pub only_if : {A : Type 0} → Bool → A → Option A

@@ -3,10 +3,11 @@
 ghost use Rattle.std.specs.Prelude.{◌≡◌, ◌≤◌, ◌<◌, ◌==◌, ◌∷◌, ◌++◌, [], false, IfOk, IfSome};
 ghost use Rattle.std.specs.Prelude.{IsTrue, length};
 ghost use Rattle.std.specs.List.{list_any};
-ghost use Rattle.league_core.specs.Limits.{most_budget, most_clubs, most_fixtures, most_goal_limit};
-ghost use Rattle.league_core.specs.Limits.{most_lines};
-ghost use Rattle.league_core.specs.Sheets.{IsWithinLimits, is_club, is_fixture, is_line, is_name};
-ghost use Rattle.fixture_sheet.specs.Calls.{Answers};
+ghost use Rattle.league_core.specs.game.Limits.{most_budget, most_clubs, most_fixtures};
+ghost use Rattle.league_core.specs.game.Limits.{most_goal_limit, most_lines};
+ghost use Rattle.league_core.specs.game.Sheets.{IsWithinLimits, is_club, is_fixture, is_line};
+ghost use Rattle.league_core.specs.game.Sheets.{is_name};
+ghost use Rattle.fixture_sheet.specs.inside.Calls.{Answers};
 ghost use Rattle.fixture_sheet.specs.Records.{club_added, club_named, fixture_added, has_name};
 ghost use Rattle.fixture_sheet.specs.Records.{has_few_clubs, is_past_clubs, line_added};
 ghost use Rattle.fixture_sheet.specs.Records.{sheet_begun};
@@ -27,7 +28,7 @@ pub struct Draft {
 
 impl Model for Draft {
     ghost use Rattle.league_core.specs.declared.sheet.Sheet.{Sheet};
-    ghost use Rattle.fixture_sheet.specs.Drafts.{IsDraft};
+    ghost use Rattle.fixture_sheet.specs.inside.Drafts.{IsDraft};
 
     ghost Value = { Sheet };
 

@@ -1,8 +1,8 @@
 //! A law of the definitions, as the contract of a function that does nothing.
 
-ghost use Rattle.fixture_sheet.specs.Laws.{LinesAreOneRecord};
+ghost use Rattle.fixture_sheet.specs.inside.Laws.{LinesAreOneRecord};
 
-/// csv reads the text of a line whole: nothing of it is left behind its one record.
+/// csv reads the text of a line whole: nothing of it is left after its one record.
 pub fn a_line_is_one_record()
     ensures { LinesAreOneRecord }
 {}

@@ -2,7 +2,7 @@
 
 ghost use Rattle.std.specs.Prelude.{◌≡◌, option_map};
 ghost use Rattle.std.specs.List.{list_all};
-ghost use Rattle.league_core.specs.Sheets.{is_name, is_name_byte};
+ghost use Rattle.league_core.specs.game.Sheets.{is_name, is_name_byte};
 ghost use Rattle.fixture_sheet.specs.Texts.{name_of, text_of};
 
 use league_core::limits::MOST_NAME_BYTES;

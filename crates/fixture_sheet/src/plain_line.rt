@@ -3,7 +3,7 @@
 
 ghost use Rattle.std.specs.Prelude.{◌≡◌, IfOk, false, map};
 ghost use Rattle.fixture_sheet.specs.Fields.{record_of};
-ghost use Rattle.fixture_sheet.specs.PlainLines.{between_commas, has_sign, without_commas};
+ghost use Rattle.fixture_sheet.specs.inside.PlainLines.{between_commas, has_sign, without_commas};
 
 use crate::fields::Fields;
 use league_core::OutOfMemory;

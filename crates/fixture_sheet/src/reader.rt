@@ -1,13 +1,14 @@
 //! The sheet of an input.
 
 ghost use Rattle.std.specs.Prelude.{◌≡◌, IfOk, Option};
-ghost use Rattle.league_core.specs.Sheets.{IsWithinLimits};
+ghost use Rattle.league_core.specs.game.Sheets.{IsWithinLimits};
 ghost use Rattle.port_core.specs.Contents.{Contents};
-ghost use Rattle.port_core.specs.Readers.{LeavesReader, PassesTo, TakesInput, contents_to_come};
-ghost use Rattle.port_core.specs.Readers.{given_by};
-ghost use Rattle.fixture_sheet.specs.Calls.{CountsSheet, GivesSheet, Leads, PassesUpTo, ReadsSheet};
-ghost use Rattle.fixture_sheet.specs.Calls.{StepMoves, StepReads, sheet_answer_behind};
-ghost use Rattle.fixture_sheet.specs.LastReads.{StopsAtSheet, StopsAtSheetLine};
+ghost use Rattle.port_core.specs.Readers.{TakesInput, contents_to_come};
+ghost use Rattle.port_core.specs.inside.ReaderCalls.{LeavesReader, PassesTo, given_by};
+ghost use Rattle.fixture_sheet.specs.inside.Calls.{CountsSheet, GivesSheet, Leads, PassesUpTo};
+ghost use Rattle.fixture_sheet.specs.inside.Calls.{ReadsSheet, StepMoves, StepReads};
+ghost use Rattle.fixture_sheet.specs.inside.Calls.{sheet_answer_after};
+ghost use Rattle.fixture_sheet.specs.inside.SheetReads.{StopsAtSheet, StopsAtSheetLine};
 ghost use Rattle.fixture_sheet.specs.Sheets.{fault_at_end};
 
 use crate::draft::Draft;
@@ -17,8 +18,8 @@ use league_core::Sheet;
 use port_core::{Line, LineReader, Source};
 use std::alloc::Global;
 
-/// Reads up to and with the record `season`. Behind an answer the reader stands at the next line:
-/// the feed's first one, or the one behind the refused line. Each stop lets the sheet so far go, a
+/// Reads up to and with the record `season`. After an answer the reader stands at the next line:
+/// the feed's first one, or the one after the refused line. Each stop lets the sheet so far go, a
 /// read fault too: a later call begins a new sheet with the lines that are left.
 pub fn read_sheet<S: Source>(
     alloc: Global,
@@ -33,9 +34,9 @@ pub fn read_sheet<S: Source>(
     // Which lines of the input were passed, whole, and where the reader is left. At a refusal of
     // the input's end nothing is left of the source; at a read fault no whole line is in hand.
     ensures passes { PassesUpTo reader.old reader.new (S.left source.old) (S.left source.new)
-        (S.ended source.old) (S.ended source.new) (sheet_answer_behind reader.new result) }
+        (S.ended source.old) (S.ended source.new) (sheet_answer_after reader.new result) }
     ensures leaves { LeavesReader reader.new (S.left source.new)
-        (sheet_answer_behind reader.new result) }
+        (sheet_answer_after reader.new result) }
     ensures takes { TakesInput reader.old reader.new (S.left source.old) (S.left source.new) }
 
     // Reading stops at the read that completes the answer.
@@ -66,9 +67,9 @@ fn next_record<S: Source>(
     ensures limits { GivesSheet result }
     ensures passes { PassesTo reader.old reader.new (S.left source.old) (S.left source.new)
         (S.ended source.old) (S.ended source.new)
-        (given_by (sheet_answer_behind reader.new result) reader.new.text) }
+        (given_by (sheet_answer_after reader.new result) reader.new.text) }
     ensures leaves { LeavesReader reader.new (S.left source.new)
-        (sheet_answer_behind reader.new result) }
+        (sheet_answer_after reader.new result) }
     ensures takes { TakesInput reader.old reader.new (S.left source.old) (S.left source.new) }
     ensures last { StopsAtSheetLine S.left S.reads reader.old reader.new source.old source.new
         result }

@@ -1,13 +1,13 @@
 //! What a record makes of the sheet so far.
 
 ghost use Rattle.std.specs.Prelude.{◌≡◌, ◌≤◌, IfOk, IfSome};
-ghost use Rattle.league_core.specs.Limits.{most_budget};
-ghost use Rattle.league_core.specs.Sheets.{IsWithinLimits};
-ghost use Rattle.fixture_sheet.specs.Calls.{Answers, GivesSheet, as_progress};
+ghost use Rattle.league_core.specs.game.Limits.{most_budget};
+ghost use Rattle.league_core.specs.game.Sheets.{IsWithinLimits};
+ghost use Rattle.fixture_sheet.specs.inside.Calls.{Answers, GivesSheet, as_progress};
 ghost use Rattle.fixture_sheet.specs.Records.{budget_of, club_taken, content_taken, later_taken};
 ghost use Rattle.fixture_sheet.specs.Records.{league_taken, line_taken, match_taken};
 ghost use Rattle.fixture_sheet.specs.Records.{refusal_of_no_record};
-ghost use Rattle.fixture_sheet.specs.Records.{order_told, record_taken, season_taken};
+ghost use Rattle.fixture_sheet.specs.Records.{order_in, record_taken, season_taken};
 
 use crate::draft::Draft;
 use crate::fault::{FieldsStop, RecordStop, SheetFault};
@@ -77,7 +77,7 @@ fn so_far(draft: Result<Draft, RecordStop>) -> Result<Progress, RecordStop>
     }
 }
 
-// A record behind the first one.
+// A record after the first one.
 fn later_record(alloc: Global, draft: Draft, fields: &Fields) -> Result<Progress, RecordStop>
     ensures answer { Answers (later_taken draft fields.now) result }
     ensures limits { GivesSheet result }
@@ -114,7 +114,7 @@ fn league_record(alloc: Global, fields: &Fields) -> Result<Draft, RecordStop>
     let Some(budget) = budget_of(fields) else {
         return Err(RecordStop::Fault(SheetFault::BadField));
     };
-    let Some(order) = order_told(fields) else {
+    let Some(order) = order_in(fields) else {
         return Err(RecordStop::Fault(SheetFault::BadField));
     };
     Ok(Draft::begin(alloc, name, goal_limit as u8, budget, order)?)
@@ -131,8 +131,8 @@ fn budget_of(fields: &Fields) -> Option<u32>
     }
 }
 
-fn order_told(fields: &Fields) -> Option<Order>
-    ensures { result ≡ order_told fields.now }
+fn order_in(fields: &Fields) -> Option<Order>
+    ensures { result ≡ order_in fields.now }
 {
     if fields.len() < 5 {
         return Some(Order::HeadFirst);

@@ -4,11 +4,11 @@ use Rattle.std.proofs.Common.{arith}
 use Rattle.std.proofs.lemmas.Int.{ints}
 use Rattle.std.specs.Prelude.{MatchOption}
 use Rattle.league_core.specs.declared.club_set.ClubSet.{ClubSet}
-use Rattle.league_core.specs.ClubSets.{clubs_in}
+use Rattle.league_core.specs.game.ClubSets.{clubs_in}
 use Rattle.flow_bound.specs.declared.tally.Pair.{Pair}
-use Rattle.flow_bound.specs.Parts.{HasNoExcess, IsAnsweredSet, IsLeastBest, KeepsExcess, NoneOver}
-use Rattle.flow_bound.specs.Parts.{EachAdds, IsLeftOpenIn, IsPartOf, has_both, side_of}
-use Rattle.flow_bound.specs.Parts.{sum_of_pairs}
+use Rattle.flow_bound.specs.inside.Parts.{HasNoExcess, IsAnsweredSet, IsLeastBest, KeepsExcess}
+use Rattle.flow_bound.specs.inside.Parts.{NoneOver, EachAdds, IsLeftOpenIn, IsPartOf, has_both}
+use Rattle.flow_bound.specs.inside.Parts.{side_of, sum_of_pairs}
 use Rattle.flow_bound.proofs.PeelLemmas.{no_excess_of_all, best_of_all}
 
 pub answer_of_rest : (table : List ℤ) (pairs : List Pair) (whole rest : ℕ → Bool)

@@ -9,14 +9,14 @@ use Rattle.std.proofs.lemmas.Int.{ints}
 use Rattle.std.proofs.lemmas.Bool.{false≢true, and_from, cases_eq, cases_order, eqb-true, ne_eqb}
 use Rattle.std.proofs.lemmas.Bool.{or_cases}
 use Rattle.league_core.specs.declared.club_set.ClubSet.{ClubSet}
-use Rattle.league_core.specs.Sums.{has_club}
-use Rattle.league_core.specs.ClubSets.{clubs_in}
+use Rattle.league_core.specs.game.Sums.{has_club}
+use Rattle.league_core.specs.game.ClubSets.{clubs_in}
 use Rattle.league_core.proofs.ClubSetLemmas.{has_club-with_bit}
-use Rattle.score_box.specs.Boxes.{IsSetOf}
+use Rattle.score_box.specs.inside.Boxes.{IsSetOf}
 use Rattle.flow_bound.specs.declared.tally.Pair.{Pair}
-use Rattle.flow_bound.specs.Excess.{AreMarked, IsChosen, IsFirstAlone, IsInEachGreatest}
-use Rattle.flow_bound.specs.Parts.{IsAnsweredSet, IsFirstOver, IsPartOf, entry, excess_in}
-use Rattle.flow_bound.specs.Parts.{has_both, side_of, sum_of_pairs}
+use Rattle.flow_bound.specs.inside.Excess.{AreMarked, IsChosen, IsFirstAlone, IsInEachGreatest}
+use Rattle.flow_bound.specs.inside.Parts.{IsAnsweredSet, IsFirstOver, IsPartOf, entry, excess_in}
+use Rattle.flow_bound.specs.inside.Parts.{has_both, side_of, sum_of_pairs}
 use Rattle.flow_bound.proofs.OneMoreLemmas.{excess_in-more, with_club}
 use Rattle.flow_bound.proofs.PartLemmas.{sum_below-one, sum_below-same}
 use Rattle.flow_bound.proofs.PartLemmas.{sum_of_pairs-cons}

@@ -12,20 +12,19 @@ use Rattle.league_core.specs.declared.question.Question.{Question}
 use Rattle.league_core.specs.declared.zone.Literal.{Literal}
 use Rattle.league_core.specs.declared.zone.Reason.TheVariants.{Low, High}
 use Rattle.league_core.specs.declared.club_set.ClubSet.{ClubSet}
-use Rattle.league_core.specs.Results.{Results}
-use Rattle.league_core.specs.Sums.{has_club}
-use Rattle.league_core.specs.ClubSets.{clubs_in}
-use Rattle.league_core.specs.Zones.{marked_after, marked_before}
-use Rattle.league_core.specs.Options.{has_finish}
-use Rattle.league_core.specs.PointRanges.{least_points_of, most_points_of, own_most, own_least}
-use Rattle.league_core.specs.Reasons.{has_reason, has_member, times}
+use Rattle.league_core.specs.game.Results.{Results}
+use Rattle.league_core.specs.game.Sums.{has_club}
+use Rattle.league_core.specs.game.ClubSets.{clubs_in}
+use Rattle.league_core.specs.search.Zones.{marked_after, marked_before}
+use Rattle.league_core.specs.search.Options.{has_finish}
+use Rattle.league_core.specs.search.PointRanges.{least_points_of, most_points_of, own_most}
+use Rattle.league_core.specs.search.PointRanges.{own_least}
+use Rattle.league_core.specs.search.Reasons.{has_reason, has_member, times}
 use Rattle.flow_bound.specs.declared.cut.Cut.TheVariants.{Floor, Ceiling}
 use Rattle.flow_bound.specs.declared.tally.Pair.{Pair}
-use Rattle.flow_bound.specs.Excess.{AreMarked, IsChosen}
-use Rattle.flow_bound.specs.Excess.{ceiling_excess, floor_excess}
-use Rattle.flow_bound.specs.Fixtures.{excess_over}
-use Rattle.flow_bound.specs.Parts.{HasNoExcess, IsAnsweredSet}
-use Rattle.flow_bound.specs.Parts.{side_of}
+use Rattle.flow_bound.specs.inside.Excess.{AreMarked, IsChosen, high_excess, low_excess}
+use Rattle.flow_bound.specs.inside.Fixtures.{excess_over}
+use Rattle.flow_bound.specs.inside.Parts.{HasNoExcess, IsAnsweredSet, side_of}
 use Rattle.flow_bound.proofs.PartLemmas.{excess_in-empty}
 use Rattle.flow_bound.proofs.ChosenLemmas.{GivesExcess, alone_is, marked_part, part_marked}
 use Rattle.flow_bound.proofs.ChosenLemmas.{one_marked, chosen_is}
@@ -84,23 +83,23 @@ times-less (club ∷ clubs) points =
     one_more n points = omega (arith, ints)
 
 -- the excess over a level is that of the cut
-pub floor_excess-is : (sheet : Sheet) (season : Results) (question : Question) (zone : List Literal)
+pub low_excess-is : (sheet : Sheet) (season : Results) (question : Question) (zone : List Literal)
     (level : ℤ) (clubs : List ℕ) → level ≡ pos 0 -ℤ own_most sheet season question zone
-    → excess_over Floor sheet season zone level clubs ≡ floor_excess sheet season question zone
+    → excess_over Floor sheet season zone level clubs ≡ low_excess sheet season question zone
     clubs
 unfolding least_points_of
-floor_excess-is sheet season question zone level clubs is =
+low_excess-is sheet season question zone level clubs is =
     let same = ap (times clubs) is in
     let less = times-less clubs (own_most sheet season question zone) in
     omega (arith, ints)
 
-pub ceiling_excess-is : (sheet : Sheet) (season : Results) (question : Question) (zone : List
+pub high_excess-is : (sheet : Sheet) (season : Results) (question : Question) (zone : List
     Literal)
     (level : ℤ) (clubs : List ℕ) → level ≡ own_least sheet season question zone
-    → excess_over Ceiling sheet season zone level clubs ≡ ceiling_excess sheet season question zone
+    → excess_over Ceiling sheet season zone level clubs ≡ high_excess sheet season question zone
     clubs
 unfolding most_points_of
-ceiling_excess-is sheet season question zone level clubs is =
+high_excess-is sheet season question zone level clubs is =
     let same = ap (times clubs) is in
     omega (arith, ints)
 
@@ -114,7 +113,7 @@ not_above a b h = grind (arith, ints)
 pub floor_holds : (sheet : Sheet) (season : Results) (question : Question) (zone : List Literal)
     (set : ClubSet) → has_finish sheet season zone ≡ true → has_member (clubs_in set) ≡ true
     → AreMarked (marked_after zone) set
-    → pos 0 <ℤ floor_excess sheet season question zone (clubs_in set)
+    → pos 0 <ℤ low_excess sheet season question zone (clubs_in set)
     → has_reason sheet season question zone (Low set) ≡ true
 unfolding has_reason
 floor_holds sheet season question zone set finish member all exceeds =
@@ -127,7 +126,7 @@ floor_holds sheet season question zone set finish member all exceeds =
 pub ceiling_holds : (sheet : Sheet) (season : Results) (question : Question) (zone : List Literal)
     (set : ClubSet) → has_finish sheet season zone ≡ true → has_member (clubs_in set) ≡ true
     → AreMarked (marked_before zone) set
-    → pos 0 <ℤ ceiling_excess sheet season question zone (clubs_in set)
+    → pos 0 <ℤ high_excess sheet season question zone (clubs_in set)
     → has_reason sheet season question zone (High set) ≡ true
 unfolding has_reason
 ceiling_holds sheet season question zone set finish member all exceeds =
@@ -147,7 +146,7 @@ no_reason true true true over none = none refl
 -- where no set of marked clubs has an excess, none has the reason
 pub floor_fails : (sheet : Sheet) (season : Results) (question : Question) (zone : List Literal)
     (set : ClubSet) → (AreMarked (marked_after zone) set
-    → floor_excess sheet season question zone (clubs_in set) ≤ℤ pos 0)
+    → low_excess sheet season question zone (clubs_in set) ≤ℤ pos 0)
     → has_reason sheet season question zone (Low set) ≡ false
 unfolding has_reason
 floor_fails sheet season question zone set none =
@@ -158,7 +157,7 @@ floor_fails sheet season question zone set none =
 
 pub ceiling_fails : (sheet : Sheet) (season : Results) (question : Question) (zone : List Literal)
     (set : ClubSet) → (AreMarked (marked_before zone) set
-    → ceiling_excess sheet season question zone (clubs_in set) ≤ℤ pos 0)
+    → high_excess sheet season question zone (clubs_in set) ≤ℤ pos 0)
     → has_reason sheet season question zone (High set) ≡ false
 unfolding has_reason
 ceiling_fails sheet season question zone set none =
@@ -170,7 +169,7 @@ ceiling_fails sheet season question zone set none =
 -- what is found is a floor cut
 pub floor_found : (sheet : Sheet) (season : Results) (question : Question) (zone : List Literal)
     (table : List ℤ) (pairs : List Pair) (rivals : ClubSet) (chosen : Option ClubSet)
-    → GivesExcess table pairs rivals (marked_after zone) (floor_excess sheet season question zone)
+    → GivesExcess table pairs rivals (marked_after zone) (low_excess sheet season question zone)
     → has_finish sheet season zone ≡ true
     → MatchOption chosen (HasNoExcess table pairs (side_of rivals))
     (IsAnsweredSet table pairs (side_of
@@ -178,16 +177,16 @@ pub floor_found : (sheet : Sheet) (season : Results) (question : Question) (zone
     → IfSome chosen (λ set. has_reason sheet season question zone (Low set) ≡ true)
 floor_found sheet season question zone table pairs rivals None gives finish is = tt
 floor_found sheet season question zone table pairs rivals (Some set) gives finish is =
-    let over = answer_exceeds table pairs rivals (marked_after zone) (floor_excess sheet season
+    let over = answer_exceeds table pairs rivals (marked_after zone) (low_excess sheet season
     question zone) set gives is in
     floor_holds sheet season question zone set finish
-    (some_member table pairs rivals (marked_after zone) (floor_excess sheet season question zone)
+    (some_member table pairs rivals (marked_after zone) (low_excess sheet season question zone)
     set gives over.0 over.1)
     over.0 over.1
 
 pub ceiling_found : (sheet : Sheet) (season : Results) (question : Question) (zone : List Literal)
     (table : List ℤ) (pairs : List Pair) (rivals : ClubSet) (chosen : Option ClubSet)
-    → GivesExcess table pairs rivals (marked_before zone) (ceiling_excess sheet season question
+    → GivesExcess table pairs rivals (marked_before zone) (high_excess sheet season question
     zone)
     → has_finish sheet season zone ≡ true
     → MatchOption chosen (HasNoExcess table pairs (side_of rivals))
@@ -196,10 +195,10 @@ pub ceiling_found : (sheet : Sheet) (season : Results) (question : Question) (zo
     → IfSome chosen (λ set. has_reason sheet season question zone (High set) ≡ true)
 ceiling_found sheet season question zone table pairs rivals None gives finish is = tt
 ceiling_found sheet season question zone table pairs rivals (Some set) gives finish is =
-    let over = answer_exceeds table pairs rivals (marked_before zone) (ceiling_excess sheet season
+    let over = answer_exceeds table pairs rivals (marked_before zone) (high_excess sheet season
     question zone) set gives is in
     ceiling_holds sheet season question zone set finish
-    (some_member table pairs rivals (marked_before zone) (ceiling_excess sheet season question
+    (some_member table pairs rivals (marked_before zone) (high_excess sheet season question
     zone) set gives over.0 over.1)
     over.0 over.1
 

@@ -14,36 +14,35 @@ use Rattle.league_core.specs.declared.sheet.Fixture.{Fixture}
 use Rattle.league_core.specs.declared.season.Score.{Score}
 use Rattle.league_core.specs.declared.zone.Literal.{Literal}
 use Rattle.league_core.specs.declared.club_set.ClubSet.{ClubSet}
-use Rattle.league_core.specs.Results.{Results}
-use Rattle.league_core.specs.Sheets.{IsWithinLimits, is_fixture}
-use Rattle.league_core.specs.Sums.{has_club}
-use Rattle.league_core.specs.ClubSets.{clubs_below, clubs_in}
-use Rattle.league_core.specs.Options.{options_in, has_finish}
-use Rattle.league_core.specs.PointRanges.{Range, one_value, added, range_of, total_of}
-use Rattle.league_core.specs.PointRanges.{range_from}
-use Rattle.league_core.specs.PointRanges.{points_of_sides, points_together, deducted_from}
-use Rattle.league_core.specs.Reasons.{times}
+use Rattle.league_core.specs.game.Results.{Results}
+use Rattle.league_core.specs.game.Sheets.{IsWithinLimits, is_fixture}
+use Rattle.league_core.specs.game.Sums.{has_club}
+use Rattle.league_core.specs.game.ClubSets.{clubs_below, clubs_in}
+use Rattle.league_core.specs.search.Options.{options_in, has_finish}
+use Rattle.league_core.specs.search.PointRanges.{Range, one_value, added, range_of, total_of}
+use Rattle.league_core.specs.search.PointRanges.{range_from, points_of_sides, points_together}
+use Rattle.league_core.specs.search.PointRanges.{deducted_from}
+use Rattle.league_core.specs.search.Reasons.{times}
 use Rattle.league_core.proofs.ClubSetLemmas.{clubs_below-none}
 use Rattle.league_core.proofs.OptionLemmas.{length-options_from}
 use Rattle.league_core.proofs.PointRangeLemmas.{range_of-same, total_of-next, total_of-same}
 use Rattle.league_core.proofs.PointRangeLemmas.{total_of-sum}
 use Rattle.league_core.proofs.RangeLemmas.{range_of-none}
 use Rattle.score_box.specs.declared.cell.Cell.{Cell}
-use Rattle.score_box.specs.Cells.{IsCellOf}
+use Rattle.score_box.specs.inside.Cells.{IsCellOf}
 use Rattle.flow_bound.specs.declared.cut.Cut.{Cut}
 use Rattle.flow_bound.specs.declared.cut.Cut.TheVariants.{Floor, Ceiling}
 use Rattle.flow_bound.specs.declared.tally.Pair.{Pair}
-use Rattle.flow_bound.specs.Fixtures.{MatchWorth}
-use Rattle.flow_bound.specs.Parts.{sum_below, entry, sum_of_side, sum_of_pairs, has_both}
-use Rattle.flow_bound.specs.Parts.{excess_in, IsPartOf}
-use Rattle.flow_bound.specs.Parts.{side_of}
-use Rattle.score_box.specs.Unplayed.{unplayed_in}
-use Rattle.score_box.specs.Ends.{alone_over}
+use Rattle.flow_bound.specs.inside.Fixtures.{MatchWorth}
+use Rattle.flow_bound.specs.inside.Parts.{sum_below, entry, sum_of_side, sum_of_pairs, has_both}
+use Rattle.flow_bound.specs.inside.Parts.{excess_in, IsPartOf, side_of}
+use Rattle.score_box.specs.inside.Unplayed.{unplayed_in}
+use Rattle.score_box.specs.inside.Ends.{alone_over}
 use Rattle.score_box.proofs.SplitLemmas.{IsEnd, set_split, keeps_played, beyond_at}
 use Rattle.score_box.proofs.SplitLemmas.{beyond_of_sides, no_match, total_take}
 use Rattle.std.proofs.Common.{take}
-use Rattle.flow_bound.specs.Fixtures.{end_of, own_end, beyond_in, beyond_over, excess_over}
-use Rattle.flow_bound.specs.Fixtures.{IsWorthOf}
+use Rattle.flow_bound.specs.inside.Fixtures.{end_of, own_end, beyond_in, beyond_over, excess_over}
+use Rattle.flow_bound.specs.inside.Fixtures.{IsWorthOf}
 use Rattle.flow_bound.proofs.PartLemmas.{sum_below-same, cond_pos}
 
 -- points count for a floor cut, and against a ceiling cut

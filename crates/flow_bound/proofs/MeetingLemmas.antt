@@ -5,23 +5,23 @@ use Rattle.std.proofs.Common.{ap, ◌∙◌, subst, arith}
 use Rattle.std.proofs.lemmas.Bool.{false≢true, and_parts, and_from, cases_eq, false_from_ne_true}
 use Rattle.std.proofs.lemmas.List.{get_or-set_same, get_or-set_other, take-set-le, length-set}
 use Rattle.std.proofs.lemmas.List.Sums.{sum_by-cons, sum_by_more}
-use Rattle.score_box.specs.Settings.{Setting}
-use Rattle.score_box.specs.Unplayed.{unplayed_in}
+use Rattle.score_box.specs.inside.Settings.{ZoneBoxView}
+use Rattle.score_box.specs.inside.Unplayed.{unplayed_in}
 use Rattle.flow_bound.specs.declared.cut.Cut.{Cut}
 use Rattle.flow_bound.specs.declared.tally.Pair.{Pair}
-use Rattle.flow_bound.specs.Fixtures.{pair_at, pairs_in, sum_at}
-use Rattle.flow_bound.specs.Meetings.{AreHeld, IsTestOfSide}
-use Rattle.flow_bound.specs.Network.{has_away_in, has_home_in}
-use Rattle.flow_bound.specs.Parts.{IsPartOf, has_both, sum_of_pairs, sum_of_side}
+use Rattle.flow_bound.specs.inside.Fixtures.{pair_at, pairs_in, sum_at}
+use Rattle.flow_bound.specs.inside.Meetings.{AreHeld, IsTestOfSide}
+use Rattle.flow_bound.specs.inside.Network.{has_away_in, has_home_in}
+use Rattle.flow_bound.specs.inside.Parts.{IsPartOf, has_both, sum_of_pairs, sum_of_side}
 use Rattle.flow_bound.proofs.PartLemmas.{sum_of_pairs-cons}
 
 -- what the match of a number adds to a sum
-abbrev pub counted_at : (Pair → Bool) → Cut → Setting → ℕ → ℕ
+abbrev pub counted_at : (Pair → Bool) → Cut → ZoneBoxView → ℕ → ℕ
 counted_at test cut box number =
     cond (test (pair_at cut box number)) (pair_at cut box number).surplus 0
 
 -- the pairs of some matches, by their numbers
-sum_mapped : (test : Pair → Bool) (cut : Cut) (box : Setting) (numbers : List ℕ)
+sum_mapped : (test : Pair → Bool) (cut : Cut) (box : ZoneBoxView) (numbers : List ℕ)
     → sum_of_pairs test (map (pair_at cut box) numbers) ≡ sum_at test cut box numbers
 sum_mapped test cut box [] = refl
 sum_mapped test cut box (number ∷ numbers) =
@@ -30,7 +30,7 @@ sum_mapped test cut box (number ∷ numbers) =
     let second = sum_by-cons (counted_at test cut box) number numbers in
     omega (arith, more, first, second)
 
-pub sum_of_open : (test : Pair → Bool) (cut : Cut) (box : Setting)
+pub sum_of_open : (test : Pair → Bool) (cut : Cut) (box : ZoneBoxView)
     → sum_at test cut box (unplayed_in box.season.scores) ≡ sum_of_pairs test (pairs_in cut box)
 unfolding pairs_in
 sum_of_open test cut box = sym (sum_mapped test cut box (unplayed_in box.season.scores))
@@ -48,7 +48,8 @@ none_counts test side pair within (inr nothing) = at (test pair)
     at false = refl
 
 -- one number more
-pub sum_held : (test : Pair → Bool) (cut : Cut) (box : Setting) (held : List ℕ) (count number : ℕ)
+pub sum_held : (test : Pair → Bool) (cut : Cut) (box : ZoneBoxView) (held : List ℕ)
+    (count number : ℕ)
     → count < length held → sum_at test cut box (take (count + 1) (set held count number))
     ≡ sum_at test cut box (take count held) + counted_at test cut box number
 sum_held test cut box held count number room =
@@ -89,7 +90,7 @@ away_within whole rest side part pair is =
     and_from (whole pair.home) (whole pair.away) (part pair.home both.0) (part pair.away both.1)
 
 -- what a part reaches by the matches of the whole it reaches by all
-pub reach_is : (cut : Cut) (box : Setting) (table reach : List ℤ) (numbers : List ℕ)
+pub reach_is : (cut : Cut) (box : ZoneBoxView) (table reach : List ℤ) (numbers : List ℕ)
     (whole rest : ℕ → Bool) → IsPartOf rest whole
     → ((test : Pair → Bool) → IsTestOfSide whole test
     → sum_at test cut box numbers ≡ sum_of_pairs test (pairs_in cut box))

@@ -7,10 +7,10 @@ use Rattle.std.proofs.lemmas.Int.{ints}
 use Rattle.std.proofs.lemmas.Bool.{and_parts, eq-eqb, eqb-true, false≢true, false_from_ne_true}
 use Rattle.league_core.specs.declared.club_set.ClubSet.{ClubSet}
 use Rattle.flow_bound.specs.declared.tally.Pair.{Pair}
-use Rattle.flow_bound.specs.Excess.{IsLeftOpen}
-use Rattle.flow_bound.specs.Parts.{IsLeftOpenIn, entry, excess_in, has_both}
-use Rattle.flow_bound.specs.Parts.{side_of, sum_of_pairs, sum_of_side}
-use Rattle.flow_bound.specs.Network.{has_away_in, has_home_in}
+use Rattle.flow_bound.specs.inside.Excess.{IsLeftOpen}
+use Rattle.flow_bound.specs.inside.Parts.{IsLeftOpenIn, entry, excess_in, has_both, side_of}
+use Rattle.flow_bound.specs.inside.Parts.{sum_of_pairs, sum_of_side}
+use Rattle.flow_bound.specs.inside.Network.{has_away_in, has_home_in}
 use Rattle.flow_bound.proofs.ChosenLemmas.{GivesExcess, alone_is, part_marked}
 use Rattle.flow_bound.proofs.OneMoreLemmas.{clubs_more, with_club}
 use Rattle.flow_bound.proofs.PartLemmas.{excess_in-same, sum_of_pairs-cons}

@@ -7,13 +7,13 @@ use Rattle.std.proofs.Common.{ap, ◌∙◌, arith}
 use Rattle.std.proofs.lemmas.Int.{ints}
 use Rattle.std.proofs.lemmas.Bool.{false≢true, and_parts, eq-eqb, ne_eqb, lt-ltb, le-ltb}
 use Rattle.league_core.specs.declared.club_set.ClubSet.{ClubSet}
-use Rattle.league_core.specs.ClubSets.{clubs_in}
+use Rattle.league_core.specs.game.ClubSets.{clubs_in}
 use Rattle.flow_net.specs.declared.arcs.Arc.{Arc}
-use Rattle.flow_net.specs.Cut.{IsCut, IsLeastCut, capacity_of}
+use Rattle.flow_net.specs.inside.Cut.{IsCut, IsLeastCut, capacity_of}
 use Rattle.flow_bound.specs.declared.tally.Pair.{Pair}
-use Rattle.flow_bound.specs.Parts.{sum_of_side, sum_of_pairs, has_both, excess_in, in_both}
-use Rattle.flow_bound.specs.Parts.{IsPartOf, HasNoExcess, IsLeastBest, side_of}
-use Rattle.flow_bound.specs.Network.{IsNumbering, has_home_in, parts_pair_in, through}
+use Rattle.flow_bound.specs.inside.Parts.{sum_of_side, sum_of_pairs, has_both, excess_in, in_both}
+use Rattle.flow_bound.specs.inside.Parts.{IsPartOf, HasNoExcess, IsLeastBest, side_of}
+use Rattle.flow_bound.specs.inside.Network.{IsNumbering, has_home_in, parts_pair_in, through}
 use Rattle.flow_bound.proofs.PartLemmas.{sum_of_pairs-cons, excess_in-same}
 
 -- a pair at home is whole on the side, or parted

@@ -4,7 +4,7 @@ use Rattle.std.proofs.Common.{◌&&◌, ◌||◌, cond, eqb, List, [], ◌∷◌
 use Rattle.std.proofs.lemmas.Int.{ints}
 use Rattle.std.proofs.lemmas.Bool.{cases_eq, eq-eqb, ne_eqb}
 use Rattle.flow_bound.specs.declared.tally.Pair.{Pair}
-use Rattle.flow_bound.specs.Parts.{entry, sum_of_side, sum_of_pairs, has_both, excess_in}
+use Rattle.flow_bound.specs.inside.Parts.{entry, sum_of_side, sum_of_pairs, has_both, excess_in}
 use Rattle.flow_bound.proofs.PartLemmas.{excess_in-same, sum_below-one, sum_below-plus}
 use Rattle.flow_bound.proofs.PartLemmas.{sum_below-same, sum_of_pairs-cons}
 

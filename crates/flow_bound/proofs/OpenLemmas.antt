@@ -7,24 +7,24 @@ use Rattle.std.proofs.lemmas.Int.{ints}
 use Rattle.std.proofs.lemmas.Bool.{eqb-true}
 use Rattle.league_core.specs.declared.season.Score.{Score}
 use Rattle.league_core.specs.declared.sheet.Fixture.{Fixture}
-use Rattle.league_core.specs.Options.{options_in, has_option}
-use Rattle.league_core.specs.PointRanges.{Range, range_of, points_of_sides, points_together}
-use Rattle.league_core.specs.PointRanges.{total_of, least_points_of, most_points_of}
-use Rattle.league_core.specs.Sheets.{IsWithinLimits}
+use Rattle.league_core.specs.search.Options.{options_in, has_option}
+use Rattle.league_core.specs.search.PointRanges.{Range, range_of, points_of_sides, points_together}
+use Rattle.league_core.specs.search.PointRanges.{total_of, least_points_of, most_points_of}
+use Rattle.league_core.specs.game.Sheets.{IsWithinLimits}
 use Rattle.league_core.proofs.OptionLemmas.{length-options_from}
 use Rattle.league_core.proofs.PointRangeLemmas.{least_reached, greatest_reached, range_bounds}
 use Rattle.league_core.proofs.PointRangeLemmas.{range_of-same}
-use Rattle.score_box.specs.Ends.{alone_in}
-use Rattle.score_box.specs.Settings.{HasFinish, Setting}
-use Rattle.score_box.specs.Unplayed.{unplayed_in}
+use Rattle.score_box.specs.inside.Ends.{alone_in}
+use Rattle.score_box.specs.inside.Settings.{HasFinish, ZoneBoxView}
+use Rattle.score_box.specs.inside.Unplayed.{unplayed_in}
 use Rattle.score_box.proofs.EndLemmas.{alone_sides}
 use Rattle.score_box.proofs.SplitLemmas.{end_at_fixture, greatest_end, keeps_played, least_end}
 use Rattle.score_box.proofs.SplitLemmas.{no_match, range_split}
 use Rattle.flow_bound.specs.declared.cut.Cut.{Cut}
 use Rattle.flow_bound.specs.declared.cut.Cut.TheVariants.{Floor, Ceiling}
-use Rattle.flow_bound.specs.Fixtures.{pair_at, pairs_in, surplus_in}
-use Rattle.flow_bound.specs.Parts.{sum_of_pairs}
-use Rattle.flow_bound.specs.Network.{has_home_in, has_away_in}
+use Rattle.flow_bound.specs.inside.Fixtures.{pair_at, pairs_in, surplus_in}
+use Rattle.flow_bound.specs.inside.Parts.{sum_of_pairs}
+use Rattle.flow_bound.specs.inside.Network.{has_home_in, has_away_in}
 use Rattle.flow_bound.proofs.PairsLemmas.{IsOpenAt, open_at_each, surplus_in-is}
 use Rattle.flow_bound.proofs.PartLemmas.{sum_of_pairs-cons}
 
@@ -105,7 +105,7 @@ match_open cut options match inside club apart some =
     omega (arith, ints, least, most, here)
 
 -- all the matches of some numbers
-matches_open : (cut : Cut) (box : Setting) (part : ℕ → Bool) (club : ℕ) (numbers : List ℕ)
+matches_open : (cut : Cut) (box : ZoneBoxView) (part : ℕ → Bool) (club : ℕ) (numbers : List ℕ)
     → ((k d : ℕ) → k < length numbers → IsOpenAt box (get_or numbers k d))
     → (pos (sum_of_pairs (has_home_in part (λ x. eqb x club)) (map (pair_at cut box) numbers))
     +ℤ pos (sum_of_pairs (has_away_in part (λ x. eqb x club)) (map (pair_at cut box) numbers)))
@@ -129,7 +129,7 @@ matches_open cut box part club (number ∷ numbers) each =
     omega (arith, ints, rest, here, home, away)
 
 -- a club's pairs add no more than what its most points are beyond its least
-pub pairs_open : (cut : Cut) (box : Setting) (part : ℕ → Bool) (club : ℕ)
+pub pairs_open : (cut : Cut) (box : ZoneBoxView) (part : ℕ → Bool) (club : ℕ)
     → IsWithinLimits box.sheet → HasFinish box
     → length box.season.scores ≡ length box.sheet.fixtures
     → (pos (sum_of_pairs (has_home_in part (λ x. eqb x club)) (pairs_in cut box))

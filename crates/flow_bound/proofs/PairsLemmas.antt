@@ -10,28 +10,27 @@ use Rattle.std.proofs.lemmas.List.{get_or-map, length-map}
 use Rattle.league_core.specs.declared.club_set.ClubSet.{ClubSet}
 use Rattle.league_core.specs.declared.season.Score.{Score}
 use Rattle.league_core.specs.declared.sheet.Fixture.{Fixture}
-use Rattle.league_core.specs.ClubSets.{clubs_in}
-use Rattle.league_core.specs.Options.{options_in, has_option}
-use Rattle.league_core.specs.PointRanges.{range_of, points_of_sides, total_of}
-use Rattle.league_core.specs.Sheets.{IsWithinLimits}
+use Rattle.league_core.specs.game.ClubSets.{clubs_in}
+use Rattle.league_core.specs.search.Options.{options_in, has_option}
+use Rattle.league_core.specs.search.PointRanges.{range_of, points_of_sides, total_of}
+use Rattle.league_core.specs.game.Sheets.{IsWithinLimits}
 use Rattle.league_core.proofs.OptionLemmas.{length-options_from}
 use Rattle.league_core.proofs.PointRangeLemmas.{least_reached, greatest_reached, range_bounds}
 use Rattle.league_core.proofs.RangeLemmas.{range_of-none}
 use Rattle.league_core.proofs.LiteralLemmas.{option_at}
 use Rattle.league_core.proofs.FixtureLemmas.{fixture_of_sheet}
 use Rattle.score_box.specs.declared.cell.Cell.{Cell}
-use Rattle.score_box.specs.Cells.{IsCellOf}
-use Rattle.score_box.specs.Settings.{HasFinish, Setting}
-use Rattle.score_box.specs.Unplayed.{unplayed_in}
+use Rattle.score_box.specs.inside.Cells.{IsCellOf}
+use Rattle.score_box.specs.inside.Settings.{HasFinish, ZoneBoxView}
+use Rattle.score_box.specs.inside.Unplayed.{unplayed_in}
 use Rattle.score_box.proofs.SplitLemmas.{beyond_alone, beyond_at, beyond_of_sides, no_match}
 use Rattle.score_box.proofs.SplitLemmas.{unplayed_in_range}
 use Rattle.flow_bound.specs.declared.cut.Cut.{Cut}
 use Rattle.flow_bound.specs.declared.cut.Cut.TheVariants.{Floor, Ceiling}
 use Rattle.flow_bound.specs.declared.tally.Pair.{Pair}
-use Rattle.flow_bound.specs.Fixtures.{MatchWorth}
-use Rattle.flow_bound.specs.Fixtures.{IsWorthOf, above_nothing, beyond_over, end_of, pair_at}
-use Rattle.flow_bound.specs.Fixtures.{pairs_in, surplus_in}
-use Rattle.flow_bound.specs.Parts.{has_both, side_of, sum_of_pairs}
+use Rattle.flow_bound.specs.inside.Fixtures.{MatchWorth, IsWorthOf, above_nothing, beyond_over}
+use Rattle.flow_bound.specs.inside.Fixtures.{end_of, pair_at, pairs_in, surplus_in}
+use Rattle.flow_bound.specs.inside.Parts.{has_both, side_of, sum_of_pairs}
 use Rattle.flow_bound.proofs.FixtureLemmas.{beyond_over-is, is_end}
 use Rattle.flow_bound.proofs.PartLemmas.{cond_pos, sum_of_pairs-cons}
 
@@ -100,14 +99,14 @@ beyond_is cut options set match apart =
     come false false = ap (end_of cut) (range_of-none options) ∙ (is_end cut).none
 
 -- the match of a number has two clubs, and an option
-abbrev pub IsOpenAt : Setting → ℕ → Type 0
+abbrev pub IsOpenAt : ZoneBoxView → ℕ → Type 0
 IsOpenAt box number =
     ((get_or box.sheet.fixtures number no_match).home
     ≢ (get_or box.sheet.fixtures number no_match).away)
     × (has_option (get_or (options_in box.sheet box.season box.zone) number []) ≡ true)
 
 -- the pairs of some matches are what these add beyond
-pairs_at_sum : (cut : Cut) (box : Setting) (set : ClubSet) (numbers : List ℕ)
+pairs_at_sum : (cut : Cut) (box : ZoneBoxView) (set : ClubSet) (numbers : List ℕ)
     → ((k d : ℕ) → k < length numbers → IsOpenAt box (get_or numbers k d))
     → pos (sum_of_pairs (has_both (side_of set)) (map (pair_at cut box) numbers))
     ≡ total_of (beyond_at (end_of cut) (clubs_in set) box.sheet.fixtures
@@ -127,7 +126,7 @@ pairs_at_sum cut box set (number ∷ numbers) each =
     omega (arith, ints, rest, here, surplus, counted, sum)
 
 -- each match that is not played is one of the sheet, and has an option
-pub open_at_each : (box : Setting) → IsWithinLimits box.sheet → HasFinish box
+pub open_at_each : (box : ZoneBoxView) → IsWithinLimits box.sheet → HasFinish box
     → length box.season.scores ≡ length box.sheet.fixtures → (k d : ℕ)
     → k < length (unplayed_in box.season.scores)
     → IsOpenAt box (get_or (unplayed_in box.season.scores) k d)
@@ -140,7 +139,7 @@ open_at_each box limits finish many k d within =
     )
 
 -- the pairs of a box are what its matches add beyond
-pub pairs_in-sum : (cut : Cut) (box : Setting) (set : ClubSet) → IsWithinLimits box.sheet
+pub pairs_in-sum : (cut : Cut) (box : ZoneBoxView) (set : ClubSet) → IsWithinLimits box.sheet
     → HasFinish box → length box.season.scores ≡ length box.sheet.fixtures
     → pos (sum_of_pairs (has_both (side_of set)) (pairs_in cut box))
     ≡ beyond_over cut box.sheet box.season box.zone (clubs_in set)
@@ -150,12 +149,12 @@ pairs_in-sum cut box set limits finish many =
     ∙ sym (beyond_over-is cut box.sheet box.season box.zone (clubs_in set) many finish)
 
 -- how many they are, and which
-pub length-pairs_in : (cut : Cut) (box : Setting)
+pub length-pairs_in : (cut : Cut) (box : ZoneBoxView)
     → length (pairs_in cut box) ≡ length (unplayed_in box.season.scores)
 unfolding pairs_in
 length-pairs_in cut box = length-map (unplayed_in box.season.scores) (pair_at cut box)
 
-pub pairs_in-at : (cut : Cut) (box : Setting) (i d : ℕ) (blank : Pair)
+pub pairs_in-at : (cut : Cut) (box : ZoneBoxView) (i d : ℕ) (blank : Pair)
     → i < length (unplayed_in box.season.scores)
     → get_or (pairs_in cut box) i blank ≡ pair_at cut box (get_or (unplayed_in box.season.scores) i
     d)
@@ -164,7 +163,7 @@ pairs_in-at cut box i d blank within =
     get_or-map (pair_at cut box) (unplayed_in box.season.scores) i d blank within
 
 -- each has two clubs
-pub pairs_in-apart : (cut : Cut) (box : Setting) → IsWithinLimits box.sheet → HasFinish box
+pub pairs_in-apart : (cut : Cut) (box : ZoneBoxView) → IsWithinLimits box.sheet → HasFinish box
     → length box.season.scores ≡ length box.sheet.fixtures
     → All (λ pair. pair.home ≢ pair.away) (pairs_in cut box)
 pairs_in-apart cut box limits finish many k d within =
@@ -178,7 +177,7 @@ abbrev pub made_of : Fixture → ℕ → Pair
 made_of match surplus = record { home = match.home; away = match.away; surplus = surplus }
 
 -- it is that of the match of a number
-pub pair_is : (cut : Cut) (box : Setting) (number surplus : ℕ) (match : Fixture)
+pub pair_is : (cut : Cut) (box : ZoneBoxView) (number surplus : ℕ) (match : Fixture)
     → match ≡ get_or box.sheet.fixtures number no_match
     → surplus ≡ surplus_in cut (get_or (options_in box.sheet box.season box.zone) number [])
     → made_of match surplus ≡ pair_at cut box number

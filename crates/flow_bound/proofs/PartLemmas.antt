@@ -7,9 +7,9 @@ use Rattle.std.proofs.lemmas.Bool.{false≢true, false_from_ne_true, cases_eq, e
 use Rattle.std.proofs.lemmas.List.{length-set, get_or-set_same, get_or-set_other}
 use Rattle.std.proofs.lemmas.List.Sums.{sum_by-cons, sum_by_push}
 use Rattle.flow_bound.specs.declared.tally.Pair.{Pair}
-use Rattle.flow_bound.specs.Parts.{sum_below, entry, sum_of_side, sum_of_pairs, has_both, excess_in}
-use Rattle.flow_bound.specs.Parts.{ArePairs, IsPartOf, IsClubTable}
-use Rattle.flow_bound.specs.Network.{has_home_in, has_away_in}
+use Rattle.flow_bound.specs.inside.Parts.{sum_below, entry, sum_of_side, sum_of_pairs, has_both}
+use Rattle.flow_bound.specs.inside.Parts.{excess_in, ArePairs, IsPartOf, IsClubTable}
+use Rattle.flow_bound.specs.inside.Network.{has_home_in, has_away_in}
 
 -- values that agree below a count have one sum
 pub sum_below-same : (count : ℕ) (value other : ℕ → ℤ)

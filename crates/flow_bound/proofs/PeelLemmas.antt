@@ -6,9 +6,10 @@ use Rattle.std.specs.Prelude.{int_lt}
 use Rattle.std.proofs.lemmas.Int.{ints}
 use Rattle.std.proofs.lemmas.Bool.{false≢true, and_parts, cases_eq, ne_eqb}
 use Rattle.flow_bound.specs.declared.tally.Pair.{Pair}
-use Rattle.flow_bound.specs.Parts.{entry, sum_of_side, sum_of_pairs, has_both, excess_in, in_both}
-use Rattle.flow_bound.specs.Parts.{EachAdds, IsPartOf, HasNoExcess, KeepsExcess, IsLeastBest}
-use Rattle.flow_bound.specs.Network.{has_home_in, has_away_in}
+use Rattle.flow_bound.specs.inside.Parts.{entry, sum_of_side, sum_of_pairs, has_both, excess_in}
+use Rattle.flow_bound.specs.inside.Parts.{in_both, EachAdds, IsPartOf, HasNoExcess, KeepsExcess}
+use Rattle.flow_bound.specs.inside.Parts.{IsLeastBest}
+use Rattle.flow_bound.specs.inside.Network.{has_home_in, has_away_in}
 use Rattle.flow_bound.proofs.PartLemmas.{sum_below-same, sum_below-plus, sum_below-low}
 use Rattle.flow_bound.proofs.PartLemmas.{sum_below-one}
 use Rattle.flow_bound.proofs.PartLemmas.{sum_of_pairs-cons, excess_in-same, excess_in-empty}

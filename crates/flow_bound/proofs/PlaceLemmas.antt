@@ -6,8 +6,8 @@ use Rattle.std.proofs.Common.{append_assoc}
 use Rattle.std.specs.Int.{bit_at}
 use Rattle.std.proofs.lemmas.List.{append-nil, get_or_append_left, get_or_push, length-append}
 use Rattle.std.proofs.lemmas.List.{length_push}
-use Rattle.league_core.specs.Sums.{has_club}
-use Rattle.league_core.specs.ClubSets.{clubs_below}
+use Rattle.league_core.specs.game.Sums.{has_club}
+use Rattle.league_core.specs.game.ClubSets.{clubs_below}
 use Rattle.league_core.proofs.ClubSetLemmas.{clubs_below-more, clubs_below-suc}
 
 -- the clubs below a number are the first of those below a greater one

@@ -1,5 +1,5 @@
 -- Sets and tests of clubs: clubs are below 32, and a set of one club is its list.
-use Rattle.std.proofs.Common.{◌≡◌, ◌⊎◌, ℕ, ◌+◌, ◌<◌, ◌≤◌, Bool, true, false, ◌&&◌}
+use Rattle.std.proofs.Common.{◌≡◌, ◌⊎◌, ℕ, ◌<◌, ◌≤◌, Bool, true, false, ◌&&◌}
 use Rattle.std.proofs.Common.{◌||◌, not, eqb, ltb, List, [], ◌∷◌, filter, length, refl, sym, ap}
 use Rattle.std.proofs.Common.{◌∙◌, inl}
 use Rattle.std.proofs.Common.{inr, arith}
@@ -9,11 +9,11 @@ use Rattle.std.proofs.lemmas.List.Filters.{length-filter_both}
 use Rattle.std.proofs.lemmas.Bool.{false≢true, and_parts, and_from, cases_lt, eq-eqb}
 use Rattle.std.proofs.lemmas.Bool.{eqb-true, lt-ltb, le-ltb, ltb-true, or_cases}
 use Rattle.league_core.specs.declared.club_set.ClubSet.{ClubSet}
-use Rattle.league_core.specs.Sums.{has_club}
-use Rattle.league_core.specs.ClubSets.{clubs_in}
+use Rattle.league_core.specs.game.Sums.{has_club}
+use Rattle.league_core.specs.game.ClubSets.{clubs_in}
 use Rattle.league_core.proofs.ClubSetLemmas.{clubs_below-filter, has_club-clubs_below}
-use Rattle.league_core.proofs.ClubSetLemmas.{length-fewer, passes_below_more}
-use Rattle.flow_bound.specs.Parts.{side_of, IsPartOf}
+use Rattle.league_core.proofs.ClubSetLemmas.{length-fewer}
+use Rattle.flow_bound.specs.inside.Parts.{side_of, IsPartOf}
 
 -- a club of a set is below 32
 pub side_of-lt : (set : ClubSet) (club : ℕ) → side_of set club ≡ true → club < 32
@@ -27,23 +27,6 @@ pub side_of-past : (set : ClubSet) (club : ℕ) → 32 ≤ club → side_of set 
 side_of-past set club past =
     has_club-clubs_below 32 set.bits club
     ∙ ap (λ b. b && eqb (bit_at set.bits club) 1) (le-ltb club 32 past)
-
--- no club of a set was found among those below 0
-pub found_none : (set : ClubSet) (passes : ℕ → Bool) → clubs_in set ≡ [] → (club : ℕ)
-    → side_of set club ≡ (ltb club 0 && passes club)
-found_none set passes empty club =
-    ap (λ clubs. has_club clubs club) empty
-    ∙ ap (λ b. b && passes club) (sym (le-ltb club 0 (omega arith)))
-
--- of the clubs of a set that pass, those that were found below a number and the next one
-pub found_more : (found next : ClubSet) (passes : ℕ → Bool) (at : ℕ)
-    → ((club : ℕ) → side_of found club ≡ (ltb club at && passes club))
-    → ((club : ℕ) → side_of next club ≡ (side_of found club || (passes at && eqb at club)))
-    → (club : ℕ) → side_of next club ≡ (ltb club (at + 1) && passes club)
-found_more found next passes at so_far is club =
-    is club
-    ∙ ap (λ b. b || (passes at && eqb at club)) (so_far club)
-    ∙ passes_below_more passes at club
 
 -- once all numbers below 32 were looked at, all clubs of a set that pass are found
 pub found_all : (found set : ClubSet) (test : ℕ → Bool) (at : ℕ) → 32 ≤ at
@@ -115,79 +98,3 @@ pub no_club_of_none : (clubs : List ℕ) → length clubs ≤ 0 → (club : ℕ)
     → has_club clubs club ≡ false
 no_club_of_none [] none club = refl
 no_club_of_none (first ∷ clubs) none club = absurd (omega (arith, none))
-
--- one club fewer to look at: it is found where it passes
-pub found_next : (set left rest found more : ClubSet) (test : ℕ → Bool) (at : ℕ)
-    → side_of left at ≡ true → side_of set at ≡ true
-    → ((club : ℕ) → side_of rest club
-    ≡ (side_of left club && not (has_club (at ∷ []) club)))
-    → ((club : ℕ) → side_of found club
-    ≡ (side_of set club && (not (side_of left club) && test club)))
-    → ((club : ℕ) → side_of more club ≡ (side_of found club || (test at && eqb at club)))
-    → (club : ℕ) → side_of more club
-    ≡ (side_of set club && (not (side_of rest club) && test club))
-found_next set left rest found more test at among inside rest_is found_is more_is club =
-    by_club (side_of set club) (side_of left club) (side_of rest club) (side_of found club)
-    (side_of more club) (test club) (test at) (eqb at club)
-    (λ same. ap (side_of left) (sym (eqb-true at club same)) ∙ among)
-    (λ same. ap (side_of set) (sym (eqb-true at club same)) ∙ inside)
-    (λ same. ap test (eqb-true at club same)) (rest_is club) (found_is club) (more_is club)
-  where
-    and_true : (b : Bool) → (b && true) ≡ b
-    and_true true = refl
-    and_true false = refl
-
-    nothing_more : (b c : Bool) → (b || (c && false)) ≡ b
-    nothing_more true c = refl
-    nothing_more false true = refl
-    nothing_more false false = refl
-
-    by_club : (s l r f m t here e : Bool) → (e ≡ true → l ≡ true) → (e ≡ true → s ≡ true)
-        → (e ≡ true → here ≡ t) → r ≡ (l && not (e || false)) → f ≡ (s && (not l && t))
-        → m ≡ (f || (here && e)) → m ≡ (s && (not r && t))
-    by_club true true r f m t here true has is same r_is f_is m_is =
-        m_is ∙ ap (λ b. b || (here && true)) f_is ∙ and_true here ∙ same refl
-        ∙ ap (λ b. not b && t) (sym r_is)
-    by_club s false r f m t here true has is same r_is f_is m_is = absurd (false≢true (has refl))
-    by_club false true r f m t here true has is same r_is f_is m_is =
-        absurd (false≢true (is refl))
-    by_club s l r f m t here false has is same r_is f_is m_is =
-        m_is ∙ ap (λ b. b || (here && false)) f_is ∙ nothing_more (s && (not l && t)) here
-        ∙ ap (λ b. s && (not b && t)) (sym (r_is ∙ and_true l))
-
--- what is left is a part of what was, without the club, and has fewer clubs
-pub rest_is_part : (left rest : ClubSet) (at : ℕ)
-    → ((club : ℕ) → side_of rest club
-    ≡ (side_of left club && not (has_club (at ∷ []) club)))
-    → IsPartOf (side_of rest) (side_of left)
-rest_is_part left rest at is club has =
-    (and_parts (side_of left club) (not (has_club (at ∷ []) club)) (sym (is club) ∙ has)).0
-
-pub rest_is_less : (left rest : ClubSet) (at : ℕ) → side_of left at ≡ true
-    → ((club : ℕ) → side_of rest club
-    ≡ (side_of left club && not (has_club (at ∷ []) club)))
-    → length (clubs_in rest) < length (clubs_in left)
-rest_is_less left rest at among is =
-    length-fewer rest left at (rest_is_part left rest at is) among
-    (is at ∙ ap (λ b. side_of left at && not (b || false)) (eq-eqb at at refl)
-    ∙ and_false (side_of left at))
-  where
-    and_false : (b : Bool) → (b && false) ≡ false
-    and_false true = refl
-    and_false false = refl
-
--- what is not left any more is the club, or was not left before
-pub not_left : (left rest : ClubSet) (at club : ℕ)
-    → ((other : ℕ) → side_of rest other
-    ≡ (side_of left other && not (has_club (at ∷ []) other)))
-    → side_of rest club ≡ false → (at ≡ club) ⊎ (side_of left club ≡ false)
-not_left left rest at club is out = by (eqb at club) (side_of left club) refl refl
-  where
-    by : (e l : Bool) → eqb at club ≡ e → side_of left club ≡ l
-        → (at ≡ club) ⊎ (side_of left club ≡ false)
-    by true l same has = inl (eqb-true at club same)
-    by false false same has = inr has
-    by false true same has =
-        absurd (false≢true (sym out ∙ is club
-        ∙ ap (λ b. b && not (eqb at club || false)) has
-        ∙ ap (λ b. not (b || false)) same))

@@ -4,9 +4,9 @@ use Rattle.std.proofs.Common.{◌&&◌, cond, eqb, List, [], ◌∷◌, refl, sy
 use Rattle.std.proofs.lemmas.Int.{ints}
 use Rattle.std.proofs.lemmas.Bool.{and_parts, cases_eq, eq-eqb, ne_eqb}
 use Rattle.flow_bound.specs.declared.tally.Pair.{Pair}
-use Rattle.flow_bound.specs.Parts.{entry, sum_below, sum_of_side, sum_of_pairs, has_both, in_both}
-use Rattle.flow_bound.specs.Parts.{IsFirstOver, IsPartOf, KeepsExcess, NoneOver}
-use Rattle.flow_bound.specs.Network.{has_home_in, has_away_in}
+use Rattle.flow_bound.specs.inside.Parts.{entry, sum_below, sum_of_side, sum_of_pairs, has_both}
+use Rattle.flow_bound.specs.inside.Parts.{in_both, IsFirstOver, IsPartOf, KeepsExcess, NoneOver}
+use Rattle.flow_bound.specs.inside.Network.{has_home_in, has_away_in}
 use Rattle.flow_bound.proofs.PartLemmas.{sum_below-same, sum_below-plus, sum_below-low, cond_pos}
 use Rattle.flow_bound.proofs.PartLemmas.{sum_below-none, sum_below-one, sum_of_pairs-cons}
 use Rattle.flow_bound.proofs.PartLemmas.{excess_in-same}

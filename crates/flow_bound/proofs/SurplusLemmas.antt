@@ -6,12 +6,13 @@ use Rattle.league_core.specs.declared.season.Score.{Score}
 use Rattle.score_box.specs.declared.cell.Cell.{Cell}
 use Rattle.score_box.specs.declared.points.left.OutcomesLeft.{OutcomesLeft}
 use Rattle.score_box.specs.declared.points.outcomes.MatchPoints.{MatchPoints}
-use Rattle.score_box.specs.Cells.{IsCellOf, IsEmptyCell}
-use Rattle.score_box.specs.Points.{AreOutcomesLeft, IsPointsOf, least_of_three, most_of_three}
+use Rattle.score_box.specs.inside.Cells.{IsCellOf, IsEmptyCell}
+use Rattle.score_box.specs.inside.Points.{AreOutcomesLeft, IsPointsOf, least_of_three}
+use Rattle.score_box.specs.inside.Points.{most_of_three}
 use Rattle.score_box.proofs.LeftLemmas.{none_left, points_left-are}
 use Rattle.flow_bound.specs.declared.cut.Cut.{Cut}
 use Rattle.flow_bound.specs.declared.cut.Cut.TheVariants.{Floor, Ceiling}
-use Rattle.flow_bound.specs.Fixtures.{MatchWorth, surplus_in, surplus_left}
+use Rattle.flow_bound.specs.inside.Fixtures.{MatchWorth, surplus_in, surplus_left}
 use Rattle.flow_bound.proofs.WorthLemmas.{floor_worth, ceiling_worth}
 use Rattle.flow_bound.proofs.PairsLemmas.{worth_surplus}
 

@@ -5,11 +5,11 @@ use Rattle.league_core.specs.declared.sheet.Sheet.{Sheet}
 use Rattle.league_core.specs.declared.sheet.Order.TheVariants.{HeadFirst}
 use Rattle.league_core.specs.declared.question.Claim.TheVariants.{Inside}
 use Rattle.league_core.specs.declared.question.Question.{Question}
-use Rattle.league_core.specs.Results.{Results}
-use Rattle.league_core.specs.Questions.{full_question}
-use Rattle.league_core.specs.Options.{score_of}
-use Rattle.league_core.specs.PointRanges.{least_points_of, most_points_of}
-use Rattle.flow_bound.specs.Excess.{ceiling_excess, floor_excess}
+use Rattle.league_core.specs.game.Results.{Results}
+use Rattle.league_core.specs.game.Questions.{full_question}
+use Rattle.league_core.specs.search.Options.{score_of}
+use Rattle.league_core.specs.search.PointRanges.{least_points_of, most_points_of}
+use Rattle.flow_bound.specs.inside.Excess.{high_excess, low_excess}
 
 -- A, B, C and D; B and C beat D, and A still meets D, and B still meets C
 abbrev sheet : Sheet
@@ -35,20 +35,20 @@ abbrev ask : Question
 ask = full_question 0 1 Inside
 
 -- A comes to 3 at most: B and C are there already, and together they have 8, two more than twice 3
-floor : map (floor_excess sheet (season (0 ∷ 0 ∷ 0 ∷ 0 ∷ [])) ask [])
+floor : map (low_excess sheet (season (0 ∷ 0 ∷ 0 ∷ 0 ∷ [])) ask [])
     ((1 ∷ []) ∷ (2 ∷ []) ∷ (1 ∷ 2 ∷ []) ∷ [] ∷ []) ≡ pos 0 ∷ pos 0 ∷ pos 2 ∷ pos 0 ∷ []
 unfolding least_points_of most_points_of
 floor = refl
 
 -- a point taken off each of B and C leaves just twice 3; one taken off A makes each alone too many
-floor_off : map (λ off. floor_excess sheet (season off) ask [] (1 ∷ 2 ∷ []))
+floor_off : map (λ off. low_excess sheet (season off) ask [] (1 ∷ 2 ∷ []))
     ((0 ∷ 1 ∷ 1 ∷ 0 ∷ []) ∷ (1 ∷ 0 ∷ 0 ∷ 0 ∷ []) ∷ []) ≡ pos 0 ∷ pos 4 ∷ []
 unfolding least_points_of most_points_of
 floor_off = refl
 
 -- with at least 5 points wished for A, B and C can come to 6 each, but to 9 together, one short of
 -- 10
-ceiling : map (ceiling_excess sheet (season (0 ∷ 0 ∷ 0 ∷ 0 ∷ [])) (record ask { low = pos 5 }) [])
+ceiling : map (high_excess sheet (season (0 ∷ 0 ∷ 0 ∷ 0 ∷ [])) (record ask { low = pos 5 }) [])
     ((1 ∷ []) ∷ (3 ∷ []) ∷ (1 ∷ 2 ∷ []) ∷ []) ≡ negsuc 0 ∷ pos 2 ∷ pos 1 ∷ []
 unfolding least_points_of most_points_of
 ceiling = refl

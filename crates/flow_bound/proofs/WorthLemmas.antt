@@ -9,21 +9,20 @@ use Rattle.std.proofs.lemmas.Int.{ints}
 use Rattle.std.proofs.lemmas.Bool.{and_parts, and_from, leb-true, le-leb}
 use Rattle.std.proofs.lemmas.Map.Views.{any-filter_same}
 use Rattle.league_core.specs.declared.season.Score.{Score}
-use Rattle.league_core.specs.Finishes.{same_score}
-use Rattle.league_core.specs.Options.{scores_up_to}
-use Rattle.league_core.specs.PointRanges.{Range, one_value, range_of, points_of_sides}
-use Rattle.league_core.specs.Sums.{match_points}
+use Rattle.league_core.specs.game.Finishes.{same_score}
+use Rattle.league_core.specs.search.Options.{scores_up_to}
+use Rattle.league_core.specs.search.PointRanges.{Range, one_value, range_of, points_of_sides}
+use Rattle.league_core.specs.game.Sums.{match_points}
 use Rattle.league_core.proofs.OptionLemmas.{has_score-scores_up_to, same_score-true}
 use Rattle.league_core.proofs.PointRangeLemmas.{least_reached, greatest_reached, range_bounds}
 use Rattle.score_box.specs.declared.cell.Cell.{Cell}
 use Rattle.score_box.specs.declared.points.outcomes.MatchPoints.{MatchPoints}
-use Rattle.score_box.specs.Cells.{is_within, keeps_outcome, allows, IsCellOf, IsEmptyCell}
-use Rattle.score_box.specs.Points.{IsPointsOf}
+use Rattle.score_box.specs.inside.Cells.{is_within, keeps_outcome, allows, IsCellOf, IsEmptyCell}
+use Rattle.score_box.specs.inside.Points.{IsPointsOf}
 use Rattle.score_box.proofs.BoxLemmas.{option_of_cell}
 use Rattle.flow_bound.specs.declared.cut.Cut.{Cut}
 use Rattle.flow_bound.specs.declared.cut.Cut.TheVariants.{Floor, Ceiling}
-use Rattle.flow_bound.specs.Fixtures.{MatchWorth}
-use Rattle.flow_bound.specs.Fixtures.{end_of, worth_of_sides, IsWorthOf}
+use Rattle.flow_bound.specs.inside.Fixtures.{MatchWorth, end_of, worth_of_sides, IsWorthOf}
 
 -- the scores of a cell, listed
 options_for : Cell → List Score

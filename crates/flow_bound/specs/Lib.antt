@@ -1,7 +1,2 @@
--- what the public contracts rest on
-pub mod Excess
--- what the inner functions promise each other
-pub mod Parts
-pub mod Fixtures
-pub mod Meetings
-pub mod Network
+-- All words of this crate stand in inside/: no promise of the program rests on them.
+pub mod inside

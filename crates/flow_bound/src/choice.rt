@@ -1,19 +1,19 @@
 //! Which set is answered: a club alone where one is enough, otherwise the least best set.
 
 ghost use Rattle.std.specs.Prelude.{◌≡◌, ℕ, pos, ◌≤ℤ◌, MatchOption, IfOk, OnErr};
-ghost use Rattle.score_box.specs.Settings.{HasFinish};
-ghost use Rattle.flow_bound.specs.Parts.{HasNoExcess, IsAnsweredSet, IsClubTable};
-ghost use Rattle.flow_bound.specs.Parts.{IsFirstOver, IsLeftOpenIn, NoneOver};
-ghost use Rattle.flow_bound.specs.Parts.{most_credits, side_of};
-ghost use Rattle.flow_bound.specs.Fixtures.{pairs_in};
+ghost use Rattle.score_box.specs.inside.Settings.{HasFinish};
+ghost use Rattle.flow_bound.specs.inside.Parts.{HasNoExcess, IsAnsweredSet, IsClubTable};
+ghost use Rattle.flow_bound.specs.inside.Parts.{IsFirstOver, IsLeftOpenIn, NoneOver, most_credits};
+ghost use Rattle.flow_bound.specs.inside.Parts.{side_of};
+ghost use Rattle.flow_bound.specs.inside.Fixtures.{pairs_in};
 
 use crate::cut::Cut;
-use crate::hopeful::hopeful;
+use crate::keep::FlowKeep;
 use crate::network::greatest;
 use crate::peel::peel;
+use crate::prefilter::prefilter_by_points;
 use crate::table::{Table, is_over};
 use crate::tally::pairs_of;
-use league_core::limits::SET_WIDTH;
 use league_core::{ClubSet, OutOfMemory};
 use score_box::ZoneBox;
 use std::alloc::Global;
@@ -26,6 +26,7 @@ pub fn choose(
     cut: Cut,
     alone: &Table,
     marked: ClubSet,
+    keep: &mut FlowKeep,
 ) -> Result<Option<ClubSet>, OutOfMemory>
     requires has_finish { HasFinish zone_box.now }
     requires sized { IsClubTable most_credits alone.now }
@@ -35,19 +36,19 @@ pub fn choose(
     ensures spared { OnErr result
         (IsLeftOpenIn alone.now (pairs_in cut zone_box.now) (side_of marked)) }
 {
-    let hopeful = hopeful(zone_box, alone, marked);
-    if hopeful.is_empty() {
+    let prefilter_by_points = prefilter_by_points(zone_box, alone, marked);
+    if prefilter_by_points.is_empty() {
         return Ok(None);
     }
-    if let Some(club) = first_over(alone, hopeful) {
+    if let Some(club) = first_over(alone, prefilter_by_points) {
         return Ok(Some(ClubSet::single(club)));
     }
-    let rest = peel(zone_box, cut, alone, hopeful);
+    let rest = peel(zone_box, cut, alone, prefilter_by_points);
     if rest.is_empty() {
         return Ok(None);
     }
     let pairs = pairs_of(alloc, zone_box, cut, rest)?;
-    let found = greatest(alloc, alone, pairs.as_slice(), rest)?;
+    let found = greatest(alloc, alone, pairs.as_slice(), rest, keep)?;
     Ok(found)
 }
 
@@ -57,17 +58,10 @@ fn first_over(alone: &Table, marked: ClubSet) -> Option<u8>
     ensures { MatchOption result (NoneOver alone.now (side_of marked))
         (IsFirstOver alone.now (side_of marked)) }
 {
-    let mut left = marked;
-    for _step in 0..SET_WIDTH {
-        if left.is_empty() {
-            return None;
-        }
-        let club = left.first_club();
+    for club in marked.clubs() {
         if is_over(alone, club) {
             return Some(club);
         }
-        let others = left.without(ClubSet::single(club));
-        left = others;
     }
     None
 }

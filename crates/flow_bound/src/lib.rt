@@ -5,19 +5,22 @@
 //! rivals, all marked before the club, that cannot all come up to its least. Both are sought in the
 //! same way: the excess of a set is what its clubs add alone, and what each two of them that still
 //! meet add beyond that (`tally`). Clubs that no set needs are dropped, first by their own points
-//! (`hopeful`), then by their matches (`peel`), and the rest is one minimum cut (`network`). Read
-//! `specs/Excess.antt` first.
+//! (`prefilter_by_points`), then by their matches (`peel`), and the rest is one minimum cut
+//! (`network`). Read
+//! `specs/inside/Excess.antt` first.
 #![tactic(auto)]
 
 mod choice;
 mod cut;
-mod hopeful;
+mod keep;
 mod meetings;
 mod network;
 mod peel;
 mod places;
+mod prefilter;
 mod table;
 mod tally;
 mod worth;
 
-pub use cut::{high_cut, low_cut};
+pub use cut::{high_cut, high_cut_from, low_cut, low_cut_from};
+pub use keep::FlowKeep;

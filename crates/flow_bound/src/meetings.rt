@@ -3,12 +3,12 @@
 
 ghost use Rattle.std.specs.Prelude.{◌≡◌, ℕ, ◌+◌, ◌<◌, ◌≤◌, Bool, true, if◌then◌else◌, length, take};
 ghost use Rattle.std.specs.Prelude.{slice_index_or};
-ghost use Rattle.league_core.specs.Limits.{most_fixtures};
-ghost use Rattle.score_box.specs.Settings.{HasFinish};
+ghost use Rattle.league_core.specs.game.Limits.{most_fixtures};
+ghost use Rattle.score_box.specs.inside.Settings.{HasFinish};
 ghost use Rattle.flow_bound.specs.declared.tally.Pair.{Pair};
-ghost use Rattle.flow_bound.specs.Fixtures.{pair_at, pairs_in, sum_at};
-ghost use Rattle.flow_bound.specs.Parts.{sum_of_pairs, side_of};
-ghost use Rattle.flow_bound.specs.Meetings.{IsTestOfSide, AreHeld};
+ghost use Rattle.flow_bound.specs.inside.Fixtures.{pair_at, pairs_in, sum_at};
+ghost use Rattle.flow_bound.specs.inside.Parts.{sum_of_pairs, side_of};
+ghost use Rattle.flow_bound.specs.inside.Meetings.{IsTestOfSide, AreHeld};
 
 use crate::cut::Cut;
 use crate::tally::pair_within;
@@ -36,7 +36,7 @@ pub fn hold_meetings(held: &mut [u16], zone_box: &ZoneBox, cut: Cut, set: ClubSe
     count
 }
 
-// Puts the number behind so many, where its match is one of these; how many they are then.
+// Puts the number after so many, where its match is one of these; how many they are then.
 fn hold_if(
     held: &mut [u16],
     count: usize,

@@ -12,14 +12,15 @@
 ghost use Rattle.std.specs.Prelude.{◌≡◌, ◌<◌, ◌≤◌, ◌+◌, ◌*◌, ◌≤ℤ◌, ◌+ℤ◌, ◌-ℤ◌, ◌&&◌, ℕ, true, pos};
 ghost use Rattle.std.specs.Prelude.{neg_ℤ, Bool, if◌then◌else◌, length, None, IfOk, MatchOption};
 ghost use Rattle.std.specs.Prelude.{IsTrue};
-ghost use Rattle.league_core.specs.ClubSets.{clubs_in};
-ghost use Rattle.flow_net.specs.Cut.{IsCut, capacity_of, marked};
-ghost use Rattle.league_core.specs.Limits.{most_fixtures, set_width};
-ghost use Rattle.flow_bound.specs.Parts.{most_credits, most_entry};
-ghost use Rattle.flow_bound.specs.Parts.{ArePairs, HasNoExcess, IsLeastBest, IsClubTable, entry};
-ghost use Rattle.flow_bound.specs.Parts.{in_both, side_of, sum_of_pairs, sum_of_side};
-ghost use Rattle.flow_bound.specs.Network.{IsNumbering, has_home_in, parts_pair_in, through};
+ghost use Rattle.league_core.specs.game.ClubSets.{clubs_in};
+ghost use Rattle.flow_net.specs.inside.Cut.{IsCut, capacity_of, marked};
+ghost use Rattle.league_core.specs.game.Limits.{most_fixtures, set_width};
+ghost use Rattle.flow_bound.specs.inside.Parts.{most_credits, most_entry, ArePairs, HasNoExcess};
+ghost use Rattle.flow_bound.specs.inside.Parts.{IsLeastBest, IsClubTable, entry, in_both, side_of};
+ghost use Rattle.flow_bound.specs.inside.Parts.{sum_of_pairs, sum_of_side};
+ghost use Rattle.flow_bound.specs.inside.Network.{IsNumbering, has_home_in, parts_pair_in, through};
 
+use crate::keep::{FlowKeep, max_flow_from};
 use crate::places::{Places, places_of};
 use crate::table::{Table, WIDTH, credit};
 use crate::tally::Pair;
@@ -34,6 +35,7 @@ pub fn greatest(
     alone: &Table,
     pairs: &[Pair],
     rest: ClubSet,
+    keep: &mut FlowKeep,
 ) -> Result<Option<ClubSet>, OutOfMemory>
     requires sized { IsClubTable most_credits alone.now }
     requires pairs { ArePairs most_fixtures pairs.now }
@@ -52,7 +54,7 @@ pub fn greatest(
         source,
     );
     add_pairs(&mut net, pairs, rest, &places);
-    let flow = net.max_flow(alloc, source, source + 1)?;
+    let flow = max_flow_from(alloc, net, source, source + 1, keep)?;
     if flow.value < goal {
         Ok(Some(clubs_of(&flow.source_side, rest, &places)))
     } else {

@@ -6,15 +6,13 @@
 
 ghost use Rattle.std.specs.Prelude.{◌≡◌, ℕ, ◌+◌, ◌*◌, ◌<◌, ◌≤◌, ◌+ℤ◌, ◌&&◌, if◌then◌else◌, pos};
 ghost use Rattle.std.specs.Prelude.{int_lt, Bool, IsTrue, length, take, slice_index_or, ◌↔◌};
-ghost use Rattle.league_core.specs.ClubSets.{clubs_in};
-ghost use Rattle.league_core.specs.Limits.{most_fixtures};
-ghost use Rattle.score_box.specs.Settings.{HasFinish};
-ghost use Rattle.flow_bound.specs.Parts.{most_credits};
-ghost use Rattle.flow_bound.specs.Parts.{EachAdds, IsClubTable, KeepsExcess, entry};
-ghost use Rattle.flow_bound.specs.Parts.{side_of};
-ghost use Rattle.flow_bound.specs.Parts.{sum_of_side};
-ghost use Rattle.flow_bound.specs.Network.{has_away_in, has_home_in};
-ghost use Rattle.flow_bound.specs.Fixtures.{pair_at, pairs_in, sum_at};
+ghost use Rattle.league_core.specs.game.ClubSets.{clubs_in};
+ghost use Rattle.league_core.specs.game.Limits.{most_fixtures};
+ghost use Rattle.score_box.specs.inside.Settings.{HasFinish};
+ghost use Rattle.flow_bound.specs.inside.Parts.{most_credits, EachAdds, IsClubTable, KeepsExcess};
+ghost use Rattle.flow_bound.specs.inside.Parts.{entry, side_of, sum_of_side};
+ghost use Rattle.flow_bound.specs.inside.Network.{has_away_in, has_home_in};
+ghost use Rattle.flow_bound.specs.inside.Fixtures.{pair_at, pairs_in, sum_at};
 
 use crate::cut::Cut;
 use crate::meetings::hold_meetings;
@@ -37,7 +35,10 @@ pub fn peel(zone_box: &ZoneBox, cut: Cut, alone: &Table, marked: ClubSet) -> Clu
     let mut rest = marked;
     // Each round but the last drops a club, and a set has no more than `SET_WIDTH`.
     for _round in 0..SET_WIDTH {
-        let next = positive(&reach(zone_box, cut, alone, rest, &held, count), rest);
+        let next = positive(
+            &upper_bounds(zone_box, cut, alone, rest, &held, count),
+            rest,
+        );
         if next.is_empty() {
             return next;
         }
@@ -56,8 +57,8 @@ fn are_as_many(set: ClubSet, other: ClubSet) -> bool
 }
 
 // What each club can add at most where only clubs of `rest` are taken: its own entry, and all
-// its pairs there, of the matches whose numbers are held in front.
-fn reach(
+// its pairs there, of the matches whose numbers are held at the front.
+fn upper_bounds(
     zone_box: &ZoneBox,
     cut: Cut,
     alone: &Table,
@@ -110,16 +111,8 @@ fn positive(table: &Table, set: ClubSet) -> ClubSet
         ≡ (side_of set club && int_lt (pos 0) (entry table.now club)) }
 {
     let mut found = ClubSet::empty();
-    let mut left = set;
-    for _step in 0..SET_WIDTH {
-        if left.is_empty() {
-            return found;
-        }
-        let club = left.first_club();
-        let more = found.with_if(is_over(table, club), club);
-        let others = left.without(ClubSet::single(club));
-        found = more;
-        left = others;
+    for club in set.clubs() {
+        found = found.with_if(is_over(table, club), club);
     }
     found
 }

@@ -1,6 +1,6 @@
 //! The clubs of a set numbered one after another: the nodes of a network.
 
-ghost use Rattle.flow_bound.specs.Network.{IsNumbering};
+ghost use Rattle.flow_bound.specs.inside.Network.{IsNumbering};
 
 use crate::table::WIDTH;
 use league_core::ClubSet;

@@ -2,12 +2,12 @@
 
 ghost use Rattle.std.specs.Prelude.{◌≡◌, ℕ, ◌^◌, ◌<◌, ◌+ℤ◌, ◌≤ℤ◌, pos, neg_ℤ, int_lt};
 ghost use Rattle.std.specs.Prelude.{slice_set, length};
-ghost use Rattle.league_core.specs.Limits.{set_width};
-ghost use Rattle.score_box.specs.Points.{most_taken_off};
-ghost use Rattle.score_box.specs.Settings.{HasFinish};
-ghost use Rattle.flow_bound.specs.Parts.{IsClubTable, entry, least_entry, most_credits};
-ghost use Rattle.flow_bound.specs.Parts.{most_entry};
-ghost use Rattle.flow_bound.specs.Fixtures.{own_end};
+ghost use Rattle.league_core.specs.game.Limits.{set_width};
+ghost use Rattle.score_box.specs.inside.Points.{most_taken_off};
+ghost use Rattle.score_box.specs.inside.Settings.{HasFinish};
+ghost use Rattle.flow_bound.specs.inside.Parts.{IsClubTable, entry, least_entry, most_credits};
+ghost use Rattle.flow_bound.specs.inside.Parts.{most_entry};
+ghost use Rattle.flow_bound.specs.inside.Fixtures.{own_end};
 
 use crate::cut::Cut;
 use league_core::limits::SET_WIDTH;
@@ -19,7 +19,7 @@ pub const WIDTH: usize = SET_WIDTH as usize;
 pub type Table = [i64; WIDTH];
 
 /// The level for each club, with the end of its own points that the cut counts.
-pub fn alone_table(zone_box: &ZoneBox, cut: Cut, level: i64) -> Table
+pub fn own_excess_table(zone_box: &ZoneBox, cut: Cut, level: i64) -> Table
     requires has_finish { HasFinish zone_box.now }
     requires least { neg_ℤ most_taken_off ≤ℤ level }
     requires most { level ≤ℤ pos (2 ^ 31) }

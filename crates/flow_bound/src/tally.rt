@@ -7,16 +7,16 @@ ghost use Rattle.std.specs.Prelude.{◌&&◌, List, false, true, length, if◌th
 ghost use Rattle.std.specs.Prelude.{IfOk, MatchOption};
 ghost use Rattle.std.specs.List.{All};
 ghost use Rattle.league_core.specs.declared.club_set.ClubSet.{ClubSet};
-ghost use Rattle.league_core.specs.ClubSets.{clubs_in};
-ghost use Rattle.league_core.specs.Limits.{most_fixtures};
-ghost use Rattle.score_box.specs.Points.{most_taken_off};
-ghost use Rattle.score_box.specs.Settings.{HasFinish};
-ghost use Rattle.flow_bound.specs.Parts.{ArePairs, IsPartOf, IsClubTable, excess_in, most_credits};
-ghost use Rattle.flow_bound.specs.Parts.{has_both, side_of, sum_of_pairs};
-ghost use Rattle.flow_bound.specs.Fixtures.{excess_over, pair_at, pairs_in};
+ghost use Rattle.league_core.specs.game.ClubSets.{clubs_in};
+ghost use Rattle.league_core.specs.game.Limits.{most_fixtures};
+ghost use Rattle.score_box.specs.inside.Points.{most_taken_off};
+ghost use Rattle.score_box.specs.inside.Settings.{HasFinish};
+ghost use Rattle.flow_bound.specs.inside.Parts.{ArePairs, IsPartOf, IsClubTable, excess_in};
+ghost use Rattle.flow_bound.specs.inside.Parts.{most_credits, has_both, side_of, sum_of_pairs};
+ghost use Rattle.flow_bound.specs.inside.Fixtures.{excess_over, pair_at, pairs_in};
 
 use crate::cut::Cut;
-use crate::table::{Table, alone_table};
+use crate::table::{Table, own_excess_table};
 use crate::worth::surplus_of;
 use league_core::{ClubSet, Fixture, OutOfMemory};
 use score_box::ZoneBox;
@@ -46,7 +46,7 @@ pub fn own_entries(zone_box: &ZoneBox, cut: Cut, level: i64) -> Table
 {
     let _sheet = zone_box.sheet();
     let _season = zone_box.season();
-    alone_table(zone_box, cut, level)
+    own_excess_table(zone_box, cut, level)
 }
 
 /// The pair of a match that is not played, where both its clubs are in the set and it has a

@@ -1,7 +1,7 @@
 //! What one fixture adds to the excess of a set beyond what it adds to each of its clubs alone.
 
 ghost use Rattle.std.specs.Prelude.{◌≡◌, ◌≤◌};
-ghost use Rattle.flow_bound.specs.Fixtures.{surplus_left, surplus_of_all};
+ghost use Rattle.flow_bound.specs.inside.Fixtures.{surplus_left, surplus_of_all};
 
 use crate::cut::Cut;
 use score_box::OutcomesLeft;

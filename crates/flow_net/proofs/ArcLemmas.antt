@@ -2,11 +2,11 @@
 use Rattle.std.proofs.Common.{◌≡◌, ℕ, ◌<◌, List, [], ◌∷◌, ◌++◌, length}
 use Rattle.std.proofs.lemmas.List.{get_or_append_left, get_or_push}
 use Rattle.flow_net.specs.declared.arcs.Arc.{Arc}
-use Rattle.flow_net.specs.declared.arcs.Way.{Way}
-use Rattle.flow_net.specs.declared.arcs.Way.TheVariants.{Along, Against}
-use Rattle.flow_net.specs.Flow.{arc_at, no_arc}
-use Rattle.flow_net.specs.Way.{head_of, tail_of}
-use Rattle.flow_net.specs.Graph.{HasEnds}
+use Rattle.flow_net.specs.declared.arcs.Direction.{Direction}
+use Rattle.flow_net.specs.declared.arcs.Direction.TheVariants.{Along, Against}
+use Rattle.flow_net.specs.inside.Flow.{arc_at, no_arc}
+use Rattle.flow_net.specs.inside.Direction.{head_of, tail_of}
+use Rattle.flow_net.specs.inside.Graph.{HasEnds}
 
 -- the older arcs stay at their places
 pub arc_at-append : (arcs : List Arc) (arc : Arc) (place : ℕ) → place < length arcs
@@ -19,12 +19,12 @@ pub arc_at_push : (arcs : List Arc) (arc : Arc) (place : ℕ) → length arcs �
 arc_at_push arcs arc place h = get_or_push arcs arc no_arc place h
 
 -- both ends of an arc are nodes, whichever way it is gone over
-pub head_in_range : {nodes : ℕ} (way : Way) (arc : Arc) → HasEnds nodes arc
+pub head_in_range : {nodes : ℕ} (way : Direction) (arc : Arc) → HasEnds nodes arc
     → head_of way arc < nodes
 head_in_range Along arc ends = ends.to
 head_in_range Against arc ends = ends.from
 
-pub tail_in_range : {nodes : ℕ} (way : Way) (arc : Arc) → HasEnds nodes arc
+pub tail_in_range : {nodes : ℕ} (way : Direction) (arc : Arc) → HasEnds nodes arc
     → tail_of way arc < nodes
 tail_in_range Along arc ends = ends.from
 tail_in_range Against arc ends = ends.to

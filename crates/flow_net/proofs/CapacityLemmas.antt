@@ -4,7 +4,7 @@ use Rattle.std.proofs.Common.{get_or, refl, arith}
 use Rattle.std.specs.Prelude.{sum_by}
 use Rattle.std.proofs.lemmas.List.Sums.{sum_by-cons}
 use Rattle.flow_net.specs.declared.arcs.Arc.{Arc}
-use Rattle.flow_net.specs.Flow.{arc_at, carried}
+use Rattle.flow_net.specs.inside.Flow.{arc_at, carried}
 use Rattle.flow_net.proofs.ShareLemmas.{share, share-le, share-same, share-zero, share_whole}
 
 -- what an arc can carry, if it is chosen

@@ -4,11 +4,11 @@ use Rattle.std.proofs.Common.{length, get_or, take, sym, ap, ◌∙◌, inl, inr
 use Rattle.std.proofs.lemmas.Bool.{cases_eq, cases_Bool, ne_eqb, eq-eqb}
 use Rattle.std.proofs.lemmas.List.{take_all}
 use Rattle.flow_net.specs.declared.arcs.Arc.{Arc}
-use Rattle.flow_net.specs.declared.arcs.Way.{Way}
-use Rattle.flow_net.specs.Flow.{arc_at, carried}
-use Rattle.flow_net.specs.Way.{tail_of}
-use Rattle.flow_net.specs.Lists.{IsNewest}
-use Rattle.flow_net.specs.Graph.{begins_at}
+use Rattle.flow_net.specs.declared.arcs.Direction.{Direction}
+use Rattle.flow_net.specs.inside.Flow.{arc_at, carried}
+use Rattle.flow_net.specs.inside.Direction.{tail_of}
+use Rattle.flow_net.specs.inside.Lists.{IsNewest}
+use Rattle.flow_net.specs.inside.Graph.{begins_at}
 use Rattle.flow_net.proofs.ShareLemmas.{share}
 
 module _ (chosen : Arc → Bool) where
@@ -65,7 +65,7 @@ module _ (chosen : Arc → Bool) where
       ]
 
 -- from the newest arc at a node to the next older one
-pub carried_next : (way : Way) (arcs : List Arc) (flow : List ℕ) (node place older : ℕ)
+pub carried_next : (way : Direction) (arcs : List Arc) (flow : List ℕ) (node place older : ℕ)
     → place < length arcs → length flow ≡ length arcs → tail_of way (arc_at arcs place) ≡ node
     → IsNewest way arcs node place older
     → carried (begins_at way node) (take (place + 1) arcs) (take (place + 1) flow) ≡ carried
@@ -81,7 +81,7 @@ carried_next way arcs flow node place older below same at_node newest =
     omega (arith, more, here, rest)
 
 -- all arcs at a node are those up to the newest
-pub carried_newest : (way : Way) (arcs : List Arc) (flow : List ℕ) (node newest : ℕ)
+pub carried_newest : (way : Direction) (arcs : List Arc) (flow : List ℕ) (node newest : ℕ)
     → length flow ≡ length arcs → IsNewest way arcs node (length arcs) newest
     → carried (begins_at way node) (take newest arcs) (take newest flow) ≡ carried
     (begins_at way node) arcs flow
@@ -94,7 +94,7 @@ carried_newest way arcs flow node name same newest =
     ∙ ap (λ xs. carried chosen arcs xs) (take_all (length arcs) flow (omega arith))
 
 -- the newest arc at a node is among those up to it
-pub le-carried_newest : (way : Way) (arcs : List Arc) (flow : List ℕ) (node place : ℕ)
+pub le-carried_newest : (way : Direction) (arcs : List Arc) (flow : List ℕ) (node place : ℕ)
     → place < length arcs → length flow ≡ length arcs → tail_of way (arc_at arcs place) ≡ node
     → get_or flow place 0 ≤ carried (begins_at way node) (take (place + 1) arcs)
     (take (place + 1) flow)

@@ -5,14 +5,15 @@ use Rattle.std.proofs.Common.{◌&&◌, not, List, [], ◌∷◌, length, get_or
 use Rattle.std.proofs.lemmas.Bool.{both_ways, eq-eqb, ne_eqb, and_from, and_parts, not-true}
 use Rattle.std.proofs.lemmas.Bool.{true_from_ne_false}
 use Rattle.flow_net.specs.declared.arcs.Arc.{Arc}
-use Rattle.flow_net.specs.declared.arcs.Way.{Way}
-use Rattle.flow_net.specs.declared.arcs.Way.TheVariants.{Along, Against}
-use Rattle.flow_net.specs.Flow.{IsFlow, IsWholeFlow, arc_at, carried, enters, leaves}
-use Rattle.flow_net.specs.Cut.{IsCut, IsLeastCut, NoFlowExceedsACut, capacity_of, crosses, marked}
-use Rattle.flow_net.specs.Way.{head_of, room_of, tail_of}
-use Rattle.flow_net.specs.Graph.{HasEnds}
+use Rattle.flow_net.specs.declared.arcs.Direction.{Direction}
+use Rattle.flow_net.specs.declared.arcs.Direction.TheVariants.{Along, Against}
+use Rattle.flow_net.specs.inside.Flow.{IsFlow, IsWholeFlow, arc_at, carried, enters, leaves}
+use Rattle.flow_net.specs.inside.Cut.{IsCut, IsLeastCut, NoFlowExceedsACut, capacity_of, crosses}
+use Rattle.flow_net.specs.inside.Cut.{marked}
+use Rattle.flow_net.specs.inside.Direction.{head_of, room_of, tail_of}
+use Rattle.flow_net.specs.inside.Graph.{HasEnds}
 use Rattle.flow_net.specs.declared.search.Reach.{Reach}
-use Rattle.flow_net.specs.Search.{IsClosed, IsSearch, reached_at}
+use Rattle.flow_net.specs.inside.Search.{IsClosed, IsSearch, reached_at}
 use Rattle.flow_net.proofs.ShareLemmas.{share}
 use Rattle.flow_net.proofs.CapacityLemmas.{carried-le-limit, carried_full, carried_none}
 use Rattle.flow_net.proofs.CapacityLemmas.{full_from_carried, none_from_carried}
@@ -184,7 +185,7 @@ module _ (arcs : List Arc) (source sink : ℕ) (flow : List ℕ)
   -- a cut whose capacity is the value holds the far end of each step with room from inside
   pub kept_inside : (side : ℕ → Bool) → IsCut source sink side
       → carried (leaves source) arcs flow ≡ carried (enters source) arcs flow
-      + capacity_of side arcs → (way : Way) (arc : ℕ) → arc < length arcs
+      + capacity_of side arcs → (way : Direction) (arc : ℕ) → arc < length arcs
       → side (tail_of way (arc_at arcs arc)) ≡ true
       → 0 < room_of way (arc_at arcs arc) (get_or flow arc 0)
       → side (head_of way (arc_at arcs arc)) ≡ true

@@ -7,13 +7,13 @@ use Rattle.std.proofs.lemmas.List.{get_or-replicate, get_or_append_left, get_or_
 use Rattle.std.proofs.lemmas.List.{length-replicate, length_push}
 use Rattle.std.specs.Option.{ForSome}
 use Rattle.flow_net.specs.declared.arcs.Arc.{Arc}
-use Rattle.flow_net.specs.declared.arcs.Way.{Way}
+use Rattle.flow_net.specs.declared.arcs.Direction.{Direction}
 use Rattle.flow_net.specs.declared.ends.Ends.{Ends}
-use Rattle.flow_net.specs.Way.{tail_of}
-use Rattle.flow_net.specs.Graph.{HasEnds, begins_at}
-use Rattle.flow_net.specs.Network.{start_of}
-use Rattle.flow_net.specs.Flow.{IsWholeFlow, IsWithinArcs, arc_at, carried, enters, leaves}
-use Rattle.flow_net.specs.Moves.{IsMoved}
+use Rattle.flow_net.specs.inside.Direction.{tail_of}
+use Rattle.flow_net.specs.inside.Graph.{HasEnds, begins_at}
+use Rattle.flow_net.specs.inside.NetView.{start_of}
+use Rattle.flow_net.specs.inside.Flow.{IsWholeFlow, IsWithinArcs, arc_at, carried, enters, leaves}
+use Rattle.flow_net.specs.inside.Moves.{IsMoved}
 use Rattle.flow_net.proofs.ShareLemmas.{share, share-zero}
 use Rattle.flow_net.proofs.ArcLemmas.{arc_at-append, tail_in_range}
 use Rattle.flow_net.proofs.CapacityLemmas.{carried_none}
@@ -118,7 +118,8 @@ IsWholeFlow-zeros arcs source sink = record {
 }
 
 -- no arc is at a number that is no node
-pub carried_past : (way : Way) (nodes node : ℕ) (arcs : List Arc) (flow : List ℕ) → nodes ≤ node
+pub carried_past : (way : Direction) (nodes node : ℕ) (arcs : List Arc) (flow : List ℕ)
+    → nodes ≤ node
     → ((place : ℕ) → place < length arcs → HasEnds nodes (arc_at arcs place))
     → carried (begins_at way node) arcs flow ≡ 0
 carried_past way nodes node arcs flow past ends =

@@ -3,13 +3,13 @@ use Rattle.std.proofs.Common.{◌≡◌, ℕ, ◌-◌, ◌<◌, Bool, true, List
 use Rattle.std.proofs.Common.{inr, arith}
 use Rattle.std.proofs.lemmas.Bool.{cases_eq, cases_lt}
 use Rattle.flow_net.specs.declared.arcs.Arc.{Arc}
-use Rattle.flow_net.specs.declared.arcs.Way.{Way}
+use Rattle.flow_net.specs.declared.arcs.Direction.{Direction}
 use Rattle.flow_net.specs.declared.search.Search.{Search}
-use Rattle.flow_net.specs.Flow.{arc_at}
-use Rattle.flow_net.specs.Cut.{marked}
-use Rattle.flow_net.specs.Way.{head_of, room_of}
-use Rattle.flow_net.specs.Lists.{IsNewest}
-use Rattle.flow_net.specs.Search.{IsGrown, IsScanned, IsSized}
+use Rattle.flow_net.specs.inside.Flow.{arc_at}
+use Rattle.flow_net.specs.inside.Cut.{marked}
+use Rattle.flow_net.specs.inside.Direction.{head_of, room_of}
+use Rattle.flow_net.specs.inside.Lists.{IsNewest}
+use Rattle.flow_net.specs.inside.Search.{IsGrown, IsScanned, IsSized}
 
 -- a search that has done nothing lost nothing
 pub IsGrown-refl : (search : Search) → IsGrown search search
@@ -44,7 +44,7 @@ IsSized-grown nodes old new grown sized =
     }
 
 -- what was looked at stays looked at
-pub IsScanned-grown : (arcs : List Arc) (flow : List ℕ) (way : Way) (old new : Search)
+pub IsScanned-grown : (arcs : List Arc) (flow : List ℕ) (way : Direction) (old new : Search)
     (node low : ℕ) → IsGrown old new → IsScanned arcs flow way old.reached.items node low
     → IsScanned arcs flow way new.reached.items node low
 IsScanned-grown arcs flow way old new node low grown scanned = record {
@@ -53,7 +53,7 @@ IsScanned-grown arcs flow way old new node low grown scanned = record {
 }
 
 -- with the newest arc that is left looked at, all from the next older one on are
-pub IsScanned-next : (arcs : List Arc) (flow : List ℕ) (way : Way) (marks : List Bool)
+pub IsScanned-next : (arcs : List Arc) (flow : List ℕ) (way : Direction) (marks : List Bool)
     (node name older : ℕ) → 0 < name → IsNewest way arcs node (name - 1) older
     → IsScanned arcs flow way marks node name
     → (0 < room_of way (arc_at arcs (name - 1)) (get_or flow (name - 1) 0)

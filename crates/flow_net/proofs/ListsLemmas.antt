@@ -5,13 +5,13 @@ use Rattle.std.proofs.Common.{get_or-set_other}
 use Rattle.std.proofs.lemmas.Bool.{cases_eq}
 use Rattle.std.proofs.lemmas.List.{length_push, length-set, get_or_append_left, get_or_push}
 use Rattle.flow_net.specs.declared.arcs.Arc.{Arc}
-use Rattle.flow_net.specs.declared.arcs.Way.{Way}
-use Rattle.flow_net.specs.Flow.{arc_at}
-use Rattle.flow_net.specs.Way.{tail_of}
-use Rattle.flow_net.specs.Lists.{IsNewest, AreLists}
+use Rattle.flow_net.specs.declared.arcs.Direction.{Direction}
+use Rattle.flow_net.specs.inside.Flow.{arc_at}
+use Rattle.flow_net.specs.inside.Direction.{tail_of}
+use Rattle.flow_net.specs.inside.Lists.{IsNewest, AreLists}
 use Rattle.flow_net.proofs.ArcLemmas.{arc_at-append, arc_at_push}
 
-module _ (way : Way) (arcs : List Arc) (arc : Arc) where
+module _ (way : Direction) (arcs : List Arc) (arc : Arc) where
   -- among the older arcs the newest stays the newest
   pub IsNewest-append : (node count name : ℕ) → count ≤ length arcs
       → IsNewest way arcs node count name → IsNewest way (arcs ++ arc ∷ []) node count name
@@ -51,7 +51,7 @@ module _ (way : Way) (arcs : List Arc) (arc : Arc) where
   }
 
 -- lists of arcs stay right as an arc is put at the head of the list of its node
-pub AreLists-add : (way : Way) (arcs : List Arc) (arc : Arc) (first next : List ℕ)
+pub AreLists-add : (way : Direction) (arcs : List Arc) (arc : Arc) (first next : List ℕ)
     → AreLists way arcs first next → tail_of way arc < length first
     → AreLists way (arcs ++ arc ∷ []) (set first (tail_of way arc) (length arcs + 1))
     (next ++ get_or first (tail_of way arc) 0 ∷ [])
@@ -99,7 +99,7 @@ AreLists-add way arcs arc first next old in_range =
     }
 
 -- the newest arc at a node is the newest among those up to it
-pub IsNewest-up_to : (way : Way) (arcs : List Arc) (node count name : ℕ)
+pub IsNewest-up_to : (way : Direction) (arcs : List Arc) (node count name : ℕ)
     → IsNewest way arcs node count name → IsNewest way arcs node name name
 IsNewest-up_to way arcs node count name newest = record {
   among = omega arith;

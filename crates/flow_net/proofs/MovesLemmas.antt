@@ -5,11 +5,11 @@ use Rattle.std.proofs.Common.{get_or-set_same, get_or-set_other}
 use Rattle.std.proofs.lemmas.Bool.{cases_eq}
 use Rattle.std.proofs.lemmas.List.{length-set}
 use Rattle.flow_net.specs.declared.arcs.Arc.{Arc}
-use Rattle.flow_net.specs.declared.arcs.Way.{Way}
-use Rattle.flow_net.specs.declared.arcs.Way.TheVariants.{Along, Against}
-use Rattle.flow_net.specs.Flow.{IsWithinArcs, arc_at, carried, enters, leaves}
-use Rattle.flow_net.specs.Way.{head_of, room_of, sent_over, tail_of}
-use Rattle.flow_net.specs.Moves.{IsMoved}
+use Rattle.flow_net.specs.declared.arcs.Direction.{Direction}
+use Rattle.flow_net.specs.declared.arcs.Direction.TheVariants.{Along, Against}
+use Rattle.flow_net.specs.inside.Flow.{IsWithinArcs, arc_at, carried, enters, leaves}
+use Rattle.flow_net.specs.inside.Direction.{head_of, room_of, sent_over, tail_of}
+use Rattle.flow_net.specs.inside.Moves.{IsMoved}
 use Rattle.flow_net.proofs.ShareLemmas.{share, share-add}
 
 -- one number changed changes what the chosen arcs carry, if its arc is chosen
@@ -24,7 +24,7 @@ carried-set chosen (first ∷ arcs) (number ∷ flow) (suc arc) amount below sam
     omega (arith, carried-set chosen arcs flow arc amount (omega arith) (omega arith))
 
 -- more over an arc moves what leaves and enters its ends
-pub IsMoved-step : (way : Way) (arcs : List Arc) (flow : List ℕ) (arc amount : ℕ)
+pub IsMoved-step : (way : Direction) (arcs : List Arc) (flow : List ℕ) (arc amount : ℕ)
     → arc < length arcs → length flow ≡ length arcs
     → amount ≤ room_of way (arc_at arcs arc) (get_or flow arc 0)
     → IsMoved arcs flow (set flow arc (sent_over way (get_or flow arc 0) amount))
@@ -73,7 +73,7 @@ IsMoved-trans arcs old between new from through to amount first second = record 
 }
 
 -- what is sent over an arc with room keeps within the capacities
-pub IsWithinArcs-step : (way : Way) (arcs : List Arc) (flow : List ℕ) (arc amount : ℕ)
+pub IsWithinArcs-step : (way : Direction) (arcs : List Arc) (flow : List ℕ) (arc amount : ℕ)
     → arc < length arcs → amount ≤ room_of way (arc_at arcs arc) (get_or flow arc 0)
     → IsWithinArcs arcs flow
     → IsWithinArcs arcs (set flow arc (sent_over way (get_or flow arc 0) amount))
@@ -91,7 +91,8 @@ IsWithinArcs-step way arcs flow arc amount below room old =
       ];
     }
   where
-    sent_within : (way : Way) (arc : Arc) (carries amount : ℕ) → amount ≤ room_of way arc carries
+    sent_within : (way : Direction) (arc : Arc) (carries amount : ℕ)
+        → amount ≤ room_of way arc carries
         → carries ≤ arc.capacity → sent_over way carries amount ≤ arc.capacity
     sent_within Along arc carries amount room within = omega arith
     sent_within Against arc carries amount room within = omega arith

@@ -7,13 +7,14 @@ use Rattle.std.proofs.lemmas.List.{get_or_append_left, get_or_past, get_or_push,
 use Rattle.std.proofs.lemmas.List.{length-set}
 use Rattle.std.proofs.lemmas.List.Sums.{sum_by-cons, sum_by-set}
 use Rattle.flow_net.specs.declared.arcs.Arc.{Arc}
-use Rattle.flow_net.specs.declared.arcs.Way.{Way}
-use Rattle.flow_net.specs.declared.arcs.Way.TheVariants.{Along, Against}
+use Rattle.flow_net.specs.declared.arcs.Direction.{Direction}
+use Rattle.flow_net.specs.declared.arcs.Direction.TheVariants.{Along, Against}
 use Rattle.flow_net.specs.declared.search.Reach.{Reach}
-use Rattle.flow_net.specs.Flow.{arc_at}
-use Rattle.flow_net.specs.Cut.{marked}
-use Rattle.flow_net.specs.Way.{head_of}
-use Rattle.flow_net.specs.Search.{IsOpen, IsReached, IsSearch, no_reach, reached_at, mark_count}
+use Rattle.flow_net.specs.inside.Flow.{arc_at}
+use Rattle.flow_net.specs.inside.Cut.{marked}
+use Rattle.flow_net.specs.inside.Direction.{head_of}
+use Rattle.flow_net.specs.inside.Search.{IsOpen, IsReached, IsSearch, no_reach, reached_at}
+use Rattle.flow_net.specs.inside.Search.{mark_count}
 
 -- one mark counts one
 abbrev one_if : Bool → ℕ
@@ -69,7 +70,7 @@ pub reach_at_push : (queue : List Reach) (reach : Reach) (place : ℕ) → lengt
 reach_at_push queue reach place last = get_or_push queue reach no_reach place last
 
 -- both ends of an arc that served a step are marked
-ends_marked : (arcs : List Arc) (flow : List ℕ) (marks : List Bool) (served way : Way)
+ends_marked : (arcs : List Arc) (flow : List ℕ) (marks : List Bool) (served way : Direction)
     (arc amount from to : ℕ) → IsOpen arcs flow served arc amount from to → marked marks from ≡ true
     → marked marks to ≡ true → marked marks (head_of way (arc_at arcs arc)) ≡ true
 ends_marked arcs flow marks Along Along arc amount from to step is_from is_to =

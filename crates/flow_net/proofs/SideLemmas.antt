@@ -3,10 +3,10 @@ use Rattle.std.proofs.Common.{◌≡◌, ◌≢◌, ◌==◌, ℕ, zero, suc, �
 use Rattle.std.proofs.Common.{◌∷◌, length, sym, ap, ◌∙◌, refl, inl, inr, arith}
 use Rattle.std.proofs.lemmas.Bool.{cases_eq, eq-eqb, ne_eqb}
 use Rattle.flow_net.specs.declared.arcs.Arc.{Arc}
-use Rattle.flow_net.specs.declared.arcs.Way.{Way}
-use Rattle.flow_net.specs.Flow.{arc_at, carried}
-use Rattle.flow_net.specs.Way.{tail_of}
-use Rattle.flow_net.specs.Graph.{HasEnds, begins_at}
+use Rattle.flow_net.specs.declared.arcs.Direction.{Direction}
+use Rattle.flow_net.specs.inside.Flow.{arc_at, carried}
+use Rattle.flow_net.specs.inside.Direction.{tail_of}
+use Rattle.flow_net.specs.inside.Graph.{HasEnds, begins_at}
 use Rattle.flow_net.proofs.ArcLemmas.{tail_in_range}
 use Rattle.flow_net.proofs.ShareLemmas.{share, share-add, share-same, share-zero}
 
@@ -76,7 +76,7 @@ module _ (side : ℕ → Bool) where
 
   -- what the arcs at each node of the side carry, added up, is what the arcs with that end on the
   -- side carry
-  pub over-carried : (way : Way) (nodes : ℕ) (arcs : List Arc) (flow : List ℕ)
+  pub over-carried : (way : Direction) (nodes : ℕ) (arcs : List Arc) (flow : List ℕ)
       → ((place : ℕ) → place < length arcs → HasEnds nodes (arc_at arcs place))
       → over nodes side (λ node. carried (begins_at way node) arcs flow) ≡ carried
       (λ arc. side (tail_of way arc)) arcs flow

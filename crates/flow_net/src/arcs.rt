@@ -1,6 +1,6 @@
 //! One arc of a network, and the two ways in which a search goes over it.
 ghost use Rattle.std.specs.Prelude.{◌≡◌, ◌≤◌};
-ghost use Rattle.flow_net.specs.Way.{head_of, room_of, sent_over, tail_of};
+ghost use Rattle.flow_net.specs.inside.Direction.{head_of, room_of, sent_over, tail_of};
 
 /// Leads from a node to a node, and carries at most `capacity`.
 #[derive(Clone, Copy, Debug, PartialEq, Eq)]
@@ -12,20 +12,20 @@ pub struct Arc {
 
 /// Along an arc a search adds flow, against it takes flow back.
 #[derive(Clone, Copy)]
-pub enum Way {
+pub enum Direction {
     Along,
     Against,
 }
 
-impl Way {
+impl Direction {
     /// The node at which a step over the arc begins.
     #[inline]
     pub fn tail(self, arc: Arc) -> u16
         ensures { result ≡ tail_of self arc }
     {
         match self {
-            Way::Along => arc.from,
-            Way::Against => arc.to,
+            Direction::Along => arc.from,
+            Direction::Against => arc.to,
         }
     }
 
@@ -35,8 +35,8 @@ impl Way {
         ensures { result ≡ head_of self arc }
     {
         match self {
-            Way::Along => arc.to,
-            Way::Against => arc.from,
+            Direction::Along => arc.to,
+            Direction::Against => arc.from,
         }
     }
 
@@ -47,8 +47,8 @@ impl Way {
         ensures { result ≡ room_of self arc carried }
     {
         match self {
-            Way::Along => arc.capacity - carried,
-            Way::Against => carried,
+            Direction::Along => arc.capacity - carried,
+            Direction::Against => carried,
         }
     }
 
@@ -60,8 +60,8 @@ impl Way {
         ensures { result ≡ sent_over self carried amount }
     {
         match self {
-            Way::Along => carried + amount,
-            Way::Against => carried - amount,
+            Direction::Along => carried + amount,
+            Direction::Against => carried - amount,
         }
     }
 }

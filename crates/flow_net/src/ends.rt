@@ -1,6 +1,6 @@
 //! The two nodes between which a flow goes.
 ghost use Rattle.std.specs.Prelude.{◌≡◌};
-ghost use Rattle.flow_net.specs.Network.{is_between};
+ghost use Rattle.flow_net.specs.inside.NetView.{is_between};
 
 #[derive(Clone, Copy, Debug, PartialEq, Eq)]
 pub struct Ends {

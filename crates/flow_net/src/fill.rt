@@ -1,13 +1,13 @@
 //! Filling a network: more is sent as long as a search finds a way with room.
 ghost use Rattle.std.specs.Prelude.{◌≡◌, ◌≢◌, ◌+◌, ◌<◌, length};
 ghost use Rattle.std.specs.Option.{ForSome};
-ghost use Rattle.flow_net.specs.Cut.{IsLeastCut, marked};
-ghost use Rattle.flow_net.specs.Network.{start_of};
-ghost use Rattle.flow_net.specs.Flow.{IsFlow, IsWholeFlow, carried, enters, leaves};
-ghost use Rattle.flow_net.specs.Graph.{IsGraph};
-ghost use Rattle.flow_net.specs.Search.{IsClosed, IsSearchOf, IsSized, node_at};
+ghost use Rattle.flow_net.specs.inside.Cut.{IsLeastCut, marked};
+ghost use Rattle.flow_net.specs.inside.NetView.{start_of};
+ghost use Rattle.flow_net.specs.inside.Flow.{IsFlow, IsWholeFlow, carried, enters, leaves};
+ghost use Rattle.flow_net.specs.inside.Graph.{IsGraph};
+ghost use Rattle.flow_net.specs.inside.Search.{IsClosed, IsSearchOf, IsSized, node_at};
 
-use crate::arcs::Way;
+use crate::arcs::Direction;
 use crate::ends::{Ends, is_between};
 use crate::graph::Graph;
 use crate::search::Search;
@@ -69,5 +69,5 @@ pub fn greatest(
 {
     restart(held, flow, source, sink);
     fill(graph, flow, search, source, sink);
-    graph.carried(flow, Way::Along, source) - graph.carried(flow, Way::Against, source)
+    graph.carried(flow, Direction::Along, source) - graph.carried(flow, Direction::Against, source)
 }

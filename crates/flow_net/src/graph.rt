@@ -1,11 +1,12 @@
 //! The arcs of a network with the lists by which a search finds them.
 ghost use Rattle.std.specs.Prelude.{◌≡◌, ◌<◌, ◌+◌, ◌↔◌, ℕ, [], ◌∷◌, ◌++◌, IfOk, IsTrue, length};
-ghost use Rattle.flow_net.specs.Flow.{IsWholeFlow, IsWithinArcs, arc_at, carried, enters, leaves};
-ghost use Rattle.flow_net.specs.Way.{tail_of};
-ghost use Rattle.flow_net.specs.Lists.{IsNewest};
-ghost use Rattle.flow_net.specs.Graph.{HasEnds, HasRoom, IsGraph, begins_at};
+ghost use Rattle.flow_net.specs.inside.Flow.{IsWholeFlow, IsWithinArcs, arc_at, carried, enters};
+ghost use Rattle.flow_net.specs.inside.Flow.{leaves};
+ghost use Rattle.flow_net.specs.inside.Direction.{tail_of};
+ghost use Rattle.flow_net.specs.inside.Lists.{IsNewest};
+ghost use Rattle.flow_net.specs.inside.Graph.{HasEnds, HasRoom, IsGraph, begins_at};
 
-use crate::arcs::{Arc, Way};
+use crate::arcs::{Arc, Direction};
 use crate::lists::Lists;
 use std::alloc::{AllocError, Global};
 
@@ -53,33 +54,33 @@ impl Graph {
 
     /// The newest arc at which a step from the node begins, by one more than its place; 0 for none.
     #[inline]
-    pub fn first(&self, way: Way, node: u16) -> usize
+    pub fn first(&self, way: Direction, node: u16) -> usize
         requires graph { IsGraph self.now }
         requires node_in_range { node < self.now.nodes }
         ensures { IsNewest way self.now.arcs.items node (length self.now.arcs.items) result }
     {
         match way {
-            Way::Along => self.leaving.first[node as usize] as usize,
-            Way::Against => self.entering.first[node as usize] as usize,
+            Direction::Along => self.leaving.first[node as usize] as usize,
+            Direction::Against => self.entering.first[node as usize] as usize,
         }
     }
 
     /// The next older arc at which a step from the same node begins.
     #[inline]
-    pub fn next(&self, way: Way, place: usize) -> usize
+    pub fn next(&self, way: Direction, place: usize) -> usize
         requires graph { IsGraph self.now }
         requires place_in_range { place < length self.now.arcs.items }
         ensures { let arcs = self.now.arcs.items in
             IsNewest way arcs (tail_of way (arc_at arcs place)) place result }
     {
         match way {
-            Way::Along => self.leaving.next[place] as usize,
-            Way::Against => self.entering.next[place] as usize,
+            Direction::Along => self.leaving.next[place] as usize,
+            Direction::Against => self.entering.next[place] as usize,
         }
     }
 
     /// What the arcs carry together at which a step from the node begins.
-    pub fn carried(&self, flow: &[u32], way: Way, node: u16) -> u64
+    pub fn carried(&self, flow: &[u32], way: Direction, node: u16) -> u64
         requires graph { IsGraph self.now }
         requires one_each { length flow.now ≡ length self.now.arcs.items }
         requires node_in_range { node < self.now.nodes }
@@ -117,7 +118,7 @@ impl Graph {
             IsTrue result
             ↔ (carried (leaves node) arcs flow.now ≡ carried (enters node) arcs flow.now) }
     {
-        self.carried(flow, Way::Along, node) == self.carried(flow, Way::Against, node)
+        self.carried(flow, Direction::Along, node) == self.carried(flow, Direction::Against, node)
     }
 
     /// Whether the numbers are a whole flow between the two nodes.

@@ -1,6 +1,6 @@
 //! Maximum flow through a network, with the least cut that proves it greatest.
 //!
-//! Read `specs/Flow.antt`, `specs/Cut.antt` and `specs/Network.antt` first.
+//! Read `specs/inside/Flow.antt`, `specs/inside/Cut.antt` and `specs/inside/NetView.antt` first.
 #![tactic(auto)]
 
 mod arcs;

@@ -7,9 +7,9 @@
 ghost use Rattle.std.specs.Prelude.{◌≡◌, ◌≢◌, ◌≤◌, ◌<◌, ◌↔◌, [], ◌∷◌, ◌++◌, None, Some};
 ghost use Rattle.std.specs.Prelude.{IfOk, IsTrue, OnErr, OnOk, length, slice_index};
 ghost use Rattle.std.specs.Bool.{OnFalse, OnTrue};
-ghost use Rattle.flow_net.specs.Flow.{IsFlow, IsWholeFlow};
-ghost use Rattle.flow_net.specs.Cut.{IsLeastCut, marked};
-ghost use Rattle.flow_net.specs.Network.{start_of};
+ghost use Rattle.flow_net.specs.inside.Flow.{IsFlow, IsWholeFlow};
+ghost use Rattle.flow_net.specs.inside.Cut.{IsLeastCut, marked};
+ghost use Rattle.flow_net.specs.inside.NetView.{start_of};
 
 use crate::arcs::Arc;
 use crate::ends::Ends;
@@ -30,11 +30,11 @@ pub struct Net {
 }
 
 impl Model for Net {
-    ghost use Rattle.flow_net.specs.Network.{Network};
+    ghost use Rattle.flow_net.specs.inside.NetView.{NetView};
 
-    ghost Value = { Network };
+    ghost Value = { NetView };
 
-    ghost use Rattle.flow_net.specs.Parts.{IsKept};
+    ghost use Rattle.flow_net.specs.inside.Parts.{IsKept};
 
     ghost view = { λ net. record {
       nodes = net.graph.nodes;
@@ -117,6 +117,13 @@ impl Net {
         self.flow[arc]
     }
 
+    /// What each arc carries, in the order of adding.
+    pub fn flows(&self) -> &[u32]
+        ensures { result.now ≡ self.now.flow }
+    {
+        self.flow.as_slice()
+    }
+
     /// Holds the given flow, one number for each arc, if it is a whole flow between the two nodes;
     /// else the answer is false, and the net is as before. Takes no memory.
     pub fn start_from(&mut self, source: u16, sink: u16, flow: &[u32]) -> bool
@@ -142,7 +149,7 @@ impl Net {
     /// Sends as much as can be sent from the source to the sink, and finds the least cut.
     ///
     /// A flow that the net holds for the same two nodes stays as it is where it is greatest
-    /// already. The net then holds what was found; on want of memory it is as before.
+    /// already. The net then holds what was found; if memory runs out it is as before.
     pub fn max_flow(&mut self, alloc: Global, source: u16, sink: u16) -> Result<Flow, OutOfMemory>
         requires source_in_range { source < self.old.nodes }
         requires sink_in_range { sink < self.old.nodes }

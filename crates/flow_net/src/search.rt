@@ -6,12 +6,12 @@
 //! memory.
 ghost use Rattle.std.specs.Prelude.{◌≡◌, ◌≢◌, ◌<◌, ℕ, List, true, false, IfOk, length, slice_index};
 ghost use Rattle.std.specs.Bool.{OnFalse, OnTrue};
-ghost use Rattle.flow_net.specs.Flow.{IsWithinArcs, arc_at};
-ghost use Rattle.flow_net.specs.Way.{head_of, room_of, tail_of};
-ghost use Rattle.flow_net.specs.Graph.{IsGraph};
-ghost use Rattle.flow_net.specs.Moves.{IsMoved};
+ghost use Rattle.flow_net.specs.inside.Flow.{IsWithinArcs, arc_at};
+ghost use Rattle.flow_net.specs.inside.Direction.{head_of, room_of, tail_of};
+ghost use Rattle.flow_net.specs.inside.Graph.{IsGraph};
+ghost use Rattle.flow_net.specs.inside.Moves.{IsMoved};
 
-use crate::arcs::Way;
+use crate::arcs::Direction;
 use crate::graph::Graph;
 use std::alloc::{AllocError, Global};
 
@@ -21,7 +21,7 @@ pub struct Reach {
     pub node: u16,
     pub before: u16,
     pub arc: u32,
-    pub way: Way,
+    pub way: Direction,
     pub room: u32,
 }
 
@@ -34,8 +34,8 @@ pub struct Search {
 
 impl Search {
     ghost use Rattle.flow_net.specs.declared.graph.Graph.{Graph};
-    ghost use Rattle.flow_net.specs.Search.{IsClosed, IsGrown, IsScanned, IsSearchOf, IsSized};
-    ghost use Rattle.flow_net.specs.Search.{has_reached, last_node, node_at};
+    ghost use Rattle.flow_net.specs.inside.Search.{IsClosed, IsGrown, IsScanned, IsSearchOf};
+    ghost use Rattle.flow_net.specs.inside.Search.{IsSized, has_reached, last_node, node_at};
 
     pub fn new(alloc: Global, nodes: u16) -> Result<Search, AllocError>
         ensures { IfOk result (IsSized nodes) }
@@ -61,7 +61,7 @@ impl Search {
             node: source,
             before: 0,
             arc: 0,
-            way: Way::Along,
+            way: Direction::Along,
             room: u32::MAX,
         };
         self.queue.push(start).unwrap();
@@ -74,7 +74,7 @@ impl Search {
         &mut self,
         graph: &Graph,
         flow: &[u32],
-        way: Way,
+        way: Direction,
         place: usize,
         arc: usize,
         sink: u16,
@@ -115,7 +115,7 @@ impl Search {
     }
 
     // Looks at the arcs of one way from a place of the queue. True where the sink was reached.
-    fn scan(&mut self, graph: &Graph, flow: &[u32], way: Way, place: usize, sink: u16) -> bool
+    fn scan(&mut self, graph: &Graph, flow: &[u32], way: Direction, place: usize, sink: u16) -> bool
         requires graph { IsGraph graph.now }
         requires within { IsWithinArcs graph.now.arcs.items flow.now }
         requires sized { IsSized graph.now.nodes self.old }
@@ -159,10 +159,10 @@ impl Search {
         self.begin(source);
         let mut place = 0;
         while place < self.queue.len() {
-            if self.scan(graph, flow, Way::Along, place, sink) {
+            if self.scan(graph, flow, Direction::Along, place, sink) {
                 return true;
             }
-            if self.scan(graph, flow, Way::Against, place, sink) {
+            if self.scan(graph, flow, Direction::Against, place, sink) {
                 return true;
             }
             place += 1;

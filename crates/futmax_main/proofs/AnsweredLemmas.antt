@@ -9,13 +9,12 @@ use Rattle.std.proofs.lemmas.List.Elements.{All-nil, All-cons, All-head, All-tai
 use Rattle.league_core.specs.declared.sheet.Sheet.{Sheet}
 use Rattle.league_core.specs.declared.season.Event.{Event}
 use Rattle.league_core.specs.declared.question.Claim.TheVariants.{Inside}
-use Rattle.league_core.specs.Results.{Results, are_results}
-use Rattle.league_core.specs.Sheets.{IsWithinLimits, clubs_of}
-use Rattle.league_core.specs.Seasons.{AreEventsOf, IsEventOf, IsLeague}
-use Rattle.league_core.specs.Seasons.{unplayed_season}
-use Rattle.league_core.specs.Sums.{has_club, points_of, sum_of, goal_difference, goals}
-use Rattle.league_core.specs.LotsFor.{best_place_of, worst_place_of}
-use Rattle.league_core.specs.Ranking.{are_lots}
+use Rattle.league_core.specs.game.Results.{Results, are_results}
+use Rattle.league_core.specs.game.Sheets.{IsWithinLimits, clubs_of}
+use Rattle.league_core.specs.game.Seasons.{AreEventsOf, IsEventOf, IsLeague, unplayed_season}
+use Rattle.league_core.specs.game.Sums.{has_club, points_of, sum_of, goal_difference, goals}
+use Rattle.league_core.specs.inside.LotsFor.{best_place_of, worst_place_of}
+use Rattle.league_core.specs.game.Ranking.{are_lots}
 use Rattle.league_core.proofs.LotsLemmas.{lots_for_claim-are_lots}
 use Rattle.league_core.proofs.LogLemmas.{season_after_of, season_after_results}
 use Rattle.port_core.specs.Contents.{Contents}
@@ -23,13 +22,14 @@ use Rattle.fixture_sheet.specs.declared.fault.SheetStop.{SheetStop}
 use Rattle.fixture_sheet.specs.Sheets.{sheet_reading_of}
 use Rattle.result_log.specs.declared.entry.Entry.{Entry}
 use Rattle.result_log.specs.declared.entry.Entry.TheVariants.{Change, Ask, Proofs, End}
-use Rattle.result_log.specs.Feeds.{events_behind, feed_of}
+use Rattle.result_log.specs.Feeds.{feed_of}
+use Rattle.result_log.specs.inside.FeedParts.{events_after}
 use Rattle.result_log.proofs.FeedLemmas.{feed_of-log}
 use Rattle.cert_text.specs.ExampleLines.{text_of_proof_lines}
 use Rattle.final_rank.proofs.PlaceLemmas.{best_is, worst_is}
 use Rattle.final_rank.proofs.TierLemmas.{below_clubs}
 use Rattle.verdict_run.specs.Items.{AnswerRow}
-use Rattle.answer_laws.specs.SeasonAnswers.{AnswerItem, IsKnownItem}
+use Rattle.answer_laws.specs.inside.SeasonAnswers.{AnswerItem, IsKnownItem}
 use Rattle.answer_laws.proofs.AnswerLemmas.{season_answered}
 use Rattle.qual_scores.proofs.SeasonScoreLemmas.{scores_there}
 use Rattle.answer_laws.proofs.TableLemmas.{table_there}
@@ -42,8 +42,8 @@ use Rattle.ask_answers.proofs.TableLemmas.{first_lots-range}
 use Rattle.score_answers.specs.ScoreTexts.{text_of_scores}
 use Rattle.futmax_main.specs.declared.session.Answering.{Answering}
 use Rattle.futmax_main.specs.declared.session.Answering.TheVariants.{Verdicts, Table, Scores}
-use Rattle.futmax_main.specs.Plays.{Played, played_behind}
-use Rattle.futmax_main.specs.Courses.{asks_in, course_behind, course_of}
+use Rattle.futmax_main.specs.Plays.{Played, played_after}
+use Rattle.futmax_main.specs.Courses.{asks_in, course_after, course_of}
 use Rattle.futmax_main.specs.Answers.{IsAnswerTo, IsItemText, IsScoresText, IsVerdictsText}
 use Rattle.futmax_main.specs.Texts.{AreAnswers}
 use Rattle.futmax_main.proofs.LimitLemmas.{GivesLimits, sheet-limits}
@@ -162,7 +162,7 @@ answers-behind answering [] others all = all
 answers-behind answering (asked ∷ asks) others all =
     answers-behind answering asks others (all.1.1, all.1.4)
 
--- what is true of all of a list is true of its front
+-- what is true of all of a list is true of its prefix
 all-front : {A : Type 0} (P : A → Type 0) (front rest : List A) → All P (front ++ rest)
     → All P front
 all-front P [] rest all = All-nil P
@@ -170,9 +170,9 @@ all-front P (x ∷ front) rest all =
     All-cons P x front (All-head P x (front ++ rest) all)
     (all-front P front rest (All-tail P x (front ++ rest) all))
 
--- the events before some entries are of the sheet where those behind them are
+-- the events before some entries are of the sheet where those after them are
 events-before : (sheet : Sheet) (entries : List Entry) (events : List Event)
-    → AreEventsOf sheet (events_behind events entries) → AreEventsOf sheet events
+    → AreEventsOf sheet (events_after events entries) → AreEventsOf sheet events
 events-before sheet [] events of_sheet = of_sheet
 events-before sheet (Change event ∷ entries) events of_sheet =
     all-front (IsEventOf (unplayed_season (length sheet.clubs) (length sheet.fixtures))) events
@@ -184,13 +184,13 @@ events-before sheet (End ∷ entries) events of_sheet = events-before sheet entr
 
 -- the asks of these entries have answers
 asks-there : (answering : Answering) (sheet : Sheet) (entries : List Entry) (events : List Event)
-    → IsWithinLimits sheet → AreEventsOf sheet (events_behind events entries)
+    → IsWithinLimits sheet → AreEventsOf sheet (events_after events entries)
     → HasAnswers answering (asks_in sheet entries events)
 asks-there answering sheet [] events limits of_sheet = ([], refl)
 asks-there answering sheet (Change event ∷ entries) events limits of_sheet =
     asks-there answering sheet entries (events ++ event ∷ []) limits of_sheet
 asks-there answering sheet (Ask ∷ entries) events limits of_sheet =
-    let first = answer-there answering (played_behind sheet events)
+    let first = answer-there answering (played_after sheet events)
     (record { limits = limits; of_sheet = season_after_of sheet events })
     (season_after_results sheet events (events-before sheet entries events of_sheet)) in
     let more = asks-there answering sheet entries events limits of_sheet in
@@ -208,7 +208,7 @@ session-answered answering contents =
     by_gives reading.gives reading.rest (sheet-limits contents)
   where
     by_gives : (gives : Result Sheet SheetStop) (rest : Contents) → GivesLimits gives
-        → HasAnswers answering (course_behind gives rest).asks
+        → HasAnswers answering (course_after gives rest).asks
     by_gives (Ok sheet) rest limits =
         let feed = feed_of sheet false rest [] in
         let kept = feed_of-log sheet false rest []

@@ -3,16 +3,16 @@ use Rattle.std.proofs.Common.{◌≡◌, ℕ, List, [], Option, Some, None, Ok, 
 use Rattle.std.proofs.Common.{◌∙◌}
 use Rattle.std.specs.Io.KnownBytes.{prepend_known, IsAtEnd}
 use Rattle.port_core.specs.Contents.{start, contents_of}
-use Rattle.port_core.specs.Readers.{Reader, contents_to_come, TakesInput}
+use Rattle.port_core.specs.Readers.{LineReaderView, contents_to_come, TakesInput}
 use Rattle.check_run.specs.declared.outcome.CheckOutcome.{CheckOutcome}
 use Rattle.check_run.specs.declared.outcome.CheckOutcome.TheVariants as outcome
-use Rattle.check_run.specs.Calls.{ChecksInput, LeavesCheck}
+use Rattle.check_run.specs.inside.Calls.{ChecksInput, LeavesCheck}
 use Rattle.futmax_main.specs.declared.status.Status.{Status}
 use Rattle.futmax_main.specs.declared.status.Status.TheVariants.{Done, BadWords, BadSheet, BadFeed}
 use Rattle.futmax_main.specs.declared.status.Status.TheVariants.{ReadFault, WriteFault, OutOfMemory}
 use Rattle.futmax_main.specs.declared.status.Status.TheVariants.{NotProved, TooLong}
 use Rattle.futmax_main.specs.Checks.{ComesTo, ServesCheck, check_row, status_of_check}
-use Rattle.futmax_main.specs.Judging.{OutcomeEnds}
+use Rattle.futmax_main.specs.inside.Judging.{OutcomeEnds}
 use Rattle.futmax_main.proofs.TurnLemmas.{fresh-contents}
 use Rattle.output_rows.proofs.OutputLemmas.{append_known-nothing}
 
@@ -32,7 +32,7 @@ told-left input bytes None is at_end = cc
 told-left input bytes (Some rest) is at_end = ap Some at_end
 
 -- where a report is accepted, nothing is left
-accepted-end : (outcome : CheckOutcome) (new : Reader) (left : Option (List ℕ))
+accepted-end : (outcome : CheckOutcome) (new : LineReaderView) (left : Option (List ℕ))
     → status_of_check outcome ≡ Done → LeavesCheck new left (Ok outcome) → IsAtEnd left
 accepted-end (outcome.Accepted rows unsettled) new left is leaves = leaves.2
 accepted-end (outcome.Refused number fault) new left is leaves = cc
@@ -66,7 +66,8 @@ check-ends input left outcome old now TooLong comes at_end ends =
     (check_row outcome, ends.1, (outcome, comes, ends.0, refl))
 
 -- a report that was judged
-pub check-serves : (reader new : Reader) (input left : Option (List ℕ)) (outcome : CheckOutcome)
+pub check-serves : (reader new : LineReaderView) (input left : Option (List ℕ))
+    (outcome : CheckOutcome)
     (old now : Option (List ℕ)) (status : Status)
     → reader ≡ record { held = []; text = []; position = start }
     → ChecksInput (contents_to_come reader input) (contents_to_come new left) (Ok outcome)
@@ -84,7 +85,7 @@ pub check-fails : (input left old : Option (List ℕ))
 check-fails None left old = tt
 check-fails (Some input) left old = ([], append_known-nothing old, refl)
 
--- want of memory, which leaves none
+-- running out of memory, which leaves none
 pub check-starved : (input left old : Option (List ℕ))
     → ServesCheck input left old old OutOfMemory
 check-starved None left old = tt

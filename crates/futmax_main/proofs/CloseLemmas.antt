@@ -1,29 +1,31 @@
--- A round that is over: where the turn behind it leads, by what ended the round.
+-- A round that is over: where the turn after it leads, by what ended the round.
 use Rattle.std.proofs.Common.{◌≡◌, ℕ, Bool, List, Option, Some, Err, sym, ◌∙◌, subst}
 use Rattle.league_core.specs.declared.sheet.Sheet.{Sheet}
 use Rattle.league_core.specs.declared.season.Event.{Event}
-use Rattle.port_core.specs.declared.answers.ReadStop.TheVariants as read_stop
-use Rattle.port_core.specs.Readers.{Reader, stream_of}
+use Rattle.port_core.specs.declared.line.ReadStop.TheVariants as read_stop
+use Rattle.port_core.specs.Readers.{LineReaderView, stream_of}
 use Rattle.result_log.specs.declared.fault.FeedStop.{FeedStop}
 use Rattle.result_log.specs.declared.fault.FeedStop.TheVariants as feed_stop
-use Rattle.result_log.specs.Calls.{CountsEntry, MovesToEntry}
-use Rattle.branch_pool.specs.States.{PoolState}
+use Rattle.result_log.specs.inside.Calls.{CountsEntry, MovesToEntry}
+use Rattle.branch_pool.specs.inside.States.{PoolView}
 use Rattle.worker_gate.specs.declared.round.RoundEnd.{RoundEnd}
 use Rattle.worker_gate.specs.declared.round.RoundEnd.TheVariants.{Ask, End, Stop}
-use Rattle.worker_gate.specs.Rounds.{EndsRound, Spot, close_of}
-use Rattle.worker_gate.specs.LastReads.{StopsAtClose}
+use Rattle.worker_gate.specs.inside.Rounds.{EndsRound, Spot, close_of}
+use Rattle.worker_gate.specs.inside.LastReads.{StopsAtClose}
 use Rattle.futmax_main.specs.declared.status.Status.{Status}
 use Rattle.futmax_main.specs.declared.status.Status.TheVariants.{Done, BadWords, BadSheet, BadFeed}
 use Rattle.futmax_main.specs.declared.status.Status.TheVariants.{ReadFault, WriteFault, OutOfMemory}
 use Rattle.futmax_main.specs.declared.status.Status.TheVariants.{NotProved, TooLong}
 use Rattle.futmax_main.specs.declared.session.Answering.{Answering}
-use Rattle.futmax_main.specs.declared.turn.Turn.{Turn}
-use Rattle.futmax_main.specs.declared.turn.Turn.TheVariants.{GoesOn, Ends}
-use Rattle.futmax_main.specs.LastReads.{HasComeTo, StopsSession, TurnStops}
-use Rattle.futmax_main.specs.Way.{Path}
+use Rattle.futmax_main.specs.declared.turn.Step.{Step}
+use Rattle.futmax_main.specs.declared.turn.Step.TheVariants.{GoesOn, Ends}
+use Rattle.futmax_main.specs.LastReads.{StopsSession}
+use Rattle.futmax_main.specs.inside.TurnReads.{HasComeTo, TurnStops}
+use Rattle.futmax_main.specs.inside.Progress.{Path}
 use Rattle.futmax_main.specs.Top.{Serves}
-use Rattle.futmax_main.specs.Turns.{CloseGives, CountsClose, CountsEnd, CountsStop, CountsTurn}
-use Rattle.futmax_main.specs.Turns.{StopEnds, TurnCounts, TurnGives, TurnKeepsSheet, TurnMovesOn}
+use Rattle.futmax_main.specs.inside.Turns.{CloseGives, CountsClose, CountsEnd, CountsStop}
+use Rattle.futmax_main.specs.inside.Turns.{CountsTurn, StopEnds, TurnCounts, TurnGives}
+use Rattle.futmax_main.specs.inside.Turns.{TurnKeepsSheet, TurnMovesOn}
 use Rattle.futmax_main.proofs.LastReadLemmas.{round-goes_on, round-stops}
 use Rattle.futmax_main.proofs.RoundLemmas.{round-ask, round-end, round-fails, round-long_input}
 use Rattle.futmax_main.proofs.RoundLemmas.{round-long_line, round-refused, turn-starved}
@@ -68,8 +70,8 @@ stop-serves answering input told0 sheet log log' from to feed_stop.OutOfMemory o
 
 -- whatever ended the round
 pub close-gives : (answering : Answering) (input : Option (List ℕ)) (told0 : Bool) (sheet : Sheet)
-    (log : List Event) (pool : PoolState) (from to : Spot) (end : RoundEnd)
-    (old now0 now1 : Option (List ℕ)) (turn : Turn)
+    (log : List Event) (pool : PoolView) (from to : Spot) (end : RoundEnd)
+    (old now0 now1 : Option (List ℕ)) (turn : Step)
     → EndsRound sheet log pool.log from to (close_of end) → pool.sheet ≡ sheet
     → Path answering input told0 (stream_of from.reader from.left) from.ended from.reader.position
     sheet log old now0
@@ -98,8 +100,8 @@ close-gives answering input told0 sheet log pool from to (Stop stop) old now0 no
 -- ---- what is kept
 
 -- the sheet
-pub close-keeps : (answering : Answering) (pool : PoolState) (end : RoundEnd)
-    (old now : Option (List ℕ)) (turn : Turn) (sheet : Sheet) → pool.sheet ≡ sheet
+pub close-keeps : (answering : Answering) (pool : PoolView) (end : RoundEnd)
+    (old now : Option (List ℕ)) (turn : Step) (sheet : Sheet) → pool.sheet ≡ sheet
     → CloseGives answering pool end old now turn → TurnKeepsSheet sheet turn
 close-keeps answering pool Ask old now (GoesOn next) sheet same gives = gives.0.0 ∙ same
 close-keeps answering pool End old now (GoesOn next) sheet same gives = absurd gives
@@ -107,8 +109,8 @@ close-keeps answering pool (Stop stop) old now (GoesOn next) sheet same gives = 
 close-keeps answering pool end old now (Ends status) sheet same gives = tt
 
 -- an ask moves the reader on
-pub close-moves : (answering : Answering) (pool : PoolState) (end : RoundEnd)
-    (old now : Option (List ℕ)) (turn : Turn) (reader new : Reader)
+pub close-moves : (answering : Answering) (pool : PoolView) (end : RoundEnd)
+    (old now : Option (List ℕ)) (turn : Step) (reader new : LineReaderView)
     → MovesToEntry reader new (close_of end) → CloseGives answering pool end old now turn
     → TurnMovesOn reader.position.bytes new.position.bytes turn
 close-moves answering pool Ask old now (GoesOn next) reader new moves gives = moves
@@ -131,14 +133,14 @@ end-counts reads reads' writes writes' OutOfMemory same counts = ((same, counts)
 end-counts reads reads' writes writes' NotProved same counts = absurd counts
 end-counts reads reads' writes writes' TooLong same counts = ((same, counts), tt)
 
--- behind an ask
-ask-counts : (reads reads' writes writes' : ℕ) (turn : Turn) → reads' ≡ reads
+-- after an ask
+ask-counts : (reads reads' writes writes' : ℕ) (turn : Step) → reads' ≡ reads
     → CountsTurn writes writes' turn → TurnCounts reads reads' writes writes' turn
 ask-counts reads reads' writes writes' (GoesOn next) same counts = (same, counts)
 ask-counts reads reads' writes writes' (Ends status) same counts =
     end-counts reads reads' writes writes' status same counts
 
--- behind a stop
+-- after a stop
 stop-counts : (reads reads' writes writes' : ℕ) (stop : FeedStop) (status : Status)
     → CountsEntry reads reads' (Err stop) → CountsStop stop writes writes' status
     → TurnCounts reads reads' writes writes' (Ends status)
@@ -149,7 +151,7 @@ stop-counts reads reads' writes writes' stop status same counts =
     end-counts reads reads' writes writes' status same counts
 
 -- whatever ended the round
-pub close-counts : (reads reads' writes writes' : ℕ) (end : RoundEnd) (turn : Turn)
+pub close-counts : (reads reads' writes writes' : ℕ) (end : RoundEnd) (turn : Step)
     → CountsEntry reads reads' (close_of end) → CountsClose end writes writes' turn
     → TurnCounts reads reads' writes writes' turn
 close-counts reads reads' writes writes' Ask turn same counts =
@@ -165,7 +167,7 @@ close-counts reads reads' writes writes' (Stop stop) (Ends status) cause counts 
 -- ---- the last read
 
 module _ {S : Type 0} (left : S → Option (List ℕ)) (reads : S → List ℕ → S → Type 0) (first : S)
-    (reader new : Reader) (before after : S) (sheet : Sheet) (log : List Event)
+    (reader new : LineReaderView) (before after : S) (sheet : Sheet) (log : List Event)
     (come : HasComeTo left reads first reader before sheet log) where
   -- a stop of the feed
   stop-last : (stop : FeedStop) (old now : Option (List ℕ)) (status : Status)
@@ -178,8 +180,8 @@ module _ {S : Type 0} (left : S → Option (List ℕ)) (reads : S → List ℕ �
       round-stops left reads first reader new before after sheet log come ways status
 
   -- whatever ended the round
-  pub close-last : (answering : Answering) (pool : PoolState) (end : RoundEnd)
-      (old now : Option (List ℕ)) (turn : Turn) (x y : Bool) (m n : ℕ)
+  pub close-last : (answering : Answering) (pool : PoolView) (end : RoundEnd)
+      (old now : Option (List ℕ)) (turn : Step) (x y : Bool) (m n : ℕ)
       → EndsRound sheet log pool.log
       (record { reader = reader; left = left before; ended = x; faults = m })
       (record { reader = new; left = left after; ended = y; faults = n }) (close_of end)

@@ -12,7 +12,7 @@ use Rattle.futmax_main.specs.declared.status.Status.TheVariants.{ReadFault, Writ
 use Rattle.futmax_main.specs.declared.status.Status.TheVariants.{NotProved, TooLong}
 use Rattle.futmax_main.specs.declared.session.Answering.{Answering}
 use Rattle.futmax_main.specs.Top.{session_status, IsSettled, Serves}
-use Rattle.futmax_main.specs.Turns.{MayEndSession}
+use Rattle.futmax_main.specs.inside.Turns.{MayEndSession}
 
 -- a line of these words
 line : List ℕ → List ℕ

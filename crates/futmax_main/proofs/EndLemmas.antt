@@ -3,7 +3,7 @@ use Rattle.std.proofs.Common.{◌≡◌, ℕ, Bool, List, [], ◌∷◌, ◌++�
 use Rattle.std.proofs.Common.{◌∙◌, subst, inl, inr}
 use Rattle.std.specs.Io.KnownBytes.{append_known}
 use Rattle.std.proofs.lemmas.List.{append-nil}
-use Rattle.port_core.specs.Ports.{IsFront}
+use Rattle.port_core.specs.Ports.{IsBytePrefix}
 use Rattle.port_core.proofs.RowLemmas.{append_known-append_known}
 use Rattle.futmax_main.specs.declared.status.Status.{Status}
 use Rattle.futmax_main.specs.declared.status.Status.TheVariants.{Done, BadWords, BadSheet, BadFeed}
@@ -13,14 +13,14 @@ use Rattle.futmax_main.specs.declared.session.Answering.{Answering}
 use Rattle.futmax_main.specs.declared.session.Cause.{Cause}
 use Rattle.futmax_main.specs.declared.session.Cause.TheVariants as cause
 use Rattle.futmax_main.specs.declared.session.Fault.{Fault}
-use Rattle.futmax_main.specs.declared.session.Outcome.TheVariants.{Complete, Refused}
+use Rattle.futmax_main.specs.declared.session.RunEnd.TheVariants.{Complete, Refused}
 use Rattle.futmax_main.specs.Plays.{Played}
 use Rattle.futmax_main.specs.Courses.{Course, course_ended, with_asks}
 use Rattle.futmax_main.specs.Rows.{fault_row}
 use Rattle.futmax_main.specs.Answers.{IsAnswerTo}
-use Rattle.futmax_main.specs.Texts.{IsFrontOf, status_of_cause}
+use Rattle.futmax_main.specs.Texts.{IsPrefixOf, status_of_cause}
 use Rattle.futmax_main.specs.Top.{IsWholeText, Serves}
-use Rattle.futmax_main.specs.Turns.{FaultEnds, AskEnds}
+use Rattle.futmax_main.specs.inside.Turns.{FaultEnds, AskEnds}
 use Rattle.futmax_main.proofs.AnsweredLemmas.{answers-behind}
 use Rattle.futmax_main.proofs.TextLemmas.{Reached, front-answer, front-last, reached-answered}
 use Rattle.futmax_main.proofs.TextLemmas.{reached-front, reached-so_far, reached-status}
@@ -40,7 +40,7 @@ not_read (cause.Feed fault) is = cc
 not_read cause.LineTooLong is = cc
 not_read cause.InputTooLong is = cc
 
--- more was written behind what was written before
+-- more was written after what was written before
 pub written-more : (old now later : Option (List ℕ)) (written part : List ℕ)
     → now ≡ append_known old written → later ≡ append_known now part
     → later ≡ append_known old (written ++ part)
@@ -48,7 +48,7 @@ written-more old now later written part first second =
     second ∙ ap (λ known. append_known known part) first
     ∙ append_known-append_known old written part
 
--- a fault of the input is behind what was written
+-- a fault of the input comes after what was written
 abbrev pub Stopped : Answering → List ℕ → List ℕ → Fault → Type 0
 Stopped answering input written fault =
     Reached answering input written (course_ended (Refused fault))
@@ -112,7 +112,7 @@ fault-serves answering input written left told' old now0 now1 fault TooLong stop
   whole answering input written fault TooLong stopped ends.0,
 )
 
--- want of memory serves, and leaves what was written
+-- running out of memory serves, and leaves what was written
 pub memory-serves : (answering : Answering) (input written : List ℕ) (left : Option (List ℕ))
     (told' : Bool) (old now : Option (List ℕ)) (behind : Course)
     → Reached answering input written behind → now ≡ append_known old written
@@ -138,12 +138,12 @@ end-serves answering input written left told' old now there known none =
       ),
     )
 
--- a front of an answer is one of the course from its ask on
+-- a prefix of an answer is one of the course from its ask on
 asked-front : (answering : Answering) (input written : List ℕ) (asked : Played)
     (behind : Course) (answer part : List ℕ)
     → Reached answering input written (with_asks (asked ∷ []) behind)
-    → IsAnswerTo answering asked answer → IsFront part answer
-    → IsFrontOf answering (with_asks (asked ∷ []) behind) part
+    → IsAnswerTo answering asked answer → IsBytePrefix part answer
+    → IsPrefixOf answering (with_asks (asked ∷ []) behind) part
 asked-front answering input written asked behind answer part there is front =
     front-answer answering asked behind answer part is front
     (answers-behind answering (asked ∷ []) behind.asks

@@ -5,27 +5,29 @@ use Rattle.std.proofs.lemmas.Option.{none-some}
 use Rattle.league_core.specs.declared.sheet.Sheet.{Sheet}
 use Rattle.league_core.specs.declared.season.Event.{Event}
 use Rattle.port_core.specs.Contents.{Contents, with_line, with_lines}
-use Rattle.port_core.specs.Readers.{Reader, PassesTo, TakesInput, contents_to_come}
+use Rattle.port_core.specs.Readers.{LineReaderView, TakesInput, contents_to_come}
+use Rattle.port_core.specs.inside.ReaderCalls.{PassesTo}
 use Rattle.port_core.proofs.TakingLemmas.{TakesInput-more}
-use Rattle.fixture_sheet.specs.Calls.{ReadsSheetAs}
-use Rattle.fixture_sheet.specs.LastReads.{LeadsToDraft, ReadsOnWay}
+use Rattle.fixture_sheet.specs.inside.Calls.{ReadsSheetAs}
+use Rattle.fixture_sheet.specs.LastReads.{ReadsOnWay}
+use Rattle.fixture_sheet.specs.inside.SheetReads.{LeadsToDraft}
 use Rattle.fixture_sheet.proofs.LastReadLemmas.{passed-to-come, way-more}
 use Rattle.result_log.specs.declared.entry.Entry.TheVariants.{Ask}
-use Rattle.branch_pool.specs.States.{PoolState}
-use Rattle.worker_gate.specs.Rounds.{EndsRound, TellsEvents, live_entry}
-use Rattle.worker_gate.specs.LastReads.{GivesEvents}
+use Rattle.branch_pool.specs.inside.States.{PoolView}
+use Rattle.worker_gate.specs.inside.Rounds.{EndsRound, ReadsEvents, live_entry}
+use Rattle.worker_gate.specs.inside.LastReads.{GivesEvents}
 use Rattle.futmax_main.specs.declared.status.Status.{Status}
 use Rattle.futmax_main.specs.declared.status.Status.TheVariants.{ReadFault}
 use Rattle.futmax_main.specs.declared.session.Answering.{Answering}
 use Rattle.futmax_main.specs.declared.session.Service.{Service}
 use Rattle.futmax_main.specs.declared.session.Service.TheVariants.{Answers, Checks, Samples}
-use Rattle.futmax_main.specs.declared.turn.Turn.{Turn}
-use Rattle.futmax_main.specs.declared.turn.Turn.TheVariants.{GoesOn, Ends}
-use Rattle.futmax_main.specs.Plays.{played_behind}
+use Rattle.futmax_main.specs.declared.turn.Step.{Step}
+use Rattle.futmax_main.specs.declared.turn.Step.TheVariants.{GoesOn, Ends}
+use Rattle.futmax_main.specs.Plays.{played_after}
 use Rattle.futmax_main.specs.Courses.{course_from, course_of, course_of_reading, with_asks}
-use Rattle.futmax_main.specs.LastReads.{HasComeTo, IsOnCourse, LeadToFeed, StandsAt, StopsSession}
-use Rattle.futmax_main.specs.LastReads.{StopsAs, TurnStops, fresh_reader}
-use Rattle.futmax_main.specs.Turns.{AskGives, TurnBegins}
+use Rattle.futmax_main.specs.LastReads.{IsOnCourse, LeadToFeed, StopsSession, StopsAs, fresh_reader}
+use Rattle.futmax_main.specs.inside.TurnReads.{HasComeTo, StandsAt, TurnStops}
+use Rattle.futmax_main.specs.inside.Turns.{AskGives, TurnBegins}
 use Rattle.futmax_main.proofs.CourseLemmas.{course-ask, course-told}
 use Rattle.port_core.proofs.ContentLemmas.{with_lines-append}
 use Rattle.futmax_main.proofs.RoundLemmas.{asks-joined}
@@ -33,12 +35,12 @@ use Rattle.futmax_main.proofs.SheetLemmas.{known, sheet-elsewhere}
 
 -- ---- contents that are told
 
--- lines in front of what is told are told
+-- lines before what is told are told
 told-front : (lines : List (ℕ × List ℕ)) (before after : Contents)
     → Some before ≡ option_map (with_lines lines) (Some after) → before ≡ with_lines lines after
 told-front lines before after is = ap (known before) is
 
--- and in front of nothing told nothing is
+-- and before nothing told nothing is
 told-nothing : (lines : List (ℕ × List ℕ)) (before : Contents)
     → Some before ≡ option_map (with_lines lines) None → ⊥
 told-nothing lines before is = none-some before (sym is)
@@ -55,7 +57,7 @@ draft-course (Some before) (Some after) leads =
 
 -- lines that tell events lead on
 feed-told : (taken lines : List (ℕ × List ℕ)) (sheet : Sheet) (log log' : List Event)
-    → LeadToFeed taken sheet log → TellsEvents sheet log lines log'
+    → LeadToFeed taken sheet log → ReadsEvents sheet log lines log'
     → LeadToFeed (taken ++ lines) sheet log'
 feed-told taken lines sheet log log' leads tells = (
   leads.0,
@@ -68,11 +70,11 @@ feed-asks : (taken : List (ℕ × List ℕ)) (number : ℕ) (text : List ℕ) (s
     (log : List Event) → LeadToFeed taken sheet log → live_entry sheet log text ≡ Ok (Some Ask)
     → LeadToFeed (taken ++ (number, text) ∷ []) sheet log
 feed-asks taken number text sheet log leads is = (
-  leads.0 ++ played_behind sheet log ∷ [],
+  leads.0 ++ played_after sheet log ∷ [],
   λ rest. ap course_of (with_lines-append taken ((number, text) ∷ []) rest)
       ∙ leads.1 (with_line number text rest)
       ∙ ap (with_asks leads.0) (course-ask sheet log number text rest is)
-      ∙ asks-joined leads.0 (played_behind sheet log ∷ []) (course_from sheet log rest),
+      ∙ asks-joined leads.0 (played_after sheet log ∷ []) (course_from sheet log rest),
 )
 
 -- a round is on the course
@@ -91,7 +93,7 @@ events-course (Some before) (Some mid) (Some after) sheet log stands gives = (
 
 -- ---- where a session stands
 
--- behind its sheet
+-- after its sheet
 sheet-stands : (before after : Option Contents) (given : List (ℕ × List ℕ)) (sheet : Sheet)
     → before ≡ option_map (with_lines given) after → ReadsSheetAs before after (Ok sheet)
     → StandsAt before after sheet []
@@ -102,11 +104,11 @@ sheet-stands (Some before) (Some after) given sheet is reads =
     let elsewhere = sheet-elsewhere given before after sheet front reads in
     (given, front, ([], λ rest. ap course_of_reading (elsewhere rest)))
 
--- behind an ask
+-- after an ask
 ask-stands : (before mid after : Option Contents) (lines : List (ℕ × List ℕ)) (number : ℕ)
     (text : List ℕ) (sheet : Sheet) (log log' : List Event) → StandsAt before mid sheet log
     → mid ≡ option_map (with_lines (lines ++ (number, text) ∷ [])) after
-    → TellsEvents sheet log lines log' → live_entry sheet log' text ≡ Ok (Some Ask)
+    → ReadsEvents sheet log lines log' → live_entry sheet log' text ≡ Ok (Some Ask)
     → StandsAt before after sheet log'
 ask-stands None mid after lines number text sheet log log' stands is tells asks = tt
 ask-stands (Some before) None after lines number text sheet log log' stands is tells asks =
@@ -127,7 +129,7 @@ ask-stands (Some before) (Some mid) (Some after) lines number text sheet log log
 
 module _ {S : Type 0} (left : S → Option (List ℕ)) (reads : S → List ℕ → S → Type 0) where
   -- whatever the status
-  pub stops-any : (reader : Reader) (before after : S) (status : Status)
+  pub stops-any : (reader : LineReaderView) (before after : S) (status : Status)
       → ReadsOnWay left reads IsOnCourse fresh_reader reader before after
       → StopsSession left reads before after status
   stops-any reader before after ReadFault ways = tt
@@ -144,13 +146,13 @@ module _ {S : Type 0} (left : S → Option (List ℕ)) (reads : S → List ℕ �
 
   -- ---- the sheet
 
-  module _ (reader new : Reader) (before after : S) (fresh : reader ≡ fresh_reader)
+  module _ (reader new : LineReaderView) (before after : S) (fresh : reader ≡ fresh_reader)
       (takes : TakesInput reader new (left before) (left after)) where
     -- what was read of the sheet was read on the course
     sheet-course : ReadsOnWay left reads LeadsToDraft reader new before after
         → ReadsOnWay left reads IsOnCourse fresh_reader new before after
     sheet-course ways =
-        let P : Reader → Type 0 =
+        let P : LineReaderView → Type 0 =
         λ r. ReadsOnWay left reads LeadsToDraft r new before after in
         course (subst P fresh ways)
       where
@@ -185,12 +187,12 @@ module _ {S : Type 0} (left : S → Option (List ℕ)) (reads : S → List ℕ �
         → ReadsOnWay left reads LeadsToDraft reader new before after
         → HasComeTo left reads before new after sheet []
     sheet-come x y given sheet passes read ways =
-        let P : Reader → Type 0 =
+        let P : LineReaderView → Type 0 =
         λ r. PassesTo r new (left before) (left after) x y given in
-        let Q : Reader → Type 0 =
+        let Q : LineReaderView → Type 0 =
         λ r. ReadsSheetAs (contents_to_come r (left before))
         (contents_to_come new (left after)) (Ok sheet) in
-        let R : Reader → Type 0 = λ r. TakesInput r new (left before) (left after) in
+        let R : LineReaderView → Type 0 = λ r. TakesInput r new (left before) (left after) in
         record {
           way = sheet-stands (contents_to_come fresh_reader (left before))
               (contents_to_come new (left after)) given sheet
@@ -201,8 +203,8 @@ module _ {S : Type 0} (left : S → Option (List ℕ)) (reads : S → List ℕ �
           last = sheet-course ways;
         }
 
-    -- the session goes on behind it, or finds no memory
-    pub sheet-goes_on : (x y : Bool) (given : List (ℕ × List ℕ)) (sheet : Sheet) (turn : Turn)
+    -- the session goes on after it, or finds no memory
+    pub sheet-goes_on : (x y : Bool) (given : List (ℕ × List ℕ)) (sheet : Sheet) (turn : Step)
         → PassesTo reader new (left before) (left after) x y given
         → ReadsSheetAs (contents_to_come reader (left before))
         (contents_to_come new (left after)) (Ok sheet)
@@ -219,7 +221,8 @@ module _ {S : Type 0} (left : S → Option (List ℕ)) (reads : S → List ℕ �
 
   -- ---- a round
 
-  module _ (first : S) (reader new : Reader) (before after : S) (sheet : Sheet) (log : List Event)
+  module _ (first : S) (reader new : LineReaderView) (before after : S) (sheet : Sheet)
+      (log : List Event)
       (come : HasComeTo left reads first reader before sheet log)
       (ways : ReadsOnWay left reads (GivesEvents sheet log) reader new before after) where
     -- what was read of it was read on the course
@@ -252,9 +255,9 @@ module _ {S : Type 0} (left : S → Option (List ℕ)) (reads : S → List ℕ �
       last = round-course;
     }
 
-    -- the session goes on behind it, or ends there
-    pub round-goes_on : (answering : Answering) (pool : PoolState) (old now : Option (List ℕ))
-        (turn : Turn) (x y : Bool) (m n : ℕ)
+    -- the session goes on after it, or ends there
+    pub round-goes_on : (answering : Answering) (pool : PoolView) (old now : Option (List ℕ))
+        (turn : Step) (x y : Bool) (m n : ℕ)
         → EndsRound sheet log pool.log
         (record { reader = reader; left = left before; ended = x; faults = m })
         (record { reader = new; left = left after; ended = y; faults = n }) (Ok Ask)

@@ -16,10 +16,10 @@ use Rattle.league_core.specs.declared.sheet.Sheet.{Sheet}
 use Rattle.league_core.specs.declared.sheet.Club.{Club}
 use Rattle.league_core.specs.declared.sheet.Fixture.{Fixture}
 use Rattle.league_core.specs.declared.sheet.Order.{Order}
-use Rattle.league_core.specs.Limits.{most_clubs, most_fixtures, most_lines, most_rank}
-use Rattle.league_core.specs.Limits.{most_goal_limit, most_budget}
-use Rattle.league_core.specs.Sheets.{IsWithinLimits, is_name, is_club, is_fixture, is_line}
-use Rattle.port_core.specs.declared.answers.ReadStop.{ReadStop}
+use Rattle.league_core.specs.game.Limits.{most_clubs, most_fixtures, most_lines, most_rank}
+use Rattle.league_core.specs.game.Limits.{most_goal_limit, most_budget}
+use Rattle.league_core.specs.game.Sheets.{IsWithinLimits, is_name, is_club, is_fixture, is_line}
+use Rattle.port_core.specs.declared.line.ReadStop.{ReadStop}
 use Rattle.port_core.specs.Contents.{Contents}
 use Rattle.fixture_sheet.specs.declared.fault.SheetFault.{SheetFault}
 use Rattle.fixture_sheet.specs.declared.fault.SheetFault.TheVariants as fault
@@ -29,12 +29,13 @@ use Rattle.fixture_sheet.specs.declared.record.Progress.TheVariants.{SoFar, Whol
 use Rattle.fixture_sheet.specs.Fields.{field, has_return, record_of}
 use Rattle.fixture_sheet.specs.Texts.{if_within, name_of, number_within, number_written, only_if}
 use Rattle.fixture_sheet.specs.Texts.{text_of}
-use Rattle.fixture_sheet.specs.Drafts.{IsDraft, names_of}
+use Rattle.fixture_sheet.specs.inside.Drafts.{IsDraft}
+use Rattle.fixture_sheet.specs.Records.{names_of}
 use Rattle.fixture_sheet.specs.Records.{and_then, budget_of, club_added, club_named, club_of}
 use Rattle.fixture_sheet.specs.Records.{club_taken, content_taken, fixture_added, fixture_of}
 use Rattle.fixture_sheet.specs.Records.{has_few_clubs, has_name, is_past_clubs, later_taken}
 use Rattle.fixture_sheet.specs.Records.{league_of, league_taken, line_added, line_taken}
-use Rattle.fixture_sheet.specs.Records.{match_taken, order_told, record_taken_if}
+use Rattle.fixture_sheet.specs.Records.{match_taken, order_in, record_taken_if}
 use Rattle.fixture_sheet.specs.Records.{refusal_of_no_record, season_taken, sheet_begun, so_far}
 use Rattle.fixture_sheet.specs.Records.{whole}
 use Rattle.fixture_sheet.specs.Sheets.{sheet_reading_by, sheet_reading_from}
@@ -169,12 +170,12 @@ league-has fields =
     (λ goal_limit goals. has-then (IsBetween 1 most_budget) IsDraft
     (λ budget. with_budget name goal_limit budget) (budget_of fields) (budget-has fields)
     (λ budget nodes. has-map Anything IsDraft (sheet_begun name goal_limit budget)
-    (order_told fields) (has-anything (order_told fields))
+    (order_in fields) (has-anything (order_in fields))
     (λ order any. begun-is name goal_limit budget order named goals nodes))))
   where
     with_budget : List ℕ → ℕ → ℕ → Option Sheet
     with_budget name goal_limit budget =
-        option_map (λ order. sheet_begun name goal_limit budget order) (order_told fields)
+        option_map (λ order. sheet_begun name goal_limit budget order) (order_in fields)
 
     with_goals : List ℕ → ℕ → Option Sheet
     with_goals name goal_limit = option_and_then (with_budget name goal_limit) (budget_of fields)

@@ -6,12 +6,13 @@ use Rattle.std.specs.Io.KnownBytes.{append_known, prepend_known, IsAtEnd}
 use Rattle.std.proofs.lemmas.List.{append_assoc, append-nil}
 use Rattle.league_core.specs.declared.sheet.Sheet.{Sheet}
 use Rattle.league_core.specs.declared.season.Event.{Event}
-use Rattle.port_core.specs.declared.answers.ReadStop.{ReadStop}
-use Rattle.port_core.specs.declared.answers.ReadStop.TheVariants as stop
+use Rattle.port_core.specs.declared.line.ReadStop.{ReadStop}
+use Rattle.port_core.specs.declared.line.ReadStop.TheVariants as stop
 use Rattle.port_core.specs.Lines.{lines_of, HasNoLineFeed}
 use Rattle.port_core.specs.Contents.{Position, start, number_at, ended, with_line}
 use Rattle.port_core.specs.Contents.{with_lines, contents_from, contents_of}
-use Rattle.port_core.specs.Readers.{contents_behind, stream_of, given_by, Passes, PassesKnown}
+use Rattle.port_core.specs.Readers.{contents_after, stream_of}
+use Rattle.port_core.specs.inside.ReaderCalls.{given_by, Passes, PassesKnown}
 use Rattle.port_core.proofs.ContentLemmas.{with_lines-append}
 use Rattle.port_core.proofs.PassingLemmas.{passes-more}
 use Rattle.result_log.specs.declared.entry.Entry.{Entry}
@@ -19,25 +20,25 @@ use Rattle.result_log.specs.declared.entry.Entry.TheVariants.{Ask, End}
 use Rattle.result_log.specs.declared.fault.FeedFault.{FeedFault}
 use Rattle.result_log.specs.declared.fault.FeedStop.{FeedStop}
 use Rattle.result_log.specs.declared.fault.FeedStop.TheVariants as feed_stop
-use Rattle.result_log.specs.Calls.{entry_answer_behind}
-use Rattle.branch_pool.specs.States.{PoolState}
-use Rattle.worker_gate.specs.Rounds.{EndsRound, Spot, TellsEvents, live_entry}
+use Rattle.result_log.specs.inside.Calls.{entry_answer_after}
+use Rattle.branch_pool.specs.inside.States.{PoolView}
+use Rattle.worker_gate.specs.inside.Rounds.{EndsRound, Spot, ReadsEvents, live_entry}
 use Rattle.futmax_main.specs.declared.status.Status.{Status}
 use Rattle.futmax_main.specs.declared.status.Status.TheVariants.{Done, ReadFault, OutOfMemory}
 use Rattle.futmax_main.specs.declared.session.Answering.{Answering}
 use Rattle.futmax_main.specs.declared.session.Cause.TheVariants as cause
 use Rattle.futmax_main.specs.declared.session.Fault.{Fault}
-use Rattle.futmax_main.specs.declared.session.Outcome.TheVariants.{Complete, Refused}
-use Rattle.futmax_main.specs.declared.turn.Turn.{Turn}
-use Rattle.futmax_main.specs.declared.turn.Turn.TheVariants.{GoesOn, Ends}
-use Rattle.futmax_main.specs.Plays.{Played, played_behind}
+use Rattle.futmax_main.specs.declared.session.RunEnd.TheVariants.{Complete, Refused}
+use Rattle.futmax_main.specs.declared.turn.Step.{Step}
+use Rattle.futmax_main.specs.declared.turn.Step.TheVariants.{GoesOn, Ends}
+use Rattle.futmax_main.specs.Plays.{Played, played_after}
 use Rattle.futmax_main.specs.Courses.{Course, course_ended, course_from, course_of, with_asks}
 use Rattle.futmax_main.specs.Courses.{input_fault, line_fault, outcome_at_stop}
 use Rattle.futmax_main.specs.Answers.{IsAnswerTo}
 use Rattle.futmax_main.specs.Texts.{AreAnswers}
 use Rattle.futmax_main.specs.Top.{Serves}
-use Rattle.futmax_main.specs.Way.{LeadsOn, Path}
-use Rattle.futmax_main.specs.Turns.{AskGives, FaultEnds, TurnGives}
+use Rattle.futmax_main.specs.inside.Progress.{LeadsOn, Path}
+use Rattle.futmax_main.specs.inside.Turns.{AskGives, FaultEnds, TurnGives}
 use Rattle.futmax_main.proofs.CourseLemmas.{course-told, course-ask, course-refused}
 use Rattle.futmax_main.proofs.TextLemmas.{answers-append, answers-one, Reached, reached}
 use Rattle.futmax_main.proofs.TextLemmas.{reached-as}
@@ -51,7 +52,7 @@ use Rattle.futmax_main.proofs.TurnLemmas.{all-contents, answers-in, turn-untold}
 -- lines that tell events
 leads-told : (answering : Answering) (taken lines : List (ℕ × List ℕ)) (written : List ℕ)
     (sheet : Sheet) (log log' : List Event) → LeadsOn answering taken written sheet log
-    → TellsEvents sheet log lines log' → LeadsOn answering (taken ++ lines) written sheet log'
+    → ReadsEvents sheet log lines log' → LeadsOn answering (taken ++ lines) written sheet log'
 leads-told answering taken lines written sheet log log' way told = record {
   asks = way.asks;
   answers = way.answers;
@@ -60,7 +61,7 @@ leads-told answering taken lines written sheet log log' way told = record {
       ∙ ap (with_asks way.asks) (course-told sheet log log' lines rest told);
 }
 
--- more asks behind the first ones
+-- more asks after the first ones
 pub asks-joined : (asks others : List Played) (course : Course)
     → with_asks asks (with_asks others course) ≡ with_asks (asks ++ others) course
 asks-joined asks others course =
@@ -71,21 +72,21 @@ asks-joined asks others course =
 leads-asks : (answering : Answering) (taken : List (ℕ × List ℕ)) (number : ℕ)
     (text written answer : List ℕ) (sheet : Sheet) (log : List Event)
     → LeadsOn answering taken written sheet log → live_entry sheet log text ≡ Ok (Some Ask)
-    → IsAnswerTo answering (played_behind sheet log) answer
+    → IsAnswerTo answering (played_after sheet log) answer
     → LeadsOn answering (taken ++ (number, text) ∷ []) (written ++ answer) sheet log
 leads-asks answering taken number text written answer sheet log way is answers_it = record {
-  asks = way.asks ++ played_behind sheet log ∷ [];
-  answers = answers-append answering way.asks (played_behind sheet log ∷ []) written answer
-      way.answers (answers-one answering (played_behind sheet log) answer answers_it);
+  asks = way.asks ++ played_after sheet log ∷ [];
+  answers = answers-append answering way.asks (played_after sheet log ∷ []) written answer
+      way.answers (answers-one answering (played_after sheet log) answer answers_it);
   course = λ rest. ap course_of (with_lines-append taken ((number, text) ∷ []) rest)
       ∙ way.course (with_line number text rest)
       ∙ ap (with_asks way.asks) (course-ask sheet log number text rest is)
-      ∙ asks-joined way.asks (played_behind sheet log ∷ []) (course_from sheet log rest);
+      ∙ asks-joined way.asks (played_after sheet log ∷ []) (course_from sheet log rest);
 }
 
 -- ---- where a round leads
 
--- behind lines that told events, this line was passed last, or none
+-- after lines that told events, this line was passed last, or none
 pub record Onward (answering : Answering) (input after : List ℕ) (told0 told' : Bool)
     (to : Position) (last : List (ℕ × List ℕ)) (sheet : Sheet) (log : List Event)
     (old now : Option (List ℕ)) : Type 0 where
@@ -109,7 +110,7 @@ pub onward : (answering : Answering) (input : Option (List ℕ)) (told0 : Bool)
     (old now : Option (List ℕ))
     → Path answering input told0 before told from sheet log old now
     → PassesKnown from before told to after told' (lines ++ last)
-    → TellsEvents sheet log lines log'
+    → ReadsEvents sheet log lines log'
     → OnwardKnown answering input after told0 told' to last sheet log' old now
 onward answering None told0 before told after told' from to lines last sheet log log' old now path
     passed tells = tt
@@ -157,8 +158,8 @@ onward-reached answering input after told0 told' to last sheet log old now on =
 
 -- an ask of an input that is told
 ask-turn : (answering : Answering) (input after : List ℕ) (told0 told' : Bool) (to : Position)
-    (number : ℕ) (text : List ℕ) (pool : PoolState) (left old now0 now1 : Option (List ℕ))
-    (turn : Turn)
+    (number : ℕ) (text : List ℕ) (pool : PoolView) (left old now0 now1 : Option (List ℕ))
+    (turn : Step)
     → Onward answering input after told0 told' to ((number, text) ∷ []) pool.sheet pool.log old now0
     → live_entry pool.sheet pool.log text ≡ Ok (Some Ask)
     → AskGives answering pool now0 now1 turn
@@ -181,19 +182,19 @@ ask-turn answering input after told0 told' to number text pool left old now0 now
 ask-turn answering input after told0 told' to number text pool left old now0 now1 (Ends status) on
     is gives =
     let rest = contents_from to (lines_of after) in
-    ask-serves answering input on.written (played_behind pool.sheet pool.log)
+    ask-serves answering input on.written (played_after pool.sheet pool.log)
     (course_from pool.sheet pool.log rest) left told' old now0 now1 status
     (reached-as answering input on.written
     (course_from pool.sheet pool.log (with_line number text rest))
-    (with_asks (played_behind pool.sheet pool.log ∷ []) (course_from pool.sheet pool.log rest))
+    (with_asks (played_after pool.sheet pool.log ∷ []) (course_from pool.sheet pool.log rest))
     (onward-reached answering input after told0 told' to ((number, text) ∷ []) pool.sheet pool.log
     old now0 on)
     (course-ask pool.sheet pool.log number text rest is))
     on.known gives
 
 pub turn-ask : (answering : Answering) (input after : Option (List ℕ)) (told0 told' : Bool)
-    (to : Position) (number : ℕ) (text : List ℕ) (pool : PoolState)
-    (left old now0 now1 : Option (List ℕ)) (turn : Turn)
+    (to : Position) (number : ℕ) (text : List ℕ) (pool : PoolView)
+    (left old now0 now1 : Option (List ℕ)) (turn : Step)
     → OnwardKnown answering input after told0 told' to ((number, text) ∷ []) pool.sheet pool.log old
     now0
     → live_entry pool.sheet pool.log text ≡ Ok (Some Ask)
@@ -239,7 +240,7 @@ pub turn-stopped : (answering : Answering) (input after : Option (List ℕ)) (to
     (to : Position) (stop : ReadStop) (fault : Fault) (sheet : Sheet) (log : List Event)
     (left old now0 now1 : Option (List ℕ)) (status : Status)
     → OnwardKnown answering input after told0 told' to [] sheet log old now0
-    → IfSome (contents_behind to after) (λ contents. contents ≡ ended (Err stop))
+    → IfSome (contents_after to after) (λ contents. contents ≡ ended (Err stop))
     → outcome_at_stop stop ≡ Refused fault → FaultEnds fault now0 now1 status
     → Serves (Some answering) input left told' old now1 status
 turn-stopped answering None after told0 told' to stop fault sheet log left old now0 now1 status on
@@ -273,7 +274,7 @@ turn-end answering (Some input) held (Some left) told0 told' to sheet log old no
     (ap (λ bytes. course_from sheet log (contents_from to (lines_of bytes))) nothing))
     on.known (ap Some at_end)
 
--- want of memory, in a round of which nothing more is known
+-- running out of memory, in a round of which nothing more is known
 pub turn-starved : (answering : Answering) (input : Option (List ℕ)) (told0 : Bool)
     (before : Option (List ℕ)) (told : Bool) (from : Position) (sheet : Sheet) (log : List Event)
     (left : Option (List ℕ)) (told' : Bool) (old now : Option (List ℕ))
@@ -292,7 +293,7 @@ turn-starved answering (Some input) told0 (Some before) told from sheet log left
 
 -- ---- a fault of the source
 
--- the source failed behind lines that told events
+-- the source failed after lines that told events
 fails : (answering : Answering) (input held left : List ℕ) (told0 told' : Bool) (to : Position)
     (sheet : Sheet) (log : List Event) (old now : Option (List ℕ))
     → Onward answering input (held ++ left) told0 told' to [] sheet log old now
@@ -338,17 +339,17 @@ pub ends-onward : (answering : Answering) (input : Option (List ℕ)) (told0 : B
     → Path answering input told0 (stream_of from.reader from.left) from.ended from.reader.position
     sheet log old now
     → OnwardKnown answering input (stream_of to.reader to.left) told0 to.ended to.reader.position
-    (given_by (entry_answer_behind to.reader close) to.reader.text) sheet log' old now
+    (given_by (entry_answer_after to.reader close) to.reader.text) sheet log' old now
 ends-onward answering input told0 sheet log log' from to close old now ends path =
     onward answering input told0 (stream_of from.reader from.left) from.ended
     (stream_of to.reader to.left) to.ended from.reader.position to.reader.position ends.lines
-    (given_by (entry_answer_behind to.reader close) to.reader.text) sheet log log' old now path
+    (given_by (entry_answer_after to.reader close) to.reader.text) sheet log log' old now path
     ends.passes ends.tells
 
 -- by an ask, which the pool of the round answers
 pub round-ask : (answering : Answering) (input : Option (List ℕ)) (told0 : Bool) (sheet : Sheet)
-    (log : List Event) (pool : PoolState) (from to : Spot) (old now0 now1 : Option (List ℕ))
-    (turn : Turn) → EndsRound sheet log pool.log from to (Ok Ask) → pool.sheet ≡ sheet
+    (log : List Event) (pool : PoolView) (from to : Spot) (old now0 now1 : Option (List ℕ))
+    (turn : Step) → EndsRound sheet log pool.log from to (Ok Ask) → pool.sheet ≡ sheet
     → Path answering input told0 (stream_of from.reader from.left) from.ended from.reader.position
     sheet log old now0
     → AskGives answering pool now0 now1 turn

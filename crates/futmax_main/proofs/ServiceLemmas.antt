@@ -10,7 +10,8 @@ use Rattle.futmax_main.specs.declared.session.Service.{Service}
 use Rattle.futmax_main.specs.declared.session.Service.TheVariants.{Answers, Checks, Samples}
 use Rattle.futmax_main.specs.Checks.{ServesCheck}
 use Rattle.futmax_main.specs.SampleRows.{ServesSample}
-use Rattle.futmax_main.specs.Services.{IsCheckSettled, IsSettledAs, MayEndAs, ServesAs}
+use Rattle.futmax_main.specs.Services.{IsCheckSettled, IsSettledAs, ServesAs}
+use Rattle.futmax_main.specs.inside.Turns.{MayEndAs}
 use Rattle.futmax_main.proofs.EarnedLemmas.{settled}
 use Rattle.futmax_main.proofs.CheckedLemmas.{checked-bad_feed, checked-bad_sheet, checked-done}
 use Rattle.futmax_main.proofs.CheckedLemmas.{checked-not_proved, checked-too_long, ended_line}

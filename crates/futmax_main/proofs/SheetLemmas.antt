@@ -4,7 +4,7 @@ use Rattle.std.proofs.Common.{Result, Ok, Err, ap, ap₂, sym, ◌∙◌, arith}
 use Rattle.std.specs.Prelude.{option_map}
 use Rattle.std.proofs.lemmas.List.{append_cancel_right}
 use Rattle.league_core.specs.declared.sheet.Sheet.{Sheet}
-use Rattle.port_core.specs.declared.answers.ReadStop.{ReadStop}
+use Rattle.port_core.specs.declared.line.ReadStop.{ReadStop}
 use Rattle.port_core.specs.Contents.{Contents, with_lines}
 use Rattle.fixture_sheet.specs.declared.fault.SheetFault.{SheetFault}
 use Rattle.fixture_sheet.specs.declared.fault.SheetStop.{SheetStop}
@@ -14,7 +14,7 @@ use Rattle.fixture_sheet.specs.Records.{content_taken}
 use Rattle.fixture_sheet.specs.Sheets.{SheetReading, sheet_reading_by, sheet_reading_from}
 use Rattle.fixture_sheet.specs.Sheets.{sheet_reading_of}
 
--- a sheet was read, and these contents stand behind it
+-- a sheet was read, and these contents come after it
 abbrev pub read_up_to : Sheet → Contents → SheetReading
 read_up_to sheet rest = record { gives = Ok sheet; rest = rest }
 
@@ -88,12 +88,12 @@ elsewhere-from (line ∷ given) draft there rest sheet is =
     (λ next. elsewhere-from given next there rest sheet)
     (content_taken draft line.1) is
 
--- what is behind an option, where it is there
+-- what comes after an option, where it is there
 abbrev pub known : {A : Type 0} → A → Option A → A
 known value None = value
 known value (Some other) = other
 
--- a sheet that was read behind these lines is read behind them whatever follows
+-- a sheet that was read after these lines is read after them whatever follows
 pub sheet-elsewhere : (given : List (ℕ × List ℕ)) (before there : Contents) (sheet : Sheet)
     → before ≡ with_lines given there
     → option_map (λ contents. sheet_reading_of contents None) (Some before)
@@ -112,7 +112,7 @@ pub sheet-reading : (before there : Contents) (gives : Result Sheet SheetStop)
     → sheet_reading_of before None ≡ record { gives = gives; rest = there }
 sheet-reading before there gives reads = ap (known (sheet_reading_of before None)) reads
 
--- lines in front of the same contents are the same
+-- lines before the same contents are the same
 pub same-lines : (given other : List (ℕ × List ℕ)) (there : Contents)
     → with_lines given there ≡ with_lines other there → given ≡ other
 same-lines given other there is =

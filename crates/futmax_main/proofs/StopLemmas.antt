@@ -8,10 +8,11 @@ use Rattle.std.specs.Io.KnownBytes.{prepend_known}
 use Rattle.std.proofs.lemmas.List.{append_assoc}
 use Rattle.std.proofs.lemmas.Bool.{cases_lt}
 use Rattle.std.proofs.lemmas.Option.{none-some}
-use Rattle.port_core.specs.declared.answers.ReadStop.{ReadStop}
-use Rattle.port_core.specs.Lines.{lines_of, text_of_line, HasNoLineFeed, AreLines, IsEndedLine}
+use Rattle.port_core.specs.declared.line.ReadStop.{ReadStop}
+use Rattle.port_core.specs.Lines.{lines_of, text_of_line, HasNoLineFeed, IsEndedLine}
+use Rattle.port_core.specs.inside.LineSplits.{AreLines}
 use Rattle.port_core.specs.Contents.{Position, line_stop, stop_due, ended}
-use Rattle.port_core.specs.Readers.{contents_behind}
+use Rattle.port_core.specs.Readers.{contents_after}
 use Rattle.port_core.proofs.LineLemmas.{AreLines-lines_of, concat-lines_of, lines_of-ended}
 use Rattle.port_core.proofs.LineLemmas.{lines_of-front, text_of_line-front, text_of_line-open}
 use Rattle.port_core.proofs.StopLemmas.{contents-stopped, stop-none, stop-long, stop-past}
@@ -83,7 +84,7 @@ stop-lines position (line ∷ next ∷ lines) rest stop are is =
 -- what is to come is that stop
 pub stop-stands : (position : Position) (held : List ℕ) (left : Option (List ℕ)) (stop : ReadStop)
     → stop_due position (lines_of held) ≡ Some stop
-    → IfSome (contents_behind position (prepend_known held left))
+    → IfSome (contents_after position (prepend_known held left))
     (λ contents. contents ≡ ended (Err stop))
 stop-stands position held left stop is =
     contents-stopped position held (prepend_known held left) left stop refl (λ rest.

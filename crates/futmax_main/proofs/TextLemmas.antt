@@ -2,19 +2,19 @@
 use Rattle.std.proofs.Common.{◌≡◌, ℕ, List, [], ◌∷◌, ◌++◌, refl, ap, sym, ◌∙◌, subst}
 use Rattle.std.proofs.Common.{append-nil}
 use Rattle.std.proofs.lemmas.List.{append_assoc}
-use Rattle.port_core.specs.Ports.{IsFront}
+use Rattle.port_core.specs.Ports.{IsBytePrefix}
 use Rattle.port_core.specs.Contents.{Contents, contents_of, with_lines}
 use Rattle.league_core.specs.declared.sheet.Sheet.{Sheet}
 use Rattle.league_core.specs.declared.season.Event.{Event}
 use Rattle.futmax_main.specs.declared.session.Answering.{Answering}
-use Rattle.futmax_main.specs.declared.session.Outcome.{Outcome}
+use Rattle.futmax_main.specs.declared.session.RunEnd.{RunEnd}
 use Rattle.futmax_main.specs.Plays.{Played}
 use Rattle.futmax_main.specs.Courses.{Course, course_ended, course_from, course_of, with_asks}
 use Rattle.futmax_main.specs.Rows.{last_row}
 use Rattle.futmax_main.specs.Answers.{IsAnswerTo}
-use Rattle.futmax_main.specs.Texts.{AreAnswers, IsFrontOf, IsTextOf, status_of_outcome}
-use Rattle.futmax_main.specs.Top.{IsText, IsTextFront, session_status}
-use Rattle.futmax_main.specs.Way.{LeadsOn}
+use Rattle.futmax_main.specs.Texts.{AreAnswers, IsPrefixOf, IsTextOf, status_of_outcome}
+use Rattle.futmax_main.specs.Top.{IsText, IsTextPrefix, session_status}
+use Rattle.futmax_main.specs.inside.Progress.{LeadsOn}
 use Rattle.futmax_main.proofs.AnsweredLemmas.{HasAnswers, answers-behind, session-answered}
 
 -- answers and then more answers
@@ -37,7 +37,7 @@ pub answers-one : (answering : Answering) (asked : Played) (answer : List ℕ)
     → IsAnswerTo answering asked answer → AreAnswers answering (asked ∷ []) answer
 answers-one answering asked answer is = (answer, [], sym (append-nil answer), is, refl)
 
--- answers to the first asks, and a text of what is behind them
+-- answers to the first asks, and a text of what comes after them
 text-behind : (answering : Answering) (asks : List Played) (behind : Course)
     (written text : List ℕ) → AreAnswers answering asks written → IsTextOf answering behind text
     → IsTextOf answering (with_asks asks behind) (written ++ text)
@@ -49,8 +49,8 @@ text-behind answering asks behind written text first whole = (
 
 -- the same of a front
 front-behind : (answering : Answering) (asks : List Played) (behind : Course)
-    (written more : List ℕ) → AreAnswers answering asks written → IsFrontOf answering behind more
-    → IsFrontOf answering (with_asks asks behind) (written ++ more)
+    (written more : List ℕ) → AreAnswers answering asks written → IsPrefixOf answering behind more
+    → IsPrefixOf answering (with_asks asks behind) (written ++ more)
 front-behind answering asks behind written more first front = (
   written ++ front.0,
   text-behind answering asks behind written front.0 first front.1,
@@ -64,20 +64,20 @@ front-behind answering asks behind written more first front = (
 
 -- nothing is a front, where each ask has an answer
 pub front-nothing : (answering : Answering) (behind : Course) → HasAnswers answering behind.asks
-    → IsFrontOf answering behind []
+    → IsPrefixOf answering behind []
 front-nothing answering behind answered =
     let whole = answered.0 ++ last_row behind.outcome in
     (whole, (answered.0, answered.1, refl), (whole, refl))
 
--- a front of the last row, where nothing is asked any more
-pub front-last : (answering : Answering) (outcome : Outcome) (part : List ℕ)
-    → IsFront part (last_row outcome) → IsFrontOf answering (course_ended outcome) part
+-- a prefix of the last row, where nothing is asked any more
+pub front-last : (answering : Answering) (outcome : RunEnd) (part : List ℕ)
+    → IsBytePrefix part (last_row outcome) → IsPrefixOf answering (course_ended outcome) part
 front-last answering outcome part front = (last_row outcome, ([], refl, refl), front)
 
--- a front of an answer, where each ask behind it has one
+-- a prefix of an answer, where each ask after it has one
 pub front-answer : (answering : Answering) (asked : Played) (behind : Course)
-    (answer part : List ℕ) → IsAnswerTo answering asked answer → IsFront part answer
-    → HasAnswers answering behind.asks → IsFrontOf answering (with_asks (asked ∷ []) behind) part
+    (answer part : List ℕ) → IsAnswerTo answering asked answer → IsBytePrefix part answer
+    → HasAnswers answering behind.asks → IsPrefixOf answering (with_asks (asked ∷ []) behind) part
 front-answer answering asked behind answer part is front answered =
     let rest = answered.0 ++ last_row behind.outcome in (
       answer ++ rest,
@@ -88,7 +88,7 @@ front-answer answering asked behind answer part is front answered =
 
 -- ---- what a run knows of its input
 
--- these asks were answered, and this course is behind them
+-- these asks were answered, and this course comes after them
 pub record Reached (answering : Answering) (input written : List ℕ) (behind : Course) : Type 0 where
   pub asks : List Played
   pub answers : AreAnswers answering asks written
@@ -110,7 +110,7 @@ reached answering input taken written sheet events rest way is = record {
   all = ap course_of is ∙ way.course rest;
 }
 
--- what is behind is another way to say it
+-- what comes after is another way to say it
 pub reached-as : (answering : Answering) (input written : List ℕ) (behind other : Course)
     → Reached answering input written behind → behind ≡ other
     → Reached answering input written other
@@ -128,26 +128,26 @@ reached-answered answering input written behind there =
     answers-behind answering there.asks behind.asks
     (subst P there.all (session-answered answering (contents_of input)))
 
--- a front of what is behind
+-- a prefix of what comes after
 pub reached-front : (answering : Answering) (input written : List ℕ) (behind : Course)
-    (more : List ℕ) → Reached answering input written behind → IsFrontOf answering behind more
-    → IsTextFront answering input (written ++ more)
+    (more : List ℕ) → Reached answering input written behind → IsPrefixOf answering behind more
+    → IsTextPrefix answering input (written ++ more)
 reached-front answering input written behind more there front =
-    let P : Course → Type 0 = λ c. IsFrontOf answering c (written ++ more) in
+    let P : Course → Type 0 = λ c. IsPrefixOf answering c (written ++ more) in
     subst P (sym there.all)
     (front-behind answering there.asks behind written more there.answers front)
 
 -- what was written so far
 pub reached-so_far : (answering : Answering) (input written : List ℕ) (behind : Course)
-    → Reached answering input written behind → IsTextFront answering input written
+    → Reached answering input written behind → IsTextPrefix answering input written
 reached-so_far answering input written behind there =
-    let P : List ℕ → Type 0 = λ t. IsTextFront answering input t in
+    let P : List ℕ → Type 0 = λ t. IsTextPrefix answering input t in
     subst P (append-nil written)
     (reached-front answering input written behind [] there
     (front-nothing answering behind (reached-answered answering input written behind there)))
 
 -- the whole text, where nothing is asked any more
-pub reached-text : (answering : Answering) (input written : List ℕ) (outcome : Outcome)
+pub reached-text : (answering : Answering) (input written : List ℕ) (outcome : RunEnd)
     → Reached answering input written (course_ended outcome)
     → IsText answering input (written ++ last_row outcome)
 reached-text answering input written outcome there =
@@ -157,7 +157,7 @@ reached-text answering input written outcome there =
     (written, subst Q (sym (append-nil there.asks)) there.answers, refl)
 
 -- and its status
-pub reached-status : (answering : Answering) (input written : List ℕ) (outcome : Outcome)
+pub reached-status : (answering : Answering) (input written : List ℕ) (outcome : RunEnd)
     → Reached answering input written (course_ended outcome)
     → session_status input ≡ status_of_outcome outcome
 reached-status answering input written outcome there =

@@ -5,34 +5,35 @@ use Rattle.std.specs.Io.KnownBytes.{prepend_known}
 use Rattle.std.proofs.lemmas.List.{append-nil}
 use Rattle.league_core.specs.declared.sheet.Sheet.{Sheet}
 use Rattle.league_core.specs.declared.season.Event.{Event}
-use Rattle.port_core.specs.declared.answers.Line.TheVariants as line
-use Rattle.port_core.specs.declared.answers.ReadStop.TheVariants as stop
+use Rattle.port_core.specs.declared.line.Line.TheVariants as line
+use Rattle.port_core.specs.declared.line.ReadStop.TheVariants as stop
 use Rattle.port_core.specs.Lines.{lines_of, HasNoLineFeed}
 use Rattle.port_core.specs.Contents.{Position, start, number_at, Contents, ended, with_lines}
 use Rattle.port_core.specs.Contents.{contents_from, contents_of}
-use Rattle.port_core.specs.Readers.{Reader, contents_behind, contents_to_come, stream_of, Passes}
-use Rattle.port_core.specs.Readers.{LeavesReader, PassesKnown, PassesTo, given_by}
+use Rattle.port_core.specs.Readers.{LineReaderView, contents_after, contents_to_come, stream_of}
+use Rattle.port_core.specs.inside.ReaderCalls.{Passes, LeavesReader, PassesKnown, PassesTo}
+use Rattle.port_core.specs.inside.ReaderCalls.{given_by}
 use Rattle.fixture_sheet.specs.declared.fault.SheetFault.{SheetFault}
 use Rattle.fixture_sheet.specs.declared.fault.SheetStop.{SheetStop}
 use Rattle.fixture_sheet.specs.declared.fault.SheetStop.TheVariants as sheet_stop
-use Rattle.fixture_sheet.specs.Calls.{Leads, PassesUpTo, ReadsSheet, ReadsSheetAs}
-use Rattle.fixture_sheet.specs.Calls.{sheet_answer_behind}
+use Rattle.fixture_sheet.specs.inside.Calls.{Leads, PassesUpTo, ReadsSheet, ReadsSheetAs}
+use Rattle.fixture_sheet.specs.inside.Calls.{sheet_answer_after}
 use Rattle.fixture_sheet.specs.Sheets.{sheet_reading_of}
 use Rattle.futmax_main.specs.declared.status.Status.{Status}
 use Rattle.futmax_main.specs.declared.status.Status.TheVariants.{ReadFault, OutOfMemory}
 use Rattle.futmax_main.specs.declared.session.Answering.{Answering}
 use Rattle.futmax_main.specs.declared.session.Cause.TheVariants as cause
 use Rattle.futmax_main.specs.declared.session.Fault.{Fault}
-use Rattle.futmax_main.specs.declared.session.Outcome.TheVariants.{Refused}
-use Rattle.futmax_main.specs.declared.turn.Turn.{Turn}
-use Rattle.futmax_main.specs.declared.turn.Turn.TheVariants.{GoesOn, Ends}
+use Rattle.futmax_main.specs.declared.session.RunEnd.TheVariants.{Refused}
+use Rattle.futmax_main.specs.declared.turn.Step.{Step}
+use Rattle.futmax_main.specs.declared.turn.Step.TheVariants.{GoesOn, Ends}
 use Rattle.futmax_main.specs.Courses.{Course, course_ended, course_of}
 use Rattle.futmax_main.specs.Courses.{course_of_reading, input_fault, line_fault}
 use Rattle.futmax_main.specs.Courses.{outcome_at_sheet}
 use Rattle.futmax_main.specs.Texts.{AreAllAnswers}
 use Rattle.futmax_main.specs.Top.{AreAnswersIn, Serves}
-use Rattle.futmax_main.specs.Way.{Path}
-use Rattle.futmax_main.specs.Turns.{FaultEnds, TurnBegins, TurnGives}
+use Rattle.futmax_main.specs.inside.Progress.{Path}
+use Rattle.futmax_main.specs.inside.Turns.{FaultEnds, TurnBegins, TurnGives}
 use Rattle.futmax_main.proofs.SheetLemmas.{same-lines, sheet-elsewhere, sheet-reading}
 use Rattle.futmax_main.proofs.TextLemmas.{reached-start}
 use Rattle.futmax_main.proofs.EndLemmas.{fault-serves, memory-serves}
@@ -54,7 +55,7 @@ serves-no_memory (Some answering) input left told old = serves-nothing answering
 
 -- ---- the contents of lines that were passed
 
--- the contents of an input are those that the lines passed give, and then those behind them
+-- the contents of an input are those that the lines passed give, and then those after them
 pub all-contents : (input after : List ℕ) (told told' : Bool) (to : Position)
     (given : List (ℕ × List ℕ)) → Passes start input told to after told' given
     → contents_of input ≡ with_lines given (contents_from to (lines_of after))
@@ -70,7 +71,7 @@ lines-alone input after told told' to given passed =
 
 -- ---- the sheet
 
--- a session that begins behind its sheet
+-- a session that begins after its sheet
 sheet-path : (answering : Answering) (input after : List ℕ) (told told' : Bool) (to : Position)
     (given : List (ℕ × List ℕ)) (sheet : Sheet) (old : Option (List ℕ))
     → Passes start input told to after told' given
@@ -90,9 +91,9 @@ sheet-path answering input after told told' to given sheet old passed reads =
       },
     )
 
--- a turn behind a whole sheet of an input that is told
+-- a turn after a whole sheet of an input that is told
 sheet-turn : (answering : Answering) (input after : List ℕ) (told told' : Bool) (to : Position)
-    (given : List (ℕ × List ℕ)) (sheet : Sheet) (left old : Option (List ℕ)) (turn : Turn)
+    (given : List (ℕ × List ℕ)) (sheet : Sheet) (left old : Option (List ℕ)) (turn : Step)
     → Passes start input told to after told' given
     → ReadsSheetAs (Some (contents_of input)) (Some (contents_from to (lines_of after))) (Ok sheet)
     → TurnBegins sheet turn
@@ -112,16 +113,16 @@ sheet-turn answering input after told told' to given sheet left old (Ends status
 
 -- nothing is said of a turn where the source does not tell its bytes
 pub turn-untold : (answering : Answering) (told : Bool) (stream : Option (List ℕ)) (told' : Bool)
-    (position : Position) (left old now : Option (List ℕ)) (turn : Turn)
+    (position : Position) (left old now : Option (List ℕ)) (turn : Step)
     → TurnGives answering None told stream told' position left old now turn
 turn-untold answering told stream told' position left old now (GoesOn next) = tt
 turn-untold answering told stream told' position left old now (Ends status) = tt
 
--- a turn behind a whole sheet
+-- a turn after a whole sheet
 pub turn-sheet : (answering : Answering) (input after : Option (List ℕ)) (told told' : Bool)
     (to : Position) (given : List (ℕ × List ℕ)) (sheet : Sheet) (left old : Option (List ℕ))
-    (turn : Turn) → PassesKnown start input told to after told' given
-    → ReadsSheetAs (contents_behind start input) (contents_behind to after) (Ok sheet)
+    (turn : Step) → PassesKnown start input told to after told' given
+    → ReadsSheetAs (contents_after start input) (contents_after to after) (Ok sheet)
     → TurnBegins sheet turn
     → TurnGives answering input told after told' to left old old turn
 turn-sheet answering None after told told' to given sheet left old turn passed reads begins =
@@ -137,7 +138,7 @@ pub turn-no_sheet : (answering : Answering) (input after : Option (List ℕ)) (t
     (to : Position) (given : List (ℕ × List ℕ)) (stop : SheetStop) (fault : Fault)
     (left old now : Option (List ℕ)) (status : Status)
     → PassesKnown start input told to after told' given
-    → ReadsSheetAs (contents_behind start input) (contents_behind to after) (Err stop)
+    → ReadsSheetAs (contents_after start input) (contents_after to after) (Err stop)
     → outcome_at_sheet stop ≡ Refused fault → FaultEnds fault old now status
     → Serves (Some answering) input left told' old now status
 turn-no_sheet answering None after told told' to given stop fault left old now status passed reads
@@ -209,7 +210,7 @@ pub turn-fails_early : (answering : Answering) (input : Option (List ℕ)) (held
     (old : Option (List ℕ))
     → PassesKnown start input told to (prepend_known held left) told' given
     → (draft : Option Sheet)
-    → Leads (contents_behind start input) (contents_behind to (prepend_known held left)) draft
+    → Leads (contents_after start input) (contents_after to (prepend_known held left)) draft
     → HasNoLineFeed held
     → Serves (Some answering) input left told' old old ReadFault
 turn-fails_early answering None held left told told' to given old passed draft leads no_feed = tt
@@ -227,38 +228,38 @@ fresh-stream None = refl
 fresh-stream (Some bytes) = refl
 
 -- the contents to come are all contents
-pub fresh-contents : (reader : Reader) (input : Option (List ℕ))
+pub fresh-contents : (reader : LineReaderView) (input : Option (List ℕ))
     → reader ≡ record { held = []; text = []; position = start }
-    → contents_to_come reader input ≡ contents_behind start input
+    → contents_to_come reader input ≡ contents_after start input
 fresh-contents reader input is =
-    ap (λ r. contents_to_come r input) is ∙ ap (contents_behind start) (fresh-stream input)
+    ap (λ r. contents_to_come r input) is ∙ ap (contents_after start) (fresh-stream input)
 
 -- the lines that it passes are the first ones
-pub fresh-passes : (reader new : Reader) (input left : Option (List ℕ)) (told told' : Bool)
+pub fresh-passes : (reader new : LineReaderView) (input left : Option (List ℕ)) (told told' : Bool)
     (given : List (ℕ × List ℕ)) → reader ≡ record { held = []; text = []; position = start }
     → PassesTo reader new input left told told' given
     → PassesKnown start input told new.position (stream_of new left) told' given
 fresh-passes reader new input left told told' given is passed =
-    let P : Reader → Type 0 = λ r. PassesTo r new input left told told' given in
+    let P : LineReaderView → Type 0 = λ r. PassesTo r new input left told told' given in
     let Q : Option (List ℕ) → Type 0 =
     λ known. PassesKnown start known told new.position (stream_of new left) told' given in
     subst Q (fresh-stream input) (subst P is passed)
 
 -- what it reads of a sheet is read of the whole input
-pub fresh-reads : (reader : Reader) (input : Option (List ℕ)) (after : Option Contents)
+pub fresh-reads : (reader : LineReaderView) (input : Option (List ℕ)) (after : Option Contents)
     (result : Result Sheet SheetStop)
     → reader ≡ record { held = []; text = []; position = start }
     → ReadsSheetAs (contents_to_come reader input) after result
-    → ReadsSheetAs (contents_behind start input) after result
+    → ReadsSheetAs (contents_after start input) after result
 fresh-reads reader input after result is reads =
     let P : Option Contents → Type 0 = λ before. ReadsSheetAs before after result in
     subst P (fresh-contents reader input is) reads
 
 -- and so far
-pub fresh-leads : (reader : Reader) (input : Option (List ℕ)) (after : Option Contents)
+pub fresh-leads : (reader : LineReaderView) (input : Option (List ℕ)) (after : Option Contents)
     (draft : Option Sheet) → reader ≡ record { held = []; text = []; position = start }
     → Leads (contents_to_come reader input) after draft
-    → Leads (contents_behind start input) after draft
+    → Leads (contents_after start input) after draft
 fresh-leads reader input after draft is leads =
     let P : Option Contents → Type 0 = λ before. Leads before after draft in
     subst P (fresh-contents reader input is) leads
@@ -270,22 +271,23 @@ abbrev pub no_sheet : SheetStop → Result Sheet SheetStop
 no_sheet stop = Err stop
 
 -- a fault of the source
-pub sheet-fails : (answering : Answering) (reader new : Reader) (input left : Option (List ℕ))
+pub sheet-fails : (answering : Answering) (reader new : LineReaderView)
+    (input left : Option (List ℕ))
     (told told' : Bool) (found : SheetStop) (old : Option (List ℕ))
     → reader ≡ record { held = []; text = []; position = start }
     → found ≡ sheet_stop.Read stop.ReadFault
     → ReadsSheet (contents_to_come reader input) (contents_to_come new left) (no_sheet found)
-    → PassesUpTo reader new input left told told' (sheet_answer_behind new (no_sheet found))
-    → LeavesReader new left (sheet_answer_behind new (no_sheet found))
+    → PassesUpTo reader new input left told told' (sheet_answer_after new (no_sheet found))
+    → LeavesReader new left (sheet_answer_after new (no_sheet found))
     → Serves (Some answering) input left told' old old ReadFault
 sheet-fails answering reader new input left told told' found old fresh is reads passes leaves =
     let there : Option Contents = contents_to_come new left in
     let P : SheetStop → Type 0 =
     λ s. ReadsSheet (contents_to_come reader input) there (no_sheet s) in
     let Q : SheetStop → Type 0 =
-    λ s. PassesUpTo reader new input left told told' (sheet_answer_behind new (no_sheet s)) in
+    λ s. PassesUpTo reader new input left told told' (sheet_answer_after new (no_sheet s)) in
     let R : SheetStop → Type 0 =
-    λ s. LeavesReader new left (sheet_answer_behind new (no_sheet s)) in
+    λ s. LeavesReader new left (sheet_answer_after new (no_sheet s)) in
     let read = subst P is reads in
     let passed = subst Q is passes in
     turn-fails_early answering input new.held left told told' new.position (passed.0 ++ []) old
@@ -293,13 +295,13 @@ sheet-fails answering reader new input left told told' found old fresh is reads 
     read.0 (fresh-leads reader input there read.0 fresh read.1) (subst R is leaves).0
 
 -- a refused line, or the end of the input
-pub sheet-refused : (answering : Answering) (reader new : Reader)
+pub sheet-refused : (answering : Answering) (reader new : LineReaderView)
     (input left : Option (List ℕ)) (told told' : Bool) (found : SheetStop) (number : ℕ)
     (fault : SheetFault) (old now : Option (List ℕ)) (status : Status)
     → reader ≡ record { held = []; text = []; position = start }
     → found ≡ sheet_stop.Fault number fault
     → ReadsSheet (contents_to_come reader input) (contents_to_come new left) (no_sheet found)
-    → PassesUpTo reader new input left told told' (sheet_answer_behind new (no_sheet found))
+    → PassesUpTo reader new input left told told' (sheet_answer_after new (no_sheet found))
     → FaultEnds (record { number = number; cause = cause.Sheet fault }) old now status
     → Serves (Some answering) input left told' old now status
 sheet-refused answering reader new input left told told' found number fault old now status fresh is
@@ -309,23 +311,23 @@ sheet-refused answering reader new input left told told' found number fault old 
     let P : SheetStop → Type 0 =
     λ s. ReadsSheet (contents_to_come reader input) there (no_sheet s) in
     let Q : SheetStop → Type 0 =
-    λ s. PassesUpTo reader new input left told told' (sheet_answer_behind new (no_sheet s)) in
+    λ s. PassesUpTo reader new input left told told' (sheet_answer_after new (no_sheet s)) in
     let passed = subst Q is passes in
     let given : List (ℕ × List ℕ) =
-    passed.0 ++ given_by (sheet_answer_behind new (no_sheet refused)) new.text in
+    passed.0 ++ given_by (sheet_answer_after new (no_sheet refused)) new.text in
     turn-no_sheet answering input (stream_of new left) told told' new.position given refused
     (record { number = number; cause = cause.Sheet fault }) left old now status
     (fresh-passes reader new input left told told' given fresh passed.1)
     (fresh-reads reader input there (no_sheet refused) fresh (subst P is reads)) refl ends
 
 -- a line that is too long
-pub sheet-long_line : (answering : Answering) (reader new : Reader)
+pub sheet-long_line : (answering : Answering) (reader new : LineReaderView)
     (input left : Option (List ℕ)) (told told' : Bool) (found : SheetStop) (number : ℕ)
     (old now : Option (List ℕ)) (status : Status)
     → reader ≡ record { held = []; text = []; position = start }
     → found ≡ sheet_stop.Read (stop.LineTooLong number)
     → ReadsSheet (contents_to_come reader input) (contents_to_come new left) (no_sheet found)
-    → PassesUpTo reader new input left told told' (sheet_answer_behind new (no_sheet found))
+    → PassesUpTo reader new input left told told' (sheet_answer_after new (no_sheet found))
     → FaultEnds (line_fault number) old now status
     → Serves (Some answering) input left told' old now status
 sheet-long_line answering reader new input left told told' found number old now status fresh is
@@ -335,7 +337,7 @@ sheet-long_line answering reader new input left told told' found number old now 
     let P : SheetStop → Type 0 =
     λ s. ReadsSheet (contents_to_come reader input) there (no_sheet s) in
     let Q : SheetStop → Type 0 =
-    λ s. PassesUpTo reader new input left told told' (sheet_answer_behind new (no_sheet s)) in
+    λ s. PassesUpTo reader new input left told told' (sheet_answer_after new (no_sheet s)) in
     let passed = subst Q is passes in
     turn-no_sheet answering input (stream_of new left) told told' new.position (passed.0 ++ [])
     stopped (line_fault number) left old now status
@@ -343,13 +345,13 @@ sheet-long_line answering reader new input left told told' found number old now 
     (fresh-reads reader input there (no_sheet stopped) fresh (subst P is reads)) refl ends
 
 -- an input that is too long
-pub sheet-long_input : (answering : Answering) (reader new : Reader)
+pub sheet-long_input : (answering : Answering) (reader new : LineReaderView)
     (input left : Option (List ℕ)) (told told' : Bool) (found : SheetStop) (number : ℕ)
     (old now : Option (List ℕ)) (status : Status)
     → reader ≡ record { held = []; text = []; position = start }
     → found ≡ sheet_stop.Read (stop.InputTooLong number)
     → ReadsSheet (contents_to_come reader input) (contents_to_come new left) (no_sheet found)
-    → PassesUpTo reader new input left told told' (sheet_answer_behind new (no_sheet found))
+    → PassesUpTo reader new input left told told' (sheet_answer_after new (no_sheet found))
     → FaultEnds (input_fault number) old now status
     → Serves (Some answering) input left told' old now status
 sheet-long_input answering reader new input left told told' found number old now status fresh is
@@ -359,7 +361,7 @@ sheet-long_input answering reader new input left told told' found number old now
     let P : SheetStop → Type 0 =
     λ s. ReadsSheet (contents_to_come reader input) there (no_sheet s) in
     let Q : SheetStop → Type 0 =
-    λ s. PassesUpTo reader new input left told told' (sheet_answer_behind new (no_sheet s)) in
+    λ s. PassesUpTo reader new input left told told' (sheet_answer_after new (no_sheet s)) in
     let passed = subst Q is passes in
     turn-no_sheet answering input (stream_of new left) told told' new.position (passed.0 ++ [])
     stopped (input_fault number) left old now status
@@ -367,8 +369,9 @@ sheet-long_input answering reader new input left told told' found number old now
     (fresh-reads reader input there (no_sheet stopped) fresh (subst P is reads)) refl ends
 
 -- the sheet
-pub sheet-comes : (answering : Answering) (reader new : Reader) (input left : Option (List ℕ))
-    (told told' : Bool) (sheet : Sheet) (old : Option (List ℕ)) (turn : Turn)
+pub sheet-comes : (answering : Answering) (reader new : LineReaderView)
+    (input left : Option (List ℕ))
+    (told told' : Bool) (sheet : Sheet) (old : Option (List ℕ)) (turn : Step)
     → reader ≡ record { held = []; text = []; position = start }
     → ReadsSheet (contents_to_come reader input) (contents_to_come new left) (Ok sheet)
     → PassesUpTo reader new input left told told' (Ok (line.Text new.position.lines))

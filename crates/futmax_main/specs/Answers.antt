@@ -1,7 +1,7 @@
 -- The answer of an ask, by what is answered.
 use Rattle.std.specs.Prelude.{◌≡◌, ℕ, Bool, List, ◌++◌}
 use Rattle.league_core.specs.declared.sheet.Sheet.{Sheet}
-use Rattle.league_core.specs.Results.{Results}
+use Rattle.league_core.specs.game.Results.{Results}
 use Rattle.cert_text.specs.declared.proof_line.ProofLine.{ProofLine}
 use Rattle.cert_text.specs.ExampleLines.{text_of_proof_lines}
 use Rattle.verdict_run.specs.declared.word.Word.{Word}

@@ -2,7 +2,7 @@
 -- which no input changes.
 use Rattle.std.specs.Prelude.{◌≡◌, ℕ, List, [], ◌∷◌, Option, Some, None, codes, decimal}
 use Rattle.std.specs.Io.KnownBytes.{append_known}
-use Rattle.port_core.specs.Ports.{IsFront}
+use Rattle.port_core.specs.Ports.{IsBytePrefix}
 use Rattle.port_core.specs.Contents.{contents_of}
 use Rattle.cert_text.specs.Rows.{text_of_row}
 use Rattle.check_run.specs.declared.outcome.ReportFault.{ReportFault}
@@ -60,12 +60,12 @@ IsCheckText input status text =
     × (text ≡ check_row outcome)
 
 -- what was written where a check of this input ends with this status, by what the source has left:
--- nothing where the source failed, or memory was wanting
+-- nothing where the source failed, or memory ran out
 abbrev pub CheckEnds : List ℕ → Option (List ℕ) → Status → List ℕ → Type 0
 CheckEnds input left status.Done text = IsCheckText input status.Done text × (left ≡ Some [])
 CheckEnds input left status.ReadFault text = text ≡ []
 CheckEnds input left status.WriteFault text =
-    (outcome : CheckOutcome) × ComesTo input outcome × IsFront text (check_row outcome)
+    (outcome : CheckOutcome) × ComesTo input outcome × IsBytePrefix text (check_row outcome)
 CheckEnds input left status.OutOfMemory text = text ≡ []
 CheckEnds input left status text = IsCheckText input status text
 

@@ -1,9 +1,9 @@
--- What a session has come to behind its sheet: what was played.
+-- What a session has come to after its sheet: what was played.
 use Rattle.std.specs.Prelude.{ℕ, List}
 use Rattle.league_core.specs.declared.sheet.Sheet.{Sheet}
 use Rattle.league_core.specs.declared.season.Event.{Event}
-use Rattle.league_core.specs.Results.{Results}
-use Rattle.league_core.specs.Seasons.{epoch_of, season_after}
+use Rattle.league_core.specs.game.Results.{Results}
+use Rattle.league_core.specs.game.Seasons.{epoch_of, season_after}
 
 -- a whole sheet, what was played so far, and how many events told so
 pub record Played : Type 0 where
@@ -11,7 +11,7 @@ pub record Played : Type 0 where
   pub season : Results
   pub epoch : ℕ
 
--- what was played behind these events
-abbrev pub played_behind : Sheet → List Event → Played
-played_behind sheet events =
+-- what was played after these events
+abbrev pub played_after : Sheet → List Event → Played
+played_after sheet events =
     record { sheet = sheet; season = season_after sheet events; epoch = epoch_of events }

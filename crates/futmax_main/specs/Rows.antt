@@ -6,8 +6,8 @@ use Rattle.result_log.specs.Faults.{feed_code_of}
 use Rattle.futmax_main.specs.declared.session.Cause.{Cause}
 use Rattle.futmax_main.specs.declared.session.Cause.TheVariants as cause
 use Rattle.futmax_main.specs.declared.session.Fault.{Fault}
-use Rattle.futmax_main.specs.declared.session.Outcome.{Outcome}
-use Rattle.futmax_main.specs.declared.session.Outcome.TheVariants.{Complete, Refused}
+use Rattle.futmax_main.specs.declared.session.RunEnd.{RunEnd}
+use Rattle.futmax_main.specs.declared.session.RunEnd.TheVariants.{Complete, Refused}
 
 -- `usage,..`, for words that fit no mode
 abbrev pub usage_row : List ℕ
@@ -27,6 +27,6 @@ fault_row fault =
     text_of_row (codes "fault" ∷ decimal fault.number ∷ cause_text fault.cause ∷ [])
 
 -- what is written last where a session ends so: nothing where it is complete
-abbrev pub last_row : Outcome → List ℕ
+abbrev pub last_row : RunEnd → List ℕ
 last_row Complete = []
 last_row (Refused fault) = fault_row fault

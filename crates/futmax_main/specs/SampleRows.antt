@@ -1,7 +1,7 @@
 -- What the mode `sample` leaves: one row, which no input changes.
 use Rattle.std.specs.Prelude.{◌≡◌, ℕ, List, [], ◌∷◌, Option, codes, decimal}
 use Rattle.std.specs.Io.KnownBytes.{append_known}
-use Rattle.port_core.specs.Ports.{AppendsFront, Rose}
+use Rattle.port_core.specs.Ports.{AppendsPrefix, Rose}
 use Rattle.cert_text.specs.Rows.{text_of_row}
 use Rattle.sample_counts.specs.declared.counts.Counts.{Counts}
 use Rattle.sample_counts.specs.SampleCounts.{IsCountOfSample}
@@ -20,12 +20,12 @@ IsSampleText seed text =
     (counts : Counts) × IsCountOfSample seed counts × (text ≡ sample_row seed counts)
 
 -- the sink's bytes before and after the sample of a number, by the status: the row is written, or a
--- front of it, or, where memory was wanting, nothing
+-- prefix of it, or, if memory ran out, nothing
 abbrev pub ServesSample : ℕ → Option (List ℕ) → Option (List ℕ) → Status → Type 0
 ServesSample seed old new Done =
     (text : List ℕ) × IsSampleText seed text × (new ≡ append_known old text)
 ServesSample seed old new WriteFault =
-    (text : List ℕ) × IsSampleText seed text × AppendsFront old new text
+    (text : List ℕ) × IsSampleText seed text × AppendsPrefix old new text
 ServesSample seed old new OutOfMemory = new ≡ old
 ServesSample seed old new status = ⊥
 

@@ -1,6 +1,6 @@
 -- What the top call promises, by what its words ask for: that asks are answered, that a report is
 -- checked, or that a sample is made.
-use Rattle.std.specs.Prelude.{◌≡◌, ◌≢◌, ℕ, Bool, ◌⊎◌, List, Option, Some, None, option_map}
+use Rattle.std.specs.Prelude.{◌≡◌, ℕ, Bool, ◌⊎◌, List, Option, Some, None, option_map}
 use Rattle.clap.specs.Words.{Text}
 use Rattle.command_words.specs.declared.command.Mode.{Mode}
 use Rattle.command_words.specs.declared.command.Mode.TheVariants as mode
@@ -8,12 +8,11 @@ use Rattle.command_words.specs.declared.command.Command.{Command}
 use Rattle.command_words.specs.Commands.{command_of}
 use Rattle.check_run.specs.declared.outcome.CheckOutcome.{CheckOutcome}
 use Rattle.futmax_main.specs.declared.status.Status.{Status}
-use Rattle.futmax_main.specs.declared.status.Status.TheVariants.{Done, BadWords, OutOfMemory}
+use Rattle.futmax_main.specs.declared.status.Status.TheVariants.{Done, OutOfMemory}
 use Rattle.futmax_main.specs.declared.session.Answering.TheVariants as answering
 use Rattle.futmax_main.specs.declared.session.Service.{Service}
 use Rattle.futmax_main.specs.declared.session.Service.TheVariants.{Answers, Checks, Samples}
 use Rattle.futmax_main.specs.Top.{IsSettled, Serves}
-use Rattle.futmax_main.specs.Turns.{MayEndSession}
 use Rattle.futmax_main.specs.Checks.{ComesTo, ServesCheck, status_of_check}
 use Rattle.futmax_main.specs.SampleRows.{ServesSample}
 
@@ -62,7 +61,7 @@ IsChecked input status =
     (outcome : CheckOutcome) × ComesTo input outcome × (status_of_check outcome ≡ status)
 
 -- the status of a check in which no device failed: that of the input, or of some input where the
--- source tells none, or want of memory
+-- source tells none, or running out of memory
 abbrev pub IsCheckSettled : Option (List ℕ) → Status → Type 0
 IsCheckSettled None status =
     ((input : List ℕ) × IsChecked input status) ⊎ (status ≡ OutOfMemory)
@@ -74,9 +73,3 @@ IsSettledAs None input status = IsSettled None input status
 IsSettledAs (Some (Answers answering)) input status = IsSettled (Some answering) input status
 IsSettledAs (Some Checks) input status = IsCheckSettled input status
 IsSettledAs (Some (Samples seed)) input status = (status ≡ Done) ⊎ (status ≡ OutOfMemory)
-
--- how each of them may end: words are refused by none, and only a report is no proof
-abbrev pub MayEndAs : Service → Status → Type 0
-MayEndAs (Answers answering) status = MayEndSession status
-MayEndAs Checks status = status ≢ BadWords
-MayEndAs (Samples seed) status = MayEndSession status

@@ -1,6 +1,6 @@
 -- The status and the texts of a course: an answer to each ask, and then the last row.
 use Rattle.std.specs.Prelude.{◌≡◌, ℕ, ◌⊎◌, List, ◌++◌}
-use Rattle.port_core.specs.Ports.{IsFront}
+use Rattle.port_core.specs.Ports.{IsBytePrefix}
 use Rattle.fixture_sheet.specs.declared.fault.SheetFault.{SheetFault}
 use Rattle.output_rows.specs.Parts.{IsMadeOf}
 use Rattle.futmax_main.specs.declared.status.Status.{Status}
@@ -8,8 +8,8 @@ use Rattle.futmax_main.specs.declared.status.Status.TheVariants.{Done, BadSheet,
 use Rattle.futmax_main.specs.declared.session.Answering.{Answering}
 use Rattle.futmax_main.specs.declared.session.Cause.{Cause}
 use Rattle.futmax_main.specs.declared.session.Cause.TheVariants as cause
-use Rattle.futmax_main.specs.declared.session.Outcome.{Outcome}
-use Rattle.futmax_main.specs.declared.session.Outcome.TheVariants.{Complete, Refused}
+use Rattle.futmax_main.specs.declared.session.RunEnd.{RunEnd}
+use Rattle.futmax_main.specs.declared.session.RunEnd.TheVariants.{Complete, Refused}
 use Rattle.futmax_main.specs.Plays.{Played}
 use Rattle.futmax_main.specs.Courses.{Course}
 use Rattle.futmax_main.specs.Rows.{last_row}
@@ -25,7 +25,7 @@ status_of_cause cause.LineTooLong = TooLong
 status_of_cause cause.InputTooLong = TooLong
 
 -- the status of a session that ends so
-abbrev pub status_of_outcome : Outcome → Status
+abbrev pub status_of_outcome : RunEnd → Status
 status_of_outcome Complete = Done
 status_of_outcome (Refused fault) = status_of_cause fault.cause
 
@@ -41,13 +41,13 @@ IsTextOf answering course text =
     (answers : List ℕ) × AreAnswers answering course.asks answers
     × (text ≡ answers ++ last_row course.outcome)
 
--- the text is a front of one that a session of this course writes
-abbrev pub IsFrontOf : Answering → Course → List ℕ → Type 0
-IsFrontOf answering course text =
-    (whole : List ℕ) × IsTextOf answering course whole × IsFront text whole
+-- the text is a prefix of one that a session of this course writes
+abbrev pub IsPrefixOf : Answering → Course → List ℕ → Type 0
+IsPrefixOf answering course text =
+    (whole : List ℕ) × IsTextOf answering course whole × IsBytePrefix text whole
 
 -- no line is refused where the input ends at this number: it is complete there, or its sheet is not
-abbrev pub IsRefusedAtEnd : ℕ → Outcome → Type 0
+abbrev pub IsRefusedAtEnd : ℕ → RunEnd → Type 0
 IsRefusedAtEnd number outcome =
     (outcome ≡ Complete)
     ⊎ ((fault : SheetFault)

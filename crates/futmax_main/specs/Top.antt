@@ -4,7 +4,7 @@
 use Rattle.std.specs.Prelude.{◌≡◌, ℕ, Bool, false, ◌⊎◌, List, [], ◌++◌, Option, Some, None, Ok}
 use Rattle.std.specs.Io.KnownBytes.{append_known}
 use Rattle.port_core.specs.Lines.{lines_of, AreEndedLines, HasNoLineFeed}
-use Rattle.port_core.specs.Ports.{IsFront, Rose}
+use Rattle.port_core.specs.Ports.{IsBytePrefix, Rose}
 use Rattle.port_core.specs.Contents.{start, contents_from, contents_of}
 use Rattle.futmax_main.specs.declared.status.Status.{Status}
 use Rattle.futmax_main.specs.declared.status.Status.TheVariants.{Done, BadWords, BadSheet, BadFeed}
@@ -13,7 +13,7 @@ use Rattle.futmax_main.specs.declared.status.Status.TheVariants.{NotProved, TooL
 use Rattle.futmax_main.specs.declared.session.Answering.{Answering}
 use Rattle.futmax_main.specs.Rows.{usage_row}
 use Rattle.futmax_main.specs.Courses.{course_of}
-use Rattle.futmax_main.specs.Texts.{status_of_outcome, IsTextOf, IsFrontOf, AreAllAnswers}
+use Rattle.futmax_main.specs.Texts.{status_of_outcome, IsTextOf, IsPrefixOf, AreAllAnswers}
 
 -- ---- what is written
 
@@ -25,9 +25,9 @@ session_status input = status_of_outcome (course_of (contents_of input)).outcome
 abbrev pub IsText : Answering → List ℕ → List ℕ → Type 0
 IsText answering input text = IsTextOf answering (course_of (contents_of input)) text
 
--- the text is a front of a text of the session of an input
-abbrev pub IsTextFront : Answering → List ℕ → List ℕ → Type 0
-IsTextFront answering input text = IsFrontOf answering (course_of (contents_of input)) text
+-- the text is a prefix of a text of the session of an input
+abbrev pub IsTextPrefix : Answering → List ℕ → List ℕ → Type 0
+IsTextPrefix answering input text = IsPrefixOf answering (course_of (contents_of input)) text
 
 -- the whole text of the session, which has this status
 abbrev pub IsWholeText : Answering → List ℕ → Status → List ℕ → Type 0
@@ -42,7 +42,7 @@ AreAnswersIn answering lines text =
     (number : ℕ) × (contents.ending ≡ Ok number)
     × AreAllAnswers answering number (course_of contents) text
 
--- the answers of the asks in the whole lines that were taken: what was taken behind them has no LF,
+-- the answers of the asks in the whole lines that were taken: what was taken after them has no LF,
 -- and each of them ended with its LF, unless the source told its end, which ends a line too
 abbrev pub AnswersTaken : Answering → List ℕ → Option (List ℕ) → Bool → List ℕ → Type 0
 AnswersTaken answering input None ended text = ⊥
@@ -59,16 +59,16 @@ Ends answering input left ended BadWords text = IsWholeText answering input BadW
 Ends answering input left ended BadSheet text = IsWholeText answering input BadSheet text
 Ends answering input left ended BadFeed text = IsWholeText answering input BadFeed text
 Ends answering input left ended ReadFault text = AnswersTaken answering input left ended text
-Ends answering input left ended WriteFault text = IsTextFront answering input text
-Ends answering input left ended OutOfMemory text = IsTextFront answering input text
+Ends answering input left ended WriteFault text = IsTextPrefix answering input text
+Ends answering input left ended OutOfMemory text = IsTextPrefix answering input text
 Ends answering input left ended NotProved text = IsWholeText answering input NotProved text
 Ends answering input left ended TooLong text = IsWholeText answering input TooLong text
 
--- what was written where the words fit no mode: the usage row, a front of it where the sink failed,
--- or nothing where there was no memory for it
+-- what was written where the words fit no mode: the usage row, a prefix of it where the sink
+-- failed, or nothing where there was no memory for it
 abbrev pub EndsUnread : Status → List ℕ → Type 0
 EndsUnread BadWords text = text ≡ usage_row
-EndsUnread WriteFault text = IsFront text usage_row
+EndsUnread WriteFault text = IsBytePrefix text usage_row
 EndsUnread OutOfMemory text = text ≡ []
 EndsUnread _ text = ⊥
 
@@ -96,7 +96,7 @@ abbrev pub IsEarned : Status → Type 0
 IsEarned status = (input : List ℕ) × (session_status input ≡ status)
 
 -- the status of a run in which no device failed: that of the session, which is that of some input
--- where the source tells none, or that the words fit no mode; or want of memory
+-- where the source tells none, or that the words fit no mode; or running out of memory
 abbrev pub IsSettled : Option Answering → Option (List ℕ) → Status → Type 0
 IsSettled None input status = (status ≡ BadWords) ⊎ (status ≡ OutOfMemory)
 IsSettled (Some answering) None status = IsEarned status ⊎ (status ≡ OutOfMemory)

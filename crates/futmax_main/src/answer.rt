@@ -1,13 +1,13 @@
 //! The pool of a session, and the answer of an ask.
 
 ghost use Rattle.std.specs.Prelude.{◌≡◌, ◌≤◌, [], All, IfOk, length};
-ghost use Rattle.league_core.specs.Questions.{IsQuestionOf};
-ghost use Rattle.league_core.specs.Sheets.{IsWithinLimits};
-ghost use Rattle.verdict_run.specs.Working.{AreSettled};
-ghost use Rattle.output_rows.specs.Outputs.{CountsPut};
+ghost use Rattle.league_core.specs.game.Questions.{IsQuestionOf};
+ghost use Rattle.league_core.specs.game.Sheets.{IsWithinLimits};
+ghost use Rattle.verdict_run.specs.inside.Working.{AreSettled};
+ghost use Rattle.output_rows.specs.inside.Outputs.{CountsPut};
 ghost use Rattle.futmax_main.specs.declared.session.Answering.TheVariants.{Verdicts, Table, Scores};
-ghost use Rattle.futmax_main.specs.Turns.{AnswersAsk, IsLive, IsToldSame, IsWorkedOut, PutsAnswer};
-ghost use Rattle.futmax_main.specs.Turns.{asked_by};
+ghost use Rattle.futmax_main.specs.inside.Turns.{AnswersAsk, IsLive, IsReportedSame, IsWorkedOut};
+ghost use Rattle.futmax_main.specs.inside.Turns.{PutsAnswer, asked_by};
 
 use crate::session::Answering;
 use ask_answers::{put_verdicts, table_rows};
@@ -71,7 +71,7 @@ pub fn put_answer<K: Sink>(
 // What is open is worked on before verdicts, as far as the budget goes.
 fn work_out(alloc: Global, answering: Answering, pool: Pool) -> Result<Pool, OutOfMemory>
     requires { IsLive answering pool }
-    ensures same { IfOk result (IsToldSame pool) }
+    ensures same { IfOk result (IsReportedSame pool) }
     ensures live { IfOk result (IsLive answering) }
     ensures worked { IfOk result (IsWorkedOut answering) }
 {

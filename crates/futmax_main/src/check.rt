@@ -3,7 +3,7 @@
 ghost use Rattle.std.specs.Prelude.{◌≡◌, ◌≢◌, IfOk};
 ghost use Rattle.futmax_main.specs.Checks.{ServesCheck, check_row, refused_row, status_of_check};
 ghost use Rattle.futmax_main.specs.Checks.{accepted_row};
-ghost use Rattle.futmax_main.specs.Judging.{CountsJudged, OutcomeEnds};
+ghost use Rattle.futmax_main.specs.inside.Judging.{CountsJudged, OutcomeEnds};
 ghost use Rattle.futmax_main.specs.Top.{Counts};
 
 use crate::rows::fault_row;

@@ -19,7 +19,7 @@ mod stop;
 mod top;
 mod turn;
 
-pub use session::{Answering, Cause, Fault, Outcome, Service};
+pub use session::{Answering, Cause, Fault, RunEnd, Service};
 pub use status::Status;
 pub use top::futmax;
-pub use turn::Turn;
+pub use turn::Step;

@@ -1,20 +1,20 @@
 //! Round after round of the feed.
 
 ghost use Rattle.std.specs.Prelude.{◌≡◌, ◌<◌, ◌≤◌, ℕ, Bool, List, IfOk, OnErr, Option};
-ghost use Rattle.league_core.specs.Seasons.{season_after};
+ghost use Rattle.league_core.specs.game.Seasons.{season_after};
 ghost use Rattle.port_core.specs.Readers.{stream_of};
-ghost use Rattle.branch_pool.specs.States.{out_count};
+ghost use Rattle.branch_pool.specs.inside.States.{out_count};
 ghost use Rattle.fixture_sheet.specs.LastReads.{ReadsOnWay};
-ghost use Rattle.worker_gate.specs.LastReads.{GivesEvents, StopsAtClose};
-ghost use Rattle.worker_gate.specs.Rounds.{EndsRound, close_of};
-ghost use Rattle.futmax_main.specs.LastReads.{RoundsStop};
-ghost use Rattle.futmax_main.specs.Way.{Path};
+ghost use Rattle.worker_gate.specs.inside.LastReads.{GivesEvents, StopsAtClose};
+ghost use Rattle.worker_gate.specs.inside.Rounds.{EndsRound, close_of};
+ghost use Rattle.futmax_main.specs.inside.TurnReads.{RoundsStop};
+ghost use Rattle.futmax_main.specs.inside.Progress.{Path};
 ghost use Rattle.futmax_main.specs.Top.{Counts, Serves};
-ghost use Rattle.futmax_main.specs.Turns.{IsLive, MayEndSession};
+ghost use Rattle.futmax_main.specs.inside.Turns.{IsLive, MayEndSession};
 
 use crate::session::Answering;
 use crate::status::Status;
-use crate::turn::{Turn, take_round};
+use crate::turn::{Step, take_round};
 use branch_pool::Pool;
 use league_core::{OutOfMemory, Sheet};
 use port_core::{LineReader, Sink, Source};
@@ -89,8 +89,8 @@ fn take_rounds<R: Threads + Wait + Sync, S: Source + Send, K: Sink, G: Gate + Sy
         match take_round(
             rt, alloc, answering, workers, sheet, live, reader, source, sink, gate,
         ) {
-            Turn::GoesOn(next) => live = next,
-            Turn::Ends(status) => return status,
+            Step::GoesOn(next) => live = next,
+            Step::Ends(status) => return status,
         }
     }
 }

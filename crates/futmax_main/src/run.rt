@@ -3,12 +3,12 @@
 ghost use Rattle.std.specs.Prelude.{◌<◌, ◌≤◌, Some};
 ghost use Rattle.futmax_main.specs.LastReads.{StopsSession};
 ghost use Rattle.futmax_main.specs.Top.{Counts, Serves};
-ghost use Rattle.futmax_main.specs.Turns.{MayEndSession};
+ghost use Rattle.futmax_main.specs.inside.Turns.{MayEndSession};
 
 use crate::rounds::run_rounds;
 use crate::session::Answering;
 use crate::status::Status;
-use crate::turn::{Turn, take_sheet};
+use crate::turn::{Step, take_sheet};
 use port_core::{LineReader, Sink, Source};
 use std::alloc::Global;
 use std::sync::Wait;
@@ -38,7 +38,7 @@ pub fn run<R: Threads + Wait + Sync, S: Source + Send, K: Sink, G: Gate + Sync>(
         return Status::OutOfMemory;
     };
     match take_sheet(alloc, answering, &mut reader, source, sink) {
-        Turn::GoesOn(pool) => {
+        Step::GoesOn(pool) => {
             run_rounds(
                 rt,
                 alloc,
@@ -51,6 +51,6 @@ pub fn run<R: Threads + Wait + Sync, S: Source + Send, K: Sink, G: Gate + Sync>(
                 gate,
             )
         }
-        Turn::Ends(status) => status,
+        Step::Ends(status) => status,
     }
 }

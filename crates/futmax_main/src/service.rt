@@ -2,7 +2,8 @@
 
 ghost use Rattle.std.specs.Prelude.{◌≡◌, ◌<◌, ◌≤◌, Some};
 ghost use Rattle.futmax_main.specs.LastReads.{StopsAs};
-ghost use Rattle.futmax_main.specs.Services.{MayEndAs, ReadsNothing, ServesAs, service_of};
+ghost use Rattle.futmax_main.specs.Services.{ReadsNothing, ServesAs, service_of};
+ghost use Rattle.futmax_main.specs.inside.Turns.{MayEndAs};
 ghost use Rattle.futmax_main.specs.Top.{Counts};
 
 use crate::check::run_check;

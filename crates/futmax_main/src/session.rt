@@ -17,7 +17,7 @@ pub enum Service {
 /// What is answered at each ask.
 #[derive(Clone, Copy, Debug, PartialEq, Eq)]
 pub enum Answering {
-    /// The verdict of every club for every line; with `proofs`, refutations behind those that they
+    /// The verdict of every club for every line; with `proofs`, refutations after those that they
     /// show.
     Verdicts { proofs: bool },
     /// The table of the matches played so far.
@@ -50,7 +50,7 @@ pub struct Fault {
 
 /// How a session ends, by its input.
 #[derive(Clone, Copy, Debug, PartialEq, Eq)]
-pub enum Outcome {
+pub enum RunEnd {
     /// The input is read to its end.
     Complete,
     /// A line of it, or its end, is refused.

@@ -1,10 +1,10 @@
 //! How a run ends.
 
 ghost use Rattle.std.specs.Prelude.{◌≡◌};
-ghost use Rattle.futmax_main.specs.Statuses.{exit_code};
+ghost use Rattle.futmax_main.specs.inside.Statuses.{exit_code};
 
-/// The end of a run. A fault of the source or the sink, and want of memory, are no faults of the
-/// input.
+/// The end of a run. A fault of the source or the sink, and running out of memory, are no faults of
+/// the input.
 #[derive(Clone, Copy, Debug, PartialEq, Eq)]
 pub enum Status {
     /// The input was read to its end and every ask was answered.

@@ -4,7 +4,7 @@
 ghost use Rattle.std.specs.Prelude.{◌≡◌};
 ghost use Rattle.futmax_main.specs.Courses.{input_fault, line_fault};
 ghost use Rattle.futmax_main.specs.Texts.{status_of_cause};
-ghost use Rattle.futmax_main.specs.Turns.{CountsEnd, CountsStop, FaultEnds, StopEnds};
+ghost use Rattle.futmax_main.specs.inside.Turns.{CountsEnd, CountsStop, FaultEnds, StopEnds};
 
 use crate::rows::fault_row;
 use crate::session::{Cause, Fault};

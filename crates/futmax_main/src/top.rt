@@ -6,7 +6,7 @@ ghost use Rattle.futmax_main.specs.LastReads.{StopsAs};
 ghost use Rattle.futmax_main.specs.Services.{IsSettledAs, ReadsNothing, ServesAs, service_for};
 ghost use Rattle.futmax_main.specs.Services.{service_of};
 ghost use Rattle.futmax_main.specs.Top.{Counts, Serves};
-ghost use Rattle.futmax_main.specs.Turns.{CountsWords};
+ghost use Rattle.futmax_main.specs.inside.Turns.{CountsWords};
 
 use crate::rows::usage_row;
 use crate::service::{run_service, service_of};
@@ -23,8 +23,8 @@ use worker_gate::Gate;
 /// Runs a command: its words, of which the first is the program's own name, the input and the
 /// output.
 ///
-/// Rows go to the sink as soon as an ask is read, each as one piece. Want of memory may end any
-/// run, with `Status::OutOfMemory`.
+/// Rows go to the sink as soon as an ask is read, each as one piece. Running out of memory may end
+/// any run, with `Status::OutOfMemory`.
 pub fn futmax<R: Threads + Wait + Sync, S: Source + Send, K: Sink, G: Gate + Sync>(
     rt: &R,
     alloc: Global,
@@ -45,7 +45,7 @@ pub fn futmax<R: Threads + Wait + Sync, S: Source + Send, K: Sink, G: Gate + Syn
     ensures counts { Counts (S.faults source.old) (S.faults source.new)
         (K.faults sink.old) (K.faults sink.new) result }
 
-    // Where no device failed, the status is the session's, or memory was wanting; only a check says
+    // Where no device failed, the status is the session's, or memory ran out; only a check says
     // that a report is no proof.
     ensures settled { result ≢ Status.ReadFault → result ≢ Status.WriteFault
         → IsSettledAs (service_for (map string_bytes words.items)) (S.left source.old) result }

@@ -1,14 +1,14 @@
 //! A turn of a run: the sheet, and then round after round of the feed, each with its answer.
 
 ghost use Rattle.std.specs.Prelude.{◌≡◌, ◌<◌, ◌≤◌, ℕ, Bool, List, [], Option};
-ghost use Rattle.league_core.specs.Sheets.{IsWithinLimits};
+ghost use Rattle.league_core.specs.game.Sheets.{IsWithinLimits};
 ghost use Rattle.port_core.specs.Contents.{start};
 ghost use Rattle.port_core.specs.Readers.{stream_of};
-ghost use Rattle.futmax_main.specs.Way.{Path};
-ghost use Rattle.futmax_main.specs.LastReads.{RoundStops, TurnStops};
-ghost use Rattle.futmax_main.specs.Turns.{AskGives, CloseGives, CountsClose, CountsTurn, IsLive};
-ghost use Rattle.futmax_main.specs.Turns.{TurnCounts, TurnGives};
-ghost use Rattle.futmax_main.specs.Turns.{TurnBegins, TurnIsLive, TurnKeepsSheet, TurnMovesOn};
+ghost use Rattle.futmax_main.specs.inside.Progress.{Path};
+ghost use Rattle.futmax_main.specs.inside.TurnReads.{RoundStops, TurnStops};
+ghost use Rattle.futmax_main.specs.inside.Turns.{AskGives, CloseGives, CountsClose, CountsTurn};
+ghost use Rattle.futmax_main.specs.inside.Turns.{IsLive, TurnCounts, TurnGives, TurnBegins};
+ghost use Rattle.futmax_main.specs.inside.Turns.{TurnIsLive, TurnKeepsSheet, TurnMovesOn};
 
 use crate::answer::{begin_pool, put_answer};
 use crate::rounds::next_round;
@@ -27,7 +27,7 @@ use worker_gate::{Gate, Round, RoundEnd};
 
 /// What came of a turn.
 #[derive(Drop)]
-pub enum Turn {
+pub enum Step {
     /// The session goes on, with the pool that it keeps.
     GoesOn(Pool),
     Ends(Status),
@@ -40,7 +40,7 @@ pub fn take_sheet<S: Source, K: Sink>(
     reader: &mut LineReader,
     source: &mut S,
     sink: &mut K,
-) -> Turn
+) -> Step
     requires { reader.old ≡ record { held = []; text = []; position = start } }
     ensures way { TurnGives answering (S.left source.old) (S.ended source.old)
         (stream_of reader.new (S.left source.new)) (S.ended source.new) reader.new.position
@@ -54,27 +54,27 @@ pub fn take_sheet<S: Source, K: Sink>(
         Ok(sheet) => begin_feed(alloc, answering, sheet),
         Err(SheetStop::Fault { number, fault }) => {
             let cause = Cause::Sheet(fault);
-            Turn::Ends(refuse(alloc, &Fault { number, cause }, sink))
+            Step::Ends(refuse(alloc, &Fault { number, cause }, sink))
         }
-        Err(SheetStop::Read(ReadStop::ReadFault)) => Turn::Ends(Status::ReadFault),
+        Err(SheetStop::Read(ReadStop::ReadFault)) => Step::Ends(Status::ReadFault),
         Err(SheetStop::Read(ReadStop::LineTooLong { number })) => {
-            Turn::Ends(refuse_line(alloc, number, sink))
+            Step::Ends(refuse_line(alloc, number, sink))
         }
         Err(SheetStop::Read(ReadStop::InputTooLong { number })) => {
-            Turn::Ends(refuse_input(alloc, number, sink))
+            Step::Ends(refuse_input(alloc, number, sink))
         }
-        Err(SheetStop::OutOfMemory) => Turn::Ends(Status::OutOfMemory),
+        Err(SheetStop::OutOfMemory) => Step::Ends(Status::OutOfMemory),
     }
 }
 
-fn begin_feed(alloc: Global, answering: Answering, sheet: Sheet) -> Turn
+fn begin_feed(alloc: Global, answering: Answering, sheet: Sheet) -> Step
     requires { IsWithinLimits sheet }
     ensures begins { TurnBegins sheet result }
     ensures live { TurnIsLive answering result }
 {
     match begin_pool(alloc, answering, sheet) {
-        Ok(pool) => Turn::GoesOn(pool),
-        Err(_) => Turn::Ends(Status::OutOfMemory),
+        Ok(pool) => Step::GoesOn(pool),
+        Err(_) => Step::Ends(Status::OutOfMemory),
     }
 }
 
@@ -90,7 +90,7 @@ pub fn take_round<R: Threads + Wait + Sync, S: Source + Send, K: Sink, G: Gate +
     source: &mut S,
     sink: &mut K,
     gate: &G,
-) -> Turn
+) -> Step
     requires live { IsLive answering pool }
     requires of_pool { sheet.now ≡ pool.sheet }
     requires some { 0 < workers }
@@ -113,7 +113,7 @@ pub fn take_round<R: Threads + Wait + Sync, S: Source + Send, K: Sink, G: Gate +
         rt, alloc, answering, workers, sheet, pool, reader, source, gate,
     ) {
         Ok(Round { pool, end }) => close_round(alloc, answering, pool, end, sink),
-        Err(_) => Turn::Ends(Status::OutOfMemory),
+        Err(_) => Step::Ends(Status::OutOfMemory),
     }
 }
 
@@ -124,7 +124,7 @@ fn close_round<K: Sink>(
     pool: Pool,
     end: RoundEnd,
     sink: &mut K,
-) -> Turn
+) -> Step
     requires { IsLive answering pool }
     ensures gives { CloseGives answering pool end (K.holds sink.old) (K.holds sink.new) result }
     ensures live { TurnIsLive answering result }
@@ -132,20 +132,20 @@ fn close_round<K: Sink>(
 {
     match end {
         RoundEnd::Ask => take_ask(alloc, answering, pool, sink),
-        RoundEnd::End => Turn::Ends(Status::Done),
-        RoundEnd::Stop(stop) => Turn::Ends(end_at_stop(alloc, stop, sink)),
+        RoundEnd::End => Step::Ends(Status::Done),
+        RoundEnd::Stop(stop) => Step::Ends(end_at_stop(alloc, stop, sink)),
     }
 }
 
-fn take_ask<K: Sink>(alloc: Global, answering: Answering, pool: Pool, sink: &mut K) -> Turn
+fn take_ask<K: Sink>(alloc: Global, answering: Answering, pool: Pool, sink: &mut K) -> Step
     requires { IsLive answering pool }
     ensures answer { AskGives answering pool (K.holds sink.old) (K.holds sink.new) result }
     ensures live { TurnIsLive answering result }
     ensures counts { CountsTurn (K.faults sink.old) (K.faults sink.new) result }
 {
     match put_answer(alloc, answering, pool, sink) {
-        Ok(pool) => Turn::GoesOn(pool),
-        Err(OutputStop::WriteFault) => Turn::Ends(Status::WriteFault),
-        Err(OutputStop::OutOfMemory) => Turn::Ends(Status::OutOfMemory),
+        Ok(pool) => Step::GoesOn(pool),
+        Err(OutputStop::WriteFault) => Step::Ends(Status::WriteFault),
+        Err(OutputStop::OutOfMemory) => Step::Ends(Status::OutOfMemory),
     }
 }

@@ -1,6 +1,7 @@
 //! What comes of a case.
 
 use crate::case::{Case, Shown, Trouble};
+use crate::input::add_span;
 use futmax_main::{Status, futmax};
 use port_core::{MemSink, MemSource};
 use std::alloc::Global;
@@ -11,8 +12,8 @@ use std::thread::Threads;
 use worker_gate::OpenGate;
 
 /// Prints the status and the rows; where a trouble is run with several numbers, the rows of the run
-/// without it, and then how much of them each run wrote. A row that lacks its LF is printed with a
-/// backslash.
+/// without it, and then how much of them each run wrote; where the input is cut, the rows of each.
+/// A row that lacks its LF is printed with a backslash.
 pub fn print_answer(
     rt: &(impl Threads + Wait + Print + Sync + Alloc<A = Global>),
     case: &Case,
@@ -24,8 +25,13 @@ pub fn print_answer(
     let (status, rows) = run(rt, case, Trouble::Nothing, 0)?;
     print_rows(rt, case, status, &rows)?;
     for number in case.first..=case.last {
-        let (status, front) = run(rt, case, case.trouble, number)?;
-        print_front(rt, number, status, &front, &rows)?;
+        let (status, written) = run(rt, case, case.trouble, number)?;
+        if case.trouble == Trouble::Cut {
+            print!(rt; "{number}: ")?;
+            print_rows(rt, case, status, &written)?;
+        } else {
+            print_prefix(rt, number, status, &written, &rows)?;
+        }
     }
     Ok(())
 }
@@ -72,7 +78,7 @@ fn outline_of(row: &[u8]) -> &[u8] {
     row
 }
 
-fn print_front(
+fn print_prefix(
     rt: &impl Print,
     number: u64,
     status: Status,
@@ -112,7 +118,7 @@ fn run(
     };
     let piece = case.piece.max(1);
     let fails = vec![in alloc; read_fails]?;
-    let mut source = MemSource::new(case.input.clone()?, piece, fails);
+    let mut source = MemSource::new(input_of(alloc, case, trouble, number)?, piece, fails);
     let fails = vec![in alloc; write_fails]?;
     let Ok(mut sink) = MemSink::new(alloc, room, piece, fails) else {
         return Err(io::ErrorKind::OutOfMemory.into());
@@ -126,4 +132,16 @@ fn run(
         &OpenGate,
     );
     Ok((status, sink.bytes().to_vec(alloc)?))
+}
+
+// The input, up to the line of this number where it is cut.
+fn input_of(alloc: Global, case: &Case, trouble: Trouble, number: u64) -> io::Result<Vec<u8>> {
+    let last = if trouble == Trouble::Cut {
+        number
+    } else {
+        u64::MAX
+    };
+    let mut input = Vec::new(alloc);
+    add_span(&mut input, &case.input, (1, last))?;
+    Ok(input)
 }

@@ -1,16 +1,17 @@
 //! A case: the words of a command, an input, and how the devices behave.
 
-use crate::input::add_line;
+use crate::input::{add_line, add_span, span_of};
 use std::alloc::Global;
 use std::io;
 
-/// What a device does not do.
+/// What a device does not do, or what is missing of the input.
 #[derive(Clone, Copy, PartialEq, Eq)]
 pub enum Trouble {
     Nothing,
     ReadFails,
     WriteFails,
     Room,
+    Cut,
 }
 
 /// Which rows are printed.
@@ -26,6 +27,8 @@ pub enum Shown {
 pub struct Case {
     pub words: Vec<String>,
     pub input: Vec<u8>,
+    /// Whether no line is taken of another case.
+    pub is_whole: bool,
     pub shown: Shown,
     pub piece: usize,
     pub trouble: Trouble,
@@ -40,6 +43,7 @@ impl Case {
         let mut case = Case {
             words: Vec::new(alloc),
             input: Vec::new(alloc),
+            is_whole: true,
             shown: Shown::Whole,
             piece: 8192,
             trouble: Trouble::Nothing,
@@ -56,9 +60,14 @@ impl Case {
         Ok(case)
     }
 
-    /// Adds a line to the input.
-    pub fn add_line(&mut self, line: &str) -> io::Result<()> {
-        add_line(&mut self.input, line)
+    /// Adds a line to the input, or the lines of another one, which is given, that it names.
+    pub fn add_line(&mut self, whole: &[u8], line: &str) -> io::Result<()> {
+        let Some(numbers) = line.strip_prefix('>') else {
+            return add_line(&mut self.input, line);
+        };
+        self.is_whole = false;
+        let span = span_of(numbers).ok_or(io::ErrorKind::InvalidInput)?;
+        add_span(&mut self.input, whole, span)
     }
 
     // None where the option has another form.
@@ -81,9 +90,7 @@ impl Case {
             return Some(());
         }
         self.trouble = trouble_of(name)?;
-        let (first, last) = numbers.split_once("..").unwrap_or((numbers, numbers));
-        self.first = first.parse().ok()?;
-        self.last = last.parse().ok()?;
+        (self.first, self.last) = span_of(numbers)?;
         Some(())
     }
 }
@@ -93,6 +100,7 @@ fn trouble_of(name: &str) -> Option<Trouble> {
         "read fails" => Some(Trouble::ReadFails),
         "write fails" => Some(Trouble::WriteFails),
         "room" => Some(Trouble::Room),
+        "cut" => Some(Trouble::Cut),
         _ => None,
     }
 }

@@ -4,6 +4,25 @@ ghost use Rattle.std.specs.Prelude.{◌<◌, IfSome};
 
 use std::io;
 
+/// The first and the last number of `1..9`; of `7`, that one twice.
+pub fn span_of(text: &str) -> Option<(u64, u64)> {
+    let (first, last) = text.split_once("..").unwrap_or((text, text));
+    Some((first.parse().ok()?, last.parse().ok()?))
+}
+
+/// Adds the lines of a text from one number to another, counted from 1.
+pub fn add_span(input: &mut Vec<u8>, text: &[u8], span: (u64, u64)) -> io::Result<()> {
+    let (first, last) = span;
+    let mut number = 0u64;
+    for line in text.split_inclusive(|byte| *byte == b'\n') {
+        number = number.saturating_add(1);
+        if first <= number && number <= last {
+            input.extend_from_slice(line)?;
+        }
+    }
+    Ok(())
+}
+
 /// Adds what a line of a case stands for.
 pub fn add_line(input: &mut Vec<u8>, line: &str) -> io::Result<()> {
     let (count, text) = repeated(line).ok_or(io::ErrorKind::InvalidInput)?;
@@ -41,7 +60,7 @@ fn add_text(input: &mut Vec<u8>, text: &str) -> io::Result<()> {
     Ok(())
 }
 
-// The byte that is meant by what stands behind a backslash, and the rest.
+// The byte that is meant by what comes after a backslash, and the rest.
 fn unescaped(part: &[u8]) -> Option<(u8, &[u8])> {
     match part {
         [b'r', rest @ ..] => Some((b'\r', rest)),

@@ -5,10 +5,12 @@ ghost use Rattle.std.specs.Prelude.{None};
 use crate::runs::{is_answered, source_of};
 use port_core::{MemSource, Put, Sink};
 use std::alloc::Global;
+use std::process::Abort;
 use std::sync::Wait;
 use std::sync::atomic::{AtomicU64, Ordering};
 use std::test::Fail;
 use std::thread::Threads;
+use std::time::Clock;
 use worker_gate::{Gate, Point};
 
 // Two clubs and one match that ended 0:0, and two asks.
@@ -55,7 +57,7 @@ impl Sink for Noting<'_> {
 // there had been at the first and at the fourth.
 type Noted = (bool, usize, u64, u64);
 
-fn note_run<R: Threads + Wait + Sync + Alloc<A = Global>>(
+fn note_run<R: Threads + Wait + Clock + Abort + Sync + Alloc<A = Global>>(
     rt: &R,
     source: &mut MemSource,
     count: &Count,
@@ -69,7 +71,7 @@ fn note_run<R: Threads + Wait + Sync + Alloc<A = Global>>(
     Ok((is_answered, sink.pieces, sink.notes[0], sink.notes[3]))
 }
 
-fn note_two_asks<R: Threads + Wait + Sync + Alloc<A = Global>>(
+fn note_two_asks<R: Threads + Wait + Clock + Abort + Sync + Alloc<A = Global>>(
     rt: &R,
     count: &Count,
 ) -> Result<Noted, Fail> {

@@ -5,20 +5,22 @@
 #![tactic(auto)]
 
 #[cfg(test)]
+mod company;
+#[cfg(test)]
 mod gates;
 #[cfg(test)]
 mod kept;
 #[cfg(test)]
-mod late;
-#[cfg(test)]
 mod limits;
 #[cfg(test)]
-mod meeting;
-#[cfg(test)]
 mod order;
+#[cfg(test)]
+mod overlap;
 #[cfg(test)]
 mod rounds;
 #[cfg(test)]
 mod runs;
+#[cfg(test)]
+mod stale_ticket;
 #[cfg(test)]
 mod words;

@@ -1,6 +1,6 @@
 //! Inputs at the limit, from a source that makes their bytes.
 
-ghost use Rattle.std.specs.Prelude.{None};
+ghost use Rattle.std.specs.Prelude.{◌≤◌, None, length};
 
 use crate::words::words_of;
 use futmax_main::{Status, futmax};
@@ -14,13 +14,13 @@ use worker_gate::OpenGate;
 
 // Makes the bytes of an input: comments of 1,024 bytes with their LF, then letters.
 #[derive(Drop)]
-struct Made {
+struct Maker {
     at: usize,
     comments: usize,
     letters: usize,
 }
 
-impl Made {
+impl Maker {
     fn byte(&self) -> Option<u8> {
         if self.at / 1024 < self.comments {
             return Some(if self.at % 1024 == 1023 { b'\n' } else { b'#' });
@@ -30,6 +30,26 @@ impl Made {
         }
         None
     }
+
+    fn fill(&mut self, into: &mut [u8]) -> usize
+        ensures { result ≤ length into.old }
+    {
+        for (count, place) in into.iter_mut().enumerate() {
+            let Some(byte) = self.byte() else {
+                return count;
+            };
+            *place = byte;
+            self.at = self.at.wrapping_add(1);
+        }
+        into.len()
+    }
+}
+
+// Gives what the maker makes, as much as a read asks for.
+#[derive(Drop)]
+struct Made {
+    maker: Maker,
+    ended: bool,
 }
 
 impl Source for Made {
@@ -37,15 +57,12 @@ impl Source for Made {
 
     ghost faults = { λ source. 0 };
 
+    ghost ended = { λ source. source.ended };
+
     fn read(&mut self, into: &mut [u8]) -> Got {
-        for (count, place) in into.iter_mut().enumerate() {
-            let Some(byte) = self.byte() else {
-                return Got::Bytes(count);
-            };
-            *place = byte;
-            self.at = self.at.wrapping_add(1);
-        }
-        Got::Bytes(into.len())
+        let count = self.maker.fill(into);
+        self.ended = self.ended || count == 0;
+        Got::Bytes(count)
     }
 }
 
@@ -56,10 +73,14 @@ fn check_run(
     wanted: Status,
     row: &str,
 ) -> Result<(), Fail> {
-    let mut source = Made {
+    let maker = Maker {
         at: 0,
         comments: 65536,
         letters,
+    };
+    let mut source = Made {
+        maker,
+        ended: false,
     };
     let mut sink = MemSink::new(rt.alloc(), 100, 100, Vec::new(rt.alloc()))?;
     let words = words_of(rt.alloc(), &["futmax", "verdicts"])?;

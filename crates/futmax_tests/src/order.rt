@@ -21,6 +21,7 @@ const CORRECTED: &[u8] = b"league,Tiny,1\nclub,A,1\nclub,B,2\nmatch,A,B\nline,1\
 struct Counted<'a> {
     bytes: &'a [u8],
     at: usize,
+    ended: bool,
     given: &'a AtomicU64,
 }
 
@@ -29,8 +30,11 @@ impl Source for Counted<'_> {
 
     ghost faults = { λ source. 0 };
 
+    ghost ended = { λ source. source.ended };
+
     fn read(&mut self, into: &mut [u8]) -> Got {
         let Some(byte) = self.bytes.get(self.at) else {
+            self.ended = true;
             return Got::Bytes(0);
         };
         into[0] = *byte;
@@ -71,6 +75,7 @@ fn notes_of(
     let mut source = Counted {
         bytes,
         at: 0,
+        ended: false,
         given: &given,
     };
     let mut sink = Noting {

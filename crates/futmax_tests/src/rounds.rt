@@ -1,30 +1,34 @@
 //! One worker settles a round of sixteen clubs, and a round without events keeps what it found.
 
 ghost use Rattle.std.specs.Prelude.{◌≡◌, IfOk};
-ghost use Rattle.league_core.specs.Sheets.{IsWithinLimits};
-ghost use Rattle.branch_pool.specs.States.{out_count};
+ghost use Rattle.league_core.specs.game.Sheets.{IsWithinLimits};
+ghost use Rattle.branch_pool.specs.inside.States.{out_count};
 
+use crate::gates::{set, watch};
 use crate::runs::source_of;
 use branch_pool::{Answer, Pool};
 use league_core::{OutOfMemory, Sheet};
 use port_core::{LineReader, MemSource};
 use sample_leagues::sample_of;
 use std::alloc::Global;
+use std::process::Abort;
 use std::sync::Wait;
+use std::sync::atomic::AtomicU64;
 use std::test::Fail;
-use std::thread::Threads;
+use std::thread::{Threads, join};
+use std::time::Clock;
 use verdict_run::questions;
 use worker_gate::{OpenGate, RoundEnd, run_round};
 
-// Sixteen clubs before an open round, and two matches between the first two.
-const SIXTEEN: &[u8] = b"league,Sixteen,20\nclub,K01,1\nclub,K02,2\nclub,K03,3\nclub,K04,4\n\
+/// Sixteen clubs before an open round, and two matches between the first two.
+pub const SIXTEEN: &[u8] = b"league,Sixteen,20\nclub,K01,1\nclub,K02,2\nclub,K03,3\nclub,K04,4\n\
     club,K05,5\nclub,K06,6\nclub,K07,7\nclub,K08,8\nclub,K09,9\nclub,K10,10\nclub,K11,11\n\
     club,K12,12\nclub,K13,13\nclub,K14,14\nclub,K15,15\nclub,K16,16\nmatch,K01,K02\n\
     match,K01,K02\nmatch,K01,K02\nmatch,K03,K04\nmatch,K05,K06\nmatch,K07,K08\nmatch,K09,K10\n\
     match,K11,K12\nmatch,K13,K14\nmatch,K15,K16\nline,1\nseason\n";
 
-// K01 wins both, so that it has six points, and no other club can have more than three.
-const TWICE_WON: &[u8] = b"result,1,1,0\nresult,2,1,0\nask\n";
+/// K01 wins both, so that it has six points, and no other club can have more than three.
+pub const TWICE_WON: &[u8] = b"result,1,1,0\nresult,2,1,0\nask\n";
 
 // A feed, and who reads it.
 #[derive(Drop)]
@@ -177,9 +181,26 @@ fn two_rounds_read<R: Threads + Wait + Sync>(rt: &R, alloc: Global) -> Result<Se
     two_rounds_from(rt, alloc, &mut first)
 }
 
+// The same, which fails the test where it does not end.
+fn two_rounds_watched<R: Threads + Wait + Clock + Abort + Sync + Alloc<A = Global>>(
+    rt: &R,
+) -> Result<Settled, Fail> {
+    let ended = AtomicU64::new(0);
+    let (_, settled) = join(
+        rt,
+        || watch(rt, &ended),
+        || {
+            let settled = two_rounds_read(rt, rt.alloc());
+            set(&ended);
+            settled
+        },
+    );
+    settled
+}
+
 #[test]
 fn one_worker_settles_the_round(rt: HostRuntime) -> Result<(), Fail> {
-    let (open, is_settled) = two_rounds_read(&rt, rt.alloc())?;
+    let (open, is_settled) = two_rounds_watched(&rt)?;
     assert_eq!(rt; open, 32);
     assert_eq!(rt; is_settled, (true, true));
     Ok(())

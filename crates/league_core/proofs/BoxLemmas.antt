@@ -4,10 +4,10 @@ use Rattle.std.proofs.lemmas.Bool.{false≢true, and_parts, and_from}
 use Rattle.league_core.specs.declared.sheet.Sheet.{Sheet}
 use Rattle.league_core.specs.declared.season.Score.{Score}
 use Rattle.league_core.specs.declared.zone.Literal.{Literal}
-use Rattle.league_core.specs.Results.{Results}
-use Rattle.league_core.specs.Finishes.{may_end, may_all_end, IsFinishOf}
-use Rattle.league_core.specs.Options.{meets, options_of, options_from, takes_option, take_options}
-use Rattle.league_core.specs.Options.{IsInBox}
+use Rattle.league_core.specs.game.Results.{Results}
+use Rattle.league_core.specs.game.Finishes.{may_end, may_all_end, IsFinishOf}
+use Rattle.league_core.specs.search.Options.{meets, options_of, options_from, takes_option}
+use Rattle.league_core.specs.search.Options.{take_options, IsInBox}
 use Rattle.league_core.proofs.OptionLemmas.{has_score-options_of}
 
 -- what takes options ends as it may

@@ -12,9 +12,9 @@ use Rattle.std.proofs.lemmas.Bool.Decides.{same_from_decides}
 use Rattle.std.proofs.lemmas.List.Sums.{sum_by-cons}
 use Rattle.std.proofs.lemmas.List.Folds.{list_any_at}
 use Rattle.std.proofs.lemmas.List.FromFn.{length-range_with_len, get_or-range_with_len}
-use Rattle.league_core.specs.Sums.{has_club}
-use Rattle.league_core.specs.Ranking.{lot_of}
-use Rattle.league_core.specs.Reasons.{has_member}
+use Rattle.league_core.specs.game.Sums.{has_club}
+use Rattle.league_core.specs.game.Ranking.{lot_of}
+use Rattle.league_core.specs.search.Reasons.{has_member}
 use Rattle.std.proofs.Common.{◌++◌}
 use Rattle.std.proofs.lemmas.List.Folds.{list_any-append}
 
@@ -49,7 +49,7 @@ range_has count club h =
     (eq-eqb (get_or (range_with_len 0 count) club 0) club
     (get_or-range_with_len 0 count club 0 h ∙ omega arith))
 
--- a list behind another has what either has
+-- a list after another has what either has
 pub has_club-append : (clubs more : List ℕ) (club : ℕ)
     → has_club (clubs ++ more) club ≡ (has_club clubs club || has_club more club)
 has_club-append clubs more club = list_any-append (λ member. member == club) clubs more
@@ -140,7 +140,7 @@ has_member-not_empty [] is_empty says = ap not (says.1 refl)
 has_member-not_empty (club ∷ clubs) true says = absurd (let e = says.0 refl in cc)
 has_member-not_empty (club ∷ clubs) false says = refl
 
--- the rest of a list behind those that pass a test is empty exactly where all pass it
+-- the rest of a list after those that pass a test is empty exactly where all pass it
 pub list_all-rest_empty : (test : ℕ → Bool) (clubs rest : List ℕ) (is_empty : Bool)
     → ((club : ℕ) → has_club rest club ≡ (has_club clubs club && not (test club)))
     → (IsTrue is_empty ↔ (rest ≡ [])) → is_empty ≡ list_all test clubs

@@ -8,7 +8,7 @@ use Rattle.std.specs.Int.RustNames.{bit_or}
 use lib.Bits.{bit_and}
 use mir.Syntax.{w32}
 use Rattle.std.proofs.lemmas.Bool.{eqb-true, eq-eqb, or_left, or_right, ltb-true, ltb-false}
-use Rattle.std.proofs.lemmas.Bool.{cases_eq, cases_lt, cases_order, and_from, not_from_false}
+use Rattle.std.proofs.lemmas.Bool.{cases_eq, cases_lt, and_from, not_from_false}
 use Rattle.std.proofs.lemmas.Bool.{lt-ltb, le-ltb, ne_eqb}
 use Rattle.std.proofs.lemmas.Bool.Decides.{nat_tests}
 use Rattle.std.proofs.lemmas.List.{map-id, length-append}
@@ -18,9 +18,9 @@ use Rattle.std.proofs.lemmas.Nat.Bits.{bit_at-zero, bit_at-lt, bit_at_or, bit_at
 use Rattle.std.proofs.lemmas.Nat.Bits.{bit_at_set_same, bit_at_set_other, same_from_bits_below}
 use Rattle.std.proofs.lemmas.Map.Views.{any-filter_same}
 use Rattle.league_core.specs.declared.club_set.ClubSet.{ClubSet}
-use Rattle.league_core.specs.Sums.{has_club}
-use Rattle.league_core.specs.ClubSets.{clubs_below, clubs_in}
-use Rattle.std.proofs.Math.Bool.{and-true, and-false, or-false}
+use Rattle.league_core.specs.game.Sums.{has_club}
+use Rattle.league_core.specs.game.ClubSets.{clubs_below, clubs_in}
+use Rattle.std.proofs.Math.Bool.{and-true, or-false}
 use Rattle.league_core.proofs.ClubLemmas.{has_club-some}
 
 and_comm : (a b : Bool) → (a && b) ≡ (b && a)
@@ -112,7 +112,7 @@ clubs_below-same count bits other same =
     (λ x. same x ∙ sym (and-true (has_club (clubs_below count other) x)))
     ∙ filter_true (clubs_below count other)
 
--- of a run of numbers, those below a limit are its front
+-- of a run of numbers, those below a limit are its prefix
 filter-range_below : (limit from count : ℕ)
     → filter (λ x. ltb x limit) (range_with_len from count) ≡ range_with_len from
     (min count (limit - from))
@@ -319,39 +319,6 @@ length-clubs_below-suc count bits within =
     length-cond : (b : Bool) (x : ℕ) → length (cond b (x ∷ []) []) ≡ cond b 1 0
     length-cond true x = refl
     length-cond false x = refl
-
--- the numbers below one more that pass a test are those below, and the next one if it passes
-pub passes_below_more : (p : ℕ → Bool) (k x : ℕ)
-    → ((ltb x k && p x) || (p k && eqb k x)) ≡ (ltb x (k + 1) && p x)
-passes_below_more p k x = by_place (cases_order x k) where
-  by_place : (x ≡ k) ⊎ ((x < k) ⊎ (k < x))
-      → ((ltb x k && p x) || (p k && eqb k x)) ≡ (ltb x (k + 1) && p x)
-  by_place (inl same) =
-      let here : ltb x (k + 1) ≡ true = lt-ltb x (k + 1) (omega arith) in
-      let not_below : ltb x k ≡ false = le-ltb x k (omega arith) in
-      let is_k : eqb k x ≡ true = eq-eqb k x (sym same) in
-      ap (λ b. (b && p x) || (p k && eqb k x)) not_below
-      ∙ ap (λ b. p k && b) is_k
-      ∙ and-true (p k)
-      ∙ ap p (sym same)
-      ∙ ap (λ b. b && p x) (sym here)
-  by_place (inr (inl below)) =
-      let here : ltb x (k + 1) ≡ true = lt-ltb x (k + 1) (omega arith) in
-      let still : ltb x k ≡ true = lt-ltb x k below in
-      let not_k : eqb k x ≡ false = ne_eqb k x (λ e. omega arith) in
-      ap (λ b. (b && p x) || (p k && eqb k x)) still
-      ∙ ap (λ b. p x || (p k && b)) not_k
-      ∙ ap (λ b. p x || b) (and-false (p k))
-      ∙ or-false (p x)
-      ∙ ap (λ b. b && p x) (sym here)
-  by_place (inr (inr above)) =
-      let not_here : ltb x (k + 1) ≡ false = le-ltb x (k + 1) (omega arith) in
-      let not_below : ltb x k ≡ false = le-ltb x k (omega arith) in
-      let not_k : eqb k x ≡ false = ne_eqb k x (λ e. omega arith) in
-      ap (λ b. (b && p x) || (p k && eqb k x)) not_below
-      ∙ ap (λ b. p k && b) not_k
-      ∙ and-false (p k)
-      ∙ ap (λ b. b && p x) (sym not_here)
 
 and_under : (a b c : Bool) → (a && ((a && b) && c)) ≡ ((a && b) && c)
 and_under true b c = refl

@@ -8,15 +8,16 @@ use Rattle.league_core.specs.declared.sheet.Sheet.{Sheet}
 use Rattle.league_core.specs.declared.season.Score.{Score}
 use Rattle.league_core.specs.declared.question.Claim.{Claim}
 use Rattle.league_core.specs.declared.question.Claim.TheVariants.{Inside, Outside}
-use Rattle.league_core.specs.Results.{Results, are_results}
-use Rattle.league_core.specs.Sheets.{IsWithinLimits}
-use Rattle.league_core.specs.Sums.{points_of}
-use Rattle.league_core.specs.Ranking.{is_inside}
-use Rattle.league_core.specs.Questions.{is_on_side, is_in_window, full_question}
-use Rattle.league_core.specs.Finishes.{IsFinishOf}
-use Rattle.league_core.specs.FinishList.{finishes_of}
-use Rattle.league_core.specs.Verdicts.{HasExample, HasNoExample, IsClinched, IsLost, IsPossible}
-use Rattle.league_core.specs.LotsFor.{lots_for_claim}
+use Rattle.league_core.specs.game.Results.{Results, are_results}
+use Rattle.league_core.specs.game.Sheets.{IsWithinLimits}
+use Rattle.league_core.specs.game.Sums.{points_of}
+use Rattle.league_core.specs.game.Ranking.{is_inside}
+use Rattle.league_core.specs.game.Questions.{is_on_side, is_in_window, full_question}
+use Rattle.league_core.specs.game.Finishes.{IsFinishOf}
+use Rattle.league_core.specs.inside.FinishList.{finishes_of}
+use Rattle.league_core.specs.game.Verdicts.{HasExample, HasNoExample, IsClinched, IsLost}
+use Rattle.league_core.specs.game.Verdicts.{IsPossible}
+use Rattle.league_core.specs.inside.LotsFor.{lots_for_claim}
 use Rattle.league_core.proofs.LotsLemmas.{holds_at-favoured, lots_for_claim-are_lots}
 use Rattle.league_core.proofs.LotsLemmas.{lots_for_claim-favoured}
 use Rattle.league_core.proofs.FinishListLemmas.{finishes_listed}

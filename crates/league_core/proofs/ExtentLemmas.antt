@@ -4,9 +4,9 @@ use Rattle.std.proofs.Common.{◌≡◌, ℕ, ℤ, neg_ℤ, Bool, true, List}
 use Rattle.std.proofs.Common.{sym, ap, ◌∙◌, subst, arith}
 use Rattle.std.proofs.lemmas.Int.{ints}
 use Rattle.league_core.specs.declared.season.Score.{Score}
-use Rattle.league_core.specs.Options.{has_score, has_option}
-use Rattle.league_core.specs.PointRanges.{Range, one_value, negated, range_of}
-use Rattle.league_core.specs.Extents.{IsExtent, IsNearZero}
+use Rattle.league_core.specs.search.Options.{has_score, has_option}
+use Rattle.league_core.specs.search.PointRanges.{Range, one_value, negated, range_of}
+use Rattle.league_core.specs.inside.Extents.{IsExtent, IsNearZero}
 use Rattle.league_core.proofs.PointRangeLemmas.{range_bounds, least_reached, greatest_reached}
 use Rattle.league_core.proofs.PointRangeLemmas.{least-is, greatest-is}
 

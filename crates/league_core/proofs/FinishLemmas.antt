@@ -7,10 +7,10 @@ use Rattle.std.specs.List.{list_all}
 use Rattle.std.proofs.lemmas.Bool.{false≢true, and_parts, and_from, le-leb, leb-true}
 use Rattle.league_core.specs.declared.sheet.Sheet.{Sheet}
 use Rattle.league_core.specs.declared.season.Score.{Score}
-use Rattle.league_core.specs.Limits.{most_goals}
-use Rattle.league_core.specs.Results.{Results, is_score, is_score_or_none}
-use Rattle.league_core.specs.Seasons.{IsSeasonOf}
-use Rattle.league_core.specs.Finishes.{same_score, may_end, may_all_end, IsFinishOf, is_played}
+use Rattle.league_core.specs.game.Limits.{most_goals}
+use Rattle.league_core.specs.game.Results.{Results, is_score, is_score_or_none}
+use Rattle.league_core.specs.game.Seasons.{IsSeasonOf}
+use Rattle.league_core.specs.game.Finishes.{same_score, may_end, may_all_end, IsFinishOf, is_played}
 use Rattle.league_core.proofs.OptionLemmas.{same_score-true, same_score-itself}
 
 -- what is not played ends without goals

@@ -13,10 +13,10 @@ use Rattle.std.proofs.lemmas.List.Elements.{All-from_get_or}
 use Rattle.std.proofs.lemmas.List.FromFn.{length-range_with_len, get_or-range_with_len}
 use Rattle.std.proofs.lemmas.List.FromFn.{length-map-range_with_len, get_or-map-range_with_len}
 use Rattle.league_core.specs.declared.season.Score.{Score}
-use Rattle.league_core.specs.Finishes.{may_end, may_all_end}
-use Rattle.league_core.specs.Options.{score_of, scores_up_to}
-use Rattle.league_core.specs.FinishList.{ends_of, with_first, finishes_of, ways_to_end}
-use Rattle.league_core.specs.FinishList.{ways_to_finish, score_number, end_number, number_of}
+use Rattle.league_core.specs.game.Finishes.{may_end, may_all_end}
+use Rattle.league_core.specs.search.Options.{score_of, scores_up_to}
+use Rattle.league_core.specs.inside.FinishList.{ends_of, with_first, finishes_of, ways_to_end}
+use Rattle.league_core.specs.inside.FinishList.{ways_to_finish, score_number, end_number, number_of}
 use Rattle.league_core.proofs.OptionLemmas.{same_score-true, same_score-itself}
 
 -- pieces of one length make a list of so many times their number
@@ -27,7 +27,7 @@ length-pieces f size each (x ∷ xs) =
     let rest = length-pieces f size each xs in
     omega (arith, length-append (f x) (flat_map f xs), each x, rest)
 
--- and what stands in a piece stands in the list, behind the pieces before it
+-- and what stands in a piece stands in the list, after the pieces before it
 get_or-pieces : {X A : Type 0} (f : X → List A) (size : ℕ) → ((x : X) → length (f x) ≡ size)
     → (xs : List X) (i j : ℕ) (e : X) (d : A) → i < length xs → j < size
     → get_or (flat_map f xs) (i * size + j) d ≡ get_or (f (get_or xs i e)) j d

@@ -4,7 +4,7 @@ use Rattle.std.proofs.Common.{ap, ◌∙◌, arith}
 use Rattle.std.proofs.lemmas.Bool.{and_parts, eq-eqb, ltb-true, true≢false}
 use Rattle.league_core.specs.declared.sheet.Sheet.{Sheet}
 use Rattle.league_core.specs.declared.sheet.Fixture.{Fixture}
-use Rattle.league_core.specs.Sheets.{IsWithinLimits, is_fixture}
+use Rattle.league_core.specs.game.Sheets.{IsWithinLimits, is_fixture}
 use Rattle.league_core.proofs.PlainLemmas.{list_all-at}
 
 -- a match has two different clubs

@@ -13,13 +13,14 @@ use Rattle.league_core.specs.declared.question.Question.{Question}
 use Rattle.league_core.specs.declared.zone.Test.{Test}
 use Rattle.league_core.specs.declared.zone.Test.TheVariants.{Home, Draw, HomeMost, AwayMost, Rival}
 use Rattle.league_core.specs.declared.zone.Literal.{Literal}
-use Rattle.league_core.specs.Results.{Results}
-use Rattle.league_core.specs.Zones.{passes, is_on, is_of_rival, is_as_said, with_test}
-use Rattle.league_core.specs.Zones.{is_of_score, marked_before, marked_after}
-use Rattle.league_core.specs.Options.{score_of, endings, meets_literal, meets}
-use Rattle.league_core.specs.Options.{options_of, options_from, options_in, has_option, has_finish}
-use Rattle.league_core.specs.Trees.{Tree, open_leaf, lent_leaf, refuted_leaf, branch, NodesMeet}
-use Rattle.league_core.specs.Splits.{have_both_finish, is_proper, IsProperNode}
+use Rattle.league_core.specs.game.Results.{Results}
+use Rattle.league_core.specs.search.Zones.{passes, is_on, is_of_rival, is_as_said, with_test}
+use Rattle.league_core.specs.search.Zones.{is_of_score, marked_before, marked_after}
+use Rattle.league_core.specs.search.Options.{score_of, endings, meets_literal, meets, options_of}
+use Rattle.league_core.specs.search.Options.{options_from, options_in, has_option, has_finish}
+use Rattle.league_core.specs.search.Trees.{Tree, open_leaf, lent_leaf, refuted_leaf, branch}
+use Rattle.league_core.specs.search.Trees.{NodesMeet}
+use Rattle.league_core.specs.search.Splits.{have_both_finish, is_proper, IsProperNode}
 use Rattle.league_core.proofs.OptionLemmas.{has_score-options_of}
 use Rattle.league_core.proofs.OptionTestLemmas.{has_option-some}
 use Rattle.std.proofs.Math.Bool.{and-true, or-false}

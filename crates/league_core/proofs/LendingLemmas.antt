@@ -5,10 +5,10 @@ use Rattle.std.proofs.Common.{List, [], ◌∷◌, ◌++◌, length, refl, sym, 
 use Rattle.std.proofs.lemmas.Bool.{true≢false, false≢true, and_parts, or_parts, eq-eqb}
 use Rattle.std.proofs.lemmas.Bool.Decides.{nat_tests}
 use Rattle.league_core.specs.declared.zone.Literal.{Literal}
-use Rattle.league_core.specs.Zones.{with_test}
-use Rattle.league_core.specs.Trees.{Tree, open_leaf, lent_leaf, refuted_leaf, branch, zones_from}
-use Rattle.league_core.specs.Trees.{node_count, new_count, has_open, is_refuted}
-use Rattle.league_core.specs.Lending.{lent_count, times_lent, lent_zones, all_opened}
+use Rattle.league_core.specs.search.Zones.{with_test}
+use Rattle.league_core.specs.search.Trees.{Tree, open_leaf, lent_leaf, refuted_leaf, branch}
+use Rattle.league_core.specs.search.Trees.{zones_from, node_count, new_count, has_open, is_refuted}
+use Rattle.league_core.specs.inside.Lending.{lent_count, times_lent, lent_zones, all_opened}
 
 -- a number is lent as often as it has zones
 pub length-lent_zones : (number : ℕ) (tree : Tree) (zone : List Literal)

@@ -1,7 +1,7 @@
--- Lemmas on one notion each: results, logs, comparisons, lists of clubs, sets of clubs, standings,
--- the ranking, places, lots, finishes, points and verdicts, options, boxes, proposed finishes,
--- ranges of points, the sure order, trees, lent leaves, trees as lists, halves of a zone, sums,
--- fixtures of a sheet and pairs of clubs.
+-- Lemmas on one notion each: results, logs, comparisons, lists of clubs, sets of clubs, walks over
+-- them, standings, the ranking, places, lots, finishes, points and verdicts, options, boxes,
+-- proposed finishes, ranges of points, the sure order, trees, lent leaves, trees as lists, halves
+-- of a zone, sums, fixtures of a sheet and pairs of clubs.
 pub mod PlainLemmas
 pub mod ResultsLemmas
 pub mod LogLemmas
@@ -11,6 +11,8 @@ pub mod ClubLemmas
 pub mod ClubSetLemmas
 pub mod ClubBitLemmas
 pub mod ClubCountLemmas
+pub mod WalkLemmas
+pub mod SeenLemmas
 pub mod StandingLemmas
 pub mod TimesLemmas
 pub mod RankingLemmas
@@ -30,6 +32,7 @@ pub mod OptionLemmas
 pub mod OptionTestLemmas
 pub mod LiteralLemmas
 pub mod BoxLemmas
+pub mod GivenLemmas
 pub mod ProposalLemmas
 pub mod OutcomeLemmas
 pub mod PointRangeLemmas

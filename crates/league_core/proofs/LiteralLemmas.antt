@@ -5,10 +5,10 @@ use Rattle.std.proofs.Common.{◌++◌, length, get_or, Option, None, sym, ap, �
 use Rattle.league_core.specs.declared.sheet.Sheet.{Sheet}
 use Rattle.league_core.specs.declared.season.Score.{Score}
 use Rattle.league_core.specs.declared.zone.Literal.{Literal}
-use Rattle.league_core.specs.Results.{Results}
-use Rattle.league_core.specs.Zones.{is_on, passes, is_as_said}
-use Rattle.league_core.specs.Options.{meets_literal, options_of, options_from, options_in}
-use Rattle.league_core.specs.Options.{has_score, has_option, has_finish}
+use Rattle.league_core.specs.game.Results.{Results}
+use Rattle.league_core.specs.search.Zones.{is_on, passes, is_as_said}
+use Rattle.league_core.specs.search.Options.{meets_literal, options_of, options_from, options_in}
+use Rattle.league_core.specs.search.Options.{has_score, has_option, has_finish}
 use Rattle.league_core.proofs.OptionLemmas.{has_score-with, get_or-options_from}
 use Rattle.league_core.proofs.PlainLemmas.{list_all-at}
 

@@ -8,12 +8,12 @@ use Rattle.std.proofs.lemmas.List.Elements.{All-push, All-head, All-tail}
 use Rattle.league_core.specs.declared.sheet.Sheet.{Sheet}
 use Rattle.league_core.specs.declared.season.Event.{Event}
 use Rattle.league_core.specs.declared.season.Event.TheVariants.{Set, Clear, Deduct}
-use Rattle.league_core.specs.Limits.{most_clubs, most_fixtures, most_deduction}
-use Rattle.league_core.specs.Sheets.{IsWithinLimits}
-use Rattle.league_core.specs.Results.{Results, are_results, is_score}
-use Rattle.league_core.specs.Seasons.{AreEventsOf, IsEventOf, IsLeague, IsSeasonOf, epoch_of}
-use Rattle.league_core.specs.Seasons.{event_applied, season_after, unplayed_season}
-use Rattle.league_core.specs.Codes.{has_code}
+use Rattle.league_core.specs.game.Limits.{most_clubs, most_fixtures, most_deduction}
+use Rattle.league_core.specs.game.Sheets.{IsWithinLimits}
+use Rattle.league_core.specs.game.Results.{Results, are_results, is_score}
+use Rattle.league_core.specs.game.Seasons.{AreEventsOf, IsEventOf, IsLeague, IsSeasonOf, epoch_of}
+use Rattle.league_core.specs.game.Seasons.{event_applied, season_after, unplayed_season}
+use Rattle.league_core.specs.inside.Codes.{has_code}
 use Rattle.league_core.proofs.ResultsLemmas.{are_results-deduct, are_results-set}
 use Rattle.league_core.proofs.ResultsLemmas.{are_results-unplayed}
 

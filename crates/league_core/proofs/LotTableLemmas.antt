@@ -11,10 +11,10 @@ use Rattle.std.proofs.lemmas.Bool.{eq-eqb, ne_eqb, ltb-true, lt-ltb, cases_eq, c
 use Rattle.std.proofs.lemmas.Bool.{false_from_ne_true}
 use Rattle.std.proofs.lemmas.Map.Steps.{le-length_from_below}
 use Rattle.league_core.specs.declared.sheet.Sheet.{Sheet}
-use Rattle.league_core.specs.Results.{Results}
-use Rattle.league_core.specs.Sums.{has_club}
-use Rattle.league_core.specs.Ranking.{are_lots, lot_of, order_of, AreRanked, IsTable}
-use Rattle.league_core.specs.Laws.{IsAllowedTable}
+use Rattle.league_core.specs.game.Results.{Results}
+use Rattle.league_core.specs.game.Sums.{has_club}
+use Rattle.league_core.specs.game.Ranking.{are_lots, lot_of, order_of, AreRanked, IsTable}
+use Rattle.league_core.specs.laws.Laws.{IsAllowedTable}
 use Rattle.league_core.proofs.OrderingLemmas.{nat_cmp-less}
 use Rattle.league_core.proofs.ClubSetLemmas.{has_club-range}
 use Rattle.league_core.proofs.OthersLemmas.{lot_of-absent}

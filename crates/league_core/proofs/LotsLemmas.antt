@@ -15,13 +15,14 @@ use Rattle.league_core.specs.declared.sheet.Sheet.{Sheet}
 use Rattle.league_core.specs.declared.question.Claim.{Claim}
 use Rattle.league_core.specs.declared.question.Claim.TheVariants.{Inside, Outside}
 use Rattle.league_core.specs.declared.question.Question.{Question}
-use Rattle.league_core.specs.Results.{Results}
-use Rattle.league_core.specs.Sheets.{clubs_of}
-use Rattle.league_core.specs.Sums.{has_club, points_of}
-use Rattle.league_core.specs.Ranking.{are_lots, lot_of, ranks_before, place_of, is_inside}
-use Rattle.league_core.specs.Questions.{is_on_side, is_in_window, holds_at}
-use Rattle.league_core.specs.LotsFor.{others_of, first_lots, last_lots, lots_for_claim, IsFavoured}
-use Rattle.league_core.specs.LotsFor.{order_without_lots, best_place_of, worst_place_of}
+use Rattle.league_core.specs.game.Results.{Results}
+use Rattle.league_core.specs.game.Sheets.{clubs_of}
+use Rattle.league_core.specs.game.Sums.{has_club, points_of}
+use Rattle.league_core.specs.game.Ranking.{are_lots, lot_of, ranks_before, place_of, is_inside}
+use Rattle.league_core.specs.game.Questions.{is_on_side, is_in_window, holds_at}
+use Rattle.league_core.specs.search.Zones.{others_of}
+use Rattle.league_core.specs.inside.LotsFor.{first_lots, last_lots, lots_for_claim, IsFavoured}
+use Rattle.league_core.specs.inside.LotsFor.{order_without_lots, best_place_of, worst_place_of}
 use Rattle.league_core.proofs.OrderingLemmas.{is_lt-nat_cmp}
 use Rattle.league_core.proofs.ClubLemmas.{all_in_range, count_by-le}
 use Rattle.league_core.proofs.OthersLemmas.{lot_of-absent, lot_of-present, others_have_not}

@@ -6,9 +6,10 @@ use Rattle.std.proofs.lemmas.List.Elements.{All-nil, All-cons, All-head, All-tai
 use Rattle.league_core.specs.declared.zone.Literal.{Literal}
 use Rattle.league_core.specs.declared.tree.TreeNode.{TreeNode}
 use Rattle.league_core.specs.declared.tree.TreeNode.TheVariants.{Open, Lent}
-use Rattle.league_core.specs.Zones.{with_test}
-use Rattle.league_core.specs.Trees.{Tree, open_leaf, lent_leaf, refuted_leaf, branch, NodesMeet}
-use Rattle.league_core.specs.Lending.{lent_zones, put, all_opened}
+use Rattle.league_core.specs.search.Zones.{with_test}
+use Rattle.league_core.specs.search.Trees.{Tree, open_leaf, lent_leaf, refuted_leaf, branch}
+use Rattle.league_core.specs.search.Trees.{NodesMeet}
+use Rattle.league_core.specs.inside.Lending.{lent_zones, put, all_opened}
 
 -- what holds of two lists together holds of each
 All-parts : (P : List Literal → Type 0) (xs ys : List (List Literal)) → All P (xs ++ ys) → All P xs

@@ -7,14 +7,14 @@ use Rattle.std.proofs.lemmas.Bool.{and_from}
 use Rattle.league_core.specs.declared.sheet.Sheet.{Sheet}
 use Rattle.league_core.specs.declared.question.Claim.{Claim}
 use Rattle.league_core.specs.declared.question.Claim.TheVariants.{Inside, Outside}
-use Rattle.league_core.specs.Results.{Results, are_results}
-use Rattle.league_core.specs.Sheets.{IsWithinLimits}
-use Rattle.league_core.specs.Sums.{points_of}
-use Rattle.league_core.specs.Ranking.{are_lots, is_inside}
-use Rattle.league_core.specs.Finishes.{IsFinishOf}
-use Rattle.league_core.specs.Questions.{is_on_side, is_in_window, IsExample, full_question}
-use Rattle.league_core.specs.Verdicts.{IsClinched, IsLost, IsPossible}
-use Rattle.league_core.specs.LotsFor.{first_lots}
+use Rattle.league_core.specs.game.Results.{Results, are_results}
+use Rattle.league_core.specs.game.Sheets.{IsWithinLimits}
+use Rattle.league_core.specs.game.Sums.{points_of}
+use Rattle.league_core.specs.game.Ranking.{are_lots, is_inside}
+use Rattle.league_core.specs.game.Finishes.{IsFinishOf}
+use Rattle.league_core.specs.game.Questions.{is_on_side, is_in_window, IsExample, full_question}
+use Rattle.league_core.specs.game.Verdicts.{IsClinched, IsLost, IsPossible}
+use Rattle.league_core.specs.inside.LotsFor.{first_lots}
 use Rattle.league_core.proofs.FinishLemmas.{ended_of, may_all_end-ended}
 use Rattle.league_core.proofs.LotsLemmas.{first_lots-are_lots}
 use Rattle.league_core.proofs.PointsLemmas.{points_in_full_window, results-deductions}

@@ -12,12 +12,12 @@ use Rattle.std.proofs.lemmas.Map.Views.{any-filter_same}
 use Rattle.league_core.specs.declared.sheet.Sheet.{Sheet}
 use Rattle.league_core.specs.declared.season.Score.{Score}
 use Rattle.league_core.specs.declared.zone.Literal.{Literal}
-use Rattle.league_core.specs.Results.{Results}
-use Rattle.league_core.specs.Sums.{has_club}
-use Rattle.league_core.specs.Finishes.{same_score, may_end, may_all_end, IsFinishOf}
-use Rattle.league_core.specs.Options.{score_of, scores_up_to, endings, meets_literal, meets}
-use Rattle.league_core.specs.Options.{options_of, options_from, has_score, takes_option}
-use Rattle.league_core.specs.Options.{take_options, IsInBox}
+use Rattle.league_core.specs.game.Results.{Results}
+use Rattle.league_core.specs.game.Sums.{has_club}
+use Rattle.league_core.specs.game.Finishes.{same_score, may_end, may_all_end, IsFinishOf}
+use Rattle.league_core.specs.search.Options.{score_of, scores_up_to, endings, meets_literal, meets}
+use Rattle.league_core.specs.search.Options.{options_of, options_from, has_score, takes_option}
+use Rattle.league_core.specs.search.Options.{take_options, IsInBox}
 use Rattle.league_core.proofs.PlainLemmas.{eqb-swap}
 use Rattle.league_core.proofs.ResultsLemmas.{scores_decided}
 use Rattle.league_core.proofs.ClubSetLemmas.{has_club-range}

@@ -3,8 +3,8 @@ use Rattle.std.proofs.Common.{◌≡◌, Bool, true, List, [], ◌∷◌, refl, 
 use Rattle.std.specs.List.{list_any}
 use Rattle.std.proofs.lemmas.Bool.{false≢true, or_cases, or_left, or_right}
 use Rattle.league_core.specs.declared.season.Score.{Score}
-use Rattle.league_core.specs.Finishes.{same_score}
-use Rattle.league_core.specs.Options.{has_score, has_option}
+use Rattle.league_core.specs.game.Finishes.{same_score}
+use Rattle.league_core.specs.search.Options.{has_score, has_option}
 use Rattle.league_core.proofs.OptionLemmas.{same_score-true, has_score-first}
 
 -- an option shows that there is one

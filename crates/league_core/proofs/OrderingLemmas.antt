@@ -5,7 +5,7 @@ use Rattle.std.specs.Ordering.{ordering_then}
 use Rattle.std.proofs.lemmas.Int.{ints}
 use Rattle.std.proofs.lemmas.Bool.{false≢true}
 use Rattle.std.proofs.lemmas.Bool.Decides.{nat_tests}
-use Rattle.league_core.specs.HeadToHead.{greater_first}
+use Rattle.league_core.specs.game.HeadToHead.{greater_first}
 
 -- only where the first comparison does not decide need the next ones agree
 pub then_agree : (first next other : Ordering) → (first ≡ Equal → next ≡ other)

@@ -8,9 +8,9 @@ use Rattle.std.proofs.lemmas.Bool.{false≢true, true≢false, eqb-true, eq-eqb,
 use Rattle.std.proofs.lemmas.List.Filters.{length-filter_both}
 use Rattle.std.proofs.lemmas.List.FromFn.{length-range_with_len}
 use Rattle.std.proofs.lemmas.Map.Views.{any-filter_same}
-use Rattle.league_core.specs.Sums.{has_club}
-use Rattle.league_core.specs.Ranking.{lot_of}
-use Rattle.league_core.specs.LotsFor.{others_of}
+use Rattle.league_core.specs.game.Sums.{has_club}
+use Rattle.league_core.specs.game.Ranking.{lot_of}
+use Rattle.league_core.specs.search.Zones.{others_of}
 use Rattle.league_core.proofs.ClubLemmas.{range_has}
 use Rattle.std.proofs.Math.Bool.{not-not}
 

@@ -3,7 +3,7 @@ use Rattle.std.proofs.Common.{◌≡◌, ◌<◌, true, ◌&&◌, ◌||◌, inl,
 use Rattle.std.proofs.lemmas.Bool.{ltb-true, lt-ltb, eqb-true, eq-eqb, cases_order}
 use Rattle.std.proofs.lemmas.Bool.{or_cases, or_left, or_right, and_parts, and_from}
 use Rattle.league_core.specs.declared.season.Score.{Score}
-use Rattle.league_core.specs.Options.{is_home_win, is_draw, is_away_win, same_outcome}
+use Rattle.league_core.specs.search.Options.{is_home_win, is_draw, is_away_win, same_outcome}
 
 -- whatever its outcome, a score is a home win, a draw or an away win
 pub outcome_cases : {P : Type 0} (score : Score) → (is_home_win score ≡ true → P)

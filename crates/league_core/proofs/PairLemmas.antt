@@ -11,11 +11,11 @@ use Rattle.std.proofs.lemmas.Bool.Decides.{nat_tests}
 use Rattle.league_core.specs.declared.sheet.Sheet.{Sheet}
 use Rattle.league_core.specs.declared.sheet.Fixture.{Fixture}
 use Rattle.league_core.specs.declared.season.Score.{Score}
-use Rattle.league_core.specs.Sheets.{IsWithinLimits, are_different, is_fixture}
-use Rattle.league_core.specs.Results.{Results}
-use Rattle.league_core.specs.Sums.{Worth, has_club, worth_among, sum_among}
-use Rattle.league_core.specs.PointRanges.{total_of}
-use Rattle.league_core.specs.PairSums.{sum_against}
+use Rattle.league_core.specs.game.Sheets.{IsWithinLimits, are_different, is_fixture}
+use Rattle.league_core.specs.game.Results.{Results}
+use Rattle.league_core.specs.game.Sums.{Worth, has_club, worth_among, sum_among}
+use Rattle.league_core.specs.search.PointRanges.{total_of}
+use Rattle.league_core.specs.inside.PairSums.{sum_against}
 use Rattle.league_core.proofs.FixtureLemmas.{clubs_apart}
 use Rattle.league_core.proofs.PointRangeLemmas.{total_of-same}
 use Rattle.league_core.proofs.SumLemmas.{sum_over-zero, sum_over-agree, total_of-sum_over}

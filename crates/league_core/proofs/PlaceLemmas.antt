@@ -7,10 +7,10 @@ use Rattle.std.proofs.lemmas.Bool.{false≢true, eqb-true}
 use Rattle.std.proofs.lemmas.List.FromFn.{length-range_with_len}
 use Rattle.std.proofs.lemmas.List.Sums.{sum_by-cons, count_by-le-length}
 use Rattle.league_core.specs.declared.sheet.Sheet.{Sheet}
-use Rattle.league_core.specs.Results.{Results}
-use Rattle.league_core.specs.Sheets.{clubs_of}
-use Rattle.league_core.specs.Sums.{has_club}
-use Rattle.league_core.specs.Ranking.{ranks_before, place_of}
+use Rattle.league_core.specs.game.Results.{Results}
+use Rattle.league_core.specs.game.Sheets.{clubs_of}
+use Rattle.league_core.specs.game.Sums.{has_club}
+use Rattle.league_core.specs.game.Ranking.{ranks_before, place_of}
 use Rattle.league_core.proofs.ClubLemmas.{one_at_most, count_by-le, range_has}
 use Rattle.league_core.proofs.RankingLemmas.{ranks_before-itself, ranks_before-trans}
 
@@ -62,7 +62,7 @@ place_of-before sheet season lots club other below before =
     (ranks_before-itself sheet season lots club) before in
     omega arith
 
--- no place is behind the number of clubs
+-- no place comes after the number of clubs
 pub place_of-le : (sheet : Sheet) (season : Results) (lots : List ℕ) (club : ℕ)
     → club < length sheet.clubs → place_of sheet season lots club ≤ length sheet.clubs
 place_of-le sheet season lots club below =

@@ -10,11 +10,11 @@ use Rattle.std.proofs.lemmas.Bool.Decides.{nat_tests}
 use Rattle.std.proofs.lemmas.List.{drop_more, drop_all}
 use Rattle.league_core.specs.declared.sheet.Fixture.{Fixture}
 use Rattle.league_core.specs.declared.season.Score.{Score}
-use Rattle.league_core.specs.Sums.{has_club, match_points, worth_to}
-use Rattle.league_core.specs.ClubSets.{clubs_below}
-use Rattle.league_core.specs.Options.{has_score, has_option}
-use Rattle.league_core.specs.PointRanges.{one_value, added, range_of, range_from, total_of}
-use Rattle.league_core.specs.PointRanges.{points_together, points_of_sides}
+use Rattle.league_core.specs.game.Sums.{has_club, match_points, worth_to}
+use Rattle.league_core.specs.game.ClubSets.{clubs_below}
+use Rattle.league_core.specs.search.Options.{has_score, has_option}
+use Rattle.league_core.specs.search.PointRanges.{one_value, added, range_of, range_from, total_of}
+use Rattle.league_core.specs.search.PointRanges.{points_together, points_of_sides}
 use Rattle.league_core.proofs.OptionLemmas.{same_score-true, has_score-first}
 use Rattle.league_core.proofs.OptionTestLemmas.{has_option-some}
 use Rattle.league_core.proofs.ClubSetLemmas.{has_club-clubs_below, clubs_below-suc}

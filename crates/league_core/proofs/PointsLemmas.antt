@@ -9,10 +9,10 @@ use Rattle.league_core.specs.declared.sheet.Sheet.{Sheet}
 use Rattle.league_core.specs.declared.sheet.Fixture.{Fixture}
 use Rattle.league_core.specs.declared.season.Score.{Score}
 use Rattle.league_core.specs.declared.question.Claim.{Claim}
-use Rattle.league_core.specs.Results.{Results, is_score_or_none, are_results}
-use Rattle.league_core.specs.Sheets.{IsWithinLimits}
-use Rattle.league_core.specs.Sums.{match_points, worth_to, sum_over, sum_of, points_of}
-use Rattle.league_core.specs.Questions.{is_in_window, full_question}
+use Rattle.league_core.specs.game.Results.{Results, is_score_or_none, are_results}
+use Rattle.league_core.specs.game.Sheets.{IsWithinLimits}
+use Rattle.league_core.specs.game.Sums.{match_points, worth_to, sum_over, sum_of, points_of}
+use Rattle.league_core.specs.game.Questions.{is_in_window, full_question}
 
 -- from none to three points
 pub record IsWorth (points : ℤ) : Type 0 where

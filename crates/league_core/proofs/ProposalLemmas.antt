@@ -14,14 +14,15 @@ use Rattle.league_core.specs.declared.sheet.Fixture.{Fixture}
 use Rattle.league_core.specs.declared.season.Score.{Score}
 use Rattle.league_core.specs.declared.question.Question.{Question}
 use Rattle.league_core.specs.declared.zone.Literal.{Literal}
-use Rattle.league_core.specs.Results.{Results}
-use Rattle.league_core.specs.Seasons.{IsSeasonOf}
-use Rattle.league_core.specs.Finishes.{same_score, IsFinishOf}
-use Rattle.league_core.specs.HeadToHead.{greater_first, by_first_difference}
-use Rattle.league_core.specs.Options.{options_in, has_score, has_option, has_finish, take_options}
-use Rattle.league_core.specs.Options.{IsInBox}
-use Rattle.league_core.specs.Proposals.{is_wished, wishes_met, option_order, first_of_two}
-use Rattle.league_core.specs.Proposals.{first_option, IsFirstOption, first_options, proposed_finish}
+use Rattle.league_core.specs.game.Results.{Results}
+use Rattle.league_core.specs.game.Seasons.{IsSeasonOf}
+use Rattle.league_core.specs.game.Finishes.{same_score, IsFinishOf}
+use Rattle.league_core.specs.game.HeadToHead.{greater_first, by_first_difference}
+use Rattle.league_core.specs.search.Options.{options_in, has_score, has_option, has_finish}
+use Rattle.league_core.specs.search.Options.{take_options, IsInBox}
+use Rattle.league_core.specs.search.Proposals.{is_wished, wishes_met, option_order, first_of_two}
+use Rattle.league_core.specs.search.Proposals.{first_option, IsFirstOption, first_options}
+use Rattle.league_core.specs.search.Proposals.{proposed_finish}
 use Rattle.league_core.proofs.OrderingLemmas.{then-equal}
 use Rattle.league_core.proofs.StandingLemmas.{by_first_difference_total}
 use Rattle.league_core.proofs.OptionLemmas.{same_score-true, same_score-itself, has_score-first}

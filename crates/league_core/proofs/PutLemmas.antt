@@ -6,11 +6,11 @@ use Rattle.std.proofs.Math.Nat.{add-mul}
 use Rattle.std.proofs.lemmas.Bool.{false≢true, cases_Bool}
 use Rattle.std.proofs.lemmas.Bool.Decides.{nat_tests}
 use Rattle.league_core.specs.declared.zone.Literal.{Literal}
-use Rattle.league_core.specs.Zones.{with_test}
-use Rattle.league_core.specs.Trees.{Tree, open_leaf, lent_leaf, refuted_leaf, branch, zones_from}
-use Rattle.league_core.specs.Trees.{node_count, new_count, has_open}
-use Rattle.league_core.specs.Leaves.{is_leaf}
-use Rattle.league_core.specs.Lending.{lent_count, times_lent, lent_zones, put}
+use Rattle.league_core.specs.search.Zones.{with_test}
+use Rattle.league_core.specs.search.Trees.{Tree, open_leaf, lent_leaf, refuted_leaf, branch}
+use Rattle.league_core.specs.search.Trees.{zones_from, node_count, new_count, has_open}
+use Rattle.league_core.specs.inside.Leaves.{is_leaf}
+use Rattle.league_core.specs.inside.Lending.{lent_count, times_lent, lent_zones, put}
 use Rattle.league_core.proofs.LendingLemmas.{lent_zones_absent, some_of_sum}
 
 -- nothing is put in place of a number that is not lent

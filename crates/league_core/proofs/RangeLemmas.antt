@@ -7,9 +7,10 @@ use Rattle.std.proofs.lemmas.Int.{ints}
 use Rattle.std.proofs.lemmas.Bool.{and_parts, and_from, ltb-true}
 use Rattle.league_core.specs.declared.sheet.Fixture.{Fixture}
 use Rattle.league_core.specs.declared.season.Score.{Score}
-use Rattle.league_core.specs.Sheets.{is_fixture}
-use Rattle.league_core.specs.Sums.{Worth, has_club, worth_to, worth_among}
-use Rattle.league_core.specs.PointRanges.{Range, one_value, added, widened, range_of, range_from}
+use Rattle.league_core.specs.game.Sheets.{is_fixture}
+use Rattle.league_core.specs.game.Sums.{Worth, has_club, worth_to, worth_among}
+use Rattle.league_core.specs.search.PointRanges.{Range, one_value, added, widened, range_of}
+use Rattle.league_core.specs.search.PointRanges.{range_from}
 use Rattle.league_core.proofs.PointRangeLemmas.{range_of-same}
 
 -- ranges are one where both ends are

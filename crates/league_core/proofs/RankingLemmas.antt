@@ -11,13 +11,13 @@ use Rattle.std.proofs.lemmas.Cmp.{tied_itself}
 use Rattle.std.proofs.lemmas.List.Elements.{filter_agree}
 use Rattle.std.proofs.lemmas.List.Sums.{passes_at_first}
 use Rattle.league_core.specs.declared.sheet.Sheet.{Sheet}
-use Rattle.league_core.specs.Results.{Results}
-use Rattle.league_core.specs.Sheets.{clubs_of}
-use Rattle.league_core.specs.Sums.{points_of, has_club}
-use Rattle.league_core.specs.HeadToHead.{greater_first, by_first_difference}
-use Rattle.league_core.specs.Ahead.{standing_in}
-use Rattle.league_core.specs.Ranking.{are_lots, lot_of, tied_group_of, order_of, ranks_before}
-use Rattle.league_core.specs.LotsFor.{order_without_lots}
+use Rattle.league_core.specs.game.Results.{Results}
+use Rattle.league_core.specs.game.Sheets.{clubs_of}
+use Rattle.league_core.specs.game.Sums.{points_of, has_club}
+use Rattle.league_core.specs.game.HeadToHead.{greater_first, by_first_difference}
+use Rattle.league_core.specs.game.Ahead.{standing_in}
+use Rattle.league_core.specs.game.Ranking.{are_lots, lot_of, tied_group_of, order_of, ranks_before}
+use Rattle.league_core.specs.inside.LotsFor.{order_without_lots}
 use Rattle.league_core.proofs.OrderingLemmas.{then_agree, then-then, then-equal, nat_cmp-equal}
 use Rattle.league_core.proofs.OrderingLemmas.{less-is_lt}
 use Rattle.league_core.proofs.ClubLemmas.{each_in_range, lot_of-within}

@@ -8,7 +8,7 @@ use Rattle.std.proofs.lemmas.List.Elements.{All-set, All-replicate}
 use Rattle.std.proofs.lemmas.List.Sums.{AllPass-from_list_all, list_all-from_AllPass}
 use Rattle.std.proofs.lemmas.Bool.Decides.{Decides-eqb}
 use Rattle.league_core.specs.declared.season.Score.{Score}
-use Rattle.league_core.specs.Results.{is_score_or_none, are_results}
+use Rattle.league_core.specs.game.Results.{is_score_or_none, are_results}
 
 -- both halves of a conjunction
 pub both_of : (a b : Bool) → (a && b) ≡ true → (a ≡ true) × (b ≡ true)

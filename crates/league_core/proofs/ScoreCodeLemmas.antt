@@ -6,8 +6,8 @@ use Rattle.std.specs.List.{list_all}
 use Rattle.std.proofs.lemmas.List.{map-set}
 use Rattle.std.proofs.lemmas.Bool.{leb-true}
 use Rattle.league_core.specs.declared.season.Score.{Score}
-use Rattle.league_core.specs.Results.{Results, is_score, is_score_or_none, are_results}
-use Rattle.league_core.specs.ScoreCodes.{score_code}
+use Rattle.league_core.specs.game.Results.{Results, is_score, is_score_or_none, are_results}
+use Rattle.league_core.specs.inside.ScoreCodes.{score_code}
 use Rattle.league_core.proofs.ResultsLemmas.{both_of}
 
 -- the goals of a score that may be are below 100

@@ -10,10 +10,10 @@ use Rattle.league_core.specs.declared.season.Score.{Score}
 use Rattle.league_core.specs.declared.zone.Test.{Test}
 use Rattle.league_core.specs.declared.zone.Test.TheVariants.{Home, Draw, HomeMost, AwayMost, Rival}
 use Rattle.league_core.specs.declared.zone.Literal.{Literal}
-use Rattle.league_core.specs.Results.{Results}
-use Rattle.league_core.specs.Zones.{passes, is_on, is_of_score, with_test}
-use Rattle.league_core.specs.Options.{endings, meets_literal, meets}
-use Rattle.league_core.specs.Options.{options_of, options_from, has_option, has_finish}
+use Rattle.league_core.specs.game.Results.{Results}
+use Rattle.league_core.specs.search.Zones.{passes, is_on, is_of_score, with_test}
+use Rattle.league_core.specs.search.Options.{endings, meets_literal, meets, options_of}
+use Rattle.league_core.specs.search.Options.{options_from, has_option, has_finish}
 use Rattle.league_core.proofs.HalfLemmas.{list_all-with, options_of-off, options_from-off}
 
 -- of options that are left, some pass a test or some do not

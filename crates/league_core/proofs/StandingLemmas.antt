@@ -10,13 +10,13 @@ use Rattle.std.proofs.lemmas.List.Elements.{filter_agree}
 use Rattle.league_core.specs.declared.sheet.Sheet.{Sheet}
 use Rattle.league_core.specs.declared.sheet.Order.{Order}
 use Rattle.league_core.specs.declared.sheet.Order.TheVariants.{HeadFirst, OverallFirst}
-use Rattle.league_core.specs.Results.{Results}
-use Rattle.league_core.specs.Sums.{sum_of, sum_among, match_points, goal_difference, goals}
-use Rattle.league_core.specs.HeadToHead.{greater_first, by_first_difference, head_to_head_of}
-use Rattle.league_core.specs.HeadToHead.{by_head_to_head, are_level_in, level_with}
-use Rattle.league_core.specs.Ahead.{overall_of, by_overall, lead_within, lead_in, first_sums_of}
-use Rattle.league_core.specs.Ahead.{by_first_sums, are_level_overall, level_overall, standing_by}
-use Rattle.league_core.specs.Ahead.{standing_in, IsAheadIn}
+use Rattle.league_core.specs.game.Results.{Results}
+use Rattle.league_core.specs.game.Sums.{sum_of, sum_among, match_points, goal_difference, goals}
+use Rattle.league_core.specs.game.HeadToHead.{greater_first, by_first_difference, head_to_head_of}
+use Rattle.league_core.specs.game.HeadToHead.{by_head_to_head, are_level_in, level_with}
+use Rattle.league_core.specs.game.Ahead.{overall_of, by_overall, lead_within, lead_in}
+use Rattle.league_core.specs.game.Ahead.{first_sums_of, by_first_sums, are_level_overall}
+use Rattle.league_core.specs.game.Ahead.{level_overall, standing_by, standing_in, IsAheadIn}
 use Rattle.league_core.proofs.OrderingLemmas.{then_agree, then-two, then-three}
 
 -- by the first number at which two lists differ, lists are in a total order

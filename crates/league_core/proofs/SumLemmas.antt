@@ -8,8 +8,8 @@ use Rattle.std.proofs.lemmas.Int.{ints}
 use Rattle.std.proofs.lemmas.Bool.{and_parts, cases_eq, eq-eqb, ne_eqb}
 use Rattle.league_core.specs.declared.sheet.Fixture.{Fixture}
 use Rattle.league_core.specs.declared.season.Score.{Score}
-use Rattle.league_core.specs.Sums.{sum_over}
-use Rattle.league_core.specs.PointRanges.{total_of}
+use Rattle.league_core.specs.game.Sums.{sum_over}
+use Rattle.league_core.specs.search.PointRanges.{total_of}
 
 -- matches that are worth nothing
 pub sum_over-zero : (matches : List Fixture) (scores : List (Option Score))

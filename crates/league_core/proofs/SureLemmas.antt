@@ -2,7 +2,7 @@
 use Rattle.std.proofs.Common.{◌≡◌, refl}
 use Rattle.league_core.specs.declared.sure.Sure.{Sure}
 use Rattle.league_core.specs.declared.sure.Sure.TheVariants.{Above, Below, Level, Unknown}
-use Rattle.league_core.specs.SureOrder.{sure_then}
+use Rattle.league_core.specs.search.SureOrder.{sure_then}
 
 -- how three steps are bracketed does not matter
 pub sure_then-assoc : (a b c : Sure) → sure_then (sure_then a b) c ≡ sure_then a (sure_then b c)

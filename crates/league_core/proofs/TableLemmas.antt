@@ -7,13 +7,13 @@ use Rattle.std.proofs.lemmas.Bool.{false≢true}
 use Rattle.std.proofs.lemmas.Int.{by_lt_z}
 use Rattle.std.proofs.lemmas.List.Sums.{fold_push}
 use Rattle.league_core.specs.declared.sheet.Sheet.{Sheet}
-use Rattle.league_core.specs.Results.{Results}
+use Rattle.league_core.specs.game.Results.{Results}
 use Rattle.league_core.specs.declared.season.Event.{Event}
-use Rattle.league_core.specs.Seasons.{unplayed_season, event_applied, season_after}
-use Rattle.league_core.specs.Sums.{points_of}
-use Rattle.league_core.specs.Ahead.{standing_in}
-use Rattle.league_core.specs.Ranking.{lot_of, tied_group_of, order_of, ranks_before}
-use Rattle.league_core.specs.LotsFor.{order_without_lots}
+use Rattle.league_core.specs.game.Seasons.{unplayed_season, event_applied, season_after}
+use Rattle.league_core.specs.game.Sums.{points_of}
+use Rattle.league_core.specs.game.Ahead.{standing_in}
+use Rattle.league_core.specs.game.Ranking.{lot_of, tied_group_of, order_of, ranks_before}
+use Rattle.league_core.specs.inside.LotsFor.{order_without_lots}
 use Rattle.league_core.proofs.OrderingLemmas.{nat_cmp-less, nat_cmp-greater, int_cmp-less}
 use Rattle.league_core.proofs.RankingLemmas.{order_of-lots, order_of_total}
 use Rattle.league_core.proofs.RankingLemmas.{order_without_lots_total}

@@ -10,12 +10,13 @@ use Rattle.std.specs.Ordering.{ordering_then}
 use Rattle.league_core.specs.declared.sheet.Sheet.{Sheet}
 use Rattle.league_core.specs.declared.sheet.Order.{Order}
 use Rattle.league_core.specs.declared.sheet.Order.TheVariants.{HeadFirst, OverallFirst}
-use Rattle.league_core.specs.Results.{Results}
-use Rattle.league_core.specs.Sums.{has_club, sum_of, goal_difference, goals}
-use Rattle.league_core.specs.HeadToHead.{greater_first, by_head_to_head, are_level_in, level_with}
-use Rattle.league_core.specs.Ahead.{by_overall, lead_within, lead_in, by_first_sums}
-use Rattle.league_core.specs.Ahead.{are_level_overall, level_overall, standing_by}
-use Rattle.league_core.specs.StandingLaws.{lead_by_the_rule, standing_by_the_rule}
+use Rattle.league_core.specs.game.Results.{Results}
+use Rattle.league_core.specs.game.Sums.{has_club, sum_of, goal_difference, goals}
+use Rattle.league_core.specs.game.HeadToHead.{greater_first, by_head_to_head, are_level_in}
+use Rattle.league_core.specs.game.HeadToHead.{level_with}
+use Rattle.league_core.specs.game.Ahead.{by_overall, lead_within, lead_in, by_first_sums}
+use Rattle.league_core.specs.game.Ahead.{are_level_overall, level_overall, standing_by}
+use Rattle.league_core.specs.laws.StandingLaws.{lead_by_the_rule, standing_by_the_rule}
 use Rattle.league_core.proofs.OrderingLemmas.{then_agree, then-two}
 use Rattle.league_core.proofs.StandingLemmas.{by_head_to_head_total, by_first_sums_total}
 

@@ -11,13 +11,13 @@ use Rattle.std.proofs.lemmas.List.Folds.{list_any-append, list_all-append}
 use Rattle.league_core.specs.declared.zone.Literal.{Literal}
 use Rattle.league_core.specs.declared.tree.TreeNode.{TreeNode}
 use Rattle.league_core.specs.declared.tree.TreeNode.TheVariants.{Split, Open, Lent, Refuted}
-use Rattle.league_core.specs.Zones.{with_test}
-use Rattle.league_core.specs.Trees.{Tree, open_leaf, lent_leaf, refuted_leaf, branch, zones_from}
-use Rattle.league_core.specs.Trees.{preorder, node_count, NodesMeet, new_count, has_open}
-use Rattle.league_core.specs.Trees.{is_refuted}
-use Rattle.league_core.specs.Leaves.{Leaf, leaves_from, is_open_leaf, is_lent_under}
-use Rattle.league_core.specs.Leaves.{is_refuted_leaf}
-use Rattle.league_core.specs.Lending.{lent_zones}
+use Rattle.league_core.specs.search.Zones.{with_test}
+use Rattle.league_core.specs.search.Trees.{Tree, open_leaf, lent_leaf, refuted_leaf, branch}
+use Rattle.league_core.specs.search.Trees.{zones_from, preorder, node_count, NodesMeet, new_count}
+use Rattle.league_core.specs.search.Trees.{has_open, is_refuted}
+use Rattle.league_core.specs.inside.Leaves.{Leaf, leaves_from, is_open_leaf, is_lent_under}
+use Rattle.league_core.specs.inside.Leaves.{is_refuted_leaf}
+use Rattle.league_core.specs.inside.Lending.{lent_zones}
 use Rattle.league_core.proofs.PlainLemmas.{one_if-most}
 
 -- a fact of each node gives what it implies there

@@ -5,15 +5,15 @@ use Rattle.std.proofs.lemmas.Bool.{not_from_false}
 use Rattle.league_core.specs.declared.sheet.Sheet.{Sheet}
 use Rattle.league_core.specs.declared.question.Claim.{Claim}
 use Rattle.league_core.specs.declared.question.Claim.TheVariants.{Inside, Outside}
-use Rattle.league_core.specs.Results.{Results, are_results}
-use Rattle.league_core.specs.Sheets.{IsWithinLimits}
-use Rattle.league_core.specs.Sums.{points_of}
-use Rattle.league_core.specs.Ranking.{is_inside}
-use Rattle.league_core.specs.Finishes.{is_played}
-use Rattle.league_core.specs.Questions.{is_on_side, is_in_window, holds_at, IsExample}
-use Rattle.league_core.specs.Questions.{full_question}
-use Rattle.league_core.specs.Verdicts.{IsClinched, IsLost}
-use Rattle.league_core.specs.LotsFor.{lots_for_claim, best_place_of, worst_place_of}
+use Rattle.league_core.specs.game.Results.{Results, are_results}
+use Rattle.league_core.specs.game.Sheets.{IsWithinLimits}
+use Rattle.league_core.specs.game.Sums.{points_of}
+use Rattle.league_core.specs.game.Ranking.{is_inside}
+use Rattle.league_core.specs.game.Finishes.{is_played}
+use Rattle.league_core.specs.game.Questions.{is_on_side, is_in_window, holds_at, IsExample}
+use Rattle.league_core.specs.game.Questions.{full_question}
+use Rattle.league_core.specs.game.Verdicts.{IsClinched, IsLost}
+use Rattle.league_core.specs.inside.LotsFor.{lots_for_claim, best_place_of, worst_place_of}
 use Rattle.league_core.proofs.LotsLemmas.{holds_at-favoured, lots_for_claim-are_lots}
 use Rattle.league_core.proofs.LotsLemmas.{lots_for_claim-favoured}
 use Rattle.league_core.proofs.FinishLemmas.{played_finishes_itself, played_only_finish}

@@ -2,9 +2,9 @@
 -- that are computed. A verdict turned round fails here.
 use Rattle.std.proofs.Common.{[], ◌∷◌, refl, lit<, lit≤}
 use Rattle.league_core.specs.declared.sheet.Sheet.{Sheet}
-use Rattle.league_core.specs.Results.{Results}
-use Rattle.league_core.specs.Verdicts.{IsClinched, IsLost}
-use Rattle.league_core.specs.WorkedRows.{pair, played, ended}
+use Rattle.league_core.specs.game.Results.{Results}
+use Rattle.league_core.specs.game.Verdicts.{IsClinched, IsLost}
+use Rattle.league_core.specs.rows.WorkedRows.{pair, played, ended}
 use Rattle.league_core.proofs.VerdictLemmas.{clinched_by_worst_place, lost_by_best_place}
 
 -- 0:0 with ranks 1 and 2

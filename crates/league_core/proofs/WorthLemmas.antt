@@ -5,11 +5,12 @@ use Rattle.std.proofs.Common.{refl, sym, ap, ◌∙◌, arith}
 use Rattle.std.proofs.lemmas.Int.{ints}
 use Rattle.std.proofs.lemmas.Bool.{lt-ltb, le-ltb, eq-eqb, ne_eqb, ltb-true, eqb-true}
 use Rattle.league_core.specs.declared.season.Score.{Score}
-use Rattle.league_core.specs.Sums.{match_points, goal_difference, goals, away_goals, wins}
-use Rattle.league_core.specs.Sums.{away_wins}
-use Rattle.league_core.specs.Options.{is_home_win, is_draw, is_away_win}
-use Rattle.league_core.specs.PointRanges.{points_of_sides, won_points, drawn_points, lost_points}
-use Rattle.league_core.specs.Extents.{IsNearZero}
+use Rattle.league_core.specs.game.Sums.{match_points, goal_difference, goals, away_goals, wins}
+use Rattle.league_core.specs.game.Sums.{away_wins}
+use Rattle.league_core.specs.search.Options.{is_home_win, is_draw, is_away_win}
+use Rattle.league_core.specs.search.PointRanges.{points_of_sides, won_points, drawn_points}
+use Rattle.league_core.specs.search.PointRanges.{lost_points}
+use Rattle.league_core.specs.inside.Extents.{IsNearZero}
 
 -- ---- one side
 

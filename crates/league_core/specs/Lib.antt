@@ -1,48 +1,9 @@
--- Read in this order: it is the order in which the notions rest on each other.
-pub mod Limits
-pub mod Rooms
-pub mod Sheets
-pub mod Results
-pub mod ScoreCodes
-pub mod Seasons
-pub mod Codes
-pub mod LogLaws
-pub mod Finishes
-pub mod Sums
-pub mod ClubSets
-pub mod HeadToHead
-pub mod Ahead
-pub mod Ranking
-pub mod Questions
-pub mod Verdicts
-pub mod LotsFor
-pub mod Laws
-pub mod StandingLaws
-pub mod Zones
-pub mod Options
-pub mod FinishList
-pub mod FinishLaws
-pub mod PointRanges
-pub mod Extents
-pub mod PairSums
-pub mod SureOrder
-pub mod Reasons
-pub mod Proposals
-pub mod ProposalLaws
-pub mod Trees
-pub mod Leaves
-pub mod Lending
-pub mod TreeLists
-pub mod Splits
-pub mod TreeLaws
-pub mod LendingLaws
-pub mod SplitLaws
-pub mod ZoneLaws
-pub mod WorkedRows
-pub mod CriteriaRows
-pub mod SeasonRows
-pub mod ZoneRows
-pub mod ReasonRows
-pub mod ProposalRows
-pub mod SureRows
-pub mod TreeRows
+-- What a promise of the program means stands in game/, what its trees and reasons mean in search/;
+-- laws/ has what holds of these words, rows/ leagues worked by hand, and inside/ what the functions
+-- promise each other. The modules of each are listed in the order in which the notions rest on each
+-- other.
+pub mod game
+pub mod search
+pub mod inside
+pub mod laws
+pub mod rows

@@ -6,8 +6,8 @@
 ghost use Rattle.std.specs.Prelude.{◌≡◌, ◌≢◌, ◌<◌, ◌≤◌, ◌==◌, ◌&&◌, ◌||◌, not, nat_lt, ℕ, [], ◌∷◌};
 ghost use Rattle.std.specs.Prelude.{length, IsTrue, ◌↔◌};
 ghost use Rattle.std.specs.List.{range_with_len};
-ghost use Rattle.league_core.specs.Sums.{has_club};
-ghost use Rattle.league_core.specs.ClubSets.{clubs_in};
+ghost use Rattle.league_core.specs.game.Sums.{has_club};
+ghost use Rattle.league_core.specs.game.ClubSets.{clubs_in};
 
 /// A set of clubs: bit i stands for club i.
 #[derive(Clone, Copy, Debug, PartialEq, Eq)]

@@ -2,7 +2,7 @@
 
 ghost use Rattle.std.specs.Prelude.{◌≡◌, ◌↔◌, IfOk, IfErr, IsTrue, is_ok, is_some};
 ghost use Rattle.std.specs.List.{list_all};
-ghost use Rattle.league_core.specs.Finishes.{is_played, may_end, may_all_end, IsFinishOf};
+ghost use Rattle.league_core.specs.game.Finishes.{is_played, may_end, may_all_end, IsFinishOf};
 
 use crate::season::{Score, Season};
 use crate::sheet::Sheet;
@@ -15,12 +15,12 @@ pub struct Finish {
 }
 
 impl Model for Finish {
-    ghost use Rattle.league_core.specs.Results.{Results};
+    ghost use Rattle.league_core.specs.game.Results.{Results};
 
     ghost Value = { Results };
 
     ghost use Rattle.std.specs.Prelude.{IsTrue};
-    ghost use Rattle.league_core.specs.Finishes.{is_played};
+    ghost use Rattle.league_core.specs.game.Finishes.{is_played};
 
     ghost view = { λ finish. finish.season };
 

@@ -1,12 +1,11 @@
 //! The laws of finishes: functions that do nothing, each with laws as contract.
 //!
-//! The statements are in `specs/FinishLaws.antt`, and the list of all finishes is in
-//! `specs/FinishList.antt`.
+//! The statements are in `specs/laws/FinishLaws.antt`, and the list of all finishes is in
+//! `specs/inside/FinishList.antt`.
 
-ghost use Rattle.league_core.specs.FinishLaws.{FinishesAreListed, FinishesAreCounted};
-ghost use Rattle.league_core.specs.FinishLaws.{FinishesAreNumbered, FinishesArePlayed};
-ghost use Rattle.league_core.specs.FinishLaws.{FinishesAreOfTheSheet};
-ghost use Rattle.league_core.specs.FinishLaws.{OneVerdictHolds};
+ghost use Rattle.league_core.specs.laws.FinishLaws.{FinishesAreListed, FinishesAreCounted};
+ghost use Rattle.league_core.specs.laws.FinishLaws.{FinishesAreNumbered, FinishesArePlayed};
+ghost use Rattle.league_core.specs.laws.FinishLaws.{FinishesAreOfTheSheet, OneVerdictHolds};
 
 /// A finish leaves nothing open, and has the sheet's fixtures and clubs.
 pub fn finishes_are_played()

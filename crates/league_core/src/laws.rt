@@ -1,27 +1,27 @@
 //! The laws of the ranking and of verdicts: functions that do nothing, each with a law as
 //! contract.
 //!
-//! The statements are in `specs/Laws.antt` and `specs/StandingLaws.antt`. They hold by the
-//! definitions alone, for every sheet and every season, so that code and proofs elsewhere may rest
-//! on them.
+//! The statements are in `specs/laws/Laws.antt` and `specs/laws/StandingLaws.antt`. They hold by
+//! the definitions alone, for every sheet and every season, so that code and proofs elsewhere may
+//! rest on them.
 
-ghost use Rattle.league_core.specs.Laws.{FavouredLotsAreBest, FavouredLotsAnswer};
-ghost use Rattle.league_core.specs.Laws.{LotsForAClaimAreLots, LotsForAClaimFavourIt};
-ghost use Rattle.league_core.specs.Laws.{BestPlaceIsLeast, WorstPlaceIsGreatest};
-ghost use Rattle.league_core.specs.Laws.{PlayedSeasonFinishesItself, PlayedSeasonIsItsOnlyFinish};
-ghost use Rattle.league_core.specs.Laws.{ClinchedByTheWorstPlace, LostByTheBestPlace};
-ghost use Rattle.league_core.specs.Laws.{BestPlaceIsAnExample, WorstPlaceIsAnExample};
-ghost use Rattle.league_core.specs.Laws.{PointsAreInTheFullWindow};
-ghost use Rattle.league_core.specs.Laws.{RankingIsATotalOrder, OneOfTwoRanksBefore};
-ghost use Rattle.league_core.specs.Laws.{NeverBothRankBefore, NoneRanksBeforeItself};
-ghost use Rattle.league_core.specs.Laws.{BeforeIsALowerPlace, PlacesAreAsManyAsClubs};
-ghost use Rattle.league_core.specs.StandingLaws.{StandingIsATotalOrder, OneAtMostIsAhead};
-ghost use Rattle.league_core.specs.StandingLaws.{BlocksStandAlike, EachStandsAlikeToABlock};
-ghost use Rattle.league_core.specs.StandingLaws.{TimesAreEnough, StandingIsByTheRule};
-ghost use Rattle.league_core.specs.Laws.{MorePointsRankBefore, NoneRanksBeforeMorePoints};
-ghost use Rattle.league_core.specs.Laws.{EventsAreTakenInOrder, EachSeasonHasAFinish};
-ghost use Rattle.league_core.specs.Laws.{PossibleExcludesClinched, PossibleExcludesLost};
-ghost use Rattle.league_core.specs.Laws.{ClinchedExcludesLost, AllowedTableAsLots};
+ghost use Rattle.league_core.specs.laws.Laws.{FavouredLotsAreBest, FavouredLotsAnswer};
+ghost use Rattle.league_core.specs.laws.Laws.{LotsForAClaimAreLots, LotsForAClaimFavourIt};
+ghost use Rattle.league_core.specs.laws.Laws.{BestPlaceIsLeast, WorstPlaceIsGreatest};
+ghost use Rattle.league_core.specs.laws.Laws.{PlayedSeasonFinishesItself};
+ghost use Rattle.league_core.specs.laws.Laws.{PlayedSeasonIsItsOnlyFinish, ClinchedByTheWorstPlace};
+ghost use Rattle.league_core.specs.laws.Laws.{LostByTheBestPlace, BestPlaceIsAnExample};
+ghost use Rattle.league_core.specs.laws.Laws.{WorstPlaceIsAnExample, PointsAreInTheFullWindow};
+ghost use Rattle.league_core.specs.laws.Laws.{RankingIsATotalOrder, OneOfTwoRanksBefore};
+ghost use Rattle.league_core.specs.laws.Laws.{NeverBothRankBefore, NoneRanksBeforeItself};
+ghost use Rattle.league_core.specs.laws.Laws.{BeforeIsALowerPlace, PlacesAreAsManyAsClubs};
+ghost use Rattle.league_core.specs.laws.StandingLaws.{StandingIsATotalOrder, OneAtMostIsAhead};
+ghost use Rattle.league_core.specs.laws.StandingLaws.{BlocksStandAlike, EachStandsAlikeToABlock};
+ghost use Rattle.league_core.specs.laws.StandingLaws.{TimesAreEnough, StandingIsByTheRule};
+ghost use Rattle.league_core.specs.laws.Laws.{MorePointsRankBefore, NoneRanksBeforeMorePoints};
+ghost use Rattle.league_core.specs.laws.Laws.{EventsAreTakenInOrder, EachSeasonHasAFinish};
+ghost use Rattle.league_core.specs.laws.Laws.{PossibleExcludesClinched, PossibleExcludesLost};
+ghost use Rattle.league_core.specs.laws.Laws.{ClinchedExcludesLost, AllowedTableAsLots};
 
 /// Of all lots two suffice to know what a club can reach: those in which it is first, and those in
 /// which it is last. A claim that some lots show is shown by the lots that favour it.

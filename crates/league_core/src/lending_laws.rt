@@ -1,18 +1,18 @@
 //! The laws of lent leaves: functions that do nothing, each with laws as contract.
 //!
-//! The statements are in `specs/LendingLaws.antt`.
+//! The statements are in `specs/laws/LendingLaws.antt`.
 
-ghost use Rattle.league_core.specs.LendingLaws.{LoansAreAsManyAsZones, NumbersAreLentAmongAll};
-ghost use Rattle.league_core.specs.LendingLaws.{LentLeavesHaveANumber, SettledTreesAreRefuted};
-ghost use Rattle.league_core.specs.LendingLaws.{AbsentNumbersHaveNoZone, PutWithoutLoans};
-ghost use Rattle.league_core.specs.LendingLaws.{PutLeavesKeepZones, PutTakesTheNumber};
-ghost use Rattle.league_core.specs.LendingLaws.{PutKeepsOtherLoans, PutCountsNewNodes};
-ghost use Rattle.league_core.specs.LendingLaws.{PutCountsLoans, PutCountsNodes};
-ghost use Rattle.league_core.specs.LendingLaws.{PutCountsTheNumber, PutCountsOthers};
-ghost use Rattle.league_core.specs.LendingLaws.{PutOpensLeaves, PutKeepsFacts};
-ghost use Rattle.league_core.specs.LendingLaws.{LendingKeepsFacts, FactsAreOfLentLeaves};
-ghost use Rattle.league_core.specs.LendingLaws.{OpeningKeepsFacts, OpeningTakesAllLoans};
-ghost use Rattle.league_core.specs.LendingLaws.{OpeningKeepsTheTree, OpeningOpensLoans};
+ghost use Rattle.league_core.specs.laws.LendingLaws.{LoansAreAsManyAsZones, NumbersAreLentAmongAll};
+ghost use Rattle.league_core.specs.laws.LendingLaws.{LentLeavesHaveANumber, SettledTreesAreRefuted};
+ghost use Rattle.league_core.specs.laws.LendingLaws.{AbsentNumbersHaveNoZone, PutWithoutLoans};
+ghost use Rattle.league_core.specs.laws.LendingLaws.{PutLeavesKeepZones, PutTakesTheNumber};
+ghost use Rattle.league_core.specs.laws.LendingLaws.{PutKeepsOtherLoans, PutCountsNewNodes};
+ghost use Rattle.league_core.specs.laws.LendingLaws.{PutCountsLoans, PutCountsNodes};
+ghost use Rattle.league_core.specs.laws.LendingLaws.{PutCountsTheNumber, PutCountsOthers};
+ghost use Rattle.league_core.specs.laws.LendingLaws.{PutOpensLeaves, PutKeepsFacts};
+ghost use Rattle.league_core.specs.laws.LendingLaws.{LendingKeepsFacts, FactsAreOfLentLeaves};
+ghost use Rattle.league_core.specs.laws.LendingLaws.{OpeningKeepsFacts, OpeningTakesAllLoans};
+ghost use Rattle.league_core.specs.laws.LendingLaws.{OpeningKeepsTheTree, OpeningOpensLoans};
 
 /// Lent leaves by number and altogether. Where none is lent and none is open, all are refuted.
 pub fn loans_are_counted()

@@ -6,8 +6,10 @@
 #![tactic(auto)]
 
 mod club_set;
+mod clubs;
 mod finish;
 mod finish_laws;
+mod given_laws;
 mod laws;
 mod lending_laws;
 pub mod limits;
@@ -30,8 +32,10 @@ mod zone;
 mod zone_laws;
 
 pub use club_set::ClubSet;
+pub use clubs::Clubs;
 pub use finish::Finish;
 pub use finish_laws::{finishes_are_listed, finishes_are_played, one_verdict_at_least};
+pub use given_laws::{verdicts_given_nothing_are_the_seasons, zones_have_fewer_examples};
 pub use laws::{
     a_played_season_is_its_only_finish, each_season_has_a_finish, events_are_taken_in_order,
     lots_give_each_table, more_points_rank_before, one_verdict_at_most,

@@ -39,6 +39,13 @@ impl<T> Listing<T> {
         Listing { items }
     }
 
+    /// The items as a `Vec`, in their order. It takes no memory.
+    pub fn into_vec(self) -> Vec<T>
+        ensures { result.items ≡ self }
+    {
+        self.items
+    }
+
     /// The items from the first to the last, which is the one that `pop` takes.
     pub fn as_slice(&self) -> &[T]
         ensures { result.now ≡ self.now }
@@ -60,7 +67,7 @@ impl<T> Listing<T> {
         self.items.is_empty()
     }
 
-    /// Adds an item at the end. After a refusal the list is as before, and the item is let go.
+    /// Adds an item at the end. After a refusal the list is as before, and the item is dropped.
     pub fn push(&mut self, item: T) -> Result<(), OutOfMemory>
     where
         T: Drop,
@@ -110,6 +117,13 @@ impl Name {
         ensures { result ≡ string_bytes text }
     {
         Name { text }
+    }
+
+    /// The text itself. It takes no memory.
+    pub fn into_string(self) -> String
+        ensures { string_bytes result ≡ self }
+    {
+        self.text
     }
 
     /// The text of the name, whatever it is.

@@ -1,19 +1,19 @@
 //! The laws of events and of logs, the lists of them: functions that do nothing, each with laws as
 //! contract.
 //!
-//! The statements are in `specs/LogLaws.antt`.
+//! The statements are in `specs/laws/LogLaws.antt`.
 
-ghost use Rattle.league_core.specs.LogLaws.{EventsKeepTheSheet, EventsKeepResults};
-ghost use Rattle.league_core.specs.LogLaws.{SeasonsAreToldTheSame, EventsHaveCodes};
-ghost use Rattle.league_core.specs.LogLaws.{EventsAreCounted, EventsAreOfTheSheet};
-ghost use Rattle.league_core.specs.LogLaws.{LogsAreOfTheSheet, LogsGiveResults, LogsHaveCodes};
+ghost use Rattle.league_core.specs.laws.LogLaws.{EventsKeepTheSheet, EventsKeepResults};
+ghost use Rattle.league_core.specs.laws.LogLaws.{SeasonsTakeTheSameEvents, EventsHaveCodes};
+ghost use Rattle.league_core.specs.laws.LogLaws.{EventsAreCounted, EventsAreOfTheSheet};
+ghost use Rattle.league_core.specs.laws.LogLaws.{LogsAreOfTheSheet, LogsGiveResults, LogsHaveCodes};
 
-/// The season behind an event is again a season of the sheet, with scores and deductions of at
+/// The season after an event is again a season of the sheet, with scores and deductions of at
 /// most 99, and all seasons of a sheet may be told the same events.
 pub fn events_keep_seasons()
     ensures sheet { EventsKeepTheSheet }
     ensures results { EventsKeepResults }
-    ensures told { SeasonsAreToldTheSame }
+    ensures told { SeasonsTakeTheSameEvents }
 {}
 
 /// The season of a log is a season of its sheet, with scores and deductions of at most 99, and the

@@ -2,8 +2,8 @@
 
 ghost use Rattle.std.specs.Prelude.{◌≡◌, ◌↔◌, length, IfOk, IfErr, IsTrue, is_ok};
 ghost use Rattle.std.specs.List.{list_all, range_with_len};
-ghost use Rattle.league_core.specs.Ranking.{are_lots};
-ghost use Rattle.league_core.specs.Sums.{has_club};
+ghost use Rattle.league_core.specs.game.Ranking.{are_lots};
+ghost use Rattle.league_core.specs.game.Sums.{has_club};
 
 use std::marker::Model;
 
@@ -19,7 +19,7 @@ impl Model for Lots {
     ghost Value = { List ℕ };
 
     ghost use Rattle.std.specs.Prelude.{IsTrue, length};
-    ghost use Rattle.league_core.specs.Ranking.{are_lots};
+    ghost use Rattle.league_core.specs.game.Ranking.{are_lots};
 
     ghost view = { λ lots. lots.order.items };
 

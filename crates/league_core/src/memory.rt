@@ -1,6 +1,7 @@
 use std::alloc::{AllocError, AllocFailed};
 
-/// Want of memory, the one answer that no clause ties to a cause. All crates answer this type.
+/// Running out of memory, the one answer that no clause ties to a cause. All crates answer this
+/// type.
 #[derive(Clone, Copy, Debug, PartialEq, Eq)]
 pub struct OutOfMemory;
 

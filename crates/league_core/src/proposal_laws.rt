@@ -1,11 +1,12 @@
 //! The laws of proposed finishes: functions that do nothing, each with laws as contract.
 //!
-//! The statements are in `specs/ProposalLaws.antt`.
+//! The statements are in `specs/laws/ProposalLaws.antt`.
 
-ghost use Rattle.league_core.specs.ProposalLaws.{OptionOrderIsTotal, OptionOrderTellsApart};
-ghost use Rattle.league_core.specs.ProposalLaws.{OptionsHaveAFirst, FirstOptionIsFirst};
-ghost use Rattle.league_core.specs.ProposalLaws.{FirstOptionIsOfTheSet};
-ghost use Rattle.league_core.specs.ProposalLaws.{ProposedFinishIsInTheBox, ProposedFinishIsAFinish};
+ghost use Rattle.league_core.specs.laws.ProposalLaws.{OptionOrderIsTotal, OptionOrderTellsApart};
+ghost use Rattle.league_core.specs.laws.ProposalLaws.{OptionsHaveAFirst, FirstOptionIsFirst};
+ghost use Rattle.league_core.specs.laws.ProposalLaws.{FirstOptionIsOfTheSet};
+ghost use Rattle.league_core.specs.laws.ProposalLaws.{ProposedFinishIsInTheBox};
+ghost use Rattle.league_core.specs.laws.ProposalLaws.{ProposedFinishIsAFinish};
 
 /// The order in which scores are proposed is total and has no ties: the third step fixes the sum
 /// of the goals, and the fourth those at home.

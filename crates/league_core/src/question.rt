@@ -1,7 +1,7 @@
 //! What can be asked of a season.
 
 ghost use Rattle.std.specs.Prelude.{◌≡◌};
-ghost use Rattle.league_core.specs.Questions.{is_in_window, is_on_side};
+ghost use Rattle.league_core.specs.game.Questions.{is_in_window, is_on_side};
 
 /// The side of the line that a question asks for.
 #[derive(Clone, Copy, Debug, PartialEq, Eq)]

@@ -1,8 +1,9 @@
 //! A list for callers that may not fail: room is taken beforehand, and what is put in later needs
 //! no memory.
 //!
-//! Contracts see the items and the room, as `Roomy` of `specs/Rooms.antt`. A type that keeps such a
-//! list may say in its own invariant how much room it always has.
+//! Contracts see the items and the room, as `RoomyListView` of `specs/inside/Rooms.antt`. A type
+//! that keeps
+//! such a list may say in its own invariant how much room it always has.
 
 ghost use Rattle.std.specs.Prelude.{◌≡◌, ◌<◌, ◌≤◌, ◌+◌, [], ◌∷◌, ◌++◌, length, IsOk, OnOk, OnErr};
 ghost use Rattle.std.specs.Prelude.{slice_index_or, slice_set};
@@ -20,9 +21,9 @@ pub struct RoomyList<T> {
 }
 
 impl<T> Model for RoomyList<T> {
-    ghost use Rattle.league_core.specs.Rooms.{Roomy};
+    ghost use Rattle.league_core.specs.inside.Rooms.{RoomyListView};
 
-    ghost Value = { Roomy T };
+    ghost Value = { RoomyListView T };
 
     ghost use Rattle.std.specs.Prelude.{◌-◌, vec_len, vec_capacity};
 
@@ -91,7 +92,7 @@ impl<T> RoomyList<T> {
         self.items.take_last()
     }
 
-    /// Puts an item at a place, from 0 to behind the last one, and moves those from there on up by
+    /// Puts an item at a place, from 0 to after the last one, and moves those from there on up by
     /// one. It takes no memory.
     pub fn insert(&mut self, index: usize, item: T)
     where
@@ -104,7 +105,7 @@ impl<T> RoomyList<T> {
         let _put = self.items.insert(index, item);
     }
 
-    /// Takes the item off a place, from 0, and moves those behind it down by one; the list has room
+    /// Takes the item off a place, from 0, and moves those after it down by one; the list has room
     /// for one more.
     pub fn remove(&mut self, index: usize) -> T
         requires in_range { index < length self.old.items }

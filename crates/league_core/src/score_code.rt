@@ -1,8 +1,8 @@
 //! Two bytes for a score or none, so that seasons are compared at memory speed.
 
 ghost use Rattle.std.specs.Prelude.{◌≡◌, IsTrue};
-ghost use Rattle.league_core.specs.Results.{is_score_or_none};
-ghost use Rattle.league_core.specs.ScoreCodes.{score_code};
+ghost use Rattle.league_core.specs.game.Results.{is_score_or_none};
+ghost use Rattle.league_core.specs.inside.ScoreCodes.{score_code};
 
 use crate::season::Score;
 

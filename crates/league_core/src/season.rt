@@ -5,10 +5,10 @@
 
 ghost use Rattle.std.specs.Prelude.{◌≡◌, ◌<◌, ◌≤◌, ◌↔◌, length, slice_index, slice_index_or};
 ghost use Rattle.std.specs.Prelude.{slice_set, IfOk, IsTrue, None};
-ghost use Rattle.league_core.specs.Results.{are_results, is_score_or_none};
-ghost use Rattle.league_core.specs.Seasons.{unplayed_season, event_applied, IsEventOf};
+ghost use Rattle.league_core.specs.game.Limits.{most_deduction};
+ghost use Rattle.league_core.specs.game.Results.{are_results, is_score_or_none};
+ghost use Rattle.league_core.specs.game.Seasons.{unplayed_season, event_applied, IsEventOf};
 
-use crate::limits::MOST_DEDUCTION;
 use crate::memory::OutOfMemory;
 use crate::score_code::score_code;
 use std::alloc::Global;
@@ -44,13 +44,13 @@ pub struct Season {
 }
 
 impl Model for Season {
-    ghost use Rattle.league_core.specs.Results.{Results};
+    ghost use Rattle.league_core.specs.game.Results.{Results};
 
     ghost Value = { Results };
 
     ghost use Rattle.std.specs.Prelude.{IsTrue, ◌≡◌, map};
-    ghost use Rattle.league_core.specs.Results.{are_results};
-    ghost use Rattle.league_core.specs.ScoreCodes.{score_code};
+    ghost use Rattle.league_core.specs.game.Results.{are_results};
+    ghost use Rattle.league_core.specs.inside.ScoreCodes.{score_code};
 
     ghost view = { λ season. record {
       scores = season.scores.items;
@@ -128,7 +128,7 @@ impl Season {
 
     fn deduct(&mut self, club: u8, points: u8)
         requires in_range { club < length self.old.deductions }
-        requires may_be { points ≤ MOST_DEDUCTION }
+        requires may_be { points ≤ most_deduction }
         ensures { self.new ≡ record self.old {
           deductions = slice_set self.old.deductions club points;
         } }

@@ -1,10 +1,10 @@
 //! The league sheet: clubs, fixtures, lines, goal limit and node budget, as data.
 //!
 //! Clubs and fixtures count from 0 here, in the order of the sheet; texts count them from 1. What a
-//! sheet has to be is `IsWithinLimits` of `specs/Sheets.antt`.
+//! sheet has to be is `IsWithinLimits` of `specs/game/Sheets.antt`.
 
 ghost use Rattle.std.specs.Prelude.{◌≡◌, IfOk};
-ghost use Rattle.league_core.specs.Ahead.{rank_of};
+ghost use Rattle.league_core.specs.game.Ahead.{rank_of};
 
 use crate::listing::{Listing, Name};
 use crate::memory::OutOfMemory;

@@ -1,17 +1,18 @@
 //! The laws of trees, their leaves, their lists and their splits: functions that do nothing, each
 //! with laws as contract.
 //!
-//! The statements are in `specs/TreeLaws.antt` and `specs/SplitLaws.antt`.
+//! The statements are in `specs/laws/TreeLaws.antt` and `specs/laws/SplitLaws.antt`.
 
-ghost use Rattle.league_core.specs.TreeLaws.{ZonesAreOfLeaves, LentZonesAreOfLeaves};
-ghost use Rattle.league_core.specs.TreeLaws.{OpenTreesHaveAnOpenLeaf, FactsOfNodesAreOfLeaves};
-ghost use Rattle.league_core.specs.TreeLaws.{RefutedTreesHaveRefutedLeaves, ListsHaveEachNode};
-ghost use Rattle.league_core.specs.TreeLaws.{LeavesAreOneMoreThanSplits, NewNodesAreNodes};
-ghost use Rattle.league_core.specs.TreeLaws.{ReadingIsExact, UnreadListsHaveNoTree};
-ghost use Rattle.league_core.specs.TreeLaws.{ListsTellTrees};
-ghost use Rattle.league_core.specs.SplitLaws.{SeasonsHaveAFinish, ScoreTestsLeaveAFinish};
-ghost use Rattle.league_core.specs.SplitLaws.{RivalTestsLeaveFinishes, ProperHalvesHaveAFinish};
-ghost use Rattle.league_core.specs.SplitLaws.{ProperTreesHaveFinishes};
+ghost use Rattle.league_core.specs.laws.TreeLaws.{ZonesAreOfLeaves, LentZonesAreOfLeaves};
+ghost use Rattle.league_core.specs.laws.TreeLaws.{OpenTreesHaveAnOpenLeaf, FactsOfNodesAreOfLeaves};
+ghost use Rattle.league_core.specs.laws.TreeLaws.{RefutedTreesHaveRefutedLeaves, ListsHaveEachNode};
+ghost use Rattle.league_core.specs.laws.TreeLaws.{LeavesAreOneMoreThanSplits, NewNodesAreNodes};
+ghost use Rattle.league_core.specs.laws.TreeLaws.{ReadingIsExact, UnreadListsHaveNoTree};
+ghost use Rattle.league_core.specs.laws.TreeLaws.{ListsTellTrees};
+ghost use Rattle.league_core.specs.laws.SplitLaws.{SeasonsHaveAFinish, ScoreTestsLeaveAFinish};
+ghost use Rattle.league_core.specs.laws.SplitLaws.{RivalTestsLeaveFinishes};
+ghost use Rattle.league_core.specs.laws.SplitLaws.{ProperHalvesHaveAFinish};
+ghost use Rattle.league_core.specs.laws.SplitLaws.{ProperTreesHaveFinishes};
 
 /// The list of its leaves, each with its zone and its kind, tells a tree's zones, which of them are
 /// lent under a number, whether a leaf is open and whether all are refuted. A fact of all nodes

@@ -7,13 +7,13 @@ use Rattle.std.proofs.Math.Seq.{take-add}
 use Rattle.std.proofs.lemmas.List.{append_assoc, append-nil, take-append-drop, take_more}
 use Rattle.std.proofs.lemmas.List.Elements.{All-take}
 use Rattle.port_core.specs.Lines.{HasNoLineFeed}
-use Rattle.port_core.specs.Ports.{AppendsFront}
+use Rattle.port_core.specs.Ports.{AppendsPrefix}
 use Rattle.port_core.proofs.RowLemmas.{append_known-append_known}
 use Rattle.output_rows.specs.declared.output.OutputStop.{OutputStop}
-use Rattle.output_rows.specs.Outputs.{Puts}
-use Rattle.output_rows.specs.Pieces.{IsRowBetween}
+use Rattle.output_rows.specs.inside.Outputs.{Puts}
+use Rattle.output_rows.specs.inside.Pieces.{IsRowBetween}
 
--- one more row went out behind those before it
+-- one more row went out after those before it
 pub rows-more : (start old new : Option (List ℕ)) (rows : List ℕ) (done end : ℕ) → done ≤ end
     → old ≡ append_known start (take done rows)
     → new ≡ append_known old (take (end - done) (drop done rows))
@@ -25,10 +25,10 @@ rows-more start old new rows done end order before is =
     ∙ ap (append_known start) (sym (take-add done (end - done) rows))
     ∙ ap (λ n. append_known start (take n rows)) count
 
--- a front of the next row is one of all rows
+-- a prefix of the next row is one of all rows
 pub rows-front : (start old new : Option (List ℕ)) (rows : List ℕ) (done count : ℕ)
     → old ≡ append_known start (take done rows)
-    → AppendsFront old new (take count (drop done rows)) → AppendsFront start new rows
+    → AppendsPrefix old new (take count (drop done rows)) → AppendsPrefix start new rows
 rows-front start old new rows done count before front =
     let part = front.0 in
     let rest = front.1.0 ++ drop count (drop done rows) in
@@ -72,8 +72,8 @@ pub append_known-nothing : (old : Option (List ℕ)) → old ≡ append_known ol
 append_known-nothing None = refl
 append_known-nothing (Some bytes) = ap Some (sym (append-nil bytes))
 
--- nothing is a front of each text
-pub puts-nothing : (old : Option (List ℕ)) (text : List ℕ) → AppendsFront old old text
+-- nothing is a prefix of each text
+pub puts-nothing : (old : Option (List ℕ)) (text : List ℕ) → AppendsPrefix old old text
 puts-nothing old text = ([], (text, refl), append_known-nothing old)
 
 -- of a text some part was written, and the rest is due
@@ -97,10 +97,10 @@ due-more text rest piece after old now next due is puts = record {
       ∙ append_known-append_known old due.part piece;
 }
 
--- a front of a piece was written
+-- a prefix of a piece was written
 pub due-front : (text rest piece after : List ℕ) (old now next : Option (List ℕ))
-    → IsDue text rest old now → rest ≡ piece ++ after → AppendsFront now next piece
-    → AppendsFront old next text
+    → IsDue text rest old now → rest ≡ piece ++ after → AppendsPrefix now next piece
+    → AppendsPrefix old next text
 due-front text rest piece after old now next due is front = (
   due.part ++ front.0,
   (
@@ -121,7 +121,7 @@ due-end text rest old now due none =
     due.known
     ∙ ap (append_known old) (sym (due.split ∙ ap (λ t. due.part ++ t) none ∙ append-nil due.part))
 
--- a text and what is written behind it, whole or a front of it
+-- a text and what is written after it, whole or a prefix of it
 pub puts-behind : {A : Type 0} (first second : List ℕ) (old now next : Option (List ℕ))
     (result : Result A OutputStop) → now ≡ append_known old first → Puts second now next result
     → Puts (first ++ second) old next result
@@ -138,9 +138,9 @@ puts-behind {A} first second old now next (Err stop) before puts = (
       ∙ append_known-append_known old first puts.0,
 )
 
--- a front of the first of two texts is one of both
-pub front-more : (first second : List ℕ) (old now : Option (List ℕ)) → AppendsFront old now first
-    → AppendsFront old now (first ++ second)
+-- a prefix of the first of two texts is one of both
+pub front-more : (first second : List ℕ) (old now : Option (List ℕ)) → AppendsPrefix old now first
+    → AppendsPrefix old now (first ++ second)
 front-more first second old now front = (
   front.0,
   (

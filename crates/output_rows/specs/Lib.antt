@@ -1,6 +1,4 @@
--- Reading order: the rows, the parts of texts, what a call leaves of the sink, and the pieces in
--- which rows go out.
+-- Reading order: the rows, and the parts of texts.
 pub mod Rows
 pub mod Parts
-pub mod Outputs
-pub mod Pieces
+pub mod inside

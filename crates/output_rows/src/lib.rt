@@ -1,6 +1,6 @@
 //! The rows of the output, on their way to the sink: their fields, the row of an ask, proof lines.
 //!
-//! Read `specs/Rows.antt` first, then `specs/Outputs.antt`.
+//! Read `specs/Rows.antt` first, then `specs/inside/Outputs.antt`.
 #![tactic(auto)]
 
 mod lines;

@@ -3,7 +3,7 @@
 ghost use Rattle.std.specs.Prelude.{◌≡◌, All, IsTrue};
 ghost use Rattle.cert_text.specs.Ranges.{is_in_range};
 ghost use Rattle.cert_text.specs.ExampleLines.{text_of_proof_lines};
-ghost use Rattle.output_rows.specs.Outputs.{CountsPut, Puts};
+ghost use Rattle.output_rows.specs.inside.Outputs.{CountsPut, Puts};
 ghost use Rattle.output_rows.specs.Rows.{ask_row, line_row};
 
 use crate::output::{OutputStop, put_text};
@@ -12,8 +12,8 @@ use cert_text::ProofLine;
 use port_core::Sink;
 use std::alloc::Global;
 
-/// Writes the row of an ask; `epoch` is how many events came before it. After a stop a front of the
-/// row went out, perhaps none of it.
+/// Writes the row of an ask; `epoch` is how many events came before it. After a stop a prefix of
+/// the row went out, perhaps none of it.
 pub fn put_ask<K: Sink>(alloc: Global, epoch: u64, sink: &mut K) -> Result<(), OutputStop>
     ensures text { Puts (ask_row epoch) (K.holds sink.old) (K.holds sink.new) result }
     ensures counts { CountsPut (K.faults sink.old) (K.faults sink.new) result }
@@ -24,7 +24,7 @@ pub fn put_ask<K: Sink>(alloc: Global, epoch: u64, sink: &mut K) -> Result<(), O
     }
 }
 
-/// Writes proof lines, each on a row of its own. After a stop a front of these rows went out,
+/// Writes proof lines, each on a row of its own. After a stop a prefix of these rows went out,
 /// perhaps none of it.
 pub fn put_lines<K: Sink>(
     alloc: Global,

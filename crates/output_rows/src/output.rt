@@ -4,9 +4,9 @@ ghost use Rattle.std.specs.Prelude.{◌≡◌, ◌<◌, ◌≤◌, IfNone, IfSom
 ghost use Rattle.std.specs.Prelude.{slice_index, take};
 ghost use Rattle.std.specs.Io.KnownBytes.{append_known};
 ghost use Rattle.port_core.specs.Lines.{HasNoLineFeed, line_feed};
-ghost use Rattle.port_core.specs.Ports.{AppendsFront, Rose};
-ghost use Rattle.output_rows.specs.Outputs.{CountsPut, Puts};
-ghost use Rattle.output_rows.specs.Pieces.{IsRowBetween};
+ghost use Rattle.port_core.specs.Ports.{AppendsPrefix, Rose};
+ghost use Rattle.output_rows.specs.inside.Outputs.{CountsPut, Puts};
+ghost use Rattle.output_rows.specs.inside.Pieces.{IsRowBetween};
 
 use port_core::{Sink, WriteFault, put_line};
 
@@ -28,11 +28,11 @@ pub fn put_text<K: Sink>(sink: &mut K, rows: &[u8]) -> Result<(), OutputStop>
     }
 }
 
-/// Writes rows, each ended by LF. After a fault a front of them went out, and nothing more is
+/// Writes rows, each ended by LF. After a fault a prefix of them went out, and nothing more is
 /// offered.
 pub fn put_rows<K: Sink>(sink: &mut K, rows: &[u8]) -> Result<(), WriteFault>
     ensures ok { OnOk result (K.holds sink.new ≡ append_known (K.holds sink.old) rows.now) }
-    ensures err { OnErr result (AppendsFront (K.holds sink.old) (K.holds sink.new) rows.now) }
+    ensures err { OnErr result (AppendsPrefix (K.holds sink.old) (K.holds sink.new) rows.now) }
     ensures cause { OnErr result (Rose (K.faults sink.old) (K.faults sink.new)) }
     ensures counts { OnOk result (K.faults sink.new ≡ K.faults sink.old) }
 {

@@ -1,2 +1,3 @@
 pub mod PrefixLemmas
 mod ToldLemmas
+pub mod LentLemmas

@@ -1,5 +1,2 @@
--- What the calls of the lock say of tickets, of what was seen, and of the front; then what lies
--- under the lock, and what a round has before a call picks it.
-pub mod Lends
-pub mod States
-pub mod Brands
+-- All words of this crate stand in inside/: no promise of the program rests on them.
+pub mod inside

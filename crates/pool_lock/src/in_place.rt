@@ -1,13 +1,13 @@
 //! Work in the pool itself, in one hold of the lock, without a ticket.
 
-ghost use Rattle.std.specs.Prelude.{◌≡◌, IfNone, IfSome, length};
+ghost use Rattle.std.specs.Prelude.{◌≡◌, IfNone, IfSome, false, length};
 ghost use mathlib.Core.List.{IsPrefix};
-ghost use Rattle.league_core.specs.Seasons.{season_after};
-ghost use Rattle.reason_core.specs.Dones.{IsTrueOf};
-ghost use Rattle.branch_pool.specs.Runs.{TakesTurn};
-ghost use Rattle.pool_lock.specs.Lends.{IsToldAfter};
+ghost use Rattle.league_core.specs.game.Seasons.{season_after};
+ghost use Rattle.reason_core.specs.inside.Dones.{IsTrueOf};
+ghost use Rattle.branch_pool.specs.inside.Runs.{TakesTurn};
+ghost use Rattle.pool_lock.specs.inside.Lends.{IsEpochSaidAfter};
 
-use crate::held::Held;
+use crate::guarded::Guarded;
 use crate::job::Job;
 use crate::lock::PoolLock;
 use crate::work_badge::WorkBadge;
@@ -16,7 +16,7 @@ use epoch_cancel::{EpochWord, seen};
 use reason_core::{Finding, Solver};
 use std::sync::Wait;
 
-impl<J: Job> Held<J> {
+impl<J: Job> Guarded<J> {
     // One turn of work in the pool, by a solver for the season that the badge has seen, after so
     // many events; the badge is shown all that the pool has been told. Nothing where an event may
     // come, or has come since.
@@ -32,11 +32,12 @@ impl<J: Job> Held<J> {
         requires sheet { W.sheet solver.old ≡ J.sheet }
         requires season { W.season solver.old ≡ season_after J.sheet badge.old.list }
         ensures turn { IfSome result (λ turn. TakesTurn self.old.pool turn self.new.pool) }
+        ensures shut { IfSome result (λ turn. self.old.pool.is_open ≡ false) }
         ensures none { IfNone result (self.new ≡ self.old) }
         ensures still { IfSome result (λ turn. badge.new ≡ badge.old) }
         ensures begins { IsPrefix badge.old.list badge.new.list }
         ensures seen { badge.new ≡ record badge.old { list = self.new.pool.log } }
-        ensures busy { self.new.is_busy ≡ self.old.is_busy }
+        ensures busy { self.new.feeder_busy ≡ self.old.feeder_busy }
         ensures same_sheet { W.sheet solver.new ≡ W.sheet solver.old }
         ensures same_season { W.season solver.new ≡ W.season solver.old }
     {
@@ -44,7 +45,7 @@ impl<J: Job> Held<J> {
         if !self.is_shut || self.pool.epoch() != epoch {
             return None;
         }
-        self.pool.is_sound();
+        self.pool.recall_invariant();
         Some(self.pool.work_next(solver))
     }
 }
@@ -59,16 +60,16 @@ impl<J: Job> PoolLock<J> {
         finding: Finding,
     ) -> Gave
         requires sound { IsTrueOf J.sheet ticket.piece finding }
-        ensures told { IsToldAfter badge.new.list ticket result }
+        ensures told { IsEpochSaidAfter badge.new.list ticket result }
         ensures begins { IsPrefix badge.old.list badge.new.list }
         ensures seen { badge.new ≡ record badge.old { list = badge.new.list } }
     {
-        let (gave, _scraps, is_awaited) = {
+        let (gave, _scraps, has_waiters) = {
             let mut held = self.hold(rt);
             let (gave, scraps) = held.give_found(&self.word, badge, ticket, finding);
-            (gave, scraps, held.wakes())
+            (gave, scraps, held.take_waiters())
         };
-        self.wake(is_awaited);
+        self.wake(has_waiters);
         gave
     }
 
@@ -92,12 +93,12 @@ impl<J: Job> PoolLock<J> {
         ensures same_sheet { W.sheet solver.new ≡ W.sheet solver.old }
         ensures same_season { W.season solver.new ≡ W.season solver.old }
     {
-        let (turn, is_awaited) = {
+        let (turn, has_waiters) = {
             let mut held = self.hold(rt);
             let turn = held.work(&self.word, badge, epoch, solver);
-            (turn, held.wakes())
+            (turn, held.take_waiters())
         };
-        self.wake(is_awaited);
+        self.wake(has_waiters);
         turn
     }
 }

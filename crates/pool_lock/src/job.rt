@@ -21,7 +21,7 @@ pub trait Job: Ledger {
 
 impl Job for Brand {
     ghost use Rattle.std.specs.Prelude.{[]};
-    ghost use Rattle.pool_lock.specs.Brands.{no_table, no_sheet};
+    ghost use Rattle.pool_lock.specs.inside.Brands.{no_table, no_sheet};
 
     ghost table = { no_table };
 

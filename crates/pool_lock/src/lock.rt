@@ -3,15 +3,17 @@
 ghost use Rattle.std.specs.Prelude.{◌≡◌, ◌↔◌, ◌++◌, ◌∷◌, [], length, All, Err, IfOk, OnOk, OnErr};
 ghost use mathlib.Core.List.{IsPrefix};
 ghost use Rattle.league_core.specs.declared.sheet.Sheet.{Sheet};
-ghost use Rattle.league_core.specs.Limits.{most_events};
-ghost use Rattle.league_core.specs.Seasons.{IsEventOf, season_after};
-ghost use Rattle.reason_core.specs.Dones.{IsFor, IsTrueDone, IsTrueOf};
-ghost use Rattle.branch_pool.specs.States.{out_count};
-ghost use Rattle.epoch_cancel.specs.Seats.{IsCancelled, Looks, seat_of};
-ghost use Rattle.pool_lock.specs.Lends.{LendsWorkAfter, TakesWorkAfter, IsToldAfter, IsEyeAfter};
+ghost use Rattle.league_core.specs.game.Limits.{most_events};
+ghost use Rattle.league_core.specs.game.Seasons.{IsEventOf, season_after};
+ghost use Rattle.reason_core.specs.inside.Dones.{IsFor, IsTrueDone, IsTrueOf};
+ghost use Rattle.branch_pool.specs.inside.States.{out_count};
+ghost use Rattle.epoch_cancel.specs.inside.Seats.{IsCancelled, seat_of};
+ghost use Rattle.pool_lock.specs.inside.Badges.{LooksBy, badges_for, lends_over, says_over};
+ghost use Rattle.pool_lock.specs.inside.Lends.{LendsWorkAfter, TakesWorkAfter, IsEpochSaidAfter};
+ghost use Rattle.pool_lock.specs.inside.Lends.{IsEyeAfter, LendsFrom, TakesFrom};
 
 use crate::front::Front;
-use crate::held::Held;
+use crate::guarded::Guarded;
 use crate::job::Job;
 use crate::lent_out::LentOut;
 use crate::work_badge::{WorkBadge, badges_of};
@@ -35,7 +37,7 @@ const TRIES: u32 = 1000;
 #[derive(Drop)]
 pub struct PoolLock<J: Job> {
     pub(crate) word: EpochWord,
-    held: Mutex<Held<J>>,
+    held: Mutex<Guarded<J>>,
     // something has changed that a worker may wait for
     moved: Condvar,
     ghost named: { word ≡ J.table },
@@ -44,7 +46,7 @@ pub struct PoolLock<J: Job> {
 impl<J: Job> PoolLock<J> {
     /// A lock round a pool, whose feed is opened, with the front and a badge for each eye.
     ///
-    /// All of them begin with the pool's log. On want of memory the pool is gone.
+    /// All of them begin with the pool's log. If memory runs out, the pool is gone.
     pub fn new(
         alloc: Global,
         blank: Blank,
@@ -65,10 +67,10 @@ impl<J: Job> PoolLock<J> {
         requires questions { pool.questions ≡ J.questions }
         requires home { out_count pool.loans ≡ 0 }
         ensures front { IfOk result (λ made. made.1 ≡ pool.log) }
-        ensures badges { IfOk result (λ made. made.2.items ≡ eyes.items) }
+        ensures badges { IfOk result (λ made. made.2.items ≡ badges_for eyes.items) }
     {
         let badges = badges_of(alloc, eyes)?;
-        let (held, front) = Held::new(blank, owner, front, pool);
+        let (held, front) = Guarded::new(blank, owner, front, pool);
         let lock = PoolLock {
             word,
             held: Mutex::new(held),
@@ -80,11 +82,17 @@ impl<J: Job> PoolLock<J> {
     #[tactic(auto, using(crate::proofs::PrefixLemmas::prefix_onward))]
     /// Takes from the pool as soon as the one who reports rests and there is work, or all is over.
     /// The badge has then seen all that the pool was told, and the ticket is work in the season
-    /// after that. On want of memory there is no ticket, and the badge may have seen more.
+    /// after that, by the number and the place that `take` gave it; if all is over the badge knows
+    /// it. If memory runs out there is no ticket, and the badge may have seen more.
     pub fn lend<R: Wait>(&self, rt: &R, badge: &mut WorkBadge<J>) -> Result<LentOut, OutOfMemory>
         ensures work { IfOk result (LendsWorkAfter J.sheet badge.new.list) }
+        ensures lent { IfOk result (LendsFrom J.sheet J.questions badge.new.list) }
+        ensures over { IfOk result (λ lent. badge.new.is_over ≡ lends_over lent) }
         ensures begins { IsPrefix badge.old.list badge.new.list }
-        ensures seen { badge.new ≡ record badge.old { list = badge.new.list } }
+        ensures seen { badge.new ≡ record badge.old {
+          list = badge.new.list;
+          is_over = badge.new.is_over;
+        } }
     {
         let mut held = self.hold(rt);
         for _ in rt.forever() {
@@ -112,24 +120,25 @@ impl<J: Job> PoolLock<J> {
         done: Done,
     ) -> Gave
         requires sound { IsTrueDone J.sheet done }
-        ensures told { IsToldAfter badge.new.list ticket result }
+        ensures told { IsEpochSaidAfter badge.new.list ticket result }
         ensures begins { IsPrefix badge.old.list badge.new.list }
         ensures seen { badge.new ≡ record badge.old { list = badge.new.list } }
     {
         let done = fitting(done, &ticket.piece);
-        let (gave, left, is_awaited) = {
+        let (gave, left, has_waiters) = {
             let mut held = self.hold(rt);
             let (gave, left) = held.give(&self.word, badge, ticket, done);
-            (gave, left, held.wakes())
+            (gave, left, held.take_waiters())
         };
-        self.wake(is_awaited);
+        self.wake(has_waiters);
         let _scraps = badge.keep(left);
         gave
     }
 
     /// Gives a ticket back with what was found at its piece, and takes the next one, both in one
     /// hold of the lock. What is told of the ticket, and what is lent, is by all events that the
-    /// badge has then seen. Where there is no work now it does not wait for some, as `lend` does.
+    /// badge has then seen; it knows whether all is over. Where there is no work now it does not
+    /// wait for some, as `lend` does.
     pub fn swap<R: Wait>(
         &self,
         rt: &R,
@@ -138,30 +147,34 @@ impl<J: Job> PoolLock<J> {
         finding: Finding,
     ) -> (Gave, Took)
         requires sound { IsTrueOf J.sheet ticket.piece finding }
-        ensures told { IsToldAfter badge.new.list ticket result.0 }
+        ensures told { IsEpochSaidAfter badge.new.list ticket result.0 }
         ensures work { TakesWorkAfter J.sheet badge.new.list result.1 }
+        ensures lent { TakesFrom J.sheet J.questions badge.new.list result.1 }
         ensures begins { IsPrefix badge.old.list badge.new.list }
-        ensures seen { badge.new ≡ record badge.old { list = badge.new.list } }
+        ensures seen { badge.new ≡ record badge.old {
+          list = badge.new.list;
+          is_over = says_over result.1;
+        } }
     {
-        let (gave, took, _scraps, is_awaited) = {
+        let (gave, took, _scraps, has_waiters) = {
             let mut held = self.hold(rt);
             let (gave, took, scraps) = held.swap(&self.word, badge, ticket, finding);
-            (gave, took, scraps, held.wakes())
+            (gave, took, scraps, held.take_waiters())
         };
-        self.wake(is_awaited);
+        self.wake(has_waiters);
         (gave, took)
     }
 
     // Wakes those who wait, where somebody may.
-    pub(crate) fn wake(&self, is_awaited: bool) {
-        if is_awaited {
+    pub(crate) fn wake(&self, has_waiters: bool) {
+        if has_waiters {
             self.moved.notify_all();
         }
     }
 
     // The held value. A worker that sleeps wakes late, and others then sleep behind it; so the lock
     // is tried for a while before.
-    pub(crate) fn hold<R: Wait>(&self, rt: &R) -> MutexGuard<'_, Held<J>> {
+    pub(crate) fn hold<R: Wait>(&self, rt: &R) -> MutexGuard<'_, Guarded<J>> {
         for _ in 0..TRIES {
             if let Some(held) = self.held.try_lock() {
                 return held;
@@ -174,7 +187,7 @@ impl<J: Job> PoolLock<J> {
     /// Looks at the word once, without the lock: where an event came after this epoch, the answer
     /// is the epoch by now.
     pub fn cancelled(&self, badge: &mut WorkBadge<J>, epoch: u64) -> Option<u64>
-        ensures moves { Looks badge.old badge.new }
+        ensures moves { LooksBy badge.old badge.new }
         ensures answer { IsCancelled result epoch badge.new.newest }
     {
         cancelled(&self.word, &mut badge.eye, epoch)
@@ -198,25 +211,25 @@ impl<J: Job> PoolLock<J> {
     }
 
     /// The one who reports, who has the front, has nothing in hand: workers may go on.
-    pub fn rest<R: Wait>(&self, rt: &R, _front: &Front<J>) {
-        let is_awaited = {
+    pub fn feeder_idle<R: Wait>(&self, rt: &R, _front: &Front<J>) {
+        let has_waiters = {
             let mut held = self.held.lock(rt);
-            held.rest();
-            held.wakes()
+            held.feeder_idle();
+            held.take_waiters()
         };
-        self.wake(is_awaited);
+        self.wake(has_waiters);
     }
 
     /// No event will come: workers may go on.
     pub fn shut<R: Wait>(&self, rt: &R, front: &mut Front<J>)
         ensures { front.new ≡ front.old }
     {
-        let is_awaited = {
+        let has_waiters = {
             let mut held = self.held.lock(rt);
             held.shut();
-            held.wakes()
+            held.take_waiters()
         };
-        self.wake(is_awaited);
+        self.wake(has_waiters);
     }
 
     /// The pool, with each number at home. Its log is what the front has reported.

@@ -1,9 +1,10 @@
 //! The place of one worker.
 
 ghost use Rattle.std.specs.Prelude.{◌≡◌, All, IfOk};
+ghost use Rattle.pool_lock.specs.inside.Badges.{badges_for, says_over};
 
 use crate::job::Job;
-use branch_pool::{Example, Leftover, Loan};
+use branch_pool::{Discarded, Example, Loan, Took};
 use epoch_cancel::Eye;
 use league_core::{OutOfMemory, Season, Zone};
 use reason_core::Piece;
@@ -13,33 +14,60 @@ use std::mem;
 
 /// A worker's badge of the lock of its job.
 ///
-/// Contracts see it as its eye: the events that it has seen, how often it has looked at the word,
-/// and the newest epoch that it found there.
+/// Contracts see its eye: the events that it has seen, how often it has looked at the word, and the
+/// newest epoch that it found there. Beside that they see whether it is the only badge of its lock,
+/// and whether the lock's last answer to a taking by it was that all is over.
 #[derive(Drop)]
 pub struct WorkBadge<J: Job> {
     pub(crate) eye: Eye,
     // The season of the ticket given back last, for the next one.
     pub(crate) spare: Option<Season>,
+    is_alone: bool,
+    is_over: bool,
     of: PhantomData<J>,
 }
 
 impl<J: Job> Model for WorkBadge<J> {
     ghost use Rattle.std.specs.Prelude.{◌≡◌};
-    ghost use Rattle.epoch_cancel.specs.Seats.{EyeView};
+    ghost use Rattle.pool_lock.specs.inside.Badges.{BadgeView};
 
-    ghost Value = { EyeView };
+    ghost Value = { BadgeView };
 
-    ghost view = { λ badge. badge.eye };
+    ghost view = { λ badge. record {
+      table = badge.eye.table;
+      list = badge.eye.list;
+      loads = badge.eye.loads;
+      newest = badge.eye.newest;
+      is_alone = badge.is_alone;
+      is_over = badge.is_over;
+    } };
 
     ghost invariant = { λ badge. badge.eye.table ≡ J.table };
 }
 
 impl<J: Job> WorkBadge<J> {
+    /// It is the only badge of its lock: its worker has no company.
+    pub fn is_alone(&self) -> bool
+        ensures { result ≡ self.now.is_alone }
+    {
+        self.is_alone
+    }
+
+    // Notes whether an answer to a taking says that all is over.
+    pub(crate) fn note(&mut self, took: &Took)
+        ensures { self.new ≡ record self.old { is_over = says_over took.now } }
+    {
+        self.is_over = match took {
+            Took::Over => true,
+            Took::Lent(_) | Took::Rest | Took::OutOfMemory => false,
+        };
+    }
+
     // Keeps the season of what a ticket left, and answers the rest.
-    pub(crate) fn keep(&mut self, left: Leftover) -> Scraps
+    pub(crate) fn keep(&mut self, left: Discarded) -> DiscardedWork
         ensures { self.new ≡ self.old }
     {
-        let Leftover {
+        let Discarded {
             piece,
             done,
             example,
@@ -50,7 +78,7 @@ impl<J: Job> WorkBadge<J> {
             question: _,
             zone,
         } = piece;
-        Scraps {
+        DiscardedWork {
             season: mem::replace(&mut self.spare, Some(season)),
             zone,
             done,
@@ -60,9 +88,9 @@ impl<J: Job> WorkBadge<J> {
     }
 }
 
-/// What nobody has a use for once a ticket is back, to be let go where nobody waits for it.
+/// What nobody has a use for once a ticket is back, to be dropped where nobody waits for it.
 #[derive(Drop)]
-pub struct Scraps {
+pub struct DiscardedWork {
     pub season: Option<Season>,
     pub zone: Zone,
     pub done: Option<Piece>,
@@ -73,13 +101,16 @@ pub struct Scraps {
 // A badge for each eye, in their order.
 pub fn badges_of<J: Job>(alloc: Global, eyes: Vec<Eye>) -> Result<Vec<WorkBadge<J>>, OutOfMemory>
     requires { All (λ eye. eye.table ≡ J.table) eyes.items }
-    ensures { IfOk result (λ badges. badges.items ≡ eyes.items) }
+    ensures { IfOk result (λ badges. badges.items ≡ badges_for eyes.items) }
 {
+    let is_alone = eyes.len() == 1;
     let mut badges = Vec::new(alloc);
     for eye in eyes {
         badges.push(WorkBadge {
             eye,
             spare: None,
+            is_alone,
+            is_over: false,
             of: PhantomData,
         })?;
     }

@@ -1,6 +1,6 @@
 //! Drawn lists of steps, each made by a pool and by a plain one.
 
-ghost use Rattle.league_core.specs.Sheets.{IsWithinLimits};
+ghost use Rattle.league_core.specs.game.Sheets.{IsWithinLimits};
 
 use crate::decided::{drawn_result, split_fixtures};
 use crate::held::Held;

@@ -1,10 +1,10 @@
 //! Tickets that may be given back any number of times, and what was found in their pieces.
 
 ghost use Rattle.std.specs.Prelude.{◌≡◌, IfOk};
-ghost use Rattle.league_core.specs.Sheets.{IsWithinLimits};
-ghost use Rattle.reason_core.specs.Dones.{IsFor, IsTrueDone};
+ghost use Rattle.league_core.specs.game.Sheets.{IsWithinLimits};
+ghost use Rattle.reason_core.specs.inside.Dones.{IsFor, IsTrueDone};
 
-use crate::fit::{copied, done_of};
+use crate::eligibility::done_of;
 use branch_pool::{Gave, Pool, Ticket};
 use league_core::{OutOfMemory, Reason, Season, Sheet, Test};
 use reason_core::{Done, Piece};
@@ -46,7 +46,7 @@ pub fn held_of(ticket: Ticket) -> Held {
 fn ticket_of(alloc: Global, held: &Held) -> Result<Ticket, OutOfMemory>
     ensures { IfOk result (λ ticket. ticket.piece ≡ held.now.piece) }
 {
-    let piece = copied(alloc, &held.piece)?;
+    let piece = held.piece.copy(alloc)?;
     Ok(Ticket {
         number: held.number,
         epoch: held.epoch,

@@ -1,12 +1,12 @@
 //! Pools of leagues, and workers that take and give.
 
 ghost use Rattle.std.specs.Prelude.{◌≡◌, ◌≤◌, All, IfOk, IsTrue, length};
-ghost use Rattle.league_core.specs.Questions.{IsQuestionOf};
-ghost use Rattle.league_core.specs.Seasons.{IsEventOf};
-ghost use Rattle.league_core.specs.Sheets.{IsWithinLimits};
-ghost use Rattle.reason_core.specs.Dones.{IsFor, IsTrueDone};
+ghost use Rattle.league_core.specs.game.Questions.{IsQuestionOf};
+ghost use Rattle.league_core.specs.game.Seasons.{IsEventOf};
+ghost use Rattle.league_core.specs.game.Sheets.{IsWithinLimits};
+ghost use Rattle.reason_core.specs.inside.Dones.{IsFor, IsTrueDone};
 
-use crate::fit::{are_questions_of, done_of};
+use crate::eligibility::{are_questions_of, done_of};
 use branch_pool::{Answer, Gave, Pool, Ticket, Took};
 use league_core::{Event, OutOfMemory, Question, Season, Sheet, TreeNode};
 use reason_core::Done;

@@ -1,9 +1,10 @@
 //! Worked rows of the pool, and drawn lists of steps: tests alone.
 //!
-//! `help` makes pools of leagues, and works on what is lent; `rows` has the cases. `drawn` has
-//! the lists of steps, `decided` the splits that a result decides, `pairs` a pool and a plain one
-//! that make the steps; the plain one is in `plain` and `plain_change`, what is given back in
-//! `held`, what can be worked on and asked in `fit`.
+//! `help` makes pools of leagues, and works on what is lent; `rows` has the cases, and `undone` the
+//! one in which a thousand tickets come back without work. `drawn` has the lists of steps,
+//! `decided` the splits that a result decides, `pairs` a pool and a plain one that make the steps;
+//! the plain one is in `plain` and `plain_change`, what is given back in `held`, what can be worked
+//! on and asked in `fit`.
 #![tactic(auto)]
 
 #[cfg(test)]
@@ -11,7 +12,7 @@ mod decided;
 #[cfg(test)]
 mod drawn;
 #[cfg(test)]
-mod fit;
+mod eligibility;
 #[cfg(test)]
 mod held;
 #[cfg(test)]
@@ -26,3 +27,5 @@ mod plain_change;
 mod rows;
 #[cfg(test)]
 mod seen;
+#[cfg(test)]
+mod undone;

@@ -1,13 +1,13 @@
 //! A pool and a plain one to which the same happens.
 
-ghost use Rattle.league_core.specs.Sheets.{IsWithinLimits};
+ghost use Rattle.league_core.specs.game.Sheets.{IsWithinLimits};
 
 use crate::decided::{are_gone, decided_by};
 use crate::held::{Held, give_to, held_of};
 use crate::help::{pool_in_window, tell};
 use crate::plain::{PlainPool, PlainSeat, same};
 use crate::seen::{Seen, none_seen};
-use branch_pool::{Pool, Seat, Took};
+use branch_pool::{Pool, QuestionState, Took};
 use league_core::{Event, Sheet};
 use std::alloc::Global;
 use std::test::Fail;
@@ -103,20 +103,20 @@ fn compare_at(pair: &Pair, place: usize) -> Result<(), Fail> {
     compare_seat(pair.pool.seat(place as u16), plain)
 }
 
-fn compare_seat(seat: &Seat, plain: &PlainSeat) -> Result<(), Fail> {
+fn compare_seat(seat: &QuestionState, plain: &PlainSeat) -> Result<(), Fail> {
     same(seat.units == plain.units, "units")?;
     same(seat.lent == plain.lent, "what is lent of a question")?;
     same(is_same_example(seat, plain), "the example")?;
     same(has_same_nodes(seat, plain)?, "nodes")
 }
 
-fn has_same_nodes(seat: &Seat, plain: &PlainSeat) -> Result<bool, Fail> {
+fn has_same_nodes(seat: &QuestionState, plain: &PlainSeat) -> Result<bool, Fail> {
     let nodes = seat.tree.nodes()?;
     let others = plain.tree.nodes()?;
     Ok(nodes.as_slice() == others.as_slice())
 }
 
-fn is_same_example(seat: &Seat, plain: &PlainSeat) -> bool {
+fn is_same_example(seat: &QuestionState, plain: &PlainSeat) -> bool {
     match (&seat.example, &plain.example) {
         (None, None) => true,
         (Some(example), Some(finish)) => example.finish.as_season().equals(finish),

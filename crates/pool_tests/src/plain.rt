@@ -2,9 +2,9 @@
 //! definition of the step says.
 
 use crate::held::{Found, Held};
-use boxed_trees::BoxedTree;
 use branch_pool::{Answer, Gave};
 use league_core::{Listing, Literal, Question, Season};
+use reference_trees::BoxedTree;
 use std::alloc::Global;
 use std::test::Fail;
 

@@ -1,13 +1,13 @@
 //! What a plain pool becomes when an event is reported, and when all is recalled.
 
-ghost use Rattle.league_core.specs.Seasons.{IsEventOf};
-ghost use Rattle.league_core.specs.Sheets.{IsWithinLimits};
+ghost use Rattle.league_core.specs.game.Seasons.{IsEventOf};
+ghost use Rattle.league_core.specs.game.Sheets.{IsWithinLimits};
 
-use crate::fit::is_season_of;
+use crate::eligibility::is_season_of;
 use crate::help::may_be;
 use crate::plain::{PlainPool, PlainSeat};
-use boxed_trees::{BoxedTree, retarget_over};
 use league_core::{Event, Question, Season, Sheet};
+use reference_trees::{BoxedTree, retarget_over};
 use score_box::Played;
 use std::alloc::Global;
 use std::test::Fail;

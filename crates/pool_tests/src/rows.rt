@@ -163,7 +163,8 @@ fn tell_two_wins(pool: &mut Pool) -> Result<(), Fail> {
     Ok(())
 }
 
-fn sixteen_told(alloc: Global) -> Result<Pool, Fail> {
+/// The pool of the sixteen after two results of 1:0.
+pub fn sixteen_told(alloc: Global) -> Result<Pool, Fail> {
     let mut pool = pool_of(alloc, SIXTEEN)?;
     tell_two_wins(&mut pool)?;
     Ok(pool)
@@ -174,7 +175,7 @@ fn sixteen(alloc: Global) -> Result<Pool, Fail> {
     finished(alloc, sixteen_told(alloc)?)
 }
 
-type Kinds = (u32, u32, u32, u32);
+pub type Kinds = (u32, u32, u32, u32);
 
 // How many nodes of a tree are splits, leaves refuted by a set that ends below, leaves refuted by
 // count, and open leaves.
@@ -198,10 +199,11 @@ fn kinds(nodes: &[TreeNode]) -> Kinds {
     kinds
 }
 
-type Tree = (Kinds, Option<Answer>, Option<u32>);
+/// The kinds of the nodes of a tree, how far its question is, and its units.
+pub type Tree = (Kinds, Option<Answer>, Option<u32>);
 
-// The kinds of the nodes of the second tree, how far its question is, and its units.
-fn second(pool: &Pool) -> Result<Tree, Fail> {
+/// The second tree.
+pub fn second(pool: &Pool) -> Result<Tree, Fail> {
     let nodes = nodes_at(pool, OUTSIDE_OF_THE_FIRST)?;
     let answer = answer_at(pool, OUTSIDE_OF_THE_FIRST);
     let units = units_at(pool, OUTSIDE_OF_THE_FIRST);

@@ -8,17 +8,18 @@ use Rattle.std.specs.Io.KnownBytes.{prepend_known, IsAtEnd}
 use Rattle.std.proofs.lemmas.List.{length-take}
 use Rattle.std.proofs.lemmas.Bool.{leb-true, leb-false}
 use Rattle.std.proofs.lemmas.Bool.Decides.{nat_tests}
-use Rattle.port_core.specs.declared.answers.Line.{Line}
-use Rattle.port_core.specs.declared.answers.Line.TheVariants.{Text, End}
-use Rattle.port_core.specs.declared.answers.ReadStop.{ReadStop}
-use Rattle.port_core.specs.declared.answers.ReadStop.TheVariants.{ReadFault, LineTooLong}
-use Rattle.port_core.specs.declared.answers.ReadStop.TheVariants.{InputTooLong}
+use Rattle.port_core.specs.declared.line.Line.{Line}
+use Rattle.port_core.specs.declared.line.Line.TheVariants.{Text, End}
+use Rattle.port_core.specs.declared.line.ReadStop.{ReadStop}
+use Rattle.port_core.specs.declared.line.ReadStop.TheVariants.{ReadFault, LineTooLong}
+use Rattle.port_core.specs.declared.line.ReadStop.TheVariants.{InputTooLong}
 use Rattle.port_core.specs.Lines.{lines_of}
-use Rattle.port_core.specs.Buffers.{EndsAt, IsPartial}
-use Rattle.port_core.specs.Contents.{position_behind, number_at, content_at, is_skipped, stop_due}
+use Rattle.port_core.specs.inside.Buffers.{EndsAt, IsPartial}
+use Rattle.port_core.specs.Contents.{position_after, number_at, content_at, is_skipped, stop_due}
 use Rattle.port_core.specs.Contents.{Contents, ended, with_line, with_content}
-use Rattle.port_core.specs.Readers.{Reader, contents_behind, contents_to_come, HasStop, NextGives}
-use Rattle.port_core.specs.Readers.{LineGives, LeavesBehind, GivesLine, EndsLine, EndsInput}
+use Rattle.port_core.specs.Readers.{LineReaderView, contents_after, contents_to_come}
+use Rattle.port_core.specs.inside.ReaderCalls.{HasStop, NextGives, LineGives, LeavesAfter}
+use Rattle.port_core.specs.inside.ReaderCalls.{GivesLine, EndsLine, EndsInput}
 use Rattle.port_core.proofs.StopLemmas.{contents-stopped, stop-held, stop-ended}
 use Rattle.port_core.proofs.ContentLemmas.{contents-ended, contents-last, contents-end, length-zero}
 use Rattle.port_core.proofs.ContentLemmas.{length-content}
@@ -40,12 +41,12 @@ gives-by false before after number content text old line result is line-is text-
     subst (LineGives before after text) (sym (result-is ∙ ap (option_map Ok) line-is))
     (is ∙ ap (λ t. option_map (with_line number t) after) (sym text-is))
 
-GivesLine-gives : (old new : Reader) (left : Option (List ℕ)) (end behind : ℕ)
+GivesLine-gives : (old new : LineReaderView) (left : Option (List ℕ)) (end behind : ℕ)
     (result : Option (Result Line ReadStop)) (before : Option Contents)
     → GivesLine old new end behind result
     → before ≡ option_map (with_content (number_at old.position)
     (content_at old.position (take end old.held)))
-    (contents_behind (position_behind old.position behind) (prepend_known (drop behind old.held)
+    (contents_after (position_after old.position behind) (prepend_known (drop behind old.held)
     left))
     → LineGives before (contents_to_come new left) new.text result
 GivesLine-gives old new left end behind result before given is =
@@ -57,26 +58,26 @@ GivesLine-gives old new left end behind result before given is =
     (is ∙ ap (option_map (with_content (number_at old.position) content)) (sym after))
     given.2.0 (ap (λ r. r.text) given.2.1) given.1
 
-leaves-by : (skipped : Bool) (old new : Reader) (left : Option (List ℕ)) (number : ℕ)
+leaves-by : (skipped : Bool) (old new : LineReaderView) (left : Option (List ℕ)) (number : ℕ)
     (content : List ℕ) (line : Option Line) (result : Option (Result Line ReadStop))
     → is_skipped content ≡ skipped → line ≡ (if skipped then None else Some (Text number))
     → new.text ≡ (if skipped then old.text else content) → result ≡ option_map Ok line
     → old.position.bytes < new.position.bytes → number ≡ new.position.lines → length content ≤ 1024
-    → LeavesBehind old new left result
+    → LeavesAfter old new left result
 leaves-by true old new left number content line result is line-is text-is result-is more same short
     =
-    subst (LeavesBehind old new left) (sym (result-is ∙ ap (option_map Ok) line-is)) more
+    subst (LeavesAfter old new left) (sym (result-is ∙ ap (option_map Ok) line-is)) more
 leaves-by false old new left number content line result is line-is text-is result-is more same short
     =
-    subst (LeavesBehind old new left) (sym (result-is ∙ ap (option_map Ok) line-is)) (
+    subst (LeavesAfter old new left) (sym (result-is ∙ ap (option_map Ok) line-is)) (
       same,
       ap is_skipped text-is ∙ is,
       omega (arith, short, ap length text-is),
     )
 
-GivesLine-leaves : (old new : Reader) (left : Option (List ℕ)) (end behind : ℕ)
+GivesLine-leaves : (old new : LineReaderView) (left : Option (List ℕ)) (end behind : ℕ)
     (result : Option (Result Line ReadStop)) → GivesLine old new end behind result
-    → end ≤ 1024 → 0 < behind → LeavesBehind old new left result
+    → end ≤ 1024 → 0 < behind → LeavesAfter old new left result
 GivesLine-leaves old new left end behind result given short some =
     let text = take end old.held in
     leaves-by (is_skipped (content_at old.position text)) old new left (number_at old.position)
@@ -101,13 +102,13 @@ gives-stop (InputTooLong number) before after text ends same = (ends, same)
 
 -- the reader with these bytes in hand answers the stop that they show, and stays
 pub stop-gives : (before : Option Contents) (known left : Option (List ℕ))
-    (mid new : Reader) (stop : ReadStop) (result : Option (Result Line ReadStop))
-    → before ≡ contents_behind mid.position known → known ≡ prepend_known mid.held left
+    (mid new : LineReaderView) (stop : ReadStop) (result : Option (Result Line ReadStop))
+    → before ≡ contents_after mid.position known → known ≡ prepend_known mid.held left
     → ((rest : List ℕ) → stop_due mid.position (lines_of (mid.held ++ rest)) ≡ Some stop)
     → (result ≡ Some (Err stop)) × (new ≡ mid)
     → LineGives before (contents_to_come new left) new.text result
 stop-gives before known left mid new stop result is stream stops answer =
-    let same : before ≡ contents_to_come new left = is ∙ ap (contents_behind mid.position) stream
+    let same : before ≡ contents_to_come new left = is ∙ ap (contents_after mid.position) stream
     ∙ ap (λ r. contents_to_come r left) (sym answer.1) in
     let P : Option Contents → Type 0 = λ b. IfSome b (λ contents. contents ≡ ended (Err stop)) in
     let ends = subst P (sym is) (contents-stopped mid.position mid.held known left stop stream
@@ -117,8 +118,8 @@ stop-gives before known left mid new stop result is stream stops answer =
 
 -- a line ended in hand
 pub Ended-gives : (before : Option Contents) (known left : Option (List ℕ))
-    (mid new : Reader) (at : ℕ) (result : Option (Result Line ReadStop))
-    → before ≡ contents_behind mid.position known → known ≡ prepend_known mid.held left
+    (mid new : LineReaderView) (at : ℕ) (result : Option (Result Line ReadStop))
+    → before ≡ contents_after mid.position known → known ≡ prepend_known mid.held left
     → EndsAt mid.held at × (at < length mid.held) × (at ≤ 1024) → EndsLine mid new at result
     → LineGives before (contents_to_come new left) new.text result
 Ended-gives before known left mid new at result is stream ends answer =
@@ -134,15 +135,15 @@ Ended-gives before known left mid new at result is stream ends answer =
     (is ∙ contents-ended mid.position mid.held known left at stream ends.0 ends.1 ends.2
     (leb-false 67108864 (mid.position.bytes + at) inside)))
 
-pub Ended-leaves : (mid new : Reader) (left : Option (List ℕ)) (at : ℕ)
+pub Ended-leaves : (mid new : LineReaderView) (left : Option (List ℕ)) (at : ℕ)
     (result : Option (Result Line ReadStop))
     → EndsAt mid.held at × (at < length mid.held) × (at ≤ 1024) → EndsLine mid new at result
-    → LeavesBehind mid new left result
+    → LeavesAfter mid new left result
 Ended-leaves mid new left at result ends answer =
     match_bool (leb 67108864 (mid.position.bytes + at))
     ((result ≡ Some (Err (InputTooLong (number_at mid.position)))) × (new ≡ mid))
-    (GivesLine mid new at (at + 1) result) (LeavesBehind mid new left result) answer
-    (λ past stopped. subst (LeavesBehind mid new left) (sym stopped.0)
+    (GivesLine mid new at (at + 1) result) (LeavesAfter mid new left result) answer
+    (λ past stopped. subst (LeavesAfter mid new left) (sym stopped.0)
     (subst (λ r. HasStop r (InputTooLong (number_at mid.position))) (sym stopped.1)
     (stop-held mid.position mid.held (InputTooLong (number_at mid.position))
     (λ rest. stop-ended mid.position mid.held rest at ends.0 ends.1 ends.2
@@ -150,8 +151,8 @@ Ended-leaves mid new left at result ends answer =
     (λ inside given. GivesLine-leaves mid new left at (at + 1) result given ends.2 (omega arith))
 
 pub Open-gives : (before : Option Contents) (known left : Option (List ℕ))
-    (mid new : Reader) (result : Option (Result Line ReadStop))
-    → before ≡ contents_behind mid.position known → known ≡ prepend_known mid.held left
+    (mid new : LineReaderView) (result : Option (Result Line ReadStop))
+    → before ≡ contents_after mid.position known → known ≡ prepend_known mid.held left
     → IsPartial mid.held → IsAtEnd left → mid.position.bytes + length mid.held ≤ 67108864
     → EndsInput mid new result → LineGives before (contents_to_come new left) new.text result
 Open-gives before known left mid new result is stream partial end inside answer =
@@ -160,7 +161,7 @@ Open-gives before known left mid new result is stream partial end inside answer 
     (GivesLine mid new (length mid.held) (length mid.held) result)
     (LineGives before (contents_to_come new left) new.text result) answer
     (λ none ended_there.
-    let same : before ≡ contents_to_come new left = is ∙ ap (contents_behind mid.position) stream
+    let same : before ≡ contents_to_come new left = is ∙ ap (contents_after mid.position) stream
     ∙ ap (λ r. contents_to_come r left) (sym ended_there.1) in
     let P : Option Contents → Type 0 =
     λ b. IfSome b (λ contents. contents ≡ ended (Ok (number_at mid.position))) in
@@ -173,15 +174,15 @@ Open-gives before known left mid new result is stream partial end inside answer 
     given (is ∙ contents-last mid.position mid.held known left stream end partial.0
     (grind (arith, nat_tests)) partial.1 inside))
 
-pub Open-leaves : (mid new : Reader) (left : Option (List ℕ))
+pub Open-leaves : (mid new : LineReaderView) (left : Option (List ℕ))
     (result : Option (Result Line ReadStop)) → IsPartial mid.held → IsAtEnd left
-    → EndsInput mid new result → LeavesBehind mid new left result
+    → EndsInput mid new result → LeavesAfter mid new left result
 Open-leaves mid new left result partial end answer =
     match_bool (eqb (length mid.held) 0)
     ((result ≡ Some (Ok (End (number_at mid.position)))) × (new ≡ mid))
     (GivesLine mid new (length mid.held) (length mid.held) result)
-    (LeavesBehind mid new left result) answer
-    (λ none ended_there. subst (LeavesBehind mid new left) (sym ended_there.0) (
+    (LeavesAfter mid new left result) answer
+    (λ none ended_there. subst (LeavesAfter mid new left) (sym ended_there.0) (
       ap (λ r. number_at r.position) (sym ended_there.1),
       ap (λ r. r.held) ended_there.1
           ∙ length-zero mid.held (eqb-true (length mid.held) 0 none),

@@ -1,11 +1,11 @@
--- The line at the front of bytes in hand, whatever is left behind them: one that ended there, and
+-- The line at the front of bytes in hand, whatever is left after them: one that ended there, and
 -- one that is longer than a line may be.
 use Rattle.std.proofs.Common.{◌≡◌, ℕ, ◌+◌, ◌<◌, ◌≤◌, eqb, List, [], ◌∷◌, ◌++◌, length, take, drop}
 use Rattle.std.proofs.Common.{ap, sym, ◌∙◌, arith, append_assoc, length-append}
 use Rattle.std.proofs.lemmas.List.{take-append-drop, length-take-le}
 use Rattle.std.proofs.lemmas.Bool.{cond_both}
 use Rattle.port_core.specs.Lines.{lines_of, text_of_line, line_limit}
-use Rattle.port_core.specs.Buffers.{EndsAt, IsOverlong}
+use Rattle.port_core.specs.inside.Buffers.{EndsAt, IsOverlong}
 use Rattle.port_core.proofs.LineLemmas.{lines_of-ended, lines_of-front, text_of_line-front}
 
 -- this line is the first of an input, and the others are the lines of what follows it
@@ -18,7 +18,7 @@ abbrev pub HasLongLine : List ℕ → Type 0
 HasLongLine bytes = (line : List ℕ) × (others : List (List ℕ)) × (lines_of bytes ≡ line ∷ others)
     × (line_limit < length (text_of_line line))
 
--- a text and its LF in hand are the first line, whatever is left behind
+-- a text and its LF in hand are the first line, whatever is left after
 pub first_line-ended : (held left : List ℕ) (place : ℕ) → EndsAt held place
     → IsFirstLine (take place held ++ 10 ∷ []) (held ++ left) (drop (place + 1) held ++ left)
 first_line-ended held left place ends =

@@ -9,16 +9,17 @@ use Rattle.std.proofs.lemmas.List.Elements.{All-contains, Contains-append_left}
 use Rattle.std.proofs.lemmas.Map.Views.{Contains-from_any}
 use Rattle.std.proofs.lemmas.Bool.{cases_Bool, false≢true, leb-true, leb-false}
 use Rattle.std.proofs.lemmas.Option.{none-some}
-use Rattle.port_core.specs.declared.answers.Line.{Line}
-use Rattle.port_core.specs.declared.answers.Line.TheVariants.{Text}
-use Rattle.port_core.specs.declared.answers.ReadStop.{ReadStop}
-use Rattle.port_core.specs.declared.answers.ReadStop.TheVariants.{InputTooLong}
+use Rattle.port_core.specs.declared.line.Line.{Line}
+use Rattle.port_core.specs.declared.line.Line.TheVariants.{Text}
+use Rattle.port_core.specs.declared.line.ReadStop.{ReadStop}
+use Rattle.port_core.specs.declared.line.ReadStop.TheVariants.{InputTooLong}
 use Rattle.port_core.specs.Lines.{lines_of, text_of_line}
-use Rattle.port_core.specs.Buffers.{EndsAt, IsPartial, IsReady}
-use Rattle.port_core.specs.Contents.{Position, position_behind, number_at, content_at, is_skipped}
+use Rattle.port_core.specs.inside.Buffers.{EndsAt, IsPartial, IsReady}
+use Rattle.port_core.specs.Contents.{Position, position_after, number_at, content_at, is_skipped}
 use Rattle.port_core.specs.Contents.{line_stop, stop_due, is_whole, has_answer}
-use Rattle.port_core.specs.Readers.{Reader, HasStop, HasAnswer, AnswersStop, KeepsAnswer, GivesLine}
-use Rattle.port_core.specs.Readers.{EndsLine}
+use Rattle.port_core.specs.Readers.{LineReaderView, HasAnswer}
+use Rattle.port_core.specs.inside.ReaderCalls.{HasStop, AnswersStop, KeepsAnswer, GivesLine}
+use Rattle.port_core.specs.inside.ReaderCalls.{EndsLine}
 use Rattle.port_core.proofs.LineLemmas.{concat-lines_of, text_of_line-ended}
 use Rattle.port_core.proofs.FirstLineLemmas.{first_line-ended}
 use Rattle.port_core.proofs.StopLemmas.{stop-ready, stop-inside, stop-held, stop-ended}
@@ -71,30 +72,32 @@ stop-same position held most P stop is room ready full =
     ]
 
 -- a reader that had a stop in hand took nothing
-pub stop-stays : (held held' text : List ℕ) (position : Position) (entry : Reader) (most : ℕ)
+pub stop-stays : (held held' text : List ℕ) (position : Position) (entry : LineReaderView)
+    (most : ℕ)
     (P : Type 0) → record { held = held; text = text; position = position } ≡ entry
     → position.bytes + most ≡ 67108865 → (IsReady held → P × (held' ≡ held))
     → (most ≤ length held → P × (held' ≡ held)) → (stop : ReadStop) → HasStop entry stop
     → record { held = held'; text = text; position = position } ≡ entry
 stop-stays held held' text position entry most P is room ready full stop has =
     let here : stop_due position (lines_of held) ≡ Some stop =
-    subst (λ (r : Reader). HasStop r stop) (sym is) has in
+    subst (λ (r : LineReaderView). HasStop r stop) (sym is) has in
     ap (λ h. record { held = h; text = text; position = position })
     (stop-same position held most (P × (held' ≡ held)) stop here room ready full).1 ∙ is
 
 -- the bytes in hand show a stop or none, and a stop is answered
-pub AnswersStop-by : (entry mid new : Reader) (result : Option (Result Line ReadStop))
+pub AnswersStop-by : (entry mid new : LineReaderView) (result : Option (Result Line ReadStop))
     (found : Option ReadStop) → ((stop : ReadStop) → HasStop entry stop → mid ≡ entry)
     → stop_due mid.position (lines_of mid.held) ≡ found
     → ((stop : ReadStop) → found ≡ Some stop → (result ≡ Some (Err stop)) × (new ≡ mid))
     → AnswersStop entry new result
 AnswersStop-by entry mid new result found stays is answers = λ stop has.
     let same = stays stop has in
-    let here : HasStop mid stop = subst (λ (r : Reader). HasStop r stop) (sym same) has in
+    let here : HasStop mid stop = subst (λ (r : LineReaderView). HasStop r stop) (sym same) has in
     let answer = answers stop (sym is ∙ here) in (answer.0, answer.1 ∙ same)
 
 -- nothing is read while an answer is in hand
-pub answer-same : (held held' text : List ℕ) (position : Position) (entry : Reader) (most : ℕ)
+pub answer-same : (held held' text : List ℕ) (position : Position) (entry : LineReaderView)
+    (most : ℕ)
     (P : Type 0) → record { held = held; text = text; position = position } ≡ entry
     → position.bytes + most ≡ 67108865 → (IsReady held → P × (held' ≡ held))
     → (most ≤ length held → P × (held' ≡ held)) → HasAnswer entry
@@ -107,7 +110,7 @@ answer-same held held' text position entry most P is room ready full has =
     )
 
 -- no answer is in hand where no whole line is, and neither limit is passed
-pub no_answer-open : (reading : Reader) → IsPartial reading.held
+pub no_answer-open : (reading : LineReaderView) → IsPartial reading.held
     → reading.position.bytes + length reading.held ≤ 67108864 → HasAnswer reading → ⊥
 no_answer-open reading partial inside has =
     elim (ready-line reading.position reading.held (lines_of reading.held) refl has) [
@@ -118,13 +121,13 @@ no_answer-open reading partial inside has =
       | inr past ↦ omega (arith, past)
     ]
 
-KeepsAnswer-by : (entry new : Reader) (result : Option (Result Line ReadStop))
+KeepsAnswer-by : (entry new : LineReaderView) (result : Option (Result Line ReadStop))
     → (result ≡ None → HasAnswer entry → HasAnswer new) → KeepsAnswer entry new result
 KeepsAnswer-by entry new None keeps = keeps refl
 KeepsAnswer-by entry new (Some result) keeps = tt
 
 -- there is none to keep
-pub KeepsAnswer-none : (entry new : Reader) (result : Option (Result Line ReadStop))
+pub KeepsAnswer-none : (entry new : LineReaderView) (result : Option (Result Line ReadStop))
     → (HasAnswer entry → ⊥) → KeepsAnswer entry new result
 KeepsAnswer-none entry new result none =
     KeepsAnswer-by entry new result (λ is has. absurd (none has))
@@ -150,8 +153,8 @@ behind-skipped found whole skipped false none is has =
     absurd (false≢true (sym (behind-none found whole skipped none is) ∙ has))
 behind-skipped found whole skipped true none is has = refl
 
--- an answer in hand that is not the line passed over stands behind it
-pub Ended-keeps : (entry mid new : Reader) (at : ℕ)
+-- an answer in hand that is not the line passed over comes after it
+pub Ended-keeps : (entry mid new : LineReaderView) (at : ℕ)
     (result : Option (Result Line ReadStop))
     → EndsAt mid.held at × (at < length mid.held) × (at ≤ 1024) → EndsLine mid new at result
     → (HasAnswer entry → mid ≡ entry) → KeepsAnswer entry new result
@@ -175,19 +178,19 @@ Ended-keeps entry mid new at result ends answer same =
     let text = text_of_line-ended (take at mid.held) ends.0.0 in
     let behind = behind-skipped (line_stop mid.position line) (is_whole line)
     (is_skipped (content_at mid.position (text_of_line line)))
-    (has_answer (position_behind mid.position (length line)) rest)
+    (has_answer (position_after mid.position (length line)) rest)
     (stop-inside mid.position mid.held at ends.0 ends.1 ends.2
     (leb-false 67108864 (mid.position.bytes + at) inside))
     (ap (λ t. is_skipped (content_at mid.position t)) text ∙ skipped)
     (ap (has_answer mid.position) (sym whole) ∙ here) in
-    let Q : ℕ → Type 0 = λ n. has_answer (position_behind mid.position n) rest ≡ true in
+    let Q : ℕ → Type 0 = λ n. has_answer (position_after mid.position n) rest ≡ true in
     subst HasAnswer (sym given.2.1) (subst Q (length-ended mid.held at ends.1) behind)))
 
 some-same : (first second : ReadStop) → Some first ≡ Some second → first ≡ second
 some-same first second same = cc
 
 -- bytes that show a stop: it is the one answered
-pub stop-answers : (entry mid new : Reader) (result : Option (Result Line ReadStop))
+pub stop-answers : (entry mid new : LineReaderView) (result : Option (Result Line ReadStop))
     (found : ReadStop) → ((stop : ReadStop) → HasStop entry stop → mid ≡ entry)
     → stop_due mid.position (lines_of mid.held) ≡ Some found
     → (result ≡ Some (Err found)) × (new ≡ mid) → AnswersStop entry new result
@@ -198,14 +201,14 @@ stop-answers entry mid new result found stays is answer =
     ))
 
 -- bytes that show none: none was in hand
-pub none-answers : (entry mid new : Reader) (result : Option (Result Line ReadStop))
+pub none-answers : (entry mid new : LineReaderView) (result : Option (Result Line ReadStop))
     → ((stop : ReadStop) → HasStop entry stop → mid ≡ entry)
     → stop_due mid.position (lines_of mid.held) ≡ None → AnswersStop entry new result
 none-answers entry mid new result stays is =
     AnswersStop-by entry mid new result None stays is
     (λ stop same. absurd (none-some stop same))
 
-pub Ended-stops : (entry mid new : Reader) (at : ℕ)
+pub Ended-stops : (entry mid new : LineReaderView) (at : ℕ)
     (result : Option (Result Line ReadStop))
     → EndsAt mid.held at × (at < length mid.held) × (at ≤ 1024) → EndsLine mid new at result
     → ((stop : ReadStop) → HasStop entry stop → mid ≡ entry) → AnswersStop entry new result

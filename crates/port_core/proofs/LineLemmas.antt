@@ -8,7 +8,7 @@ use Rattle.std.specs.List.{concat}
 use Rattle.std.proofs.lemmas.List.Elements.{All-nil, All-cons, All-head, All-tail}
 use Rattle.std.proofs.lemmas.Bool.{cond_both}
 use Rattle.port_core.specs.Lines.{onto_first, lines_of, text_of_line, HasNoLineFeed, IsEndedLine}
-use Rattle.port_core.specs.Lines.{IsOpenLine, AreLines}
+use Rattle.port_core.specs.inside.LineSplits.{IsOpenLine, AreLines}
 
 -- ---- the first byte
 

@@ -8,16 +8,17 @@ use Rattle.std.proofs.lemmas.List.{take_all, drop_all}
 use Rattle.std.proofs.lemmas.Bool.{leb-false, false≢true}
 use Rattle.std.proofs.lemmas.List.Elements.{All-append, All-cons, All-nil}
 use Rattle.std.proofs.lemmas.Bool.Decides.{nat_tests}
-use Rattle.port_core.specs.declared.answers.Line.{Line}
-use Rattle.port_core.specs.declared.answers.Line.TheVariants.{Text, End}
-use Rattle.port_core.specs.declared.answers.ReadStop.{ReadStop}
-use Rattle.port_core.specs.declared.answers.ReadStop.TheVariants.{InputTooLong}
+use Rattle.port_core.specs.declared.line.Line.{Line}
+use Rattle.port_core.specs.declared.line.Line.TheVariants.{Text, End}
+use Rattle.port_core.specs.declared.line.ReadStop.{ReadStop}
+use Rattle.port_core.specs.declared.line.ReadStop.TheVariants.{InputTooLong}
 use Rattle.port_core.specs.Lines.{lines_of, text_of_line, HasNoLineFeed, IsEndedLine}
-use Rattle.port_core.specs.Buffers.{EndsAt, IsPartial}
-use Rattle.port_core.specs.Contents.{Position, position_behind, number_at, content_at, is_skipped}
+use Rattle.port_core.specs.inside.Buffers.{EndsAt, IsPartial}
+use Rattle.port_core.specs.Contents.{Position, position_after, number_at, content_at, is_skipped}
 use Rattle.port_core.specs.Contents.{line_stop, Contents, with_line, with_lines, contents_from}
-use Rattle.port_core.specs.Readers.{Reader, stream_of, Passes, PassesKnown, PassesTo, given_there}
-use Rattle.port_core.specs.Readers.{GivesLine, Stops, EndsLine, EndsInput}
+use Rattle.port_core.specs.Readers.{LineReaderView, stream_of}
+use Rattle.port_core.specs.inside.ReaderCalls.{Passes, PassesKnown, PassesTo, given_there}
+use Rattle.port_core.specs.inside.ReaderCalls.{GivesLine, Stops, EndsLine, EndsInput}
 use Rattle.port_core.proofs.LineLemmas.{lines_of-open, text_of_line-ended, text_of_line-open}
 use Rattle.port_core.proofs.FirstLineLemmas.{first_line-ended}
 use Rattle.port_core.proofs.StopLemmas.{length-ended, stop-none, stop-inside}
@@ -95,7 +96,8 @@ given-line false number content text old line result line-is text-is result-is r
     (sym (result-is ∙ ap (option_map Ok) line-is))
 
 -- the line that is due is passed
-one-passes : (old new : Reader) (before after line : List ℕ) (ended ended' : Bool) (end behind : ℕ)
+one-passes : (old new : LineReaderView) (before after line : List ℕ) (ended ended' : Bool)
+    (end behind : ℕ)
     (result : Option (Result Line ReadStop)) → GivesLine old new end behind result
     → lines_of before ≡ line ∷ lines_of after → text_of_line line ≡ take end old.held
     → length line ≡ behind → line_stop old.position line ≡ None
@@ -114,13 +116,14 @@ one-passes old new before after line ended ended' end behind result given first 
           contents-line old.position (line ∷ more) more line text behind refl text-is size-is none
           ∙ given-line (is_skipped content) (number_at old.position) content new.text old.text
           given.0 result given.2.0 (ap (λ r. r.text) given.2.1) given.1
-          (contents_from (position_behind old.position behind) more);
+          (contents_from (position_after old.position behind) more);
       whole = λ unsaid. All-cons IsEndedLine line [] (whole unsaid).0 (All-nil IsEndedLine);
       told = λ unsaid. (whole unsaid).1;
     })
 
 -- the same of bytes in hand and those left, where the source tells them
-passes-given : (old new : Reader) (left : Option (List ℕ)) (line : List ℕ) (ended ended' : Bool)
+passes-given : (old new : LineReaderView) (left : Option (List ℕ)) (line : List ℕ)
+    (ended ended' : Bool)
     (end behind : ℕ) (result : Option (Result Line ReadStop)) → GivesLine old new end behind result
     → ((rest : List ℕ) → left ≡ Some rest
     → lines_of (old.held ++ rest) ≡ line ∷ lines_of (drop behind old.held ++ rest))
@@ -141,13 +144,13 @@ passes-given old new (Some rest) line ended ended' end behind result given first
     text-is size-is none whole
 
 -- nothing is passed where the answer is a stop, or the end
-pub passes-stays : (old new : Reader) (left : Option (List ℕ)) (ended ended' : Bool)
+pub passes-stays : (old new : LineReaderView) (left : Option (List ℕ)) (ended ended' : Bool)
     (result : Option (Result Line ReadStop)) (answer : Result Line ReadStop)
     → given_there (Some answer) new.text ≡ [] → (result ≡ Some answer) × (new ≡ old)
     → (ended' ≡ false → ended ≡ false)
     → PassesTo old new left left ended ended' (given_there result new.text)
 passes-stays old new left ended ended' result answer nothing is told =
-    let P : Reader → Type 0 = λ r. PassesTo old r left left ended ended' [] in
+    let P : LineReaderView → Type 0 = λ r. PassesTo old r left left ended ended' [] in
     let Q : List (ℕ × List ℕ) → Type 0 =
     λ given. PassesTo old new left left ended ended' given in
     subst Q
@@ -156,7 +159,8 @@ passes-stays old new left ended ended' result answer nothing is told =
     (passes-none old.position (stream_of old left) (stream_of old left) ended ended' refl told))
 
 -- a line ended in hand
-pub Ended-passes : (mid new : Reader) (left : Option (List ℕ)) (ended ended' : Bool) (at : ℕ)
+pub Ended-passes : (mid new : LineReaderView) (left : Option (List ℕ)) (ended ended' : Bool)
+    (at : ℕ)
     (result : Option (Result Line ReadStop))
     → EndsAt mid.held at × (at < length mid.held) × (at ≤ 1024) → EndsLine mid new at result
     → (ended' ≡ false → ended ≡ false)
@@ -189,8 +193,8 @@ last-first held left end none some rest told =
     ∙ append-nil (drop (length held) held) ∙ drop_all (length held) held (omega arith) in
     ap lines_of whole ∙ lines_of-open held none some ∙ ap (λ l. held ∷ lines_of l) (sym gone)
 
--- the input ended behind the bytes in hand, and the end was told
-pub Open-passes : (mid new : Reader) (left : Option (List ℕ)) (ended ended' : Bool)
+-- the input ended after the bytes in hand, and the end was told
+pub Open-passes : (mid new : LineReaderView) (left : Option (List ℕ)) (ended ended' : Bool)
     (result : Option (Result Line ReadStop)) → IsPartial mid.held → IsAtEnd left
     → mid.position.bytes + length mid.held ≤ 67108864 → EndsInput mid new result → ended' ≡ true
     → PassesTo mid new left left ended ended' (given_there result new.text)
@@ -211,7 +215,8 @@ Open-passes mid new left ended ended' result partial end inside answer told =
     (λ unsaid. absurd (false≢true (sym unsaid ∙ told))))
 
 -- the same from the bytes in hand before the wait for them
-pub passes-before : (entry mid new : Reader) (left left' : Option (List ℕ)) (ended ended' : Bool)
+pub passes-before : (entry mid new : LineReaderView) (left left' : Option (List ℕ))
+    (ended ended' : Bool)
     (given : List (ℕ × List ℕ)) → mid.position ≡ entry.position
     → stream_of entry left ≡ stream_of mid left' → PassesTo mid new left' left' ended ended' given
     → PassesTo entry new left left' ended ended' given

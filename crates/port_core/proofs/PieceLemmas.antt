@@ -12,7 +12,7 @@ use Rattle.std.proofs.lemmas.Slice.{between_is}
 use Rattle.port_core.specs.declared.ports.Got.{Got}
 use Rattle.port_core.specs.declared.ports.Got.TheVariants.{Bytes}
 use Rattle.port_core.specs.Lines.{HasNoLineFeed}
-use Rattle.port_core.specs.Buffers.{part, EndsAt, IsOverlong, ReadsBehind, Fills}
+use Rattle.port_core.specs.inside.Buffers.{part, EndsAt, IsOverlong, ReadsAfter, Fills}
 
 -- what is moved to the front stands there
 pub take-moved : (bytes : List ℕ) (from to : ℕ) → from ≤ to → to ≤ length bytes
@@ -25,7 +25,7 @@ take-moved bytes from to order within =
 
 -- ---- the first LF
 
--- no LF stands in the first bytes, and none behind them
+-- no LF stands in the first bytes, and none after them
 pub no_line_feed-joined : (bytes : List ℕ) (seen : ℕ) → HasNoLineFeed (take seen bytes)
     → HasNoLineFeed (drop seen bytes) → HasNoLineFeed bytes
 no_line_feed-joined bytes seen front rest =
@@ -41,7 +41,7 @@ EndsAt-first bytes place below none found =
     drop_more bytes place 0 below ∙ ap (λ b. b ∷ drop (place + 1) bytes) found in
     (none, sym (take-append-drop place bytes) ∙ ap (λ l. take place bytes ++ l) rest)
 
--- the first LF behind the first bytes is the first of all, where those have none
+-- the first LF after the first bytes is the first of all, where those have none
 pub EndsAt-later : (bytes rest : List ℕ) (seen place : ℕ) → rest ≡ drop seen bytes
     → seen ≤ length bytes → HasNoLineFeed (take seen bytes)
     → place < length rest → HasNoLineFeed (take place rest) → slice_index rest place ≡ 10
@@ -74,13 +74,13 @@ IsOverlong-open held bytes is none long =
 
 -- ---- what a read adds
 
--- the bytes that a read put behind those in hand are added to them
+-- the bytes that a read put after those in hand are added to them
 pub Fills-behind : (left left' : Option (List ℕ)) (fact : List ℕ → Type 0) (got : Got)
     (n count end : ℕ) (old before new whole : List ℕ) → got ≡ Bytes n → take count before ≡ old
-    → end ≤ length new → ReadsBehind left left' fact got count end before new → whole ≡ new
+    → end ≤ length new → ReadsAfter left left' fact got count end before new → whole ≡ new
     → Fills left left' fact got old (take (count + n) whole)
 Fills-behind left left' fact got n count end old before new whole is kept inside reads same =
-    let P : Got → Type 0 = λ g. ReadsBehind left left' fact g count end before new
+    let P : Got → Type 0 = λ g. ReadsAfter left left' fact g count end before new
     → Fills left left' fact g old (take (count + n) new) in
     let Q : List ℕ → Type 0 = λ bytes. Fills left left' fact got old (take (count + n) bytes) in
     subst Q (sym same) (subst P (sym is) (λ r.

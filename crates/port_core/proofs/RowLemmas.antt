@@ -1,18 +1,18 @@
--- Rows that go out in pieces: the pieces taken in turn are a front of the row.
+-- Rows that go out in pieces: the pieces taken in turn are a prefix of the row.
 use Rattle.std.proofs.Common.{◌≡◌, ℕ, ◌+◌, ◌<◌, ◌≤◌, List, ◌++◌, length, take, drop, Option, Some}
 use Rattle.std.proofs.Common.{None, refl, ap, sym, ◌∙◌, arith, append_assoc, length-drop}
 use Rattle.std.specs.Io.KnownBytes.{append_known}
 use Rattle.std.proofs.Math.Seq.{take-add}
 use Rattle.std.proofs.lemmas.List.{take-append-drop}
-use Rattle.port_core.specs.Ports.{AppendsFront}
+use Rattle.port_core.specs.Ports.{AppendsPrefix}
 
--- two texts put behind known bytes in turn are their joined text put there at once
+-- two texts put after known bytes in turn are their joined text put there at once
 pub append_known-append_known : (known : Option (List ℕ)) (first second : List ℕ)
     → append_known (append_known known first) second ≡ append_known known (first ++ second)
 append_known-append_known None first second = refl
 append_known-append_known (Some bytes) first second = ap Some (append_assoc bytes first second)
 
--- one more piece of a row went out behind its front
+-- one more piece of a row went out after its prefix
 pub Writes-more : (start old new : Option (List ℕ)) (row rest : List ℕ) (done count : ℕ)
     → done ≤ length row → old ≡ append_known start (take done row)
     → rest ≡ drop done row → (0 < count) × (count ≤ length rest)
@@ -26,8 +26,8 @@ Writes-more start old new row rest done count within before is took = (
       ∙ sym (take-add done count row)),
 )
 
--- what went out before a fault is a front of the row
-pub AppendsFront-take : (start old new : Option (List ℕ)) (row : List ℕ) (done : ℕ)
-    → old ≡ append_known start (take done row) → new ≡ old → AppendsFront start new row
-AppendsFront-take start old new row done before same =
+-- what went out before a fault is a prefix of the row
+pub AppendsPrefix-take : (start old new : Option (List ℕ)) (row : List ℕ) (done : ℕ)
+    → old ≡ append_known start (take done row) → new ≡ old → AppendsPrefix start new row
+AppendsPrefix-take start old new row done before same =
     (take done row, (drop done row, sym (take-append-drop done row)), same ∙ before)

@@ -9,13 +9,13 @@ use Rattle.std.proofs.lemmas.List.{length-take-le}
 use Rattle.std.proofs.lemmas.Bool.{cases_lt}
 use Rattle.std.proofs.lemmas.Option.{none-some}
 use Rattle.std.proofs.lemmas.Bool.Decides.{nat_tests}
-use Rattle.port_core.specs.declared.answers.ReadStop.{ReadStop}
-use Rattle.port_core.specs.declared.answers.ReadStop.TheVariants.{LineTooLong, InputTooLong}
+use Rattle.port_core.specs.declared.line.ReadStop.{ReadStop}
+use Rattle.port_core.specs.declared.line.ReadStop.TheVariants.{LineTooLong, InputTooLong}
 use Rattle.port_core.specs.Lines.{lines_of, text_of_line}
-use Rattle.port_core.specs.Buffers.{EndsAt, IsOverlong, IsPartial}
-use Rattle.port_core.specs.Contents.{Position, position_behind, number_at, content_at, line_stop}
+use Rattle.port_core.specs.inside.Buffers.{EndsAt, IsOverlong, IsPartial}
+use Rattle.port_core.specs.Contents.{Position, position_after, number_at, content_at, line_stop}
 use Rattle.port_core.specs.Contents.{stop_due, ended, with_content, contents_by, contents_from}
-use Rattle.port_core.specs.Readers.{contents_behind}
+use Rattle.port_core.specs.Readers.{contents_after}
 use Rattle.port_core.proofs.LineLemmas.{concat-lines_of, lines_of-front, text_of_line-ended}
 use Rattle.port_core.proofs.FirstLineLemmas.{first_line-ended, length-text_of_line}
 use Rattle.port_core.proofs.FirstLineLemmas.{HasLongLine-overlong}
@@ -44,20 +44,20 @@ contents-stop position [] stop is = cc
 contents-stop position (line ∷ lines) stop is =
     ap (λ found. contents_by found (with_content (number_at position)
     (content_at position (text_of_line line))
-    (contents_from (position_behind position (length line)) lines))) is
+    (contents_from (position_after position (length line)) lines))) is
 
 -- the same of bytes in hand and those left, where the source tells them
 pub contents-stopped : (position : Position) (held : List ℕ) (known left : Option (List ℕ))
     (stop : ReadStop) → known ≡ prepend_known held left
     → ((rest : List ℕ) → stop_due position (lines_of (held ++ rest)) ≡ Some stop)
-    → IfSome (contents_behind position known) (λ contents. contents ≡ ended (Err stop))
+    → IfSome (contents_after position known) (λ contents. contents ≡ ended (Err stop))
 contents-stopped position held known None stop is stops =
     let P : Option (List ℕ) → Type 0 =
-    λ k. IfSome (contents_behind position k) (λ contents. contents ≡ ended (Err stop)) in
+    λ k. IfSome (contents_after position k) (λ contents. contents ≡ ended (Err stop)) in
     subst P (sym is) tt
 contents-stopped position held known (Some left) stop is stops =
     let P : Option (List ℕ) → Type 0 =
-    λ k. IfSome (contents_behind position k) (λ contents. contents ≡ ended (Err stop)) in
+    λ k. IfSome (contents_after position k) (λ contents. contents ≡ ended (Err stop)) in
     subst P (sym is) (contents-stop position (lines_of (held ++ left)) stop (stops left))
 
 -- the bytes in hand alone show a stop that is there whatever follows

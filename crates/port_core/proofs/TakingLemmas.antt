@@ -6,33 +6,34 @@ use Rattle.std.specs.Prelude.{option_map}
 use Rattle.std.specs.Io.KnownBytes.{prepend_known}
 use Rattle.std.proofs.lemmas.Bool.{leb-false}
 use Rattle.std.proofs.lemmas.Bool.Decides.{nat_tests}
-use Rattle.port_core.specs.declared.answers.Line.{Line}
-use Rattle.port_core.specs.declared.answers.Line.TheVariants.{Text, End}
-use Rattle.port_core.specs.declared.answers.ReadStop.{ReadStop}
-use Rattle.port_core.specs.declared.answers.ReadStop.TheVariants.{InputTooLong}
+use Rattle.port_core.specs.declared.line.Line.{Line}
+use Rattle.port_core.specs.declared.line.Line.TheVariants.{Text, End}
+use Rattle.port_core.specs.declared.line.ReadStop.{ReadStop}
+use Rattle.port_core.specs.declared.line.ReadStop.TheVariants.{InputTooLong}
 use Rattle.port_core.specs.Contents.{number_at, content_at, is_skipped}
-use Rattle.port_core.specs.Readers.{Reader, LeavesBehind, TakesInput, GivesLine, EndsLine}
-use Rattle.port_core.specs.Readers.{EndsInput, MovesOn, LineMovesOn}
+use Rattle.port_core.specs.Readers.{LineReaderView, TakesInput}
+use Rattle.port_core.specs.inside.ReaderCalls.{LeavesAfter, GivesLine, EndsLine, EndsInput}
+use Rattle.port_core.specs.inside.ReaderCalls.{MovesOn, LineMovesOn}
 use Rattle.port_core.proofs.AnswerLemmas.{match_bool}
 
 -- only the bytes passed before the call count
-pub LeavesBehind-at : (old entry new : Reader) (left : Option (List ℕ))
+pub LeavesAfter-at : (old entry new : LineReaderView) (left : Option (List ℕ))
     (result : Option (Result Line ReadStop)) → entry.position ≡ old.position
-    → LeavesBehind old new left result → LeavesBehind entry new left result
-LeavesBehind-at old entry new left None same leaves =
+    → LeavesAfter old new left result → LeavesAfter entry new left result
+LeavesAfter-at old entry new left None same leaves =
     omega (arith, leaves, ap (λ p. p.bytes) same)
-LeavesBehind-at old entry new left (Some result) same leaves = leaves
+LeavesAfter-at old entry new left (Some result) same leaves = leaves
 
 -- ---- one line after the other
 
--- bytes known behind two others are known behind both joined
+-- bytes known after two others are known after both joined
 pub prepend-prepend : (first second : List ℕ) (known : Option (List ℕ))
     → prepend_known first (prepend_known second known) ≡ prepend_known (first ++ second) known
 prepend-prepend first second None = refl
 prepend-prepend first second (Some bytes) = ap Some (sym (append_assoc first second bytes))
 
 -- bytes taken in turn are bytes taken
-pub TakesInput-more : (a b c : Reader) (first second third : Option (List ℕ))
+pub TakesInput-more : (a b c : LineReaderView) (first second third : Option (List ℕ))
     → TakesInput a b first second → TakesInput b c second third → TakesInput a c first third
 TakesInput-more a b c first second third one two = (
   one.0 ++ two.0,
@@ -41,20 +42,20 @@ TakesInput-more a b c first second third one two = (
 )
 
 -- none were taken
-pub TakesInput-none : (a : Reader) (left : Option (List ℕ)) → TakesInput a a left left
+pub TakesInput-none : (a : LineReaderView) (left : Option (List ℕ)) → TakesInput a a left left
 TakesInput-none a None = ([], refl, omega arith)
 TakesInput-none a (Some left) = ([], refl, omega arith)
 
 -- ---- the bytes passed
 
 -- bytes passed before count too
-pub MovesOn-from : (first old new : Reader) (result : Result Line ReadStop)
+pub MovesOn-from : (first old new : LineReaderView) (result : Result Line ReadStop)
     → first.position.bytes ≤ old.position.bytes → MovesOn old new result → MovesOn first new result
 MovesOn-from first old new (Ok (Text number)) less moves = (omega (arith, less, moves.0), moves.1)
 MovesOn-from first old new (Ok (End number)) less moves = tt
 MovesOn-from first old new (Err stop) less moves = tt
 
-moves-by : (skipped : Bool) (old new : Reader) (number : ℕ) (line : Option Line)
+moves-by : (skipped : Bool) (old new : LineReaderView) (number : ℕ) (line : Option Line)
     (result : Option (Result Line ReadStop))
     → line ≡ (if skipped then None else Some (Text number)) → result ≡ option_map Ok line
     → (old.position.bytes < new.position.bytes) × (new.position.bytes ≤ 67108864)
@@ -64,7 +65,7 @@ moves-by true old new number line result line-is is more =
 moves-by false old new number line result line-is is more =
     subst (LineMovesOn old new) (sym (is ∙ ap (option_map Ok) line-is)) more
 
-GivesLine-moves : (old new : Reader) (end behind : ℕ)
+GivesLine-moves : (old new : LineReaderView) (end behind : ℕ)
     (result : Option (Result Line ReadStop)) → GivesLine old new end behind result → 0 < behind
     → old.position.bytes + behind ≤ 67108864 → LineMovesOn old new result
 GivesLine-moves old new end behind result given some inside =
@@ -73,7 +74,7 @@ GivesLine-moves old new end behind result given some inside =
     (number_at old.position) given.0 result given.2.0 given.1 (omega arith, omega arith)
 
 -- a line that ended in hand
-pub Ended-moves : (mid new : Reader) (at : ℕ) (result : Option (Result Line ReadStop))
+pub Ended-moves : (mid new : LineReaderView) (at : ℕ) (result : Option (Result Line ReadStop))
     → EndsLine mid new at result → LineMovesOn mid new result
 Ended-moves mid new at result answer =
     match_bool (leb 67108864 (mid.position.bytes + at))
@@ -84,7 +85,7 @@ Ended-moves mid new at result answer =
     (omega (arith, leb-false 67108864 (mid.position.bytes + at) inside)))
 
 -- the end of the input
-pub Open-moves : (mid new : Reader) (result : Option (Result Line ReadStop))
+pub Open-moves : (mid new : LineReaderView) (result : Option (Result Line ReadStop))
     → mid.position.bytes + length mid.held ≤ 67108864 → EndsInput mid new result
     → LineMovesOn mid new result
 Open-moves mid new result inside answer =
@@ -96,7 +97,7 @@ Open-moves mid new result inside answer =
     (λ some given. GivesLine-moves mid new (length mid.held) (length mid.held) result given
     (grind (arith, nat_tests)) inside)
 
-pub LineMovesOn-at : (old entry new : Reader) (result : Option (Result Line ReadStop))
+pub LineMovesOn-at : (old entry new : LineReaderView) (result : Option (Result Line ReadStop))
     → entry.position ≡ old.position → LineMovesOn old new result → LineMovesOn entry new result
 LineMovesOn-at old entry new None same moves = tt
 LineMovesOn-at old entry new (Some result) same moves =

@@ -5,42 +5,44 @@ use Rattle.std.proofs.Common.{sym, ◌∙◌, subst, inl, inr, arith, length-app
 use Rattle.std.specs.Prelude.{◌⊎◌}
 use Rattle.std.specs.Io.KnownBytes.{prepend_known}
 use Rattle.std.proofs.lemmas.Option.{none-some}
-use Rattle.port_core.specs.declared.answers.Line.{Line}
-use Rattle.port_core.specs.declared.answers.Line.TheVariants.{Text, End}
-use Rattle.port_core.specs.declared.answers.ReadStop.{ReadStop}
-use Rattle.port_core.specs.declared.answers.ReadStop.TheVariants.{ReadFault, LineTooLong}
-use Rattle.port_core.specs.declared.answers.ReadStop.TheVariants.{InputTooLong}
+use Rattle.port_core.specs.declared.line.Line.{Line}
+use Rattle.port_core.specs.declared.line.Line.TheVariants.{Text, End}
+use Rattle.port_core.specs.declared.line.ReadStop.{ReadStop}
+use Rattle.port_core.specs.declared.line.ReadStop.TheVariants.{ReadFault, LineTooLong}
+use Rattle.port_core.specs.declared.line.ReadStop.TheVariants.{InputTooLong}
 use Rattle.port_core.specs.declared.buffer.Due.{Due}
 use Rattle.port_core.specs.declared.buffer.Due.TheVariants.{Ended, Open, Failed, Stuck, Full}
 use Rattle.port_core.specs.Lines.{lines_of, text_of_line, HasNoLineFeed}
-use Rattle.port_core.specs.Buffers.{EndTold, LastFill, StopsReading}
-use Rattle.port_core.specs.Contents.{Position, position_behind, number_at, content_at, is_skipped}
+use Rattle.port_core.specs.inside.Buffers.{EndSeen, LastFill, StopsReading}
+use Rattle.port_core.specs.Contents.{Position, position_after, number_at, content_at, is_skipped}
 use Rattle.port_core.specs.Contents.{stop_due, is_whole, has_answer}
-use Rattle.port_core.specs.Readers.{Reader, HasAnswer, HasStop, LineGives, LeavesBehind}
-use Rattle.port_core.specs.Readers.{LineMovesOn, KeepsAnswer, AnswersStop, PassesTo, given_there}
-use Rattle.port_core.specs.Readers.{stream_of, contents_behind, contents_to_come, bytes_taken}
-use Rattle.port_core.specs.Readers.{TakesInput, LastRead, ReadsInNeed, LineStopsReading}
-use Rattle.port_core.specs.Readers.{StopsAtAnswer, Stops, EndsWait, Waits, most_held}
+use Rattle.port_core.specs.Readers.{LineReaderView, HasAnswer, stream_of, contents_after}
+use Rattle.port_core.specs.Readers.{contents_to_come}
+use Rattle.port_core.specs.Readers.{bytes_taken, TakesInput}
+use Rattle.port_core.specs.inside.ReaderCalls.{HasStop, LineGives, LeavesAfter, LineMovesOn}
+use Rattle.port_core.specs.inside.ReaderCalls.{KeepsAnswer, AnswersStop, PassesTo, given_there}
+use Rattle.port_core.specs.inside.ReaderCalls.{LastRead, ReadsInNeed, LineStopsReading}
+use Rattle.port_core.specs.inside.ReaderCalls.{StopsAtAnswer, Stops, EndsWait, Waits, most_held}
 use Rattle.port_core.proofs.StopLemmas.{stop-held, stop-overlong, stop-full, stop-open}
 use Rattle.port_core.proofs.AnswerLemmas.{Ended-gives, Ended-leaves, Open-gives, Open-leaves}
 use Rattle.port_core.proofs.AnswerLemmas.{stop-gives}
 use Rattle.port_core.proofs.HandLemmas.{Ended-keeps, Ended-stops, KeepsAnswer-none, no_answer-open}
 use Rattle.port_core.proofs.HandLemmas.{none-answers, stop-answers}
-use Rattle.port_core.proofs.TakingLemmas.{Ended-moves, LeavesBehind-at, LineMovesOn-at, Open-moves}
+use Rattle.port_core.proofs.TakingLemmas.{Ended-moves, LeavesAfter-at, LineMovesOn-at, Open-moves}
 use Rattle.port_core.proofs.TakingLemmas.{TakesInput-more, prepend-prepend}
 use Rattle.port_core.proofs.PassingLemmas.{Ended-passes, Open-passes, passes-before, passes-stays}
 
 -- ---- what the bytes in hand show
 
 -- the bytes in hand are within the input's limit where fewer are than may be
-within : (old mid : Reader) (left left' : Option (List ℕ)) (due : Due)
+within : (old mid : LineReaderView) (left left' : Option (List ℕ)) (due : Due)
     → Waits old mid left left' due
     → length mid.held < most_held mid → mid.position.bytes + length mid.held ≤ 67108864
 within old mid left left' due waits fewer =
     omega (arith, fewer, waits.inside, ap (λ p. p.bytes) waits.position)
 
 -- the line in hand that is too long stops the input, whatever follows
-stuck-stop : (old mid : Reader) (left left' : Option (List ℕ)) (rest : List ℕ)
+stuck-stop : (old mid : LineReaderView) (left left' : Option (List ℕ)) (rest : List ℕ)
     → Waits old mid left left' Stuck
     → stop_due mid.position (lines_of (mid.held ++ rest))
     ≡ Some (LineTooLong (number_at mid.position))
@@ -48,7 +50,7 @@ stuck-stop old mid left left' rest waits =
     stop-overlong mid.position mid.held rest waits.end (omega (arith, waits.within))
 
 -- the most bytes in hand stop the input, whatever follows
-full-stop : (old mid : Reader) (left left' : Option (List ℕ)) (rest : List ℕ)
+full-stop : (old mid : LineReaderView) (left left' : Option (List ℕ)) (rest : List ℕ)
     → Waits old mid left left' Full
     → stop_due mid.position (lines_of (mid.held ++ rest))
     ≡ Some (InputTooLong (number_at mid.position))
@@ -60,13 +62,13 @@ full-stop old mid left left' rest waits =
 -- ---- the answer, and where the reader is left
 
 -- what was to come before the wait
-before-is : (old mid : Reader) (left left' : Option (List ℕ)) (due : Due)
+before-is : (old mid : LineReaderView) (left left' : Option (List ℕ)) (due : Due)
     → Waits old mid left left' due
-    → contents_to_come old left ≡ contents_behind mid.position (stream_of old left)
+    → contents_to_come old left ≡ contents_after mid.position (stream_of old left)
 before-is old mid left left' due waits =
-    ap (λ p. contents_behind p (stream_of old left)) (sym waits.position)
+    ap (λ p. contents_after p (stream_of old left)) (sym waits.position)
 
-pub wait-gives : (old mid new : Reader) (left left' : Option (List ℕ)) (due : Due)
+pub wait-gives : (old mid new : LineReaderView) (left left' : Option (List ℕ)) (due : Due)
     (result : Option (Result Line ReadStop)) → Waits old mid left left' due
     → EndsWait mid new due result
     → LineGives (contents_to_come old left) (contents_to_come new left') new.text result
@@ -79,7 +81,7 @@ wait-gives old mid new left left' Open result waits ends =
 wait-gives old mid new left left' Failed result waits ends =
     subst (LineGives (contents_to_come old left) (contents_to_come new left') new.text)
     (sym ends.0) (before-is old mid left left' Failed waits
-    ∙ ap (contents_behind mid.position) waits.stream
+    ∙ ap (contents_after mid.position) waits.stream
     ∙ ap (λ r. contents_to_come r left') (sym ends.1))
 wait-gives old mid new left left' Stuck result waits ends =
     stop-gives _ _ left' mid new _ result (before-is old mid left left' Stuck waits) waits.stream
@@ -89,27 +91,27 @@ wait-gives old mid new left left' Full result waits ends =
     (λ rest. full-stop old mid left left' rest waits) ends
 
 -- a stop in hand leaves the reader with it
-stop-leaves : (old mid new : Reader) (left' : Option (List ℕ)) (stop : ReadStop)
+stop-leaves : (old mid new : LineReaderView) (left' : Option (List ℕ)) (stop : ReadStop)
     (result : Option (Result Line ReadStop)) → HasStop mid stop → Stops mid new stop result
-    → (HasStop new stop → LeavesBehind old new left' (Some (Err stop)))
-    → LeavesBehind old new left' result
+    → (HasStop new stop → LeavesAfter old new left' (Some (Err stop)))
+    → LeavesAfter old new left' result
 stop-leaves old mid new left' stop result has stops leaves =
-    subst (LeavesBehind old new left') (sym stops.0)
+    subst (LeavesAfter old new left') (sym stops.0)
     (leaves (subst (λ r. HasStop r stop) (sym stops.1) has))
 
-pub wait-leaves : (old mid new : Reader) (left left' : Option (List ℕ)) (due : Due)
+pub wait-leaves : (old mid new : LineReaderView) (left left' : Option (List ℕ)) (due : Due)
     (result : Option (Result Line ReadStop)) → Waits old mid left left' due
-    → EndsWait mid new due result → LeavesBehind old new left' result
+    → EndsWait mid new due result → LeavesAfter old new left' result
 wait-leaves old mid new left left' (Ended at) result waits ends =
-    LeavesBehind-at mid old new left' result (sym waits.position)
+    LeavesAfter-at mid old new left' result (sym waits.position)
     (Ended-leaves mid new left' at result waits.end ends)
 wait-leaves old mid new left left' Open result waits ends =
-    LeavesBehind-at mid old new left' result (sym waits.position)
+    LeavesAfter-at mid old new left' result (sym waits.position)
     (Open-leaves mid new left' result waits.end.0 waits.end.1 ends)
 wait-leaves old mid new left left' Failed result waits ends =
-    let P : Reader → Type 0 = λ r. HasNoLineFeed r.held × (length r.held ≤ 1024)
+    let P : LineReaderView → Type 0 = λ r. HasNoLineFeed r.held × (length r.held ≤ 1024)
     × (bytes_taken r ≤ 67108864) in
-    subst (LeavesBehind old new left') (sym ends.0) (subst P (sym ends.1) (
+    subst (LeavesAfter old new left') (sym ends.0) (subst P (sym ends.1) (
       waits.end.0.0,
       waits.end.0.1,
       within old mid left left' Failed waits waits.end.1,
@@ -123,7 +125,7 @@ wait-leaves old mid new left left' Full result waits ends =
     (stop-held mid.position mid.held _ (λ rest. full-stop old mid left left' rest waits)) ends
     (λ has. has)
 
-pub wait-moves : (old mid new : Reader) (left left' : Option (List ℕ)) (due : Due)
+pub wait-moves : (old mid new : LineReaderView) (left left' : Option (List ℕ)) (due : Due)
     (result : Option (Result Line ReadStop)) → Waits old mid left left' due
     → EndsWait mid new due result → LineMovesOn old new result
 wait-moves old mid new left left' (Ended at) result waits ends =
@@ -147,14 +149,15 @@ stop-answer position [] stop is = absurd (none-some stop is)
 stop-answer position (line ∷ lines) stop is =
     ap (λ found. is_some found || is_whole line
     && (not (is_skipped (content_at position (text_of_line line)))
-    || has_answer (position_behind position (length line)) lines)) is
+    || has_answer (position_after position (length line)) lines)) is
 
-stays : (old mid : Reader) (left left' : Option (List ℕ)) (due : Due) → Waits old mid left left' due
+stays : (old mid : LineReaderView) (left left' : Option (List ℕ)) (due : Due)
+    → Waits old mid left left' due
     → (stop : ReadStop) → HasStop old stop → mid ≡ old
 stays old mid left left' due waits stop has =
     waits.ready (stop-answer old.position (lines_of old.held) stop has)
 
-pub wait-keeps : (old mid new : Reader) (left left' : Option (List ℕ)) (due : Due)
+pub wait-keeps : (old mid new : LineReaderView) (left left' : Option (List ℕ)) (due : Due)
     (result : Option (Result Line ReadStop)) → Waits old mid left left' due
     → EndsWait mid new due result → KeepsAnswer old new result
 wait-keeps old mid new left left' (Ended at) result waits ends =
@@ -170,7 +173,7 @@ wait-keeps old mid new left left' Stuck result waits ends =
 wait-keeps old mid new left left' Full result waits ends =
     subst (KeepsAnswer old new) (sym ends.0) tt
 
-pub wait-stopped : (old mid new : Reader) (left left' : Option (List ℕ)) (due : Due)
+pub wait-stopped : (old mid new : LineReaderView) (left left' : Option (List ℕ)) (due : Due)
     (result : Option (Result Line ReadStop)) → Waits old mid left left' due
     → EndsWait mid new due result → AnswersStop old new result
 wait-stopped old mid new left left' (Ended at) result waits ends =
@@ -192,9 +195,10 @@ wait-stopped old mid new left left' Full result waits ends =
 
 -- ---- the lines passed
 
-passes-there : (mid new : Reader) (left' : Option (List ℕ)) (ended ended' : Bool) (due : Due)
-    (result : Option (Result Line ReadStop)) (old : Reader) (left : Option (List ℕ))
-    → Waits old mid left left' due → EndsWait mid new due result → EndTold ended ended' due
+passes-there : (mid new : LineReaderView) (left' : Option (List ℕ)) (ended ended' : Bool)
+    (due : Due)
+    (result : Option (Result Line ReadStop)) (old : LineReaderView) (left : Option (List ℕ))
+    → Waits old mid left left' due → EndsWait mid new due result → EndSeen ended ended' due
     → PassesTo mid new left' left' ended ended' (given_there result new.text)
 passes-there mid new left' ended ended' (Ended at) result old left waits ends told =
     Ended-passes mid new left' ended ended' at result waits.end ends told
@@ -208,9 +212,10 @@ passes-there mid new left' ended ended' Stuck result old left waits ends told =
 passes-there mid new left' ended ended' Full result old left waits ends told =
     passes-stays mid new left' ended ended' result _ refl ends told
 
-pub wait-passes : (old mid new : Reader) (left left' : Option (List ℕ)) (ended ended' : Bool)
+pub wait-passes : (old mid new : LineReaderView) (left left' : Option (List ℕ))
+    (ended ended' : Bool)
     (due : Due) (result : Option (Result Line ReadStop)) → Waits old mid left left' due
-    → EndsWait mid new due result → EndTold ended ended' due
+    → EndsWait mid new due result → EndSeen ended ended' due
     → PassesTo old new left left' ended ended' (given_there result new.text)
 wait-passes old mid new left left' ended ended' due result waits ends told =
     passes-before old mid new left left' ended ended' _ waits.position waits.stream
@@ -219,12 +224,17 @@ wait-passes old mid new left left' ended ended' due result waits ends told =
 -- ---- the last read
 
 LastRead-fill : {S : Type 0} (left : S → Option (List ℕ)) (reads : S → List ℕ → S → Type 0)
-    (old mid new : Reader) (before after : S) (due : Due)
+    (old mid new : LineReaderView) (before after : S) (due : Due)
     → Waits old mid (left before) (left after) due → bytes_taken new ≡ bytes_taken mid
     → LastFill left reads (most_held old) old.held mid.held before after
     → LastRead left reads old new before after
 LastRead-fill left reads old mid new before after due waits count fill =
-    let reader : Reader = record { held = fill.seen; text = old.text; position = old.position } in
+    let reader : LineReaderView = record {
+      held = fill.seen;
+      text = old.text;
+      position =
+          old.position;
+    } in
     let inside : old.position.bytes + length fill.seen ≤ 67108864 =
     omega (arith, fill.room, waits.inside) in
     let bytes = fill.takes.0 in
@@ -232,7 +242,7 @@ LastRead-fill left reads old mid new before after due waits count fill =
       reader = reader;
       source = fill.source;
       last = fill.last;
-      same = ap (contents_behind old.position) (ap (prepend_known old.held) fill.takes.2
+      same = ap (contents_after old.position) (ap (prepend_known old.held) fill.takes.2
           ∙ prepend-prepend old.held bytes (left fill.source)
           ∙ ap (λ h. prepend_known h (left fill.source)) (sym fill.takes.1));
       front = (
@@ -253,7 +263,7 @@ LastRead-fill left reads old mid new before after due waits count fill =
     }
 
 need-fill : {S : Type 0} (left : S → Option (List ℕ)) (reads : S → List ℕ → S → Type 0)
-    (old mid new : Reader) (before after : S) (due : Due)
+    (old mid new : LineReaderView) (before after : S) (due : Due)
     → Waits old mid (left before) (left after) due → bytes_taken new ≡ bytes_taken mid
     → ((after ≡ before) × (mid.held ≡ old.held))
     ⊎ LastFill left reads (most_held old) old.held mid.held before after
@@ -273,7 +283,7 @@ need-fill left reads old mid new before after due waits count last =
     ]
 
 stops-by : {S : Type 0} (left : S → Option (List ℕ)) (reads : S → List ℕ → S → Type 0)
-    (old new : Reader) (before after : S) (result : Option (Result Line ReadStop))
+    (old new : LineReaderView) (before after : S) (result : Option (Result Line ReadStop))
     → ReadsInNeed left reads old new before after
     → LineStopsReading left reads old new before after result
 stops-by left reads old new before after None need = need
@@ -284,7 +294,7 @@ stops-by left reads old new before after (Some (Err (LineTooLong number))) need 
 stops-by left reads old new before after (Some (Err (InputTooLong number))) need = need
 
 pub wait-last : {S : Type 0} (left : S → Option (List ℕ)) (reads : S → List ℕ → S → Type 0)
-    (old mid new : Reader) (before after : S) (due : Due)
+    (old mid new : LineReaderView) (before after : S) (due : Due)
     (result : Option (Result Line ReadStop)) → Waits old mid (left before) (left after) due
     → EndsWait mid new due result → bytes_taken new ≡ bytes_taken mid
     → StopsReading left reads (most_held old) old.held mid.held before after due
@@ -306,7 +316,7 @@ wait-last left reads old mid new before after Full result waits ends count last 
 
 -- lines that were passed before count as taken before the last read
 pub need-more : {S : Type 0} (left : S → Option (List ℕ)) (reads : S → List ℕ → S → Type 0)
-    (a b c : Reader) (first second third : S)
+    (a b c : LineReaderView) (first second third : S)
     → contents_to_come a (left first) ≡ contents_to_come b (left second)
     → TakesInput a b (left first) (left second)
     → ReadsInNeed left reads a b first second → ReadsInNeed left reads b c second third
@@ -342,7 +352,7 @@ need-more left reads a b c first second third same takes one two =
 
 -- the same of an answer
 pub stops-more : {S : Type 0} (left : S → Option (List ℕ)) (reads : S → List ℕ → S → Type 0)
-    (a b c : Reader) (first second third : S) (result : Result Line ReadStop)
+    (a b c : LineReaderView) (first second third : S) (result : Result Line ReadStop)
     → contents_to_come a (left first) ≡ contents_to_come b (left second)
     → TakesInput a b (left first) (left second)
     → ReadsInNeed left reads a b first second

@@ -5,8 +5,8 @@ use Rattle.std.specs.Prelude.{ℕ, ◌+◌, ◌-◌, Bool, true, false, not, ◌
 use Rattle.std.specs.Prelude.{nat_le, List, [], ◌∷◌, ◌++◌, length, take, drop, Option, Some, None}
 use Rattle.std.specs.Prelude.{is_some, Result, Ok, Err, if◌then◌else◌}
 use Rattle.std.specs.List.{starts_with, ends_with, list_any}
-use Rattle.port_core.specs.declared.answers.ReadStop.{ReadStop}
-use Rattle.port_core.specs.declared.answers.ReadStop.TheVariants.{LineTooLong, InputTooLong}
+use Rattle.port_core.specs.declared.line.ReadStop.{ReadStop}
+use Rattle.port_core.specs.declared.line.ReadStop.TheVariants.{LineTooLong, InputTooLong}
 use Rattle.port_core.specs.Lines.{lines_of, text_of_line, line_limit, line_feed}
 
 -- the most bytes that an input may have
@@ -24,9 +24,9 @@ pub record Position : Type 0 where
 abbrev pub start : Position
 start = record { lines = 0; bytes = 0 }
 
--- the position behind a line of so many bytes
-abbrev pub position_behind : Position → ℕ → Position
-position_behind position size = record { lines = position.lines + 1; bytes = position.bytes + size }
+-- the position after a line of so many bytes
+abbrev pub position_after : Position → ℕ → Position
+position_after position size = record { lines = position.lines + 1; bytes = position.bytes + size }
 
 -- the number of the line at a position; lines are numbered from 1
 abbrev pub number_at : Position → ℕ
@@ -36,7 +36,7 @@ number_at position = position.lines + 1
 abbrev pub byte_order_mark : List ℕ
 byte_order_mark = 0xEF ∷ 0xBB ∷ 0xBF ∷ []
 
--- a text without the byte order mark at its front, where it has one
+-- a text without the byte order mark at its prefix, where it has one
 abbrev pub without_mark : List ℕ → List ℕ
 without_mark text = if starts_with nat_eq text byte_order_mark then drop 3 text else text
 
@@ -94,21 +94,21 @@ pub record Contents : Type 0 where
 abbrev pub ended : Result ℕ ReadStop → Contents
 ended ending = record { lines = []; ending = ending }
 
--- one more line in front
+-- one more line at the front
 abbrev pub with_line : ℕ → List ℕ → Contents → Contents
 with_line number content rest =
     record { lines = (number, content) ∷ rest.lines; ending = rest.ending }
 
--- these lines in front
+-- these lines at the front
 abbrev pub with_lines : List (ℕ × List ℕ) → Contents → Contents
 with_lines given rest = record { lines = given ++ rest.lines; ending = rest.ending }
 
--- what a content adds to what the lines behind it give: nothing where its line is passed over
+-- what a content adds to what the lines after it give: nothing where its line is passed over
 abbrev pub with_content : ℕ → List ℕ → Contents → Contents
 with_content number content rest =
     if is_skipped content then rest else with_line number content rest
 
--- what a line and those behind it give: nothing but the stop, where the input stops there
+-- what a line and those after it give: nothing but the stop, where the input stops there
 abbrev pub contents_by : Option ReadStop → Contents → Contents
 contents_by (Some stop) contents = ended (Err stop)
 contents_by None contents = contents
@@ -119,7 +119,7 @@ contents_from position [] = ended (Ok (number_at position))
 contents_from position (line ∷ lines) =
     contents_by (line_stop position line)
     (with_content (number_at position) (content_at position (text_of_line line))
-    (contents_from (position_behind position (length line)) lines))
+    (contents_from (position_after position (length line)) lines))
 
 -- what an input gives
 abbrev pub contents_of : List ℕ → Contents
@@ -137,4 +137,4 @@ has_answer position [] = false
 has_answer position (line ∷ lines) =
     is_some (line_stop position line)
     || is_whole line && (not (is_skipped (content_at position (text_of_line line)))
-    || has_answer (position_behind position (length line)) lines)
+    || has_answer (position_after position (length line)) lines)

@@ -1,9 +1,7 @@
--- Reading order: what a device promises, what a line is, what an input gives, what the reader of
--- lines answers, the devices over memory and over std, and what inner calls promise each other.
+-- Reading order: what a device promises, what a line is, what an input gives, and what the reader
+-- of lines has.
 pub mod Ports
 pub mod Lines
 pub mod Contents
 pub mod Readers
-pub mod Memory
-pub mod Adapters
-pub mod Buffers
+pub mod inside

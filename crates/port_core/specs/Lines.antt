@@ -1,8 +1,6 @@
 -- The lines of an input, as every text tool cuts it: a line ends at its LF, which belongs to it, or
 -- at the end of the input.
-use Rattle.std.specs.Prelude.{◌≡◌, ◌≢◌, ℕ, ◌<◌, ◌⊎◌, List, [], ◌∷◌, ◌++◌, length, All}
-use Rattle.std.specs.Prelude.{if◌then◌else◌, ◌==◌}
-use Rattle.std.specs.List.{concat}
+use Rattle.std.specs.Prelude.{◌≡◌, ◌≢◌, ℕ, List, [], ◌∷◌, ◌++◌, All, if◌then◌else◌, ◌==◌}
 
 -- the byte that ends a line
 abbrev pub line_feed : ℕ
@@ -17,7 +15,7 @@ abbrev pub onto_first : ℕ → List (List ℕ) → List (List ℕ)
 onto_first byte [] = (byte ∷ []) ∷ []
 onto_first byte (line ∷ lines) = (byte ∷ line) ∷ lines
 
--- the lines of an input, each with its LF; what stands behind the last LF is a line where it is not
+-- the lines of an input, each with its LF; what comes after the last LF is a line where it is not
 -- empty
 abbrev pub lines_of : List ℕ → List (List ℕ)
 lines_of [] = []
@@ -37,24 +35,6 @@ HasNoLineFeed bytes = All (λ byte. byte ≢ line_feed) bytes
 abbrev pub IsEndedLine : List ℕ → Type 0
 IsEndedLine line = (text : List ℕ) × HasNoLineFeed text × (line ≡ text ++ line_feed ∷ [])
 
--- a line that the end of the input cut off: a text that is not empty, and no LF
-abbrev pub IsOpenLine : List ℕ → Type 0
-IsOpenLine line = HasNoLineFeed line × (0 < length line)
-
 -- each of these lines ended
 abbrev pub AreEndedLines : List (List ℕ) → Type 0
 AreEndedLines lines = All IsEndedLine lines
-
--- each line ended, and the last one may be open
-abbrev pub AreLines : List (List ℕ) → Type 0
-AreLines [] = Unit {0}
-AreLines (line ∷ []) = IsEndedLine line ⊎ IsOpenLine line
-AreLines (line ∷ next ∷ lines) = IsEndedLine line × AreLines (next ∷ lines)
-
--- the lines of an input joined are the input, and each of them is a line
-abbrev pub LinesSplitInput : Type 0
-LinesSplitInput = (input : List ℕ) → (concat (lines_of input) ≡ input) × AreLines (lines_of input)
-
--- no other lines joined are the input
-abbrev pub LinesAreTheOnlySplit : Type 0
-LinesAreTheOnlySplit = (lines : List (List ℕ)) → AreLines lines → lines_of (concat lines) ≡ lines

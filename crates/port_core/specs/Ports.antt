@@ -40,7 +40,7 @@ abbrev pub TellsEnd : Bool → Bool → Got → Type 0
 TellsEnd before now (Bytes n) = now ≡ (before || n == 0)
 TellsEnd before now got.Failed = now ≡ before
 
--- a write takes a byte at least, and puts what it takes behind the bytes that the sink holds; a
+-- a write takes a byte at least, and puts what it takes after the bytes that the sink holds; a
 -- failed one takes none
 abbrev pub Writes : Option (List ℕ) → Option (List ℕ) → Put → List ℕ → Type 0
 Writes old new (Took n) piece =
@@ -53,14 +53,15 @@ CountsWrite before now (Took n) = now ≡ before
 CountsWrite before now put.Failed = Rose before now
 
 -- a text begins with these bytes
-abbrev pub IsFront : List ℕ → List ℕ → Type 0
-IsFront part text = (rest : List ℕ) × (text ≡ part ++ rest)
+abbrev pub IsBytePrefix : List ℕ → List ℕ → Type 0
+IsBytePrefix part text = (rest : List ℕ) × (text ≡ part ++ rest)
 
--- a sink took some front of a text, perhaps none of it
-abbrev pub AppendsFront : Option (List ℕ) → Option (List ℕ) → List ℕ → Type 0
-AppendsFront old new text = (part : List ℕ) × IsFront part text × (new ≡ append_known old part)
+-- a sink took some prefix of a text, perhaps none of it
+abbrev pub AppendsPrefix : Option (List ℕ) → Option (List ℕ) → List ℕ → Type 0
+AppendsPrefix old new text = (part : List ℕ) × IsBytePrefix part text
+    × (new ≡ append_known old part)
 
--- two texts put behind known bytes one after the other are their joined text put there at once
+-- two texts put after known bytes one after the other are their joined text put there at once
 abbrev pub AppendsInTurn : Type 0
 AppendsInTurn = (known : Option (List ℕ)) (first second : List ℕ)
     → append_known (append_known known first) second ≡ append_known known (first ++ second)

@@ -8,11 +8,11 @@ ghost use Rattle.std.specs.Prelude.{◌≡◌, ◌+◌, ◌<◌, ◌≤◌, [], 
 ghost use Rattle.std.specs.Io.KnownBytes.{prepend_known};
 ghost use Rattle.port_core.specs.Ports.{CountsRead, TellsEnd};
 ghost use Rattle.port_core.specs.Lines.{HasNoLineFeed};
-ghost use Rattle.port_core.specs.Buffers.{CountsDue, EndTold, EndsAt, Fills, IsDue, IsReady};
-ghost use Rattle.port_core.specs.Buffers.{ReadsBehind, StopsReading, Takes};
+ghost use Rattle.port_core.specs.inside.Buffers.{CountsDue, EndSeen, EndsAt, Fills, IsDue, IsReady};
+ghost use Rattle.port_core.specs.inside.Buffers.{ReadsAfter, StopsReading, Takes};
 
-use crate::answers::LINE_LIMIT;
-use crate::pieces::{find_line_feed, move_to_front};
+use crate::bytes::{find_line_feed, move_to_start};
+use crate::line::LINE_LIMIT;
 use crate::ports::{Got, Source};
 use league_core::OutOfMemory;
 use std::alloc::Global;
@@ -42,7 +42,7 @@ pub struct Buffer {
 
 impl Model for Buffer {
     ghost use Rattle.std.specs.Prelude.{ℕ, List, ◌≡◌, ◌≤◌, vec_len};
-    ghost use Rattle.port_core.specs.Buffers.{part};
+    ghost use Rattle.port_core.specs.inside.Buffers.{part};
     ghost use Rattle.port_core.specs.declared.buffer.TheConstants.{ROOM};
 
     ghost Value = { List ℕ };
@@ -73,14 +73,14 @@ impl Buffer {
     }
 
     /// Lets go of the first bytes.
-    pub fn drop_front(&mut self, count: usize)
+    pub fn drop_prefix(&mut self, count: usize)
         requires { count ≤ length self.old }
         ensures { self.new ≡ drop count self.old }
     {
         self.from += count;
     }
 
-    /// One read behind the bytes in hand, of which there are at most `most` then.
+    /// One read after the bytes in hand, of which there are at most `most` then.
     pub fn fill<S: Source>(&mut self, source: &mut S, most: usize) -> Got
         requires short { length self.old ≤ LINE_LIMIT }
         requires some { length self.old < most }
@@ -91,10 +91,10 @@ impl Buffer {
         ensures end { TellsEnd (S.ended source.old) (S.ended source.new) result }
     {
         let count = self.to - self.from;
-        move_to_front(&mut self.bytes, self.from, self.to);
+        move_to_start(&mut self.bytes, self.from, self.to);
         self.from = 0;
         self.to = count;
-        let got = read_behind(source, &mut self.bytes, count, most.min(ROOM));
+        let got = read_after(source, &mut self.bytes, count, most.min(ROOM));
         if let Got::Bytes(count) = &got {
             self.to += *count;
         }
@@ -102,10 +102,10 @@ impl Buffer {
     }
 }
 
-fn read_behind<S: Source>(source: &mut S, bytes: &mut [u8], to: usize, end: usize) -> Got
+fn read_after<S: Source>(source: &mut S, bytes: &mut [u8], to: usize, end: usize) -> Got
     requires some { to < end }
     requires within { end ≤ length bytes.old }
-    ensures bytes { ReadsBehind (S.left source.old) (S.left source.new)
+    ensures bytes { ReadsAfter (S.left source.old) (S.left source.new)
         (λ bytes. S.reads source.old bytes source.new) result to end bytes.old bytes.new }
     ensures cause { CountsRead (S.faults source.old) (S.faults source.new) result }
     ensures end { TellsEnd (S.ended source.old) (S.ended source.new) result }
@@ -135,7 +135,7 @@ pub fn await_line<S: Source>(held: &mut Buffer, most: usize, source: &mut S) -> 
     ensures within { length held.old ≤ most → length held.new ≤ most }
     ensures takes { Takes held.old held.new (S.left source.old) (S.left source.new) }
     ensures last { StopsReading S.left S.reads most held.old held.new source.old source.new result }
-    ensures end { EndTold (S.ended source.old) (S.ended source.new) result }
+    ensures end { EndSeen (S.ended source.old) (S.ended source.new) result }
     ensures cause { CountsDue (S.faults source.old) (S.faults source.new) result }
     ensures ready { IsReady held.old → (source.new ≡ source.old) × (held.new ≡ held.old) }
     ensures full { most ≤ length held.old → (source.new ≡ source.old) × (held.new ≡ held.old) }

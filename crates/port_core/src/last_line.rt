@@ -2,8 +2,8 @@
 
 ghost use Rattle.std.specs.Prelude.{◌≡◌, ◌≤◌, [], IfOk, length};
 
-use crate::answers::LINE_LIMIT;
-use crate::pieces::copy_to_front;
+use crate::bytes::copy_to_start;
+use crate::line::LINE_LIMIT;
 use league_core::OutOfMemory;
 use std::alloc::Global;
 use std::marker::Model;
@@ -17,7 +17,7 @@ pub struct LastLine {
 
 impl Model for LastLine {
     ghost use Rattle.std.specs.Prelude.{ℕ, List, ◌≡◌, ◌≤◌, take, vec_len};
-    ghost use Rattle.port_core.specs.declared.answers.TheConstants.{LINE_LIMIT};
+    ghost use Rattle.port_core.specs.declared.line.TheConstants.{LINE_LIMIT};
 
     ghost Value = { List ℕ };
 
@@ -49,7 +49,7 @@ impl LastLine {
         requires { length text.now ≤ LINE_LIMIT }
         ensures { self.new ≡ text.now }
     {
-        copy_to_front(&mut self.bytes, text);
+        copy_to_start(&mut self.bytes, text);
         self.end = text.len();
     }
 }

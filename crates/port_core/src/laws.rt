@@ -1,7 +1,7 @@
 //! Laws of the definitions that the calls of this crate are stated with. Each is the contract of a
 //! function that does nothing.
 
-ghost use Rattle.port_core.specs.Lines.{LinesAreTheOnlySplit, LinesSplitInput};
+ghost use Rattle.port_core.specs.inside.LineSplits.{LinesAreTheOnlySplit, LinesSplitInput};
 ghost use Rattle.port_core.specs.Ports.{AppendsInTurn};
 
 /// The lines of an input joined are the input; each line ends at its one LF, and only the last may

@@ -3,24 +3,25 @@
 //!
 //! A device is seen as the bytes that it tells, where it tells them, and a count of faults. What a
 //! call promises is in `specs/Ports.antt`; what a line is, in `specs/Lines.antt`; which lines
-//! count, in `specs/Contents.antt`; what a reader of lines answers, in `specs/Readers.antt`.
+//! count, in `specs/Contents.antt`; what a reader of lines answers, in
+//! `specs/inside/ReaderCalls.antt`.
 #![tactic(auto)]
 
-mod answers;
 mod buffer;
+mod bytes;
 mod content;
 mod last_line;
 mod laws;
+mod line;
 mod line_reader;
 mod mem_sink;
 mod mem_source;
-mod pieces;
 mod ports;
 mod std_ports;
 mod writing;
 
-pub use answers::{INPUT_LIMIT, LINE_LIMIT, Line, ReadStop, WriteFault};
 pub use laws::{appends_in_turn, lines_are_the_only_split, lines_split_the_input};
+pub use line::{INPUT_LIMIT, LINE_LIMIT, Line, ReadStop, WriteFault};
 pub use line_reader::LineReader;
 pub use mem_sink::MemSink;
 pub use mem_source::MemSource;

@@ -10,19 +10,21 @@
 ghost use Rattle.std.specs.Prelude.{◌≡◌, ◌+◌, ◌-◌, ◌<◌, ◌≤◌, [], IfOk, Ok, length, option_map};
 ghost use Rattle.std.specs.Prelude.{take};
 ghost use Rattle.port_core.specs.Contents.{input_limit, number_at, start};
-ghost use Rattle.port_core.specs.Readers.{AnswersStop, CountsNext, CountsLine, EndsInput, EndsLine};
-ghost use Rattle.port_core.specs.Readers.{EndsWait, HasAnswer, IsWithin, KeepsContent, KeepsText};
-ghost use Rattle.port_core.specs.Readers.{NextGives, KeepsAnswer, LeavesBehind, LeavesReader};
-ghost use Rattle.port_core.specs.Readers.{LineGives, LineKeepsText, LineMovesOn, LineStopsReading};
-ghost use Rattle.port_core.specs.Readers.{MovesOn, PassesLine, PassesTo, StaysStopped};
-ghost use Rattle.port_core.specs.Readers.{StopsAtAnswer, TakesInput, Waits, bytes_taken};
-ghost use Rattle.port_core.specs.Readers.{contents_to_come, given_by, given_there, most_held};
-ghost use Rattle.port_core.specs.Buffers.{CountsDue, EndTold, StopsReading};
+ghost use Rattle.port_core.specs.Readers.{HasAnswer, TakesInput, bytes_taken, contents_to_come};
+ghost use Rattle.port_core.specs.inside.ReaderCalls.{AnswersStop, CountsNext, CountsLine};
+ghost use Rattle.port_core.specs.inside.ReaderCalls.{EndsInput, EndsLine, EndsWait, IsWithin};
+ghost use Rattle.port_core.specs.inside.ReaderCalls.{KeepsContent, KeepsText, NextGives};
+ghost use Rattle.port_core.specs.inside.ReaderCalls.{KeepsAnswer, LeavesAfter, LeavesReader};
+ghost use Rattle.port_core.specs.inside.ReaderCalls.{LineGives, LineKeepsText, LineMovesOn};
+ghost use Rattle.port_core.specs.inside.ReaderCalls.{LineStopsReading, MovesOn, PassesLine};
+ghost use Rattle.port_core.specs.inside.ReaderCalls.{PassesTo, StaysStopped, StopsAtAnswer, Waits};
+ghost use Rattle.port_core.specs.inside.ReaderCalls.{given_by, given_there, most_held};
+ghost use Rattle.port_core.specs.inside.Buffers.{CountsDue, EndSeen, StopsReading};
 
-use crate::answers::{INPUT_LIMIT, LINE_LIMIT, Line, ReadStop};
 use crate::buffer::{Buffer, Due, await_line};
 use crate::content::{content_of, is_skipped};
 use crate::last_line::LastLine;
+use crate::line::{INPUT_LIMIT, LINE_LIMIT, Line, ReadStop};
 use crate::ports::Source;
 use league_core::OutOfMemory;
 use std::alloc::Global;
@@ -42,9 +44,9 @@ pub struct LineReader {
 impl Model for LineReader {
     ghost use Rattle.std.specs.Prelude.{◌+◌, ◌≤◌, length};
     ghost use Rattle.port_core.specs.Contents.{input_limit};
-    ghost use Rattle.port_core.specs.Readers.{Reader};
+    ghost use Rattle.port_core.specs.Readers.{LineReaderView};
 
-    ghost Value = { Reader };
+    ghost Value = { LineReaderView };
 
     ghost view = { λ reader. record {
       held = reader.held;
@@ -100,7 +102,7 @@ impl LineReader {
         ensures kept { KeepsText self.old self.new result }
 
         // Each byte taken is kept or passed, and at most one past the input's limit is taken. None
-        // is while an answer is in hand, and none behind the read that completes one.
+        // is while an answer is in hand, and none after the read that completes one.
         ensures takes { TakesInput self.old self.new (S.left source.old) (S.left source.new) }
         ensures within { bytes_taken self.new ≤ input_limit + 1 }
         ensures ready { HasAnswer self.old → source.new ≡ source.old }
@@ -123,7 +125,7 @@ impl LineReader {
             (contents_to_come self.new (S.left source.new)) self.new.text result }
         ensures passes { PassesTo self.old self.new (S.left source.old) (S.left source.new)
             (S.ended source.old) (S.ended source.new) (given_there result self.new.text) }
-        ensures leaves { LeavesBehind self.old self.new (S.left source.new) result }
+        ensures leaves { LeavesAfter self.old self.new (S.left source.new) result }
         ensures moves { LineMovesOn self.old self.new result }
         ensures kept { LineKeepsText self.old self.new result }
         ensures passed { self.new.position.bytes ≤ input_limit }
@@ -146,14 +148,14 @@ impl LineReader {
         ensures ready { HasAnswer self.old → source.new ≡ source.old }
         ensures last { StopsReading S.left S.reads (most_held self.old) self.old.held self.new.held
             source.old source.new result }
-        ensures end { EndTold (S.ended source.old) (S.ended source.new) result }
+        ensures end { EndSeen (S.ended source.old) (S.ended source.new) result }
         ensures cause { CountsDue (S.faults source.old) (S.faults source.new) result }
     {
         let most = self.most();
         await_line(&mut self.held, most, source)
     }
 
-    // What comes of the line that is due, behind the wait for it.
+    // What comes of the line that is due, after the wait for it.
     fn end_wait(&mut self, due: Due) -> Option<Result<Line, ReadStop>>
         requires { IsWithin self.old due }
         ensures answer { EndsWait self.old self.new due result }
@@ -212,7 +214,7 @@ impl LineReader {
         given(self.pass(count, count))
     }
 
-    // Passes the first line in hand. Its text ends at `end`, and its bytes at `behind`.
+    // Passes the first line in hand. Its text ends at `end`, and its bytes at `after`.
     fn pass(&mut self, end: usize, behind: usize) -> Option<Line>
         requires limit { end ≤ LINE_LIMIT }
         requires order { end ≤ behind }
@@ -222,7 +224,7 @@ impl LineReader {
         ensures { PassesLine self.old self.new end behind result }
     {
         let given = self.keep(end);
-        self.held.drop_front(behind);
+        self.held.drop_prefix(behind);
         self.lines += 1;
         self.bytes += behind;
         if given {

@@ -2,7 +2,7 @@
 
 ghost use Rattle.std.specs.Prelude.{◌≡◌, ◌<◌, [], IfOk, Some, length};
 ghost use Rattle.port_core.specs.Ports.{CountsWrite, Writes};
-ghost use Rattle.port_core.specs.Memory.{store_after, store_answer};
+ghost use Rattle.port_core.specs.inside.Memory.{store_after, store_answer};
 
 use crate::ports::{Put, Sink};
 use league_core::OutOfMemory;
@@ -23,9 +23,9 @@ pub struct MemSink {
 
 impl Model for MemSink {
     ghost use Rattle.std.specs.Prelude.{◌<◌, ◌≤◌, vec_len, vec_capacity};
-    ghost use Rattle.port_core.specs.Memory.{Store};
+    ghost use Rattle.port_core.specs.inside.Memory.{MemSinkView};
 
-    ghost Value = { Store };
+    ghost Value = { MemSinkView };
 
     ghost view = { λ s. record {
       holds = s.bytes.items;

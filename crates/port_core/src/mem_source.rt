@@ -2,9 +2,9 @@
 
 ghost use Rattle.std.specs.Prelude.{◌≡◌, ◌<◌, Some, false, length};
 ghost use Rattle.port_core.specs.Ports.{CountsRead, HoldsOfRead, Reads, TellsEnd};
-ghost use Rattle.port_core.specs.Memory.{HandsOut, supply_after, supply_answer};
+ghost use Rattle.port_core.specs.inside.Memory.{HandsOut, supply_after, supply_answer};
 
-use crate::pieces::copy_to_front;
+use crate::bytes::copy_to_start;
 use crate::ports::{Got, Source};
 use std::marker::Model;
 
@@ -22,9 +22,9 @@ pub struct MemSource {
 
 impl Model for MemSource {
     ghost use Rattle.std.specs.Prelude.{◌<◌, ◌≤◌, drop, vec_len};
-    ghost use Rattle.port_core.specs.Memory.{Supply};
+    ghost use Rattle.port_core.specs.inside.Memory.{MemSourceView};
 
-    ghost Value = { Supply };
+    ghost Value = { MemSourceView };
 
     ghost view = { λ s. record {
       left = drop s.at s.bytes.items;
@@ -89,7 +89,7 @@ impl Source for MemSource {
         }
         let rest = &self.bytes[self.at..];
         let count = self.piece.min(into.len()).min(rest.len());
-        copy_to_front(into, &rest[..count]);
+        copy_to_start(into, &rest[..count]);
         self.at += count;
         self.ended = self.ended || count == 0;
         Got::Bytes(count)

@@ -1,7 +1,7 @@
 //! What a run reads from and writes to. Each call may fail, and a count of faults rises when it
 //! does.
 
-ghost use Rattle.std.specs.Prelude.{ℕ, ◌<◌, Bool, true, List, Option, length, ⊤};
+ghost use Rattle.std.specs.Prelude.{ℕ, ◌<◌, Bool, List, Option, length, ⊤};
 ghost use Rattle.port_core.specs.Ports.{CountsRead, CountsWrite, HoldsOfRead, Reads, TellsEnd};
 ghost use Rattle.port_core.specs.Ports.{Writes};
 
@@ -29,8 +29,9 @@ pub trait Source {
     // A read of the source in the first state gave these bytes, and left the second.
     ghost reads: { Self → List ℕ → Self → Type 0 } = { λ _ _ _. ⊤ };
 
-    // Whether a read told the end, by giving no byte.
-    ghost ended: { Self → Bool } = { λ _. true };
+    // Whether a read told the end, by giving no byte. Each source says so itself: the clauses on a
+    // read that failed speak of it.
+    ghost ended: { Self → Bool };
 
     /// Puts the next bytes at the front of `into`. A read that fails loses no byte.
     fn read(&mut self, into: &mut [u8]) -> Got

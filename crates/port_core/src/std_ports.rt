@@ -2,8 +2,8 @@
 
 ghost use Rattle.std.specs.Prelude.{◌≡◌, ◌<◌, None, false, length};
 ghost use Rattle.std.specs.Io.KnownBytes.{Consumes};
-ghost use Rattle.port_core.specs.Adapters.{HandsOn, PassesOn, has_ended, read_faults, reader_of};
-ghost use Rattle.port_core.specs.Adapters.{write_faults, writer_of};
+ghost use Rattle.port_core.specs.inside.Adapters.{HandsOn, PassesOn, has_ended, read_faults};
+ghost use Rattle.port_core.specs.inside.Adapters.{reader_of, write_faults, writer_of};
 ghost use Rattle.port_core.specs.Ports.{CountsRead, CountsWrite, HoldsOfRead, Reads, TellsEnd};
 ghost use Rattle.port_core.specs.Ports.{Writes};
 

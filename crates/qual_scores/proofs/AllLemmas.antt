@@ -1,7 +1,7 @@
 -- The numbers so far, as an answer is put together.
 use Rattle.std.specs.Prelude.{All}
 use Rattle.std.specs.List.{list_all}
-use Rattle.score_answers.specs.SpentLines.{IsBoundInRange, IsInLineRange, AreInLineRange}
+use Rattle.score_answers.specs.inside.SpentLines.{IsBoundInRange, IsInLineRange, AreInLineRange}
 use Rattle.std.proofs.Common.{◌≡◌, ℕ, ◌+◌, ◌<◌, List, [], ◌∷◌, ◌++◌, length, map, take, get_or}
 use Rattle.std.proofs.Common.{refl}
 use Rattle.std.proofs.Common.{true, sym, ap, ◌∙◌, subst, arith, append_assoc, append-nil}
@@ -14,9 +14,9 @@ use Rattle.std.proofs.lemmas.List.FromFn.{map-range_with_len_more}
 use Rattle.league_core.specs.declared.sheet.Sheet.{Sheet}
 use Rattle.league_core.specs.declared.question.Claim.{Claim}
 use Rattle.league_core.specs.declared.question.Claim.TheVariants.{Inside, Outside}
-use Rattle.league_core.specs.Results.{Results}
-use Rattle.league_core.specs.Sheets.{is_line}
-use Rattle.league_core.specs.Questions.{IsQuestionOf, full_question}
+use Rattle.league_core.specs.game.Results.{Results}
+use Rattle.league_core.specs.game.Sheets.{is_line}
+use Rattle.league_core.specs.game.Questions.{IsQuestionOf, full_question}
 use Rattle.cert_text.specs.declared.proof_line.ProofLine.{ProofLine}
 use Rattle.cert_text.specs.Ranges.{is_in_range}
 use Rattle.verdict_run.specs.Items.{AnswerRow, answer_rows_of}
@@ -25,8 +25,8 @@ use Rattle.score_answers.specs.declared.bound.Bound.TheVariants.{Known, None, Be
 use Rattle.score_answers.specs.declared.bound.Score2.{Score2}
 use Rattle.score_answers.specs.declared.bound.ClubScores.{ClubScores}
 use Rattle.qual_scores.specs.Bounds.{AreRightScores, IsRightBound}
-use Rattle.qual_scores.specs.AllScores.{scores_row, AreRightOf, AreScoresFor, AddsClubs, AddsLine}
-use Rattle.qual_scores.specs.AllScores.{AreScoresOfLines}
+use Rattle.qual_scores.specs.AllScores.{scores_row, AreRightOf, AreScoresFor}
+use Rattle.qual_scores.specs.inside.AddedScores.{AddsClubs, AddsLine, AreScoresOfLines}
 
 -- numbers for some rows and then for others
 pub scores_joined : (sheet : Sheet) (season : Results) (rows others : List AnswerRow)

@@ -7,9 +7,10 @@ use Rattle.std.proofs.lemmas.Int.{ints, clamps}
 use Rattle.league_core.specs.declared.sheet.Sheet.{Sheet}
 use Rattle.league_core.specs.declared.sheet.Fixture.{Fixture}
 use Rattle.league_core.specs.declared.season.Score.{Score}
-use Rattle.league_core.specs.Results.{Results, are_results}
-use Rattle.league_core.specs.Options.{options_in}
-use Rattle.league_core.specs.PointRanges.{range_of, range_from, points_together, least_points_of}
+use Rattle.league_core.specs.game.Results.{Results, are_results}
+use Rattle.league_core.specs.search.Options.{options_in}
+use Rattle.league_core.specs.search.PointRanges.{range_of, range_from, points_together}
+use Rattle.league_core.specs.search.PointRanges.{least_points_of}
 use Rattle.league_core.proofs.PointsLemmas.{match_worth, results-deductions, deduction-le}
 
 least_of_two : (a b : ℤ) → pos 0 ≤ℤ a → pos 0 ≤ℤ b → pos 0 ≤ℤ int_min a b

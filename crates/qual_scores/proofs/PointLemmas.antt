@@ -8,13 +8,13 @@ use Rattle.std.proofs.lemmas.Int.{ints}
 use Rattle.league_core.specs.declared.sheet.Sheet.{Sheet}
 use Rattle.league_core.specs.declared.question.Claim.{Claim}
 use Rattle.league_core.specs.declared.question.Question.{Question}
-use Rattle.league_core.specs.Results.{Results, are_results}
-use Rattle.league_core.specs.Seasons.{IsLeague}
-use Rattle.league_core.specs.Sums.{points_of}
-use Rattle.league_core.specs.Ranking.{is_inside}
-use Rattle.league_core.specs.Questions.{is_on_side, is_in_window, IsExample}
-use Rattle.league_core.specs.PointRanges.{least_points_of, most_points_of}
-use Rattle.league_core.specs.Zones.{IsMember}
+use Rattle.league_core.specs.game.Results.{Results, are_results}
+use Rattle.league_core.specs.game.Seasons.{IsLeague}
+use Rattle.league_core.specs.game.Sums.{points_of}
+use Rattle.league_core.specs.game.Ranking.{is_inside}
+use Rattle.league_core.specs.game.Questions.{is_on_side, is_in_window, IsExample}
+use Rattle.league_core.specs.search.PointRanges.{least_points_of, most_points_of}
+use Rattle.league_core.specs.search.Zones.{IsMember}
 use Rattle.league_core.proofs.PointsLemmas.{points_in_full_window, results-deductions}
 use Rattle.reason_laws.proofs.MemberLemmas.{member_in_box, points_in_box}
 use Rattle.reason_laws.proofs.ReasonLemmas.{holds_parts}

@@ -6,16 +6,16 @@ use Rattle.std.proofs.lemmas.Int.{ints}
 use Rattle.league_core.specs.declared.sheet.Sheet.{Sheet}
 use Rattle.league_core.specs.declared.question.Claim.{Claim}
 use Rattle.league_core.specs.declared.question.Claim.TheVariants.{Inside, Outside}
-use Rattle.league_core.specs.Results.{Results, are_results}
-use Rattle.league_core.specs.Seasons.{IsLeague}
-use Rattle.league_core.specs.Questions.{IsQuestionOf, full_question}
-use Rattle.league_core.specs.PointRanges.{most_points_of}
+use Rattle.league_core.specs.game.Results.{Results, are_results}
+use Rattle.league_core.specs.game.Seasons.{IsLeague}
+use Rattle.league_core.specs.game.Questions.{IsQuestionOf, full_question}
+use Rattle.league_core.specs.search.PointRanges.{most_points_of}
 use Rattle.question_laws.proofs.DecidedLemmas.{question_decided}
 use Rattle.verdict_run.proofs.ShownLemmas.{refutation_is_true}
 use Rattle.qual_scores.specs.Scores.{IsLeastOf, IsPossibleScore, HasNoPossibleScore}
 use Rattle.qual_scores.specs.Scores.{CanBeInsideWith, IsInsideFrom, IsGuaranteedScore}
 use Rattle.qual_scores.specs.Scores.{question_between}
-use Rattle.qual_scores.specs.Ways.{HoldsOfPoints, IsNotAbove, first_span}
+use Rattle.qual_scores.specs.Bisections.{HoldsOfPoints, IsNotAbove, first_span}
 use Rattle.qual_scores.proofs.PointLemmas.{from_le}
 use Rattle.qual_scores.proofs.WindowLemmas.{inside_found, inside_none, outside_found, outside_none}
 use Rattle.qual_scores.proofs.SearchLemmas.{first_below, possible_most, none_past_reach}

@@ -9,22 +9,23 @@ use Rattle.std.proofs.lemmas.Int.{ints, clamps}
 use Rattle.league_core.specs.declared.sheet.Sheet.{Sheet}
 use Rattle.league_core.specs.declared.question.Claim.{Claim}
 use Rattle.league_core.specs.declared.question.Claim.TheVariants.{Inside, Outside}
-use Rattle.league_core.specs.Results.{Results}
-use Rattle.league_core.specs.PointRanges.{least_points_of, most_points_of}
+use Rattle.league_core.specs.game.Results.{Results}
+use Rattle.league_core.specs.search.PointRanges.{least_points_of, most_points_of}
 use Rattle.qual_scores.specs.declared.span.PointSpan.{PointSpan}
-use Rattle.qual_scores.specs.declared.window.Sought.{Sought}
+use Rattle.qual_scores.specs.declared.window.ScoreQuery.{ScoreQuery}
 use Rattle.qual_scores.specs.Scores.{question_between, CanBeInsideWith, IsInsideFrom, IsLeastOf}
 use Rattle.qual_scores.specs.Scores.{HasNoPossibleScore}
-use Rattle.qual_scores.specs.Ways.{HoldsOfPoints, IsNotAbove, IsOnTheWay, at_first, to_lower_half}
-use Rattle.qual_scores.specs.Ways.{to_upper_half, IsMiddleOf, first_span, IsAskedHalfway}
-use Rattle.qual_scores.specs.Ways.{ShowsSpan}
+use Rattle.qual_scores.specs.Bisections.{HoldsOfPoints, IsNotAbove, IsOnTheWay, at_first}
+use Rattle.qual_scores.specs.Bisections.{to_lower_half}
+use Rattle.qual_scores.specs.Bisections.{to_upper_half, IsMiddleOf, first_span, IsAskedHalfway}
+use Rattle.qual_scores.specs.Bisections.{ShowsSpan}
 use Rattle.qual_scores.specs.Bounds.{IsRightBound}
-use Rattle.qual_scores.specs.Searching.{HoldsOf, IsNarrowed, IsFirstReach, IsSaid}
+use Rattle.qual_scores.specs.inside.Searching.{HoldsOf, IsNarrowed, IsFirstReach, IsWindowAnswer}
 use Rattle.cert_text.specs.declared.proof_line.ProofLine.{ProofLine}
 use Rattle.score_answers.specs.declared.bound.Bound.{Bound}
 use Rattle.score_answers.specs.declared.bound.Bound.TheVariants.{Between}
-use Rattle.qual_scores.specs.declared.window.Said.{Said}
-use Rattle.qual_scores.specs.declared.window.Said.TheVariants.{NotAbove, Above, Spent}
+use Rattle.qual_scores.specs.declared.window.WindowAnswer.{WindowAnswer}
+use Rattle.qual_scores.specs.declared.window.WindowAnswer.TheVariants.{NotAbove, Above, Spent}
 use Rattle.qual_scores.proofs.PointLemmas.{points_in_window, points_in_reach, from_le}
 use Rattle.qual_scores.proofs.SpanLemmas.{middle_within, kept}
 
@@ -113,7 +114,7 @@ no_possible sheet season club line above points can =
 
 -- ---- halving
 
-pub lower_half : (sheet : Sheet) (season : Results) (sought : Sought) (span : PointSpan)
+pub lower_half : (sheet : Sheet) (season : Results) (sought : ScoreQuery) (span : PointSpan)
     (middle : ℤ) → IsNarrowed sheet season sought span → span.low <ℤ span.high
     → IsMiddleOf span middle → IsNotAbove (HoldsOf sheet season sought) middle
     → IsNarrowed sheet season sought (record { low = span.low; high = middle })
@@ -129,7 +130,7 @@ lower_half sheet season sought span middle narrowed several is found =
       most = omega (arith, ints);
     }
 
-pub upper_half : (sheet : Sheet) (season : Results) (sought : Sought) (span : PointSpan)
+pub upper_half : (sheet : Sheet) (season : Results) (sought : ScoreQuery) (span : PointSpan)
     (middle : ℤ) → IsNarrowed sheet season sought span → span.low <ℤ span.high
     → IsMiddleOf span middle → ¬ IsNotAbove (HoldsOf sheet season sought) middle
     → IsNarrowed sheet season sought (record { low = middle +ℤ pos 1; high = span.high })
@@ -159,7 +160,7 @@ upper_half sheet season sought span middle narrowed several is above =
 -- ---- the end
 
 -- a range of one number has the number
-pub one_left : (sheet : Sheet) (season : Results) (sought : Sought) (span : PointSpan)
+pub one_left : (sheet : Sheet) (season : Results) (sought : ScoreQuery) (span : PointSpan)
     → IsNarrowed sheet season sought span → span.high ≤ℤ span.low
     → IsLeastOf (HoldsOf sheet season sought) span.low
 one_left sheet season sought span narrowed one =
@@ -173,7 +174,7 @@ one_left sheet season sought span narrowed one =
     }
 
 -- the number lies in a range on the way
-pub lies_in : (sheet : Sheet) (season : Results) (sought : Sought) (span : PointSpan)
+pub lies_in : (sheet : Sheet) (season : Results) (sought : ScoreQuery) (span : PointSpan)
     → IsNarrowed sheet season sought span → (number : ℤ)
     → IsLeastOf (HoldsOf sheet season sought) number
     → (span.low ≤ℤ number) × (number ≤ℤ span.high)
@@ -193,7 +194,7 @@ lies_in_first sheet season club line number is = (
 )
 
 -- a window question at the middle of a range on the way shows this range
-pub shows_halfway : (sheet : Sheet) (season : Results) (sought : Sought) (span : PointSpan)
+pub shows_halfway : (sheet : Sheet) (season : Results) (sought : ScoreQuery) (span : PointSpan)
     (middle : ℤ) → IsNarrowed sheet season sought span → span.low <ℤ span.high
     → IsMiddleOf span middle
     → ShowsSpan sheet season sought.club sought.line sought.claim span middle
@@ -211,37 +212,42 @@ shows_halfway sheet season sought span middle narrowed several is =
 -- ---- with what was said
 
 -- the lower half, where the number was said not to be above the middle
-pub lower_from : (sheet : Sheet) (season : Results) (sought : Sought) (span : PointSpan)
-    (middle high : ℤ) (said : Said) → IsNarrowed sheet season sought span
-    → span.low <ℤ span.high → IsMiddleOf span middle → IsSaid sheet season sought middle said
+pub lower_from : (sheet : Sheet) (season : Results) (sought : ScoreQuery) (span : PointSpan)
+    (middle high : ℤ) (said : WindowAnswer) → IsNarrowed sheet season sought span
+    → span.low <ℤ span.high → IsMiddleOf span middle
+    → IsWindowAnswer sheet season sought middle said
     → said ≡ NotAbove → high ≡ middle
     → IsNarrowed sheet season sought (record { low = span.low; high = high })
 lower_from sheet season sought span middle high said narrowed several is says not_above same =
-    let found = subst (λ (s : Said). IsSaid sheet season sought middle s) not_above says in
+    let found = subst (λ (s : WindowAnswer). IsWindowAnswer sheet season sought middle s) not_above
+    says in
     subst (λ (h : ℤ). IsNarrowed sheet season sought (record { low = span.low; high = h }))
     (sym same) (lower_half sheet season sought span middle narrowed several is found)
 
 -- the upper half, where it was said to be above
-pub upper_from : (sheet : Sheet) (season : Results) (sought : Sought) (span : PointSpan)
-    (middle low : ℤ) (said : Said) → IsNarrowed sheet season sought span
-    → span.low <ℤ span.high → IsMiddleOf span middle → IsSaid sheet season sought middle said
+pub upper_from : (sheet : Sheet) (season : Results) (sought : ScoreQuery) (span : PointSpan)
+    (middle low : ℤ) (said : WindowAnswer) → IsNarrowed sheet season sought span
+    → span.low <ℤ span.high → IsMiddleOf span middle
+    → IsWindowAnswer sheet season sought middle said
     → said ≡ Above → low ≡ middle +ℤ pos 1
     → IsNarrowed sheet season sought (record { low = low; high = span.high })
 upper_from sheet season sought span middle low said narrowed several is says is_above same =
-    let above = subst (λ (s : Said). IsSaid sheet season sought middle s) is_above says in
+    let above = subst (λ (s : WindowAnswer). IsWindowAnswer sheet season sought middle s) is_above
+    says in
     subst (λ (l : ℤ). IsNarrowed sheet season sought (record { low = l; high = span.high }))
     (sym same) (upper_half sheet season sought span middle narrowed several is above)
 
 -- the range that is left, where a budget was spent halfway
-pub spent_halfway : (sheet : Sheet) (season : Results) (sought : Sought) (span : PointSpan)
-    (middle : ℤ) (said : Said) (lines : Vec ProofLine Global) (bound : Bound)
+pub spent_halfway : (sheet : Sheet) (season : Results) (sought : ScoreQuery) (span : PointSpan)
+    (middle : ℤ) (said : WindowAnswer) (lines : Vec ProofLine Global) (bound : Bound)
     → IsNarrowed sheet season sought span → span.low <ℤ span.high → IsMiddleOf span middle
-    → IsSaid sheet season sought middle said → said ≡ Spent lines
+    → IsWindowAnswer sheet season sought middle said → said ≡ Spent lines
     → bound ≡ Between span.low span.high lines
     → IsRightBound sheet season sought.club sought.line sought.claim bound
 spent_halfway sheet season sought span middle said lines bound narrowed several is says spent
     same =
-    let shown = subst (λ (s : Said). IsSaid sheet season sought middle s) spent says in
+    let shown = subst (λ (s : WindowAnswer). IsWindowAnswer sheet season sought middle s) spent says
+    in
     subst (λ (b : Bound). IsRightBound sheet season sought.club sought.line sought.claim b)
     (sym same) (record {
       asked = middle;
@@ -253,14 +259,16 @@ spent_halfway sheet season sought span middle said lines bound narrowed several 
 
 -- or at the upper end of the first range
 pub spent_first : (sheet : Sheet) (season : Results) (club line : ℕ) (reach : PointSpan)
-    (said : Said) (lines : Vec ProofLine Global) (bound : Bound)
+    (said : WindowAnswer) (lines : Vec ProofLine Global) (bound : Bound)
     → IsFirstReach sheet season club reach
-    → IsSaid sheet season (record { club = club; line = line; claim = Inside }) reach.high said
+    → IsWindowAnswer sheet season (record { club = club; line = line; claim = Inside }) reach.high
+    said
     → said ≡ Spent lines → bound ≡ Between reach.low reach.high lines
     → IsRightBound sheet season club line Inside bound
 spent_first sheet season club line reach said lines bound of_club says spent same =
-    let sought : Sought = record { club = club; line = line; claim = Inside } in
-    let shown = subst (λ (s : Said). IsSaid sheet season sought reach.high s) spent says in
+    let sought : ScoreQuery = record { club = club; line = line; claim = Inside } in
+    let shown = subst (λ (s : WindowAnswer). IsWindowAnswer sheet season sought reach.high s) spent
+    says in
     subst (λ (b : Bound). IsRightBound sheet season club line Inside b) (sym same) (record {
       asked = reach.high;
       shows = inr (record { is_first = of_club.is; at_high = refl });
@@ -273,13 +281,15 @@ spent_first sheet season club line reach said lines bound of_club says spent sam
 
 -- the first range of the possible score, once the window at its upper end was said to hold
 pub reach_narrowed : (sheet : Sheet) (season : Results) (club line : ℕ) (reach : PointSpan)
-    (said : Said) → IsFirstReach sheet season club reach
-    → IsSaid sheet season (record { club = club; line = line; claim = Inside }) reach.high said
+    (said : WindowAnswer) → IsFirstReach sheet season club reach
+    → IsWindowAnswer sheet season (record { club = club; line = line; claim = Inside }) reach.high
+    said
     → said ≡ NotAbove
     → IsNarrowed sheet season (record { club = club; line = line; claim = Inside }) reach
 reach_narrowed sheet season club line reach said of_club says not_above =
-    let sought : Sought = record { club = club; line = line; claim = Inside } in
-    let found = subst (λ (s : Said). IsSaid sheet season sought reach.high s) not_above says in
+    let sought : ScoreQuery = record { club = club; line = line; claim = Inside } in
+    let found = subst (λ (s : WindowAnswer). IsWindowAnswer sheet season sought reach.high s)
+    not_above says in
     let first = first_span sheet season club Inside in
     let least = ap (λ (span : PointSpan). span.low) of_club.is in
     let most = ap (λ (span : PointSpan). span.high) of_club.is in
@@ -294,12 +304,14 @@ reach_narrowed sheet season club line reach said of_club says not_above =
 
 -- there is no possible score, where it was said to be above this
 pub reach_none : (sheet : Sheet) (season : Results) (club line : ℕ) (reach : PointSpan)
-    (said : Said) → IsFirstReach sheet season club reach
-    → IsSaid sheet season (record { club = club; line = line; claim = Inside }) reach.high said
+    (said : WindowAnswer) → IsFirstReach sheet season club reach
+    → IsWindowAnswer sheet season (record { club = club; line = line; claim = Inside }) reach.high
+    said
     → said ≡ Above → HasNoPossibleScore sheet season club line
 reach_none sheet season club line reach said of_club says is_above =
-    let sought : Sought = record { club = club; line = line; claim = Inside } in
-    let above = subst (λ (s : Said). IsSaid sheet season sought reach.high s) is_above says in
+    let sought : ScoreQuery = record { club = club; line = line; claim = Inside } in
+    let above = subst (λ (s : WindowAnswer). IsWindowAnswer sheet season sought reach.high s)
+    is_above says in
     no_possible sheet season club line
     (subst (λ (span : PointSpan).
     ¬ IsNotAbove (CanBeInsideWith sheet season club line) span.high) of_club.is above)

@@ -5,7 +5,7 @@ use Rattle.std.proofs.Common.{true, false}
 use lib.Signed.{lt_z}
 use Rattle.std.proofs.lemmas.Int.{ints, to_z-of_z}
 use Rattle.qual_scores.specs.declared.span.PointSpan.{PointSpan}
-use Rattle.qual_scores.specs.Ways.{IsMiddleOf}
+use Rattle.qual_scores.specs.Bisections.{IsMiddleOf}
 
 -- points are read back as they are written
 pub kept : (points : ℤ) → negsuc 98 ≤ℤ points → points ≤ℤ pos 1802

@@ -8,12 +8,12 @@ use Rattle.std.proofs.lemmas.Int.{ints}
 use Rattle.league_core.specs.declared.sheet.Sheet.{Sheet}
 use Rattle.league_core.specs.declared.question.Claim.{Claim}
 use Rattle.league_core.specs.declared.question.Claim.TheVariants.{Inside, Outside}
-use Rattle.league_core.specs.Results.{Results, are_results}
-use Rattle.league_core.specs.Seasons.{IsLeague}
-use Rattle.league_core.specs.Sums.{points_of}
+use Rattle.league_core.specs.game.Results.{Results, are_results}
+use Rattle.league_core.specs.game.Seasons.{IsLeague}
+use Rattle.league_core.specs.game.Sums.{points_of}
 use Rattle.league_core.specs.declared.question.Question.{Question}
-use Rattle.league_core.specs.Questions.{IsExample}
-use Rattle.league_core.specs.Trees.{Tree}
+use Rattle.league_core.specs.game.Questions.{IsExample}
+use Rattle.league_core.specs.search.Trees.{Tree}
 use Rattle.cert_text.specs.declared.proof_line.ProofLine.{ProofLine}
 use Rattle.cert_text.specs.Ranges.{is_in_range, are_points}
 use Rattle.cert_text.specs.TreeLines.{IsRefutationTree, IsFairSpentTree, marked_lines}
@@ -21,15 +21,17 @@ use Rattle.cert_text.specs.TreeLines.{with_window_head}
 use Rattle.cert_text.proofs.TreeRangeLemmas.{marked_lines_in_range}
 use Rattle.verdict_run.specs.declared.fresh.Solved.{Solved}
 use Rattle.verdict_run.specs.declared.fresh.Solved.TheVariants.{Won, Refuted, Spent}
-use Rattle.verdict_run.specs.Solving.{IsSolved}
+use Rattle.verdict_run.specs.inside.Solving.{IsSolved}
 use Rattle.verdict_run.proofs.ShownLemmas.{refutation_is_true}
-use Rattle.qual_scores.specs.declared.window.Said.{Said}
-use Rattle.qual_scores.specs.declared.window.Said.TheVariants as said
-use Rattle.league_core.specs.Verdicts.{HasNoExample}
-use Rattle.qual_scores.specs.declared.window.Sought.{Sought}
+use Rattle.qual_scores.specs.declared.window.WindowAnswer.{WindowAnswer}
+use Rattle.qual_scores.specs.declared.window.WindowAnswer.TheVariants as said
+use Rattle.league_core.specs.game.Verdicts.{HasNoExample}
+use Rattle.qual_scores.specs.declared.window.ScoreQuery.{ScoreQuery}
 use Rattle.qual_scores.specs.Scores.{question_between, CanBeInsideWith, IsInsideFrom}
-use Rattle.qual_scores.specs.Ways.{IsNotAbove, window_question}
-use Rattle.qual_scores.specs.Searching.{MayBeAsked, IsSaid, said_by, question_sought, least_asked}
+use Rattle.qual_scores.specs.Bisections.{IsNotAbove, window_question}
+use Rattle.qual_scores.specs.inside.Searching.{MayBeAsked, IsWindowAnswer, window_answer}
+use Rattle.qual_scores.specs.inside.Searching.{question_sought}
+use Rattle.qual_scores.specs.inside.Searching.{least_asked}
 use Rattle.qual_scores.proofs.PointLemmas.{points_in_window, example_moved, points_are_full}
 use Rattle.qual_scores.proofs.PointLemmas.{le_from}
 
@@ -91,32 +93,34 @@ outside_none sheet season club line points from none =
     (points, (from, none), omega (arith, ints))
 
 -- what is said where the window question has an example
-pub said_found : (sheet : Sheet) (season : Results) (sought : Sought) (points : ℤ)
+pub said_found : (sheet : Sheet) (season : Results) (sought : ScoreQuery) (points : ℤ)
     (finish : Results) (lots : List ℕ)
     → IsExample sheet season (question_sought sought points) finish lots
-    → IsSaid sheet season sought points (said_by sought.claim true)
+    → IsWindowAnswer sheet season sought points (window_answer sought.claim true)
 said_found sheet season sought points finish lots example =
     by_claim sought.claim example
   where
     by_claim : (claim : Claim)
         → IsExample sheet season (window_question sought.club sought.line claim points) finish lots
-        → IsSaid sheet season (record sought { claim = claim }) points (said_by claim true)
+        → IsWindowAnswer sheet season (record sought { claim = claim }) points
+        (window_answer claim true)
     by_claim Inside is =
         inside_found sheet season sought.club sought.line (negsuc 98) points finish lots is
     by_claim Outside is =
         outside_found sheet season sought.club sought.line points finish lots is
 
 -- and where it has none
-pub said_none : (sheet : Sheet) (season : Results) (sought : Sought) (points : ℤ)
+pub said_none : (sheet : Sheet) (season : Results) (sought : ScoreQuery) (points : ℤ)
     → IsLeague sheet season → are_results season ≡ true → MayBeAsked sought.claim points
     → HasNoExample sheet season (question_sought sought points)
-    → IsSaid sheet season sought points (said_by sought.claim false)
+    → IsWindowAnswer sheet season sought points (window_answer sought.claim false)
 said_none sheet season sought points league results asked none =
     by_claim sought.claim asked none
   where
     by_claim : (claim : Claim) → MayBeAsked claim points
         → HasNoExample sheet season (window_question sought.club sought.line claim points)
-        → IsSaid sheet season (record sought { claim = claim }) points (said_by claim false)
+        → IsWindowAnswer sheet season (record sought { claim = claim }) points
+        (window_answer claim false)
     by_claim Inside may is =
         inside_none sheet season sought.club sought.line points league results is
     by_claim Outside may is =
@@ -130,7 +134,7 @@ least_full Inside points least = least
 least_full Outside points least = omega (arith, ints)
 
 -- a window question is about the club that is sought
-pub club_asked : (sought : Sought) (points : ℤ)
+pub club_asked : (sought : ScoreQuery) (points : ℤ)
     → (question_sought sought points).club ≡ sought.club
 club_asked sought points = by_claim sought.claim
   where
@@ -140,7 +144,7 @@ club_asked sought points = by_claim sought.claim
     by_claim Outside = refl
 
 -- and about the line
-pub line_asked : (sought : Sought) (points : ℤ)
+pub line_asked : (sought : ScoreQuery) (points : ℤ)
     → (question_sought sought points).line ≡ sought.line
 line_asked sought points = by_claim sought.claim
   where
@@ -150,7 +154,7 @@ line_asked sought points = by_claim sought.claim
     by_claim Outside = refl
 
 -- its window is in the range of a line's numbers
-window_in_range : (sought : Sought) (points : ℤ) → MayBeAsked sought.claim points
+window_in_range : (sought : ScoreQuery) (points : ℤ) → MayBeAsked sought.claim points
     → (are_points (question_sought sought points).low
     && are_points (question_sought sought points).high) ≡ true
 window_in_range sought points may = by_claim sought.claim may
@@ -168,41 +172,42 @@ window_in_range sought points may = by_claim sought.claim may
         (both points (let least = is.least in omega (arith, ints)) is.most) refl
 
 -- an example was found
-pub won_says : (sheet : Sheet) (season : Results) (sought : Sought) (points : ℤ)
-    (question : Question) (solved : Solved) (finish : Results) (lots : List ℕ) (said : Said)
+pub won_says : (sheet : Sheet) (season : Results) (sought : ScoreQuery) (points : ℤ)
+    (question : Question) (solved : Solved) (finish : Results) (lots : List ℕ) (said : WindowAnswer)
     → question ≡ question_sought sought points → IsSolved sheet season question solved
-    → solved ≡ Won finish lots → said ≡ said_by sought.claim true
-    → IsSaid sheet season sought points said
+    → solved ≡ Won finish lots → said ≡ window_answer sought.claim true
+    → IsWindowAnswer sheet season sought points said
 won_says sheet season sought points question solved finish lots said asked is won same =
     let example = subst (λ (s : Solved). IsSolved sheet season question s) won is in
-    subst (λ (s : Said). IsSaid sheet season sought points s) (sym same)
+    subst (λ (s : WindowAnswer). IsWindowAnswer sheet season sought points s) (sym same)
     (said_found sheet season sought points finish lots
     (subst (λ (q : Question). IsExample sheet season q finish lots) asked example))
 
 -- a tree refutes it
-pub refuted_says : (sheet : Sheet) (season : Results) (sought : Sought) (points : ℤ)
-    (question : Question) (solved : Solved) (tree : Tree) (said : Said) → IsLeague sheet season
+pub refuted_says : (sheet : Sheet) (season : Results) (sought : ScoreQuery) (points : ℤ)
+    (question : Question) (solved : Solved) (tree : Tree) (said : WindowAnswer)
+    → IsLeague sheet season
     → are_results season ≡ true → MayBeAsked sought.claim points
     → sought.club < length sheet.clubs → question ≡ question_sought sought points
     → IsSolved sheet season question solved → solved ≡ Refuted tree
-    → said ≡ said_by sought.claim false → IsSaid sheet season sought points said
+    → said ≡ window_answer sought.claim false → IsWindowAnswer sheet season sought points said
 refuted_says sheet season sought points question solved tree said league results may within asked
     is refuted same =
     let shown = subst (λ (s : Solved). IsSolved sheet season question s) refuted is in
     let exact = question_sought sought points in
-    subst (λ (s : Said). IsSaid sheet season sought points s) (sym same)
+    subst (λ (s : WindowAnswer). IsWindowAnswer sheet season sought points s) (sym same)
     (said_none sheet season sought points league results may
     (refutation_is_true sheet season exact tree (subst (λ (c : ℕ). c < length sheet.clubs)
     (sym (club_asked sought points)) within)
     (subst (λ (q : Question). IsRefutationTree sheet season q tree) asked shown.0)))
 
 -- the budget was spent on a tree
-pub spent_says : (sheet : Sheet) (season : Results) (sought : Sought) (points : ℤ)
+pub spent_says : (sheet : Sheet) (season : Results) (sought : ScoreQuery) (points : ℤ)
     (question : Question) (solved : Solved) (tree : Tree) (lines : Vec ProofLine Global)
     → MayBeAsked sought.claim points → question ≡ question_sought sought points
     → IsSolved sheet season question solved → solved ≡ Spent tree
     → lines.items ≡ with_window_head question (marked_lines tree)
-    → IsSaid sheet season sought points (said.Spent lines)
+    → IsWindowAnswer sheet season sought points (said.Spent lines)
 spent_says sheet season sought points question solved tree lines may asked is spent are =
     let shown = subst (λ (s : Solved). IsSolved sheet season question s) spent is in
     let exact = question_sought sought points in

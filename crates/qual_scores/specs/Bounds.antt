@@ -6,8 +6,8 @@ use Rattle.league_core.specs.declared.sheet.Sheet.{Sheet}
 use Rattle.league_core.specs.declared.question.Claim.{Claim}
 use Rattle.league_core.specs.declared.question.Claim.TheVariants.{Inside, Outside}
 use Rattle.league_core.specs.declared.question.Question.{Question}
-use Rattle.league_core.specs.Results.{Results}
-use Rattle.league_core.specs.Trees.{Tree}
+use Rattle.league_core.specs.game.Results.{Results}
+use Rattle.league_core.specs.search.Trees.{Tree}
 use Rattle.cert_text.specs.declared.proof_line.ProofLine.{ProofLine}
 use Rattle.cert_text.specs.Ranges.{is_in_range}
 use Rattle.cert_text.specs.TreeLines.{IsFairSpentTree, marked_lines, with_window_head}
@@ -17,7 +17,7 @@ use Rattle.score_answers.specs.declared.bound.Bound.TheVariants.{Known, None, Be
 use Rattle.score_answers.specs.declared.bound.Score2.{Score2}
 use Rattle.qual_scores.specs.declared.span.PointSpan.{PointSpan}
 use Rattle.qual_scores.specs.Scores.{IsLeastOf, HasNoPossibleScore}
-use Rattle.qual_scores.specs.Ways.{HoldsOfPoints, ShowsSpan, window_question}
+use Rattle.qual_scores.specs.Bisections.{HoldsOfPoints, ShowsSpan, window_question}
 
 -- the lines show that the budget was spent on the question in the present epoch: its head, which
 -- names the window, and a tree on which it was spent fairly, all of it new

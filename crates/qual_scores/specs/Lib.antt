@@ -1,8 +1,7 @@
--- Reading order: the two numbers of a club and a line, the ranges on the way to them, what an
--- answer says of them, for one row and for all, that they are there, and a search while it runs.
+-- Reading order: the two numbers of a club and a line, the ranges on the way to them, and what an
+-- answer says of them, for one row and for all.
 pub mod Scores
-pub mod Ways
+pub mod Bisections
 pub mod Bounds
 pub mod AllScores
-pub mod ScoreLaws
-pub mod Searching
+pub mod inside

@@ -7,9 +7,9 @@ use Rattle.league_core.specs.declared.sheet.Sheet.{Sheet}
 use Rattle.league_core.specs.declared.question.Claim.{Claim}
 use Rattle.league_core.specs.declared.question.Claim.TheVariants.{Inside, Outside}
 use Rattle.league_core.specs.declared.question.Question.{Question}
-use Rattle.league_core.specs.Limits.{most_points}
-use Rattle.league_core.specs.Results.{Results}
-use Rattle.league_core.specs.Verdicts.{HasExample, HasNoExample}
+use Rattle.league_core.specs.game.Limits.{most_points}
+use Rattle.league_core.specs.game.Results.{Results}
+use Rattle.league_core.specs.game.Verdicts.{HasExample, HasNoExample}
 
 -- whether the club can end on the claim's side of the line with points between these two
 abbrev pub question_between : ℕ → ℕ → Claim → ℤ → ℤ → Question

@@ -1,10 +1,11 @@
 //! The numbers of all clubs and lines.
 
 ghost use Rattle.std.specs.Prelude.{IfOk, OnOk, IsTrue, length};
-ghost use Rattle.league_core.specs.Seasons.{IsLeague};
-ghost use Rattle.league_core.specs.Sheets.{is_line};
-ghost use Rattle.score_answers.specs.SpentLines.{AreInLineRange};
-ghost use Rattle.qual_scores.specs.AllScores.{AreScoresOf, AddsLine};
+ghost use Rattle.league_core.specs.game.Seasons.{IsLeague};
+ghost use Rattle.league_core.specs.game.Sheets.{is_line};
+ghost use Rattle.score_answers.specs.inside.SpentLines.{AreInLineRange};
+ghost use Rattle.qual_scores.specs.AllScores.{AreScoresOf};
+ghost use Rattle.qual_scores.specs.inside.AddedScores.{AddsLine};
 
 use crate::search::scores;
 use league_core::{OutOfMemory, Season, Sheet};

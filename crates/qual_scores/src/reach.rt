@@ -2,9 +2,9 @@
 
 ghost use Rattle.std.specs.Prelude.{◌≡◌, ◌<◌, ◌≤ℤ◌, IfOk, length};
 ghost use Rattle.league_core.specs.declared.question.Claim.TheVariants.{Inside};
-ghost use Rattle.league_core.specs.Limits.{least_points, most_points};
-ghost use Rattle.league_core.specs.Seasons.{IsLeague};
-ghost use Rattle.qual_scores.specs.Ways.{first_span};
+ghost use Rattle.league_core.specs.game.Limits.{least_points, most_points};
+ghost use Rattle.league_core.specs.game.Seasons.{IsLeague};
+ghost use Rattle.qual_scores.specs.Bisections.{first_span};
 
 use crate::span::PointSpan;
 use league_core::{ClubSet, OutOfMemory, Season, Sheet};

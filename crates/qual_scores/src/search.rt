@@ -2,14 +2,14 @@
 
 ghost use Rattle.std.specs.Prelude.{◌≡◌, IfOk};
 ghost use Rattle.league_core.specs.declared.question.Claim.TheVariants.{Inside, Outside};
-ghost use Rattle.league_core.specs.Seasons.{IsLeague};
-ghost use Rattle.league_core.specs.Questions.{IsQuestionOf, full_question};
+ghost use Rattle.league_core.specs.game.Seasons.{IsLeague};
+ghost use Rattle.league_core.specs.game.Questions.{IsQuestionOf, full_question};
 ghost use Rattle.qual_scores.specs.Bounds.{AreRightScores, IsRightBound};
-ghost use Rattle.qual_scores.specs.Searching.{IsNarrowed, IsFirstReach};
+ghost use Rattle.qual_scores.specs.inside.Searching.{IsNarrowed, IsFirstReach};
 
 use crate::reach::reach_of;
 use crate::span::PointSpan;
-use crate::window::{Said, Sought, ask_window};
+use crate::window::{ScoreQuery, WindowAnswer, ask_window};
 use cert_text::ProofLine;
 use league_core::{Claim, OutOfMemory, Season, Sheet};
 use score_answers::{Bound, Score2};
@@ -50,11 +50,11 @@ fn possible_score(
     ensures { IfOk result (IsRightBound sheet.now season.now club line Inside) }
 {
     let claim = Claim::Inside;
-    let sought = Sought { club, line, claim };
+    let sought = ScoreQuery { club, line, claim };
     match ask_window(alloc, sheet, season, sought, reach.high)? {
-        Said::NotAbove => halved(alloc, sheet, season, sought, reach),
-        Said::Above => Ok(Bound::None),
-        Said::Spent(spent) => Ok(between(reach, spent)),
+        WindowAnswer::NotAbove => halved(alloc, sheet, season, sought, reach),
+        WindowAnswer::Above => Ok(Bound::None),
+        WindowAnswer::Spent(spent) => Ok(between(reach, spent)),
     }
 }
 
@@ -73,7 +73,7 @@ fn guaranteed_score(
     ensures { IfOk result (IsRightBound sheet.now season.now club line Outside) }
 {
     let claim = Claim::Outside;
-    let sought = Sought { club, line, claim };
+    let sought = ScoreQuery { club, line, claim };
     let high = (reach.high + 1).max(0);
     halved(alloc, sheet, season, sought, PointSpan { low: 0, high })
 }
@@ -83,7 +83,7 @@ fn halved(
     alloc: Global,
     sheet: &Sheet,
     season: &Season,
-    sought: Sought,
+    sought: ScoreQuery,
     first: PointSpan,
 ) -> Result<Bound, OutOfMemory>
     requires league { IsLeague sheet.now season.now }
@@ -97,9 +97,9 @@ fn halved(
     while span.low < span.high {
         let middle = span.middle();
         match ask_window(alloc, sheet, season, sought, middle)? {
-            Said::NotAbove => span.high = middle,
-            Said::Above => span.low = middle + 1,
-            Said::Spent(spent) => return Ok(between(span, spent)),
+            WindowAnswer::NotAbove => span.high = middle,
+            WindowAnswer::Above => span.low = middle + 1,
+            WindowAnswer::Spent(spent) => return Ok(between(span, spent)),
         }
     }
     Ok(Bound::Known(span.low))

@@ -1,8 +1,8 @@
 //! Ranges of points, and how they are halved.
 
 ghost use Rattle.std.specs.Prelude.{◌≤ℤ◌, ◌<ℤ◌, ◌+ℤ◌, pos};
-ghost use Rattle.league_core.specs.Limits.{least_points, most_points};
-ghost use Rattle.qual_scores.specs.Ways.{IsMiddleOf};
+ghost use Rattle.league_core.specs.game.Limits.{least_points, most_points};
+ghost use Rattle.qual_scores.specs.Bisections.{IsMiddleOf};
 
 /// Points from the one to the other, both with it.
 #[derive(Clone, Copy)]

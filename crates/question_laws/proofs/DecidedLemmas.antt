@@ -9,30 +9,30 @@ use Rattle.league_core.specs.declared.zone.Test.{Test}
 use Rattle.league_core.specs.declared.zone.Literal.{Literal}
 use Rattle.league_core.specs.declared.zone.Reason.{Reason}
 use Rattle.league_core.specs.declared.zone.Reason.TheVariants.{Window, Tie}
-use Rattle.league_core.specs.Results.{Results, are_results}
-use Rattle.league_core.specs.Seasons.{IsSeasonOf, IsLeague}
-use Rattle.league_core.specs.Questions.{IsExample, IsQuestionOf, holds_at}
-use Rattle.league_core.specs.Verdicts.{HasExample, HasNoExample}
-use Rattle.league_core.specs.LotsFor.{lots_for_claim}
-use Rattle.league_core.specs.Zones.{IsMember, with_test}
-use Rattle.league_core.specs.Options.{has_finish, is_single}
-use Rattle.league_core.specs.Proposals.{proposed_finish}
-use Rattle.league_core.specs.Reasons.{has_reason}
-use Rattle.league_core.specs.Splits.{IsFairSplit, IsProperNode, AreReasonsTrue, is_proper}
-use Rattle.league_core.specs.Trees.{Tree, refuted_leaf, branch, NodesMeet, is_refuted}
+use Rattle.league_core.specs.game.Results.{Results, are_results}
+use Rattle.league_core.specs.game.Seasons.{IsSeasonOf, IsLeague}
+use Rattle.league_core.specs.game.Questions.{IsExample, IsQuestionOf, holds_at}
+use Rattle.league_core.specs.game.Verdicts.{HasExample, HasNoExample}
+use Rattle.league_core.specs.inside.LotsFor.{lots_for_claim}
+use Rattle.league_core.specs.search.Zones.{IsMember, with_test}
+use Rattle.league_core.specs.search.Options.{has_finish, is_single}
+use Rattle.league_core.specs.search.Proposals.{proposed_finish}
+use Rattle.league_core.specs.search.Reasons.{has_reason}
+use Rattle.league_core.specs.search.Splits.{IsFairSplit, IsProperNode, AreReasonsTrue, is_proper}
+use Rattle.league_core.specs.search.Trees.{Tree, refuted_leaf, branch, NodesMeet, is_refuted}
 use Rattle.league_core.proofs.LotsLemmas.{holds_at-favoured, lots_for_claim-are_lots}
 use Rattle.league_core.proofs.LotsLemmas.{lots_for_claim-favoured}
 use Rattle.league_core.proofs.ProposalLemmas.{proposed_in_box, proposed_is_finish}
 use Rattle.league_core.proofs.HalfLemmas.{root_has_finish, half_has_finish}
-use Rattle.reason_laws.specs.Weights.{weight_of}
+use Rattle.reason_laws.specs.inside.Weights.{weight_of}
 use Rattle.reason_laws.proofs.WeightLemmas.{halves_weigh_less, weight_some}
 use Rattle.reason_laws.proofs.SplitLemmas.{either_half}
 use Rattle.reason_laws.proofs.TieLemmas.{reason_says}
 use Rattle.reason_laws.proofs.DecidedLemmas.{single_decided_by_two}
 use Rattle.cert_text.proofs.ProperLemmas.{proper_tests}
-use Rattle.branch_rules.specs.Found.{IsProposedInVain}
+use Rattle.branch_rules.specs.inside.Found.{IsProposedInVain}
 use Rattle.branch_rules.proofs.FoundLemmas.{has_several}
-use Rattle.question_laws.specs.Completeness.{CanBeMet, at_once, in_a_half, HasRefutation}
+use Rattle.question_laws.specs.inside.Completeness.{CanBeMet, at_once, in_a_half, HasRefutation}
 use Rattle.question_laws.proofs.DueLemmas.{IsDueTest, due_test}
 
 -- ---- refutations

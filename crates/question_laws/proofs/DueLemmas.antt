@@ -14,17 +14,17 @@ use Rattle.league_core.specs.declared.question.Question.{Question}
 use Rattle.league_core.specs.declared.zone.Test.{Test}
 use Rattle.league_core.specs.declared.zone.Test.TheVariants.{Home, Draw, HomeMost, AwayMost, Rival}
 use Rattle.league_core.specs.declared.zone.Literal.{Literal}
-use Rattle.league_core.specs.Results.{Results}
-use Rattle.league_core.specs.Seasons.{IsSeasonOf}
-use Rattle.league_core.specs.Finishes.{same_score}
-use Rattle.league_core.specs.Zones.{is_marked}
-use Rattle.league_core.specs.Options.{options_in, has_score, has_option, has_one_score, has_finish}
-use Rattle.league_core.specs.Options.{is_single, is_home_win, is_draw, is_away_win, same_outcome}
-use Rattle.league_core.specs.Options.{has_one_outcome}
-use Rattle.league_core.specs.Splits.{is_proper, is_due, are_all_marked, are_outcomes_fixed}
+use Rattle.league_core.specs.game.Results.{Results}
+use Rattle.league_core.specs.game.Seasons.{IsSeasonOf}
+use Rattle.league_core.specs.game.Finishes.{same_score}
+use Rattle.league_core.specs.search.Zones.{is_marked}
+use Rattle.league_core.specs.search.Options.{options_in, has_score, has_option, has_one_score}
+use Rattle.league_core.specs.search.Options.{has_finish, is_single, is_home_win, is_draw}
+use Rattle.league_core.specs.search.Options.{is_away_win, same_outcome, has_one_outcome}
+use Rattle.league_core.specs.search.Splits.{is_proper, is_due, are_all_marked, are_outcomes_fixed}
 use Rattle.league_core.proofs.PlainLemmas.{list_all-at}
 use Rattle.league_core.proofs.OptionLemmas.{length-options_from, has_score-first}
-use Rattle.branch_rules.specs.Choices.{IsDivided}
+use Rattle.branch_rules.specs.inside.Choices.{IsDivided}
 use Rattle.branch_rules.proofs.SplitLemmas.{home_is_proper, draw_is_proper, home_most_is_proper}
 use Rattle.branch_rules.proofs.SplitLemmas.{away_most_is_proper}
 use Rattle.branch_rules.proofs.RivalLemmas.{all_are_marked}

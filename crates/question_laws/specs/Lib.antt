@@ -1,2 +1,2 @@
--- What is known of each question.
-pub mod Completeness
+-- All words of this crate stand in inside/: no promise of the program rests on them.
+pub mod inside

@@ -1,3 +1,2 @@
--- What is true of a finding, then of what was done with a piece.
-pub mod Findings
-pub mod Dones
+-- All words of this crate stand in inside/: no promise of the program rests on them.
+pub mod inside

@@ -1,7 +1,7 @@
 //! What came of a piece.
 
 ghost use Rattle.std.specs.Prelude.{◌≡◌, ◌↔◌, IsTrue};
-ghost use Rattle.reason_core.specs.Dones.{IsFor, done_of};
+ghost use Rattle.reason_core.specs.inside.Dones.{IsFor, done_of};
 
 use crate::finding::Finding;
 use crate::piece::Piece;

@@ -1,8 +1,8 @@
 //! One piece of work of a search: a part of a season and a question about it, and what can be
 //! found there.
 //!
-//! Read `specs/Findings.antt` first: what is true of a finding. A solver finds, a piece keeps what
-//! it was asked, and what was done says both.
+//! Read `specs/inside/Findings.antt` first: what is true of a finding. A solver finds, a piece
+//! keeps what it was asked, and what was done says both.
 #![tactic(auto)]
 
 mod done;

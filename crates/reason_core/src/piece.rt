@@ -1,8 +1,9 @@
 //! What there is to work on.
 
-ghost use Rattle.std.specs.Prelude.{◌≡◌, ◌↔◌, IsTrue};
+ghost use Rattle.std.specs.Prelude.{◌≡◌, ◌↔◌, IfOk, IsTrue};
 
-use league_core::{Literal, Question, Season, Zone};
+use league_core::{Literal, OutOfMemory, Question, Season, Zone};
+use std::alloc::Global;
 
 /// A part of a season, and a question about it.
 #[derive(Drop)]
@@ -13,6 +14,19 @@ pub struct Piece {
 }
 
 impl Piece {
+    /// The same season, question and zone once more.
+    pub fn copy(&self, alloc: Global) -> Result<Piece, OutOfMemory>
+        ensures { IfOk result (λ copy. copy ≡ self.now) }
+    {
+        let season = self.season.copy(alloc)?;
+        let literals = self.zone.literals.copy(alloc)?;
+        Ok(Piece {
+            season,
+            question: self.question,
+            zone: Zone { literals },
+        })
+    }
+
     /// Both are of the same season, question and zone.
     pub fn equals(&self, other: &Piece) -> bool
         ensures { IsTrue result ↔ (self.now ≡ other.now) }

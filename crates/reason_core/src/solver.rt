@@ -2,11 +2,11 @@
 
 ghost use Rattle.std.specs.Prelude.{◌≡◌, IfOk, IsTrue};
 ghost use Rattle.league_core.specs.declared.sheet.Sheet.{Sheet};
-ghost use Rattle.league_core.specs.Results.{Results};
-ghost use Rattle.league_core.specs.Questions.{IsQuestionOf};
-ghost use Rattle.league_core.specs.Zones.{IsZoneFor};
-ghost use Rattle.league_core.specs.Options.{has_finish};
-ghost use Rattle.reason_core.specs.Findings.{IsTrueFinding};
+ghost use Rattle.league_core.specs.game.Results.{Results};
+ghost use Rattle.league_core.specs.game.Questions.{IsQuestionOf};
+ghost use Rattle.league_core.specs.search.Zones.{IsZoneFor};
+ghost use Rattle.league_core.specs.search.Options.{has_finish};
+ghost use Rattle.reason_core.specs.inside.Findings.{IsTrueFinding};
 
 use crate::finding::Finding;
 use league_core::{Literal, OutOfMemory, Question};

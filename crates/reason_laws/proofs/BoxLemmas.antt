@@ -6,10 +6,10 @@ use Rattle.std.proofs.lemmas.Bool.{false≢true, and_parts, and_from}
 use Rattle.league_core.specs.declared.sheet.Sheet.{Sheet}
 use Rattle.league_core.specs.declared.season.Score.{Score}
 use Rattle.league_core.specs.declared.zone.Literal.{Literal}
-use Rattle.league_core.specs.Results.{Results}
-use Rattle.league_core.specs.Finishes.{same_score}
-use Rattle.league_core.specs.Options.{has_score, options_in}
-use Rattle.league_core.specs.Options.{has_one_score, is_single, take_options, IsInBox}
+use Rattle.league_core.specs.game.Results.{Results}
+use Rattle.league_core.specs.game.Finishes.{same_score}
+use Rattle.league_core.specs.search.Options.{has_score, options_in, has_one_score, is_single}
+use Rattle.league_core.specs.search.Options.{take_options, IsInBox}
 use Rattle.league_core.proofs.OptionLemmas.{has_score-first, same_score-true}
 use Rattle.reason_laws.proofs.FixedLemmas.{all_alike}
 

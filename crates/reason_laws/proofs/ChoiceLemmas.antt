@@ -14,15 +14,15 @@ use Rattle.league_core.specs.declared.question.Question.{Question}
 use Rattle.league_core.specs.declared.zone.Test.{Test}
 use Rattle.league_core.specs.declared.zone.Test.TheVariants.{Home, Draw, HomeMost, AwayMost, Rival}
 use Rattle.league_core.specs.declared.zone.Literal.{Literal}
-use Rattle.league_core.specs.Results.{Results}
-use Rattle.league_core.specs.Seasons.{IsSeasonOf}
-use Rattle.league_core.specs.FinishList.{ways_to_end, ways_to_finish}
-use Rattle.league_core.specs.Zones.{passes, is_on, is_of_score, with_test}
-use Rattle.league_core.specs.Options.{endings, meets_literal, meets, options_of}
-use Rattle.league_core.specs.Options.{options_from, options_in, has_option, has_finish}
-use Rattle.league_core.specs.Splits.{is_proper}
+use Rattle.league_core.specs.game.Results.{Results}
+use Rattle.league_core.specs.game.Seasons.{IsSeasonOf}
+use Rattle.league_core.specs.inside.FinishList.{ways_to_end, ways_to_finish}
+use Rattle.league_core.specs.search.Zones.{passes, is_on, is_of_score, with_test}
+use Rattle.league_core.specs.search.Options.{endings, meets_literal, meets, options_of}
+use Rattle.league_core.specs.search.Options.{options_from, options_in, has_option, has_finish}
+use Rattle.league_core.specs.search.Splits.{is_proper}
 use Rattle.league_core.proofs.FinishListLemmas.{length-scores_up_to}
-use Rattle.reason_laws.specs.Weights.{choices, finishes_in}
+use Rattle.reason_laws.specs.inside.Weights.{choices, finishes_in}
 use Rattle.league_core.proofs.HalfLemmas.{list_all-with, options_of-off, options_from-off}
 use Rattle.reason_laws.proofs.HalfMarkLemmas.{proper_names}
 use Rattle.reason_laws.proofs.CountLemmas.{count_by-parts, filter-all}

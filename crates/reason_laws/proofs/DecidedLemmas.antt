@@ -19,27 +19,27 @@ use Rattle.league_core.specs.declared.question.Claim.TheVariants.{Inside, Outsid
 use Rattle.league_core.specs.declared.question.Question.{Question}
 use Rattle.league_core.specs.declared.zone.Literal.{Literal}
 use Rattle.league_core.specs.declared.zone.Reason.TheVariants.{Window, Tie}
-use Rattle.league_core.specs.Results.{Results}
-use Rattle.league_core.specs.Sheets.{clubs_of}
-use Rattle.league_core.specs.Sums.{points_of}
-use Rattle.league_core.specs.Ranking.{are_lots, lot_of, ranks_before, place_of, is_inside}
-use Rattle.league_core.specs.Questions.{is_on_side, is_in_window, holds_at, IsExample}
-use Rattle.league_core.specs.LotsFor.{order_without_lots, lots_for_claim, IsFavoured}
-use Rattle.league_core.specs.Zones.{rivals_of, marked_before, marked_after}
-use Rattle.league_core.specs.Options.{options_in, has_option, has_one_score, has_finish, is_single}
-use Rattle.league_core.specs.Options.{IsInBox}
-use Rattle.league_core.specs.PointRanges.{points_range, least_points_of, most_points_of}
-use Rattle.league_core.specs.SureOrder.{is_above, is_below, sure_order}
-use Rattle.league_core.specs.Reasons.{has_reason, too_many, refutes_by_window, refutes_by_tie}
-use Rattle.league_core.specs.Reasons.{is_surely_above, is_surely_below, are_too_many_sure}
-use Rattle.league_core.specs.Reasons.{is_surely_wrong}
+use Rattle.league_core.specs.game.Results.{Results}
+use Rattle.league_core.specs.game.Sheets.{clubs_of}
+use Rattle.league_core.specs.game.Sums.{points_of}
+use Rattle.league_core.specs.game.Ranking.{are_lots, lot_of, ranks_before, place_of, is_inside}
+use Rattle.league_core.specs.game.Questions.{is_on_side, is_in_window, holds_at, IsExample}
+use Rattle.league_core.specs.inside.LotsFor.{order_without_lots, lots_for_claim, IsFavoured}
+use Rattle.league_core.specs.search.Zones.{rivals_of, marked_before, marked_after}
+use Rattle.league_core.specs.search.Options.{options_in, has_option, has_one_score, has_finish}
+use Rattle.league_core.specs.search.Options.{is_single, IsInBox}
+use Rattle.league_core.specs.search.PointRanges.{points_range, least_points_of, most_points_of}
+use Rattle.league_core.specs.search.SureOrder.{is_above, is_below, sure_order}
+use Rattle.league_core.specs.search.Reasons.{has_reason, too_many, refutes_by_window}
+use Rattle.league_core.specs.search.Reasons.{refutes_by_tie, is_surely_above, is_surely_below}
+use Rattle.league_core.specs.search.Reasons.{are_too_many_sure, is_surely_wrong}
 use Rattle.league_core.proofs.OrderingLemmas.{is_lt-nat_cmp}
 use Rattle.league_core.proofs.ClubLemmas.{all_in_range}
 use Rattle.league_core.proofs.OthersLemmas.{length-others_of}
 use Rattle.league_core.proofs.RankingLemmas.{order_of-lots, ranks_before-itself}
 use Rattle.league_core.proofs.LotsLemmas.{lots_for_claim-are_lots, lots_for_claim-favoured}
-use Rattle.league_core.specs.Splits.{are_outcomes_fixed}
-use Rattle.reason_laws.specs.SureLaws.{sure_of}
+use Rattle.league_core.specs.search.Splits.{are_outcomes_fixed}
+use Rattle.reason_laws.specs.inside.SureLaws.{sure_of}
 use Rattle.reason_laws.proofs.MemberLemmas.{list_all-weaker, points_in_box}
 use Rattle.reason_laws.proofs.RivalCountLemmas.{count_by-front}
 use Rattle.league_core.proofs.BoxLemmas.{box_is_finish}

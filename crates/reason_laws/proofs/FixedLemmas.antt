@@ -7,11 +7,11 @@ use Rattle.std.proofs.lemmas.Int.{ints}
 use Rattle.std.proofs.lemmas.Bool.{false≢true, and_parts, or_cases}
 use Rattle.league_core.specs.declared.sheet.Fixture.{Fixture}
 use Rattle.league_core.specs.declared.season.Score.{Score}
-use Rattle.league_core.specs.Finishes.{same_score}
-use Rattle.league_core.specs.Sums.{match_points, worth_to}
-use Rattle.league_core.specs.Options.{has_score, same_outcome}
-use Rattle.league_core.specs.Options.{has_one_score, has_one_outcome}
-use Rattle.league_core.specs.PointRanges.{range_of, range_from, points_together}
+use Rattle.league_core.specs.game.Finishes.{same_score}
+use Rattle.league_core.specs.game.Sums.{match_points, worth_to}
+use Rattle.league_core.specs.search.Options.{has_score, same_outcome, has_one_score}
+use Rattle.league_core.specs.search.Options.{has_one_outcome}
+use Rattle.league_core.specs.search.PointRanges.{range_of, range_from, points_together}
 use Rattle.league_core.proofs.OptionLemmas.{same_score-true}
 use Rattle.reason_laws.proofs.MemberLemmas.{list_all-weaker}
 use Rattle.league_core.proofs.OutcomeLemmas.{one_of_three, same_outcome-itself}

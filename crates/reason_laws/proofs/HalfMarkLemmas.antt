@@ -9,13 +9,12 @@ use Rattle.league_core.specs.declared.question.Question.{Question}
 use Rattle.league_core.specs.declared.zone.Test.{Test}
 use Rattle.league_core.specs.declared.zone.Test.TheVariants.{Home, Draw, HomeMost, AwayMost, Rival}
 use Rattle.league_core.specs.declared.zone.Literal.{Literal}
-use Rattle.league_core.specs.Results.{Results}
-use Rattle.league_core.specs.Zones.{is_of_rival}
-use Rattle.league_core.specs.Zones.{marked_before, marked_after}
-use Rattle.league_core.specs.Zones.{is_marked, with_test, is_test_of, is_zone_of, IsZoneFor}
-use Rattle.league_core.specs.Trees.{Tree, open_leaf, lent_leaf, refuted_leaf, branch}
-use Rattle.league_core.specs.Trees.{NodesMeet}
-use Rattle.league_core.specs.Splits.{have_both_finish, is_proper, IsProperNode}
+use Rattle.league_core.specs.game.Results.{Results}
+use Rattle.league_core.specs.search.Zones.{is_of_rival, marked_before, marked_after, is_marked}
+use Rattle.league_core.specs.search.Zones.{with_test, is_test_of, is_zone_of, IsZoneFor}
+use Rattle.league_core.specs.search.Trees.{Tree, open_leaf, lent_leaf, refuted_leaf, branch}
+use Rattle.league_core.specs.search.Trees.{NodesMeet}
+use Rattle.league_core.specs.search.Splits.{have_both_finish, is_proper, IsProperNode}
 use Rattle.league_core.proofs.HalfLemmas.{list_all-with, before_in_half, after_in_half}
 
 -- a test that is not of the rival leaves its marks

@@ -9,6 +9,7 @@ pub mod RangeOrderLemmas
 pub mod SureLemmas
 pub mod SureOverallLemmas
 pub mod SureOrderLemmas
+pub mod KeyLemmas
 pub mod SingleLemmas
 pub mod RivalCountLemmas
 pub mod ReasonLemmas
@@ -21,4 +22,6 @@ pub mod ChoiceLemmas
 pub mod MarkLemmas
 pub mod WeightLemmas
 pub mod RefutationLemmas
+pub mod MatchOutcomeLemmas
 pub mod WorkedZones
+pub mod WorkedOutcomes

@@ -10,14 +10,14 @@ use Rattle.league_core.specs.declared.question.Question.{Question}
 use Rattle.league_core.specs.declared.zone.Test.{Test}
 use Rattle.league_core.specs.declared.zone.Test.TheVariants.{Home, Draw, HomeMost, AwayMost, Rival}
 use Rattle.league_core.specs.declared.zone.Literal.{Literal}
-use Rattle.league_core.specs.Results.{Results}
-use Rattle.league_core.specs.Sheets.{clubs_of}
-use Rattle.league_core.specs.Zones.{is_of_score, is_of_rival, marked_before, marked_after}
-use Rattle.league_core.specs.Zones.{is_marked, rivals_of, with_test}
-use Rattle.league_core.specs.Splits.{is_proper}
+use Rattle.league_core.specs.game.Results.{Results}
+use Rattle.league_core.specs.game.Sheets.{clubs_of}
+use Rattle.league_core.specs.search.Zones.{is_of_score, is_of_rival, marked_before, marked_after}
+use Rattle.league_core.specs.search.Zones.{is_marked, rivals_of, with_test}
+use Rattle.league_core.specs.search.Splits.{is_proper}
 use Rattle.league_core.proofs.OthersLemmas.{length-others_of}
 use Rattle.league_core.proofs.HalfLemmas.{no_rival, before_in_half, after_in_half}
-use Rattle.reason_laws.specs.Weights.{unmarked_in}
+use Rattle.reason_laws.specs.inside.Weights.{unmarked_in}
 use Rattle.reason_laws.proofs.HalfMarkLemmas.{before_kept}
 use Rattle.reason_laws.proofs.HalfMarkLemmas.{after_kept}
 use Rattle.reason_laws.proofs.CountLemmas.{count_by-parts, count_by-filter, count_by-agree}

@@ -12,12 +12,11 @@ use Rattle.league_core.specs.declared.sheet.Sheet.{Sheet}
 use Rattle.league_core.specs.declared.zone.Test.{Test}
 use Rattle.league_core.specs.declared.zone.Test.TheVariants.{Home, Draw, HomeMost, AwayMost, Rival}
 use Rattle.league_core.specs.declared.zone.Literal.{Literal}
-use Rattle.league_core.specs.Results.{Results}
-use Rattle.league_core.specs.Sums.{points_of}
-use Rattle.league_core.specs.Ranking.{ranks_before}
-use Rattle.league_core.specs.Zones.{is_of_rival, is_test_true}
-use Rattle.league_core.specs.Zones.{is_as_said, is_literal_true, are_literals_true}
-use Rattle.league_core.specs.Zones.{marked_before, marked_after}
+use Rattle.league_core.specs.game.Results.{Results}
+use Rattle.league_core.specs.game.Sums.{points_of}
+use Rattle.league_core.specs.game.Ranking.{ranks_before}
+use Rattle.league_core.specs.search.Zones.{is_of_rival, is_test_true, is_as_said, is_literal_true}
+use Rattle.league_core.specs.search.Zones.{are_literals_true, marked_before, marked_after}
 use Rattle.league_core.proofs.OrderingLemmas.{int_cmp-less, int_cmp-greater}
 
 -- who ranks before another has as many points or more, and who does not has as many or fewer

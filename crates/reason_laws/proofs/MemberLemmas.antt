@@ -12,15 +12,15 @@ use Rattle.league_core.specs.declared.season.Score.{Score}
 use Rattle.league_core.specs.declared.zone.Test.{Test}
 use Rattle.league_core.specs.declared.zone.Test.TheVariants.{Home, Draw, HomeMost, AwayMost, Rival}
 use Rattle.league_core.specs.declared.zone.Literal.{Literal}
-use Rattle.league_core.specs.Results.{Results}
-use Rattle.league_core.specs.Finishes.{may_end, may_all_end}
-use Rattle.league_core.specs.Sums.{sum_over, worth_to, match_points, sum_of, points_of}
-use Rattle.league_core.specs.Zones.{passes, is_on, has_passed, is_test_true}
-use Rattle.league_core.specs.Zones.{is_as_said, is_literal_true, are_literals_true, IsMember}
-use Rattle.league_core.specs.Options.{meets_literal, meets, options_of, options_from, options_in}
-use Rattle.league_core.specs.Options.{takes_option, take_options, IsInBox}
-use Rattle.league_core.specs.PointRanges.{range_from, total_of, points_together, least_points_of}
-use Rattle.league_core.specs.PointRanges.{most_points_of}
+use Rattle.league_core.specs.game.Results.{Results}
+use Rattle.league_core.specs.game.Finishes.{may_end, may_all_end}
+use Rattle.league_core.specs.game.Sums.{sum_over, worth_to, match_points, sum_of, points_of}
+use Rattle.league_core.specs.search.Zones.{passes, is_on, has_passed, is_test_true, is_as_said}
+use Rattle.league_core.specs.search.Zones.{is_literal_true, are_literals_true, IsMember}
+use Rattle.league_core.specs.search.Options.{meets_literal, meets, options_of, options_from}
+use Rattle.league_core.specs.search.Options.{options_in, takes_option, take_options, IsInBox}
+use Rattle.league_core.specs.search.PointRanges.{range_from, total_of, points_together}
+use Rattle.league_core.specs.search.PointRanges.{least_points_of, most_points_of}
 use Rattle.league_core.proofs.OptionLemmas.{has_score-options_of}
 use Rattle.league_core.proofs.SumLemmas.{total_of-sum_over}
 use Rattle.league_core.proofs.PointRangeLemmas.{range_bounds}

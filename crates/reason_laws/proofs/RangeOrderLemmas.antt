@@ -10,10 +10,10 @@ use Rattle.std.proofs.lemmas.Bool.{false≢true, and_parts, or_cases}
 use Rattle.std.proofs.lemmas.Bool.Decides.{Decides-int_eq}
 use Rattle.league_core.specs.declared.sure.Sure.{Sure}
 use Rattle.league_core.specs.declared.sure.Sure.TheVariants.{Above, Below, Level, Unknown}
-use Rattle.league_core.specs.HeadToHead.{greater_first, by_first_difference}
-use Rattle.league_core.specs.PointRanges.{Range}
-use Rattle.league_core.specs.SureOrder.{has_one_value, sure_by_range, sure_then, sure_by_ranges}
-use Rattle.league_core.specs.SureOrder.{is_apart}
+use Rattle.league_core.specs.game.HeadToHead.{greater_first, by_first_difference}
+use Rattle.league_core.specs.search.PointRanges.{Range}
+use Rattle.league_core.specs.search.SureOrder.{has_one_value, sure_by_range, sure_then}
+use Rattle.league_core.specs.search.SureOrder.{sure_by_ranges, is_apart}
 use Rattle.league_core.proofs.OrderingLemmas.{then-equal, greater_first-same, int_cmp-less}
 use Rattle.league_core.proofs.PlainLemmas.{int_lt-true, int_lt-false}
 use Rattle.league_core.proofs.OrderingLemmas.{int_cmp-greater}

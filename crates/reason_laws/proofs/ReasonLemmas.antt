@@ -14,15 +14,17 @@ use Rattle.league_core.specs.declared.question.Claim.{Claim}
 use Rattle.league_core.specs.declared.question.Claim.TheVariants.{Inside, Outside}
 use Rattle.league_core.specs.declared.question.Question.{Question}
 use Rattle.league_core.specs.declared.zone.Literal.{Literal}
-use Rattle.league_core.specs.Results.{Results}
-use Rattle.league_core.specs.Sheets.{clubs_of}
-use Rattle.league_core.specs.Sums.{points_of}
-use Rattle.league_core.specs.Ranking.{ranks_before, place_of, is_inside}
-use Rattle.league_core.specs.Questions.{is_on_side, is_in_window, holds_at}
-use Rattle.league_core.specs.Zones.{rivals_of, marked_before, marked_after, IsMember}
-use Rattle.league_core.specs.PointRanges.{least_points_of, most_points_of, own_most, own_least}
-use Rattle.league_core.specs.Reasons.{too_many, refutes_by_count, refutes_by_window, has_member}
-use Rattle.league_core.specs.Reasons.{times, refutes_by_floor, refutes_by_ceiling}
+use Rattle.league_core.specs.game.Results.{Results}
+use Rattle.league_core.specs.game.Sheets.{clubs_of}
+use Rattle.league_core.specs.game.Sums.{points_of}
+use Rattle.league_core.specs.game.Ranking.{ranks_before, place_of, is_inside}
+use Rattle.league_core.specs.game.Questions.{is_on_side, is_in_window, holds_at}
+use Rattle.league_core.specs.search.Zones.{rivals_of, marked_before, marked_after, IsMember}
+use Rattle.league_core.specs.search.PointRanges.{least_points_of, most_points_of, own_most}
+use Rattle.league_core.specs.search.PointRanges.{own_least}
+use Rattle.league_core.specs.search.Reasons.{too_many, refutes_by_count, refutes_by_window}
+use Rattle.league_core.specs.search.Reasons.{has_member, times, refutes_by_low}
+use Rattle.league_core.specs.search.Reasons.{refutes_by_high}
 use Rattle.league_core.proofs.ClubLemmas.{range_has}
 use Rattle.league_core.proofs.RankingLemmas.{ranks_before-itself}
 use Rattle.reason_laws.proofs.MemberLemmas.{member_in_box, points_in_box, total_at_most}
@@ -127,7 +129,7 @@ window_says sheet season question zone finish lots member reason holds =
 pub floor_says : (sheet : Sheet) (season : Results) (question : Question) (zone : List Literal)
     (clubs : List ℕ) (finish : Results) (lots : List ℕ)
     → IsMember sheet season question.club zone finish lots
-    → refutes_by_floor sheet season question zone clubs ≡ true
+    → refutes_by_low sheet season question zone clubs ≡ true
     → holds_at sheet question finish lots ≡ true → ⊥
 floor_says sheet season question zone clubs finish lots member reason holds =
     let parts = holds_parts sheet question finish lots holds in
@@ -157,7 +159,7 @@ floor_says sheet season question zone clubs finish lots member reason holds =
 pub ceiling_says : (sheet : Sheet) (season : Results) (question : Question) (zone : List Literal)
     (clubs : List ℕ) (finish : Results) (lots : List ℕ)
     → IsMember sheet season question.club zone finish lots
-    → refutes_by_ceiling sheet season question zone clubs ≡ true
+    → refutes_by_high sheet season question zone clubs ≡ true
     → holds_at sheet question finish lots ≡ true → ⊥
 ceiling_says sheet season question zone clubs finish lots member reason holds =
     let parts = holds_parts sheet question finish lots holds in

@@ -9,19 +9,21 @@ use Rattle.league_core.specs.declared.question.Question.{Question}
 use Rattle.league_core.specs.declared.zone.Literal.{Literal}
 use Rattle.league_core.specs.declared.tree.TreeNode.{TreeNode}
 use Rattle.league_core.specs.declared.tree.TreeNode.TheVariants.{Split, Open, Lent, Refuted}
-use Rattle.league_core.specs.Results.{Results}
-use Rattle.league_core.specs.Questions.{holds_at}
-use Rattle.league_core.specs.Verdicts.{HasNoExample}
-use Rattle.league_core.specs.Zones.{with_test, are_literals_true, IsMember}
-use Rattle.league_core.specs.Trees.{Tree, open_leaf, lent_leaf, refuted_leaf, branch, NodesMeet}
-use Rattle.league_core.specs.Trees.{is_refuted}
-use Rattle.league_core.specs.Leaves.{leaves_from}
-use Rattle.league_core.specs.Splits.{AreReasonsTrue}
+use Rattle.league_core.specs.game.Results.{Results}
+use Rattle.league_core.specs.game.Questions.{holds_at}
+use Rattle.league_core.specs.game.Verdicts.{HasNoExample}
+use Rattle.league_core.specs.search.Zones.{with_test, are_literals_true, IsMember}
+use Rattle.league_core.specs.search.GivenVerdicts.{HoldsNowhereIn}
+use Rattle.league_core.specs.search.Trees.{Tree, open_leaf, lent_leaf, refuted_leaf, branch}
+use Rattle.league_core.specs.search.Trees.{NodesMeet, is_refuted}
+use Rattle.league_core.specs.inside.Leaves.{leaves_from}
+use Rattle.league_core.specs.search.Splits.{AreReasonsTrue}
 use Rattle.league_core.proofs.TreeLemmas.{NodesMeet-weaker}
-use Rattle.reason_laws.specs.Splits.{HoldsNowhereIn, HoldsAtNoLeaf}
-use Rattle.reason_laws.specs.Refutations.{IsRefutedLeaf, IsRefutation, is_unsettled_at}
+use Rattle.league_core.proofs.GivenLemmas.{none_at_root}
+use Rattle.reason_laws.specs.inside.Splits.{HoldsAtNoLeaf}
+use Rattle.reason_laws.specs.inside.Refutations.{IsRefutedLeaf, IsRefutation, is_unsettled_at}
 use Rattle.reason_laws.proofs.TieLemmas.{reason_says}
-use Rattle.reason_laws.proofs.SplitLemmas.{either_half, leaves_decide, none_at_root}
+use Rattle.reason_laws.proofs.SplitLemmas.{either_half, leaves_decide}
 
 -- a question holds at no leaf that is refuted
 refuted_holds_not : (sheet : Sheet) (season : Results) (question : Question)

@@ -5,7 +5,7 @@ use Rattle.std.proofs.Common.{count_by, refl, ap, ◌∙◌, inl, inr, arith}
 use Rattle.std.specs.List.{list_all}
 use Rattle.std.proofs.lemmas.Bool.{false≢true, and_parts, or_cases, eqb-true}
 use Rattle.std.proofs.lemmas.List.Sums.{sum_by-cons}
-use Rattle.league_core.specs.Sums.{has_club}
+use Rattle.league_core.specs.game.Sums.{has_club}
 use Rattle.std.proofs.Common.{◌≡◌, ◌≢◌, ℕ, ◌+◌, ◌≤◌, Bool, true, false, not}
 use Rattle.std.proofs.Common.{◌==◌, cond, List, [], ◌∷◌, length, filter}
 use Rattle.std.proofs.Common.{count_by, refl}

@@ -14,24 +14,25 @@ use Rattle.league_core.specs.declared.season.Score.{Score}
 use Rattle.league_core.specs.declared.sure.Sure.{Sure}
 use Rattle.league_core.specs.declared.sure.Sure.TheVariants.{Above, Below, Level, Unknown}
 use Rattle.league_core.specs.declared.zone.Literal.{Literal}
-use Rattle.league_core.specs.Results.{Results}
-use Rattle.league_core.specs.Sums.{Worth, match_points, goal_difference, goals, away_goals, wins}
-use Rattle.league_core.specs.Sums.{away_wins, worth_to, worth_among}
-use Rattle.league_core.specs.Ahead.{rank_of}
-use Rattle.league_core.specs.LotsFor.{order_without_lots}
-use Rattle.league_core.specs.Options.{options_in, has_one_score, has_one_outcome, is_single}
-use Rattle.league_core.specs.Options.{IsInBox}
-use Rattle.league_core.specs.PointRanges.{Range, range_from, points_range}
-use Rattle.league_core.specs.SureOrder.{has_one_value, sure_by_range, sure_then, sure_by_ranges}
-use Rattle.league_core.specs.SureOrder.{is_level, is_apart, range_over, range_among, record_ranges}
-use Rattle.league_core.specs.SureOrder.{overall_ranges, by_record_ranges, by_overall_ranges}
-use Rattle.league_core.specs.SureOrder.{is_surely_in, is_surely_out, are_all_sure, sure_within}
-use Rattle.league_core.specs.SureOrder.{first_sum_ranges, by_first_sum_ranges}
-use Rattle.league_core.specs.SureOrder.{is_surely_level_overall, is_surely_apart_overall}
-use Rattle.league_core.specs.SureOrder.{are_all_sure_overall, surely_level_overall, sure_in}
-use Rattle.league_core.specs.SureOrder.{sure_by, sure_by_points, level_on_points, sure_order}
-use Rattle.league_core.specs.Splits.{are_outcomes_fixed}
-use Rattle.reason_laws.specs.SureLaws.{sure_of}
+use Rattle.league_core.specs.game.Results.{Results}
+use Rattle.league_core.specs.game.Sums.{Worth, match_points, goal_difference, goals, away_goals}
+use Rattle.league_core.specs.game.Sums.{wins, away_wins, worth_to, worth_among}
+use Rattle.league_core.specs.game.Ahead.{rank_of}
+use Rattle.league_core.specs.inside.LotsFor.{order_without_lots}
+use Rattle.league_core.specs.search.Options.{options_in, has_one_score, has_one_outcome, is_single}
+use Rattle.league_core.specs.search.Options.{IsInBox}
+use Rattle.league_core.specs.search.PointRanges.{Range, range_from, points_range}
+use Rattle.league_core.specs.search.SureOrder.{has_one_value, sure_by_range, sure_then}
+use Rattle.league_core.specs.search.SureOrder.{sure_by_ranges, is_level, is_apart, range_over}
+use Rattle.league_core.specs.search.SureOrder.{range_among, record_ranges, overall_ranges}
+use Rattle.league_core.specs.search.SureOrder.{by_record_ranges, by_overall_ranges, is_surely_in}
+use Rattle.league_core.specs.search.SureOrder.{is_surely_out, are_all_sure, sure_within}
+use Rattle.league_core.specs.search.SureOrder.{first_sum_ranges, by_first_sum_ranges}
+use Rattle.league_core.specs.search.SureOrder.{is_surely_level_overall, is_surely_apart_overall}
+use Rattle.league_core.specs.search.SureOrder.{are_all_sure_overall, surely_level_overall, sure_in}
+use Rattle.league_core.specs.search.SureOrder.{sure_by, sure_by_points, level_on_points, sure_order}
+use Rattle.league_core.specs.search.Splits.{are_outcomes_fixed}
+use Rattle.reason_laws.specs.inside.SureLaws.{sure_of}
 use Rattle.reason_laws.proofs.MemberLemmas.{list_all-weaker}
 use Rattle.reason_laws.proofs.FixedLemmas.{range_from-alike, scores_alike, one_score-outcome}
 use Rattle.reason_laws.proofs.RangeOrderLemmas.{Agrees}

@@ -11,15 +11,16 @@ use Rattle.league_core.specs.declared.sheet.Sheet.{Sheet}
 use Rattle.league_core.specs.declared.question.Question.{Question}
 use Rattle.league_core.specs.declared.zone.Test.{Test}
 use Rattle.league_core.specs.declared.zone.Literal.{Literal}
-use Rattle.league_core.specs.Results.{Results}
-use Rattle.league_core.specs.Verdicts.{HasNoExample}
-use Rattle.league_core.specs.Zones.{is_test_true, is_as_said, is_literal_true}
-use Rattle.league_core.specs.Zones.{are_literals_true, IsMember}
-use Rattle.league_core.specs.Zones.{with_test}
-use Rattle.league_core.specs.Trees.{Tree, open_leaf, lent_leaf, refuted_leaf, branch, zones_from}
-use Rattle.league_core.specs.Trees.{zones_of, NodesMeet, IsCover, IsCoverOf}
+use Rattle.league_core.specs.game.Results.{Results}
+use Rattle.league_core.specs.game.Verdicts.{HasNoExample}
+use Rattle.league_core.specs.search.Zones.{is_test_true, is_as_said, is_literal_true}
+use Rattle.league_core.specs.search.Zones.{are_literals_true, IsMember, with_test}
+use Rattle.league_core.specs.search.GivenVerdicts.{HoldsNowhereIn}
+use Rattle.league_core.specs.search.Trees.{Tree, open_leaf, lent_leaf, refuted_leaf, branch}
+use Rattle.league_core.specs.search.Trees.{zones_from, zones_of, NodesMeet, IsCover, IsCoverOf}
 use Rattle.league_core.proofs.HalfLemmas.{list_all-with}
-use Rattle.reason_laws.specs.Splits.{HoldsNowhereIn, HoldsAtNoLeaf}
+use Rattle.league_core.proofs.GivenLemmas.{none_at_root}
+use Rattle.reason_laws.specs.inside.Splits.{HoldsAtNoLeaf}
 
 -- a half is the zone's literals and what it says of the test
 pub true_in_half : (sheet : Sheet) (club : ℕ) (finish : Results) (lots : List ℕ)
@@ -152,14 +153,6 @@ leaves_decide sheet season question (branch test fresh yes_half no_half) zone fa
       | inr within ↦ leaves_decide sheet season question no_half
           (with_test zone test false) facts.2 finish lots within holds
     ]
-
--- a question that holds nowhere in the zone without a literal has no example
-pub none_at_root : (sheet : Sheet) (season : Results) (question : Question)
-    → HoldsNowhereIn sheet season question [] → HasNoExample sheet season question
-none_at_root sheet season question nowhere finish lots example =
-    nowhere finish lots
-    (record { is_finish = example.is_finish; is_drawn = example.is_drawn; literals = refl })
-    example.holds
 
 pub leaves_show : (sheet : Sheet) (season : Results) (question : Question) (tree : Tree)
     → NodesMeet (HoldsAtNoLeaf sheet season question) [] tree → HasNoExample sheet season question

@@ -10,16 +10,17 @@ use Rattle.league_core.specs.declared.sheet.Sheet.{Sheet}
 use Rattle.league_core.specs.declared.season.Score.{Score}
 use Rattle.league_core.specs.declared.sure.Sure.{Sure}
 use Rattle.league_core.specs.declared.sure.Sure.TheVariants.{Above, Below, Level, Unknown}
-use Rattle.league_core.specs.Results.{Results}
-use Rattle.league_core.specs.Sums.{Worth, match_points, goal_difference, goals, away_goals, wins}
-use Rattle.league_core.specs.Sums.{away_wins, worth_to, worth_among, sum_of, sum_among}
-use Rattle.league_core.specs.HeadToHead.{head_to_head_of}
-use Rattle.league_core.specs.HeadToHead.{by_head_to_head, are_level_in, level_with}
-use Rattle.league_core.specs.Ahead.{overall_of, by_overall, lead_within}
-use Rattle.league_core.specs.Options.{take_options}
-use Rattle.league_core.specs.SureOrder.{is_level, range_over, range_among, record_ranges}
-use Rattle.league_core.specs.SureOrder.{overall_ranges, by_record_ranges, by_overall_ranges}
-use Rattle.league_core.specs.SureOrder.{is_surely_in, is_surely_out, are_all_sure, sure_within}
+use Rattle.league_core.specs.game.Results.{Results}
+use Rattle.league_core.specs.game.Sums.{Worth, match_points, goal_difference, goals, away_goals}
+use Rattle.league_core.specs.game.Sums.{wins, away_wins, worth_to, worth_among, sum_of, sum_among}
+use Rattle.league_core.specs.game.HeadToHead.{head_to_head_of, by_head_to_head, are_level_in}
+use Rattle.league_core.specs.game.HeadToHead.{level_with}
+use Rattle.league_core.specs.game.Ahead.{overall_of, by_overall, lead_within}
+use Rattle.league_core.specs.search.Options.{take_options}
+use Rattle.league_core.specs.search.SureOrder.{is_level, range_over, range_among, record_ranges}
+use Rattle.league_core.specs.search.SureOrder.{overall_ranges, by_record_ranges, by_overall_ranges}
+use Rattle.league_core.specs.search.SureOrder.{is_surely_in, is_surely_out, are_all_sure}
+use Rattle.league_core.specs.search.SureOrder.{sure_within}
 use Rattle.league_core.proofs.StandingLemmas.{level_with-tied}
 use Rattle.reason_laws.proofs.MemberLemmas.{sum_in_range}
 use Rattle.reason_laws.proofs.RangeOrderLemmas.{Agrees, then_agrees, IsInRange, AreInRanges}

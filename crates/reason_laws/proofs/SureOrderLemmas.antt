@@ -14,28 +14,28 @@ use Rattle.league_core.specs.declared.sheet.Sheet.{Sheet}
 use Rattle.league_core.specs.declared.sure.Sure.{Sure}
 use Rattle.league_core.specs.declared.sure.Sure.TheVariants.{Above, Below, Level, Unknown}
 use Rattle.league_core.specs.declared.zone.Literal.{Literal}
-use Rattle.league_core.specs.Results.{Results}
-use Rattle.league_core.specs.Sheets.{clubs_of}
-use Rattle.league_core.specs.Sums.{points_of}
-use Rattle.league_core.specs.HeadToHead.{greater_first}
-use Rattle.league_core.specs.Ahead.{standing_in}
-use Rattle.league_core.specs.Ranking.{tied_group_of, lot_of, ranks_before}
-use Rattle.league_core.specs.LotsFor.{order_without_lots}
-use Rattle.league_core.specs.Options.{options_in, has_one_outcome, IsInBox}
-use Rattle.league_core.specs.PointRanges.{Range, points_together, points_range, least_points_of}
-use Rattle.league_core.specs.PointRanges.{most_points_of}
-use Rattle.league_core.specs.SureOrder.{has_one_value, sure_by_range, sure_by, is_level}
-use Rattle.league_core.specs.SureOrder.{sure_by_points, level_on_points, sure_order}
+use Rattle.league_core.specs.game.Results.{Results}
+use Rattle.league_core.specs.game.Sheets.{clubs_of}
+use Rattle.league_core.specs.game.Sums.{points_of}
+use Rattle.league_core.specs.game.HeadToHead.{greater_first}
+use Rattle.league_core.specs.game.Ahead.{standing_in}
+use Rattle.league_core.specs.game.Ranking.{tied_group_of, lot_of, ranks_before}
+use Rattle.league_core.specs.inside.LotsFor.{order_without_lots}
+use Rattle.league_core.specs.search.Options.{options_in, has_one_outcome, IsInBox}
+use Rattle.league_core.specs.search.PointRanges.{Range, points_together, points_range}
+use Rattle.league_core.specs.search.PointRanges.{least_points_of, most_points_of}
+use Rattle.league_core.specs.search.SureOrder.{has_one_value, sure_by_range, sure_by, is_level}
+use Rattle.league_core.specs.search.SureOrder.{sure_by_points, level_on_points, sure_order}
 use Rattle.league_core.proofs.RankingLemmas.{tied_group_of-tied, order_without_lots_total}
 use Rattle.league_core.proofs.RankingLemmas.{order_of-lots}
-use Rattle.league_core.specs.Splits.{are_outcomes_fixed}
+use Rattle.league_core.specs.search.Splits.{are_outcomes_fixed}
 use Rattle.reason_laws.proofs.MemberLemmas.{points_in_box}
 use Rattle.reason_laws.proofs.FixedLemmas.{range_from-alike, points_alike}
 use Rattle.reason_laws.proofs.RangeOrderLemmas.{Agrees, IsInRange, then_agrees, range_agrees}
 use Rattle.reason_laws.proofs.SureOverallLemmas.{by_agrees}
 
 -- a club's points at a finish in the box are in their range
-points_in_range : (sheet : Sheet) (season : Results) (zone : List Literal) (finish : Results)
+pub points_in_range : (sheet : Sheet) (season : Results) (zone : List Literal) (finish : Results)
     (club : ℕ) → IsInBox sheet season zone finish
     → IsInRange (points_range sheet season (options_in sheet season zone) (club ∷ []))
     (points_of sheet finish club)

@@ -8,15 +8,15 @@ use Rattle.league_core.specs.declared.sheet.Order.TheVariants.{HeadFirst, Overal
 use Rattle.league_core.specs.declared.season.Score.{Score}
 use Rattle.league_core.specs.declared.sure.Sure.{Sure}
 use Rattle.league_core.specs.declared.sure.Sure.TheVariants.{Unknown}
-use Rattle.league_core.specs.Results.{Results}
-use Rattle.league_core.specs.Sums.{goal_difference, goals}
-use Rattle.league_core.specs.Ahead.{lead_in, first_sums_of, by_first_sums, are_level_overall}
-use Rattle.league_core.specs.Ahead.{level_overall, standing_by}
-use Rattle.league_core.specs.Options.{take_options}
-use Rattle.league_core.specs.SureOrder.{first_sum_ranges, by_first_sum_ranges}
-use Rattle.league_core.specs.SureOrder.{is_surely_level_overall, is_surely_apart_overall}
-use Rattle.league_core.specs.SureOrder.{are_all_sure_overall, surely_level_overall, sure_in}
-use Rattle.league_core.specs.SureOrder.{sure_by}
+use Rattle.league_core.specs.game.Results.{Results}
+use Rattle.league_core.specs.game.Sums.{goal_difference, goals}
+use Rattle.league_core.specs.game.Ahead.{lead_in, first_sums_of, by_first_sums, are_level_overall}
+use Rattle.league_core.specs.game.Ahead.{level_overall, standing_by}
+use Rattle.league_core.specs.search.Options.{take_options}
+use Rattle.league_core.specs.search.SureOrder.{first_sum_ranges, by_first_sum_ranges}
+use Rattle.league_core.specs.search.SureOrder.{is_surely_level_overall, is_surely_apart_overall}
+use Rattle.league_core.specs.search.SureOrder.{are_all_sure_overall, surely_level_overall, sure_in}
+use Rattle.league_core.specs.search.SureOrder.{sure_by}
 use Rattle.league_core.proofs.StandingLemmas.{level_overall-tied}
 use Rattle.reason_laws.proofs.RangeOrderLemmas.{Agrees, AreInRanges, then_agrees, ranges_agree}
 use Rattle.reason_laws.proofs.SureLemmas.{over_in_range, in_or_out, filter_where}

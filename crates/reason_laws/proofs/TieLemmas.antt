@@ -11,18 +11,18 @@ use Rattle.league_core.specs.declared.question.Question.{Question}
 use Rattle.league_core.specs.declared.zone.Literal.{Literal}
 use Rattle.league_core.specs.declared.zone.Reason.{Reason}
 use Rattle.league_core.specs.declared.zone.Reason.TheVariants.{Count, Window, Low, High, Tie}
-use Rattle.league_core.specs.Results.{Results}
-use Rattle.league_core.specs.ClubSets.{clubs_in}
-use Rattle.league_core.specs.Ranking.{ranks_before}
-use Rattle.league_core.specs.Questions.{holds_at}
-use Rattle.league_core.specs.Zones.{rivals_of, marked_before, marked_after, IsMember}
-use Rattle.league_core.specs.Options.{has_finish}
-use Rattle.league_core.specs.SureOrder.{is_above, is_below, sure_order}
-use Rattle.league_core.specs.Reasons.{has_reason, refutes_by_count, refutes_by_window}
-use Rattle.league_core.specs.Reasons.{refutes_by_floor, refutes_by_ceiling, refutes_by_tie}
-use Rattle.league_core.specs.Reasons.{is_surely_above, is_surely_below, are_too_many_sure}
-use Rattle.league_core.specs.Reasons.{is_surely_wrong}
-use Rattle.league_core.specs.Splits.{are_outcomes_fixed}
+use Rattle.league_core.specs.game.Results.{Results}
+use Rattle.league_core.specs.game.ClubSets.{clubs_in}
+use Rattle.league_core.specs.game.Ranking.{ranks_before}
+use Rattle.league_core.specs.game.Questions.{holds_at}
+use Rattle.league_core.specs.search.Zones.{rivals_of, marked_before, marked_after, IsMember}
+use Rattle.league_core.specs.search.Options.{has_finish}
+use Rattle.league_core.specs.search.SureOrder.{is_above, is_below, sure_order}
+use Rattle.league_core.specs.search.Reasons.{has_reason, refutes_by_count, refutes_by_window}
+use Rattle.league_core.specs.search.Reasons.{refutes_by_low, refutes_by_high, refutes_by_tie}
+use Rattle.league_core.specs.search.Reasons.{is_surely_above, is_surely_below, are_too_many_sure}
+use Rattle.league_core.specs.search.Reasons.{is_surely_wrong}
+use Rattle.league_core.specs.search.Splits.{are_outcomes_fixed}
 use Rattle.reason_laws.proofs.MemberLemmas.{member_in_box}
 use Rattle.reason_laws.proofs.MarkedOrderLemmas.{before_is, after_is}
 use Rattle.reason_laws.proofs.ReasonLemmas.{too_many_says, holds_parts, count_says, window_says}
@@ -172,11 +172,11 @@ reason_says sheet season question zone Window finish lots club_in reason member 
 reason_says sheet season question zone (Low set) finish lots club_in reason member holds =
     floor_says sheet season question zone (clubs_in set) finish lots member
     (and_parts (has_finish sheet season zone)
-    (refutes_by_floor sheet season question zone (clubs_in set)) reason).1 holds
+    (refutes_by_low sheet season question zone (clubs_in set)) reason).1 holds
 reason_says sheet season question zone (High set) finish lots club_in reason member holds =
     ceiling_says sheet season question zone (clubs_in set) finish lots member
     (and_parts (has_finish sheet season zone)
-    (refutes_by_ceiling sheet season question zone (clubs_in set)) reason).1 holds
+    (refutes_by_high sheet season question zone (clubs_in set)) reason).1 holds
 reason_says sheet season question zone Tie finish lots club_in reason member holds =
     tie_says sheet season question zone finish lots club_in member
     (and_parts (has_finish sheet season zone)

@@ -10,17 +10,17 @@ use Rattle.league_core.specs.declared.question.Question.{Question}
 use Rattle.league_core.specs.declared.zone.Test.{Test}
 use Rattle.league_core.specs.declared.zone.Test.TheVariants.{Home, Draw, HomeMost, AwayMost, Rival}
 use Rattle.league_core.specs.declared.zone.Literal.{Literal}
-use Rattle.league_core.specs.Results.{Results}
-use Rattle.league_core.specs.Seasons.{IsSeasonOf}
-use Rattle.league_core.specs.FinishList.{ways_to_finish}
-use Rattle.league_core.specs.Zones.{is_of_score, is_of_rival, with_test}
-use Rattle.league_core.specs.Options.{has_finish}
-use Rattle.league_core.specs.Trees.{Tree, open_leaf, lent_leaf, refuted_leaf, branch, preorder}
-use Rattle.league_core.specs.Trees.{NodesMeet, new_count, has_open, is_spent}
-use Rattle.league_core.specs.Splits.{is_proper, IsProperNode}
+use Rattle.league_core.specs.game.Results.{Results}
+use Rattle.league_core.specs.game.Seasons.{IsSeasonOf}
+use Rattle.league_core.specs.inside.FinishList.{ways_to_finish}
+use Rattle.league_core.specs.search.Zones.{is_of_score, is_of_rival, with_test}
+use Rattle.league_core.specs.search.Options.{has_finish}
+use Rattle.league_core.specs.search.Trees.{Tree, open_leaf, lent_leaf, refuted_leaf, branch}
+use Rattle.league_core.specs.search.Trees.{preorder, NodesMeet, new_count, has_open, is_spent}
+use Rattle.league_core.specs.search.Splits.{is_proper, IsProperNode}
 use Rattle.league_core.proofs.TreeLemmas.{length-preorder, new_count-le}
 use Rattle.league_core.proofs.HalfLemmas.{options_kept, root_has_finish, half_has_finish}
-use Rattle.reason_laws.specs.Weights.{choices, finishes_in, unmarked_in, weight_of}
+use Rattle.reason_laws.specs.inside.Weights.{choices, finishes_in, unmarked_in, weight_of}
 use Rattle.reason_laws.proofs.ChoiceLemmas.{finishes_some, divided, kept_divided, finishes_divided}
 use Rattle.reason_laws.proofs.ChoiceLemmas.{root_finishes}
 use Rattle.reason_laws.proofs.MarkLemmas.{one_rival_marked, unmarked_kept, root_unmarked}

@@ -7,16 +7,16 @@ use Rattle.league_core.specs.declared.question.Claim.TheVariants.{Inside, Outsid
 use Rattle.league_core.specs.declared.zone.Test.TheVariants.{Home, Draw, HomeMost, Rival}
 use Rattle.league_core.specs.declared.zone.Literal.{Literal}
 use Rattle.league_core.specs.declared.zone.Reason.TheVariants.{Count, Low, Tie}
-use Rattle.league_core.specs.Results.{Results}
-use Rattle.league_core.specs.ClubSets.{clubs_below}
-use Rattle.league_core.specs.Questions.{IsExample, full_question}
-use Rattle.league_core.specs.Verdicts.{IsLost}
-use Rattle.league_core.specs.Options.{has_finish, is_single}
-use Rattle.league_core.specs.PointRanges.{least_points_of, most_points_of}
-use Rattle.league_core.specs.SureOrder.{sure_order}
-use Rattle.league_core.specs.Reasons.{has_reason}
-use Rattle.league_core.specs.Trees.{Tree, refuted_leaf, branch}
-use Rattle.league_core.specs.WorkedRows.{sheet_of, vs, ended, played, pair}
+use Rattle.league_core.specs.game.Results.{Results}
+use Rattle.league_core.specs.game.ClubSets.{clubs_below}
+use Rattle.league_core.specs.game.Questions.{IsExample, full_question}
+use Rattle.league_core.specs.game.Verdicts.{IsLost}
+use Rattle.league_core.specs.search.Options.{has_finish, is_single}
+use Rattle.league_core.specs.search.PointRanges.{least_points_of, most_points_of}
+use Rattle.league_core.specs.search.SureOrder.{sure_order}
+use Rattle.league_core.specs.search.Reasons.{has_reason}
+use Rattle.league_core.specs.search.Trees.{Tree, refuted_leaf, branch}
+use Rattle.league_core.specs.rows.WorkedRows.{sheet_of, vs, ended, played, pair}
 use Rattle.reason_laws.proofs.DecidedLemmas.{single_decided_by_two}
 use Rattle.reason_laws.proofs.RefutationLemmas.{refutation_shows}
 

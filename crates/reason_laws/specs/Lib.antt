@@ -1,7 +1,2 @@
--- Read in this order: it is the order in which the notions rest on each other.
-pub mod Laws
-pub mod SureLaws
-pub mod Splits
-pub mod Refutations
-pub mod Weights
-pub mod WeightRows
+-- All words of this crate stand in inside/: no promise of the program rests on them.
+pub mod inside

@@ -1,11 +1,11 @@
 //! The laws of members and reasons: functions that do nothing, each with a law as its contract.
 //!
-//! The statements are in `specs/Laws.antt`.
+//! The statements are in `specs/inside/Laws.antt`.
 
-ghost use Rattle.reason_laws.specs.Laws.{MembersAreInTheBox, PointsAreInTheirRange};
-ghost use Rattle.reason_laws.specs.Laws.{ReasonsAreSound};
-ghost use Rattle.reason_laws.specs.Laws.{SingleZonesHaveOneFinish, SingleZonesAreDecided};
-ghost use Rattle.reason_laws.specs.Laws.{SingleZonesAreDecidedByTwoLots};
+ghost use Rattle.reason_laws.specs.inside.Laws.{MembersAreInTheBox, PointsAreInTheirRange};
+ghost use Rattle.reason_laws.specs.inside.Laws.{ReasonsAreSound, SingleZonesHaveOneFinish};
+ghost use Rattle.reason_laws.specs.inside.Laws.{SingleZonesAreDecided};
+ghost use Rattle.reason_laws.specs.inside.Laws.{SingleZonesAreDecidedByTwoLots};
 
 /// What is read off a box holds of each member of its zone.
 pub fn boxes_bound_their_members()

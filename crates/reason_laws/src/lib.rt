@@ -5,12 +5,16 @@
 //! they are.
 #![tactic(auto)]
 
+mod key_laws;
 mod laws;
+mod outcome_laws;
 mod refutations;
 mod splits;
 mod sure_laws;
 
+pub use key_laws::keys_lie_between;
 pub use laws::{boxes_bound_their_members, reasons_are_sound, single_zones_are_decided};
+pub use outcome_laws::outcomes_decide_the_verdict;
 pub use refutations::{examples_are_in_unsettled_leaves, refuted_trees_decide};
 pub use splits::{
     halves_cover_the_zone, leaves_cover_the_season, leaves_decide_the_question,

@@ -1,10 +1,10 @@
 //! The laws that join reasons and splits: functions that do nothing, with laws as their contracts.
 //!
-//! The statements are in `specs/Refutations.antt`.
+//! The statements are in `specs/inside/Refutations.antt`.
 
-ghost use Rattle.reason_laws.specs.Refutations.{RefutedTreesDecide, RefutedTreesDecideZones};
-ghost use Rattle.reason_laws.specs.Refutations.{RefutedTreesHaveTrueReasons};
-ghost use Rattle.reason_laws.specs.Refutations.{ExamplesAreInUnsettledLeaves};
+ghost use Rattle.reason_laws.specs.inside.Refutations.{RefutedTreesDecide, RefutedTreesDecideZones};
+ghost use Rattle.reason_laws.specs.inside.Refutations.{RefutedTreesHaveTrueReasons};
+ghost use Rattle.reason_laws.specs.inside.Refutations.{ExamplesAreInUnsettledLeaves};
 
 /// A tree whose leaves are all refuted shows that its question has no example, and below a zone
 /// that it holds nowhere there.

@@ -1,13 +1,13 @@
 //! The laws of splits, trees and weights: functions that do nothing, with laws as their contracts.
 
-ghost use Rattle.reason_laws.specs.Splits.{HalvesCover, HalvesAreApart, LeavesCover, LeavesDecide};
-ghost use Rattle.reason_laws.specs.Splits.{LeavesCoverZones, LeavesDecideZones};
-ghost use Rattle.reason_laws.specs.Splits.{ProperTreesNameRivals};
-ghost use Rattle.reason_laws.specs.Weights.{TheRootHasAllFinishes, ScoreTestsDivideFinishes};
-ghost use Rattle.reason_laws.specs.Weights.{ScoreTestsLeaveMarks, RivalTestsLeaveOptions};
-ghost use Rattle.reason_laws.specs.Weights.{RivalTestsMarkOne, ProperSplitsDivideWeights};
-ghost use Rattle.reason_laws.specs.Weights.{HalvesWeighLess, WeightsBoundTrees, FinishesBoundTrees};
-ghost use Rattle.reason_laws.specs.Weights.{SpentTreesHaveSmallBudgets};
+ghost use Rattle.reason_laws.specs.inside.Splits.{HalvesCover, HalvesAreApart, LeavesCover};
+ghost use Rattle.reason_laws.specs.inside.Splits.{LeavesDecide, LeavesCoverZones};
+ghost use Rattle.reason_laws.specs.inside.Splits.{LeavesDecideZones, ProperTreesNameRivals};
+ghost use Rattle.reason_laws.specs.inside.Weights.{TheRootHasAllFinishes, ScoreTestsDivideFinishes};
+ghost use Rattle.reason_laws.specs.inside.Weights.{ScoreTestsLeaveMarks, RivalTestsLeaveOptions};
+ghost use Rattle.reason_laws.specs.inside.Weights.{RivalTestsMarkOne, ProperSplitsDivideWeights};
+ghost use Rattle.reason_laws.specs.inside.Weights.{HalvesWeighLess, WeightsBoundTrees};
+ghost use Rattle.reason_laws.specs.inside.Weights.{FinishesBoundTrees, SpentTreesHaveSmallBudgets};
 
 /// Each member of a zone is in one half by a test, and in one only.
 pub fn halves_cover_the_zone()

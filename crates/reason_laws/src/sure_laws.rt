@@ -1,11 +1,11 @@
 //! The laws of the sure order: functions that do nothing, each with a law as its contract.
 //!
-//! The statements are in `specs/SureLaws.antt`. They speak of every finish in the box of a zone,
-//! whatever the zone's marks say, so that they hold of its members too.
+//! The statements are in `specs/inside/SureLaws.antt`. They speak of every finish in the box of a
+//! zone, whatever the zone's marks say, so that they hold of its members too.
 
-ghost use Rattle.reason_laws.specs.SureLaws.{SurelyAboveRanksBefore, SurelyBelowRanksBehind};
-ghost use Rattle.reason_laws.specs.SureLaws.{SurelyLevelIsLeftToLots};
-ghost use Rattle.reason_laws.specs.SureLaws.{SingleZonesAreClear, SingleZonesAreRanked};
+ghost use Rattle.reason_laws.specs.inside.SureLaws.{SurelyAboveRanksBefore, SurelyBelowRanksBehind};
+ghost use Rattle.reason_laws.specs.inside.SureLaws.{SurelyLevelIsLeftToLots, SingleZonesAreClear};
+ghost use Rattle.reason_laws.specs.inside.SureLaws.{SingleZonesAreRanked};
 
 /// Where the options of each fixture have one outcome, what is sure of two clubs is so at each
 /// finish, whatever the lots.

@@ -1,17 +1,17 @@
 -- The bytes of answers are read as the lines of answers, so a report of them is accepted.
 use Rattle.std.proofs.Common.{sym, ap, subst, ◌≡◌, ℕ, List, map, Some}
 use Rattle.std.specs.Prelude.{length}
-use Rattle.league_core.specs.Seasons.{unplayed_season}
+use Rattle.league_core.specs.game.Seasons.{unplayed_season}
 use Rattle.cert_check.specs.declared.token.Token.{Token}
 use Rattle.check_run.specs.Outcomes.{numbered}
 use Rattle.check_run.proofs.WrittenLemmas.{written_back}
-use Rattle.report_laws.specs.AcceptedReports.{AreAnswersTold}
-use Rattle.report_laws.specs.AcceptedBytes.{WrittenAnswersAreAccepted}
+use Rattle.report_laws.specs.inside.AcceptedReports.{AreAnswersWritten}
+use Rattle.report_laws.specs.inside.AcceptedBytes.{WrittenAnswersAreAccepted}
 use Rattle.report_laws.proofs.ReportLemmas.{report_of_answers}
 
 pub bytes_of_answers : WrittenAnswersAreAccepted
 bytes_of_answers sheet entries told unsettled position lines end answers are behind is =
-    let Told : List Token → Type 0 = λ tokens. AreAnswersTold sheet entries
+    let Told : List Token → Type 0 = λ tokens. AreAnswersWritten sheet entries
     (unplayed_season (length sheet.clubs) (length sheet.fixtures)) 0 tokens unsettled in
     ap Some
     (report_of_answers (record { sheet = sheet; lines = map numbered lines; end = end }) entries

@@ -8,16 +8,17 @@ use Rattle.std.proofs.lemmas.List.Elements.{All-head, All-tail}
 use Rattle.league_core.specs.declared.sheet.Sheet.{Sheet}
 use Rattle.league_core.specs.declared.question.Claim.TheVariants.{Inside, Outside}
 use Rattle.league_core.specs.declared.question.Question.{Question}
-use Rattle.league_core.specs.Results.{Results}
-use Rattle.league_core.specs.Questions.{full_question}
+use Rattle.league_core.specs.game.Results.{Results}
+use Rattle.league_core.specs.game.Questions.{full_question}
 use Rattle.cert_text.specs.declared.proof_line.ProofLine.{ProofLine}
 use Rattle.cert_text.specs.TreeLines.{marked_lines}
 use Rattle.cert_check.specs.declared.token.Token.{Token}
-use Rattle.cert_check.specs.Dues.{Basis, Due, verdict_row}
+use Rattle.cert_check.specs.ExpectedItems.{Basis, Expected, verdict_row}
 use Rattle.cert_check.specs.Machine.{ending_of, whole_at, part_of_ask, rows_on_line}
-use Rattle.cert_check.specs.Calls.{basis_of, unsettled_in}
-use Rattle.cert_check.specs.Answers.{ShowsWord, AreShown, ShowsSpentHeaded}
-use Rattle.cert_check.specs.Answers.{ShowsExampleOf, row_due, unsettled_items}
+use Rattle.cert_check.specs.Machine.{basis_of}
+use Rattle.cert_check.specs.inside.Calls.{unsettled_in}
+use Rattle.cert_check.specs.inside.Answers.{ShowsWord, AreShown, ShowsSpentHeaded, ShowsExampleOf}
+use Rattle.cert_check.specs.inside.Answers.{row_due, unsettled_items}
 use Rattle.cert_check.proofs.AnswerLemmas.{answer_accepted}
 use Rattle.verdict_run.specs.declared.word.Word.{Word}
 use Rattle.verdict_run.specs.declared.word.Word.TheVariants.{Clinched, Lost, Possible, Unsettled}
@@ -25,8 +26,8 @@ use Rattle.verdict_run.specs.declared.word.Verdict.{Verdict}
 use Rattle.verdict_run.specs.Items.{AreVerdictsOf, AnswerRow, IsItemShown, IsShownVerdict}
 use Rattle.verdict_run.specs.Items.{ShowsPart, ShowsSpentNow, answer_row}
 use Rattle.verdict_run.specs.Items.{answer_rows_of}
-use Rattle.report_laws.specs.AcceptedAnswers.{answer_told, item_of_verdict, row_word}
-use Rattle.report_laws.specs.AcceptedAnswers.{unsettled_count, unsettled_one}
+use Rattle.report_laws.specs.inside.AcceptedAnswers.{answer_written, item_of_verdict, row_word}
+use Rattle.report_laws.specs.inside.AcceptedAnswers.{unsettled_count, unsettled_one}
 
 -- ---- one item
 
@@ -89,7 +90,7 @@ items_shown sheet season epoch (verdict ∷ verdicts) all = (
 )
 
 -- the row that an answer's row is in a report
-due_of_row : AnswerRow → Due
+due_of_row : AnswerRow → Expected
 due_of_row row = verdict_row row.line row.club
 
 -- the rows of verdicts
@@ -98,7 +99,7 @@ dues_of_verdicts : (verdicts : List Verdict)
 unfolding due_of_row
 dues_of_verdicts [] = refl
 dues_of_verdicts (verdict ∷ verdicts) =
-    ap (λ (rest : List Due). verdict_row verdict.line verdict.club ∷ rest)
+    ap (λ (rest : List Expected). verdict_row verdict.line verdict.club ∷ rest)
     (dues_of_verdicts verdicts)
 
 -- the rows about a line
@@ -108,7 +109,7 @@ dues_on_line : (clubs : List ℕ) (line : ℕ)
 unfolding due_of_row
 dues_on_line [] line = refl
 dues_on_line (club ∷ clubs) line =
-    ap (λ (rest : List Due). verdict_row line club ∷ rest) (dues_on_line clubs line)
+    ap (λ (rest : List Expected). verdict_row line club ∷ rest) (dues_on_line clubs line)
 
 -- the rows about all lines
 dues_on_lines : (clubs : ℕ) (lines : List ℕ)
@@ -117,7 +118,7 @@ dues_on_lines : (clubs : ℕ) (lines : List ℕ)
 dues_on_lines clubs [] = refl
 dues_on_lines clubs (line ∷ lines) =
     map-append due_of_row (answer_rows_of clubs line) (flat_map (answer_rows_of clubs) lines)
-    ∙ ap₂ (λ (xs ys : List Due). xs ++ ys) (dues_on_line (range_with_len 0 clubs) line)
+    ∙ ap₂ (λ (xs ys : List Expected). xs ++ ys) (dues_on_line (range_with_len 0 clubs) line)
     (dues_on_lines clubs lines)
 
 -- a report counts the unsettled ones as the answer does
@@ -138,13 +139,14 @@ unsettled_same (verdict ∷ verdicts) = by_word verdict.word (unsettled_same ver
 -- an answer is accepted
 pub answer_of_verdicts : (sheet : Sheet) (season : Results) (epoch : ℕ) (verdicts : List Verdict)
     (rest : List Token) (from : ℕ) → AreVerdictsOf sheet season verdicts
-    → ending_of (basis_of sheet season epoch) (answer_told sheet season epoch verdicts ++ rest)
+    → ending_of (basis_of sheet season epoch) (answer_written sheet season epoch verdicts ++ rest)
     (part_of_ask sheet) from 0
-    ≡ whole_at (from + length (answer_told sheet season epoch verdicts)) (unsettled_count verdicts)
+    ≡ whole_at (from + length (answer_written sheet season epoch verdicts))
+    (unsettled_count verdicts)
 answer_of_verdicts sheet season epoch verdicts rest from are =
     answer_accepted (basis_of sheet season epoch) (map item_of_verdict verdicts) rest from
     (dues_of_verdicts verdicts ∙ ap (map due_of_row) are.rows
     ∙ dues_on_lines (length sheet.clubs) sheet.lines)
     (items_shown sheet season epoch verdicts are.each)
-    ∙ ap (λ (n : ℕ). whole_at (from + length (answer_told sheet season epoch verdicts)) n)
+    ∙ ap (λ (n : ℕ). whole_at (from + length (answer_written sheet season epoch verdicts)) n)
     (unsettled_same verdicts)

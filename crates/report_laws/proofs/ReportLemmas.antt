@@ -9,23 +9,23 @@ use Rattle.cert_check.specs.declared.token.Token.{Token}
 use Rattle.cert_check.specs.Tokens.{counted_lines}
 use Rattle.cert_check.specs.LineLists.{tokens_of}
 use Rattle.cert_check.specs.Machine.{Ending, ending_of, part_of_ask}
-use Rattle.cert_check.specs.Calls.{basis_of}
+use Rattle.cert_check.specs.Machine.{basis_of}
 use Rattle.check_run.specs.declared.outcome.CheckOutcome.TheVariants.{Accepted}
-use Rattle.check_run.specs.Outcomes.{ReportInput, Standing, first_standing, outcome_by}
-use Rattle.check_run.specs.Outcomes.{outcome_from, standing_behind, standing_with}
+use Rattle.check_run.specs.Outcomes.{ReportInput, ReportProgressView, first_progress, outcome_by}
+use Rattle.check_run.specs.Outcomes.{outcome_from, progress_after, progress_with}
 use Rattle.check_run.proofs.ReportLemmas.{end-accepted}
-use Rattle.report_laws.specs.AcceptedAnswers.{answer_told, unsettled_count}
-use Rattle.report_laws.specs.AcceptedReports.{AreAnswersTold, rows_told}
+use Rattle.report_laws.specs.inside.AcceptedAnswers.{answer_written, unsettled_count}
+use Rattle.report_laws.specs.inside.AcceptedReports.{AreAnswersWritten, rows_written}
 use Rattle.report_laws.proofs.ItemLemmas.{answer_of_verdicts}
 
 -- a report is accepted from here on, where the lines that are left are answers
-answers_from : (report : ReportInput) (entries : List Entry) (standing : Standing)
+answers_from : (report : ReportInput) (entries : List Entry) (standing : ReportProgressView)
     (lines : List Token) (unsettled : ℕ)
     → drop standing.at (tokens_of report.lines) ≡ lines
-    → AreAnswersTold report.sheet entries standing.season standing.epoch lines unsettled
+    → AreAnswersWritten report.sheet entries standing.season standing.epoch lines unsettled
     → outcome_from report entries standing
     ≡ Accepted (standing.rows
-    + rows_told (length report.sheet.lines * length report.sheet.clubs) entries)
+    + rows_written (length report.sheet.lines * length report.sheet.clubs) entries)
     (standing.unsettled + unsettled)
 answers_from report [] standing lines unsettled left told =
     end-accepted standing report.lines (ap counted_lines (left ∙ told.0))
@@ -36,11 +36,11 @@ answers_from report [] standing lines unsettled left told =
     none : (n : ℕ) → n ≡ n + 0
     none n = omega arith
 answers_from report (Change event ∷ entries) standing lines unsettled left told =
-    answers_from report entries (standing_with standing (Change event)) lines unsettled left told
+    answers_from report entries (progress_with standing (Change event)) lines unsettled left told
 answers_from report (Ask ∷ entries) standing lines unsettled left told =
     let basis = basis_of report.sheet standing.season standing.epoch in
-    let answer = answer_told report.sheet standing.season standing.epoch told.0 in
-    let next = standing_behind report.sheet standing (standing.at + length answer)
+    let answer = answer_written report.sheet standing.season standing.epoch told.0 in
+    let next = progress_after report.sheet standing (standing.at + length answer)
     (unsettled_count told.0) in
     let each = length report.sheet.lines * length report.sheet.clubs in
     ap (λ (tokens : List Token). outcome_by report standing
@@ -55,8 +55,8 @@ answers_from report (Ask ∷ entries) standing lines unsettled left told =
     ∙ ap (drop (length answer)) (left ∙ told.4) ∙ drop-append_seam answer told.1)
     told.6
     ∙ ap (λ (n : ℕ). Accepted n ((standing.unsettled + unsettled_count told.0) + told.2))
-    (grouped standing.rows each (rows_told each entries))
-    ∙ ap (λ (n : ℕ). Accepted (standing.rows + (each + rows_told each entries)) n)
+    (grouped standing.rows each (rows_written each entries))
+    ∙ ap (λ (n : ℕ). Accepted (standing.rows + (each + rows_written each entries)) n)
     (grouped standing.unsettled (unsettled_count told.0) told.2
     ∙ ap (λ (n : ℕ). standing.unsettled + n) (sym told.5))
   where
@@ -69,17 +69,17 @@ answers_from report (End ∷ entries) standing lines unsettled left told =
 
 -- the whole report
 pub report_of_answers : (report : ReportInput) (entries : List Entry) (unsettled : ℕ)
-    → AreAnswersTold report.sheet entries (first_standing report.sheet).season 0
+    → AreAnswersWritten report.sheet entries (first_progress report.sheet).season 0
     (tokens_of report.lines) unsettled
-    → outcome_from report entries (first_standing report.sheet)
-    ≡ Accepted (rows_told (length report.sheet.lines * length report.sheet.clubs) entries)
+    → outcome_from report entries (first_progress report.sheet)
+    ≡ Accepted (rows_written (length report.sheet.lines * length report.sheet.clubs) entries)
     unsettled
 report_of_answers report entries unsettled told =
     let each = length report.sheet.lines * length report.sheet.clubs in
-    answers_from report entries (first_standing report.sheet) (tokens_of report.lines) unsettled
+    answers_from report entries (first_progress report.sheet) (tokens_of report.lines) unsettled
     refl told
-    ∙ ap (λ (n : ℕ). Accepted n (0 + unsettled)) (nothing (rows_told each entries))
-    ∙ ap (λ (n : ℕ). Accepted (rows_told each entries) n) (nothing unsettled)
+    ∙ ap (λ (n : ℕ). Accepted n (0 + unsettled)) (nothing (rows_written each entries))
+    ∙ ap (λ (n : ℕ). Accepted (rows_written each entries) n) (nothing unsettled)
   where
     nothing : (n : ℕ) → 0 + n ≡ n
     nothing n = omega arith

@@ -1,4 +1,2 @@
--- One answer as the lines of a report, then whole reports, and the bytes of them.
-pub mod AcceptedAnswers
-pub mod AcceptedReports
-pub mod AcceptedBytes
+-- All words of this crate stand in inside/: no promise of the program rests on them.
+pub mod inside

@@ -1,8 +1,8 @@
 //! The laws: a function that does nothing, with the laws as its contract.
 
-ghost use Rattle.report_laws.specs.AcceptedAnswers.{AnswersAreAccepted};
-ghost use Rattle.report_laws.specs.AcceptedBytes.{WrittenAnswersAreAccepted};
-ghost use Rattle.report_laws.specs.AcceptedReports.{ReportsAreAccepted};
+ghost use Rattle.report_laws.specs.inside.AcceptedAnswers.{AnswersAreAccepted};
+ghost use Rattle.report_laws.specs.inside.AcceptedBytes.{WrittenAnswersAreAccepted};
+ghost use Rattle.report_laws.specs.inside.AcceptedReports.{ReportsAreAccepted};
 
 /// An answer with proofs is one part of a report that the checker accepts for that season and that
 /// number of events, whatever follows it, with as many unsettled rows as it has; and a report that

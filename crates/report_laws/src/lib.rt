@@ -1,9 +1,9 @@
 //! What joins the search and the checker: an answer of the mode `verdicts` with proofs is a part of
 //! a report that the checker accepts.
 //!
-//! The statements are in `specs/AcceptedAnswers.antt`, of one answer, `specs/AcceptedReports.antt`,
-//! of whole reports, and `specs/AcceptedBytes.antt`, of their bytes. Nothing runs here, and neither
-//! side knows of the other.
+//! The statements are in `specs/inside/AcceptedAnswers.antt`, of one answer,
+//! `specs/inside/AcceptedReports.antt`, of whole reports, and `specs/inside/AcceptedBytes.antt`, of
+//! their bytes. Nothing runs here, and neither side knows of the other.
 #![tactic(auto)]
 
 mod laws;

@@ -4,10 +4,10 @@
 #![tactic(auto)]
 
 #[cfg(test)]
-mod happy;
-#[cfg(test)]
 mod lines;
 #[cfg(test)]
 mod readings;
 #[cfg(test)]
 mod rows;
+#[cfg(test)]
+mod smoke;

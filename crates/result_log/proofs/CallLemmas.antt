@@ -1,11 +1,12 @@
 -- Lemmas on what a call for the next entry reads.
 use Rattle.std.proofs.Common.{◌≡◌, ◌≤◌, ℕ, List, [], ◌∷◌, ◌++◌, Option, None, Some, option_map}
 use Rattle.std.proofs.Common.{IfSome, Result, Ok, Err, refl, sym, ap, ◌∙◌, arith, append_assoc}
-use Rattle.port_core.specs.declared.answers.ReadStop.{ReadStop}
-use Rattle.port_core.specs.declared.answers.ReadStop.TheVariants.{ReadFault, LineTooLong}
-use Rattle.port_core.specs.declared.answers.ReadStop.TheVariants.{InputTooLong}
+use Rattle.port_core.specs.declared.line.ReadStop.{ReadStop}
+use Rattle.port_core.specs.declared.line.ReadStop.TheVariants.{ReadFault, LineTooLong}
+use Rattle.port_core.specs.declared.line.ReadStop.TheVariants.{InputTooLong}
 use Rattle.port_core.specs.Contents.{Contents, ended, with_line, with_lines}
-use Rattle.port_core.specs.Readers.{Reader, PassesTo, given_by}
+use Rattle.port_core.specs.Readers.{LineReaderView}
+use Rattle.port_core.specs.inside.ReaderCalls.{PassesTo, given_by}
 use Rattle.port_core.proofs.PassingLemmas.{passes-none, passes-more}
 use Rattle.std.proofs.lemmas.List.Elements.{All-nil, All-push}
 use Rattle.std.specs.Prelude.{Bool}
@@ -13,16 +14,15 @@ use Rattle.result_log.specs.declared.entry.Entry.{Entry}
 use Rattle.result_log.specs.declared.entry.Entry.TheVariants.{Change, Ask, Proofs, End}
 use Rattle.result_log.specs.declared.fault.FeedStop.{FeedStop}
 use Rattle.result_log.specs.declared.fault.FeedStop.TheVariants.{Fault, Read, OutOfMemory}
-use Rattle.result_log.specs.Feeds.{entry_reading_from, entry_reading_of}
-use Rattle.result_log.specs.Calls.{ComesOf, ComesThere, PassesBlank, PassesToEntry}
-use Rattle.result_log.specs.Calls.{entry_answer_behind}
-use Rattle.result_log.specs.Calls.{AnswersLine, LineEntry, MovesToEntry, PassesBareLines}
-use Rattle.result_log.specs.Calls.{PassesBareLine}
-use Rattle.result_log.specs.Calls.{ReadsEntryAs, ReadsEntry, ReadsRecord}
+use Rattle.result_log.specs.inside.FeedParts.{entry_reading_from, entry_reading_of}
+use Rattle.result_log.specs.inside.Calls.{ComesOf, ComesThere, PassesBlank, PassesToEntry}
+use Rattle.result_log.specs.inside.Calls.{entry_answer_after, AnswersLine, LineEntry, MovesToEntry}
+use Rattle.result_log.specs.inside.Calls.{PassesBareLines, PassesBareLine, ReadsEntryAs, ReadsEntry}
+use Rattle.result_log.specs.inside.Calls.{ReadsRecord}
 
--- ---- lines in front
+-- ---- lines at the front
 
--- no line in front
+-- no line at the front
 pub with_lines-none : (known : Option Contents) → known ≡ option_map (with_lines []) known
 with_lines-none None = refl
 with_lines-none (Some contents) = refl
@@ -38,7 +38,7 @@ with_lines-append first second before mid (Some contents) front behind =
     ∙ ap (λ (lines : List (ℕ × List ℕ)). Some (record { lines = lines; ending = contents.ending }))
     (sym (append_assoc first second contents.lines))
 
--- one line in front is a list of one
+-- one line at the front is a list of one
 with_line-one : (number : ℕ) (content : List ℕ) (known : Option Contents)
     → option_map (with_line number content) known
     ≡ option_map (with_lines ((number, content) ∷ [])) known
@@ -90,7 +90,7 @@ PassesBareLines-more entry first mid last front line =
       λ rest. reading-blank entry line.0 line.1 rest line.3,
     )
 
--- ---- an answer behind lines that hold no record
+-- ---- an answer after lines that hold no record
 
 reading-behind : (entry : LineEntry) (lines : List (ℕ × List ℕ)) (before mid : Option Contents)
     → before ≡ option_map (with_lines lines) mid
@@ -194,13 +194,13 @@ comes-of entry number text (Some (Err (Read stop))) answer no_end = tt
 comes-of entry number text (Some (Err OutOfMemory)) answer no_end = tt
 
 -- no line was passed yet
-pub blank-none : (entry : LineEntry) (old : Reader) (left : Option (List ℕ)) (ended : Bool)
+pub blank-none : (entry : LineEntry) (old : LineReaderView) (left : Option (List ℕ)) (ended : Bool)
     → PassesBlank entry old old left left ended ended
 blank-none entry old left ended =
     ([], All-nil (λ line. entry line.1 ≡ Ok None), passes-none _ _ _ _ _ refl (λ unsaid. unsaid))
 
 -- one more, which holds no record
-pub blank-more : (entry : LineEntry) (first mid last : Reader)
+pub blank-more : (entry : LineEntry) (first mid last : LineReaderView)
     (left left' left'' : Option (List ℕ)) (x y z : Bool)
     → PassesBlank entry first mid left left' x y
     → PassesTo mid last left' left'' y z ((last.position.lines, last.text) ∷ [])
@@ -211,18 +211,18 @@ blank-more entry first mid last left left' left'' x y z front behind none = (
   passes-more _ _ _ _ _ _ _ _ _ front.0 ((last.position.lines, last.text) ∷ []) front.2 behind,
 )
 
--- the answer behind them
-pub entry-behind : (entry : LineEntry) (first mid last : Reader)
+-- the answer after them
+pub entry-behind : (entry : LineEntry) (first mid last : LineReaderView)
     (left left' left'' : Option (List ℕ)) (x y z : Bool) (result : Result Entry FeedStop)
     → PassesBlank entry first mid left left' x y
-    → PassesTo mid last left' left'' y z (given_by (entry_answer_behind last result) last.text)
+    → PassesTo mid last left' left'' y z (given_by (entry_answer_after last result) last.text)
     → ComesOf entry last.text result
     → PassesToEntry entry first last left left'' x z result
 entry-behind entry first mid last left left' left'' x y z result front behind comes = record {
   blank = front.0;
   none = front.1;
   passes = passes-more _ _ _ _ _ _ _ _ _ front.0
-      (given_by (entry_answer_behind last result) last.text)
+      (given_by (entry_answer_after last result) last.text)
       front.2 behind;
   comes = comes;
 }
@@ -230,7 +230,7 @@ entry-behind entry first mid last left left' left'' x y z result front behind co
 -- ---- progress, and faults
 
 -- a reader that had passed bytes before passes more
-pub MovesToEntry-from : (first old new : Reader) (result : Result Entry FeedStop)
+pub MovesToEntry-from : (first old new : LineReaderView) (result : Result Entry FeedStop)
     → first.position.bytes ≤ old.position.bytes → MovesToEntry old new result
     → MovesToEntry first new result
 MovesToEntry-from first old new (Ok (Change event)) before moves =

@@ -4,23 +4,23 @@ use Rattle.std.proofs.Common.{Some, if◌then◌else◌, Result, Ok, Err, refl, 
 use Rattle.std.proofs.lemmas.List.{length_push}
 use Rattle.league_core.specs.declared.sheet.Sheet.{Sheet}
 use Rattle.league_core.specs.declared.season.Event.{Event}
-use Rattle.league_core.specs.Results.{Results}
-use Rattle.league_core.specs.Seasons.{AreEventsOf, IsSeasonOf, epoch_of, season_after}
+use Rattle.league_core.specs.game.Results.{Results}
+use Rattle.league_core.specs.game.Seasons.{AreEventsOf, IsSeasonOf, epoch_of, season_after}
 use Rattle.league_core.proofs.TableLemmas.{season_after-push}
-use Rattle.port_core.specs.declared.answers.ReadStop.{ReadStop}
+use Rattle.port_core.specs.declared.line.ReadStop.{ReadStop}
 use Rattle.port_core.specs.Contents.{Contents}
 use Rattle.fixture_sheet.specs.Fields.{has_return, record_of}
 use Rattle.result_log.specs.declared.entry.Entry.{Entry}
 use Rattle.result_log.specs.declared.entry.Entry.TheVariants.{Change, Ask, Proofs, End}
 use Rattle.result_log.specs.declared.fault.FeedFault.{FeedFault}
 use Rattle.result_log.specs.declared.fault.FeedFault.TheVariants.{UnknownRecord}
-use Rattle.league_core.specs.Limits.{most_events}
+use Rattle.league_core.specs.game.Limits.{most_events}
 use Rattle.result_log.specs.Records.{IsEntryAt}
-use Rattle.result_log.specs.Feeds.{EntryReading, count_with, entry_if, entry_in, events_with}
-use Rattle.result_log.specs.Feeds.{feed_by, feed_from, feed_of, given, entry_reading_by}
-use Rattle.result_log.specs.Feeds.{entry_reading_from}
-use Rattle.result_log.specs.Feeds.{entry_reading_of, season_with}
-use Rattle.result_log.specs.Laws.{KeepsLog, feed_behind}
+use Rattle.result_log.specs.Feeds.{count_with, entry_if, entry_in, feed_by, feed_from, feed_of}
+use Rattle.result_log.specs.Feeds.{given, season_with}
+use Rattle.result_log.specs.inside.FeedParts.{EntryReading, events_with, entry_reading_by}
+use Rattle.result_log.specs.inside.FeedParts.{entry_reading_from, entry_reading_of}
+use Rattle.result_log.specs.inside.Laws.{KeepsLog, feed_after}
 use Rattle.result_log.proofs.RecordLemmas.{entry_may_come}
 use Rattle.league_core.proofs.LogLemmas.{AreEventsOf-push, season_after_of}
 
@@ -48,7 +48,7 @@ line_may_come sheet season events proofs content entry of_sheet told =
     by_record false (Some fields) told =
         entry_may_come sheet season events proofs fields entry of_sheet (given-some _ entry told)
 
--- so may one that is read in a line or behind it
+-- so may one that is read in a line or after it
 line_reading_may_come : (sheet : Sheet) (season : Results) (events : ℕ) (proofs : Bool)
     (line : ℕ × List ℕ) (rest : Contents) (onward : EntryReading) (entry : Entry)
     → IsSeasonOf sheet season → (onward.gives ≡ Ok entry → IsEntryAt season events proofs entry)
@@ -91,14 +91,14 @@ contents_may_come sheet season events proofs contents entry of_sheet gives =
 
 -- ---- the whole feed
 
--- a feed is its first entry and what is behind it: a line more
+-- a feed is its first entry and what comes after it: a line more
 feed_by-first : (sheet : Sheet) (proofs : Bool) (events : List Event) (number : ℕ)
     (rest : Contents) (onward : EntryReading)
     → feed_from sheet proofs rest.lines rest.ending events
-    ≡ feed_behind sheet proofs events onward.rest onward.gives
+    ≡ feed_after sheet proofs events onward.rest onward.gives
     → (found : Result (Option Entry) FeedFault)
     → feed_by number rest (feed_from sheet proofs rest.lines rest.ending) events found
-    ≡ feed_behind sheet proofs events (entry_reading_by number rest onward found).rest
+    ≡ feed_after sheet proofs events (entry_reading_by number rest onward found).rest
     (entry_reading_by number rest onward found).gives
 feed_by-first sheet proofs events number rest onward behind (Ok None) = behind
 feed_by-first sheet proofs events number rest onward behind (Ok (Some (Change event))) = refl
@@ -110,7 +110,7 @@ feed_by-first sheet proofs events number rest onward behind (Err fault) = refl
 feed_from-first : (sheet : Sheet) (proofs : Bool) (events : List Event)
     (lines : List (ℕ × List ℕ)) (ending : Result ℕ ReadStop)
     → feed_from sheet proofs lines ending events
-    ≡ feed_behind sheet proofs events
+    ≡ feed_after sheet proofs events
     (entry_reading_from (entry_in sheet (season_after sheet events) (epoch_of events) proofs)
     lines ending).rest
     (entry_reading_from (entry_in sheet (season_after sheet events) (epoch_of events) proofs)
@@ -126,7 +126,7 @@ feed_from-first sheet proofs events (line ∷ lines) ending =
 
 pub feed_of-first : (sheet : Sheet) (proofs : Bool) (contents : Contents) (events : List Event)
     → feed_of sheet proofs contents events
-    ≡ feed_behind sheet proofs events
+    ≡ feed_after sheet proofs events
     (entry_reading_of (entry_in sheet (season_after sheet events) (epoch_of events) proofs)
     contents).rest
     (entry_reading_of (entry_in sheet (season_after sheet events) (epoch_of events) proofs)
@@ -134,7 +134,7 @@ pub feed_of-first : (sheet : Sheet) (proofs : Bool) (contents : Contents) (event
 feed_of-first sheet proofs contents events =
     feed_from-first sheet proofs events contents.lines contents.ending
 
--- season and number of events behind an entry
+-- season and number of events after an entry
 pub season_after-entry : (sheet : Sheet) (events : List Event) (entry : Entry)
     → (season_after sheet (events_with events entry)
     ≡ season_with (season_after sheet events) entry)

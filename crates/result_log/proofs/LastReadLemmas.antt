@@ -1,24 +1,24 @@
 -- Lemmas on the last read of a call for the next entry.
 use Rattle.std.proofs.Common.{◌≡◌, ℕ, Bool, List, Option, None, Some, option_map, Result, Ok, Err}
 use Rattle.std.proofs.Common.{subst}
-use Rattle.port_core.specs.declared.answers.ReadStop.{ReadStop}
-use Rattle.port_core.specs.declared.answers.ReadStop.TheVariants.{ReadFault, LineTooLong}
-use Rattle.port_core.specs.declared.answers.ReadStop.TheVariants.{InputTooLong}
+use Rattle.port_core.specs.declared.line.ReadStop.{ReadStop}
+use Rattle.port_core.specs.declared.line.ReadStop.TheVariants.{ReadFault, LineTooLong}
+use Rattle.port_core.specs.declared.line.ReadStop.TheVariants.{InputTooLong}
 use Rattle.port_core.specs.Contents.{Contents, with_lines}
-use Rattle.port_core.specs.Readers.{Reader, ReadsInNeed, StopsAtAnswer, TakesInput}
-use Rattle.port_core.specs.Readers.{contents_to_come}
+use Rattle.port_core.specs.Readers.{LineReaderView, TakesInput, contents_to_come}
+use Rattle.port_core.specs.inside.ReaderCalls.{ReadsInNeed, StopsAtAnswer}
 use Rattle.fixture_sheet.specs.LastReads.{ReadsOnWay}
 use Rattle.fixture_sheet.proofs.LastReadLemmas.{passed-to-come, way-more, way-need}
 use Rattle.result_log.specs.declared.entry.Entry.{Entry}
 use Rattle.result_log.specs.declared.fault.FeedFault.{FeedFault}
 use Rattle.result_log.specs.declared.fault.FeedStop.{FeedStop}
 use Rattle.result_log.specs.declared.fault.FeedStop.TheVariants.{Fault, Read, OutOfMemory}
-use Rattle.result_log.specs.Calls.{AnswersLine, LineEntry, PassesBlank}
-use Rattle.result_log.specs.LastReads.{GivesBlank, StopsAtEntry, StopsAtRecord}
+use Rattle.result_log.specs.inside.Calls.{AnswersLine, LineEntry, PassesBlank}
+use Rattle.result_log.specs.inside.LastReads.{GivesBlank, StopsAtEntry, StopsAtRecord}
 
 module _ {S : Type 0} (left : S → Option (List ℕ)) (reads : S → List ℕ → S → Type 0) where
   -- an answer of the reader is a line's, whatever it holds
-  pub text-stops : (old new : Reader) (before after : S) (number : ℕ)
+  pub text-stops : (old new : LineReaderView) (before after : S) (number : ℕ)
       (line : Result (Option Entry) FeedFault) (result : Option (Result Entry FeedStop))
       → AnswersLine number line result → ReadsInNeed left reads old new before after
       → StopsAtRecord left reads old new before after result
@@ -29,7 +29,7 @@ module _ {S : Type 0} (left : S → Option (List ℕ)) (reads : S → List ℕ �
   text-stops old new before after number line (Some (Err OutOfMemory)) answer need = need
 
   -- or a stop
-  pub stop-stops : (old new : Reader) (before after : S) (stop : ReadStop)
+  pub stop-stops : (old new : LineReaderView) (before after : S) (stop : ReadStop)
       → StopsAtAnswer left reads old new before after (Err stop)
       → StopsAtRecord left reads old new before after (Some (Err (Read stop)))
   stop-stops old new before after ReadFault stops = tt
@@ -37,7 +37,8 @@ module _ {S : Type 0} (left : S → Option (List ℕ)) (reads : S → List ℕ �
   stop-stops old new before after (InputTooLong number) stops = stops
 
   -- one line more without a record
-  pub blank-further : (entry : LineEntry) (a b c : Reader) (first second third : S) (x y : Bool)
+  pub blank-further : (entry : LineEntry) (a b c : LineReaderView) (first second third : S)
+      (x y : Bool)
       → PassesBlank entry a b (left first) (left second) x y
       → TakesInput a b (left first) (left second)
       → ReadsOnWay left reads (GivesBlank entry) a b first second
@@ -54,8 +55,9 @@ module _ {S : Type 0} (left : S → Option (List ℕ)) (reads : S → List ℕ �
       ))
       takes one (way-need left reads b c second third two)
 
-  -- the answer behind them
-  pub entry-stops : (entry : LineEntry) (a b c : Reader) (first second third : S) (x y : Bool)
+  -- the answer after them
+  pub entry-stops : (entry : LineEntry) (a b c : LineReaderView) (first second third : S)
+      (x y : Bool)
       (result : Result Entry FeedStop) → PassesBlank entry a b (left first) (left second) x y
       → TakesInput a b (left first) (left second)
       → ReadsOnWay left reads (GivesBlank entry) a b first second

@@ -2,9 +2,9 @@
 use Rattle.std.proofs.Common.{◌≡◌, ℕ, Bool, true, false, List, Option, None, Some, Result, Ok, Err}
 use Rattle.std.proofs.Common.{if◌then◌else◌, sym, ap}
 use Rattle.league_core.specs.declared.sheet.Sheet.{Sheet}
-use Rattle.league_core.specs.Results.{Results}
-use Rattle.port_core.specs.declared.answers.Line.TheVariants as line
-use Rattle.port_core.specs.Readers.{Reader}
+use Rattle.league_core.specs.game.Results.{Results}
+use Rattle.port_core.specs.declared.line.Line.TheVariants as line
+use Rattle.port_core.specs.Readers.{LineReaderView}
 use Rattle.fixture_sheet.specs.Fields.{has_return, record_of}
 use Rattle.result_log.specs.declared.entry.Entry.{Entry}
 use Rattle.result_log.specs.declared.entry.Entry.TheVariants.{Change, Ask, Proofs, End}
@@ -14,7 +14,7 @@ use Rattle.result_log.specs.declared.fault.FeedStop.{FeedStop}
 use Rattle.result_log.specs.declared.fault.FeedStop.TheVariants.{Fault, Read, OutOfMemory}
 use Rattle.result_log.specs.Records.{entry_of}
 use Rattle.result_log.specs.Feeds.{entry_if, entry_in, given}
-use Rattle.result_log.specs.Calls.{AnswersLine, answer_there}
+use Rattle.result_log.specs.inside.Calls.{AnswersLine, answer_there}
 use Rattle.result_log.proofs.RecordLemmas.{entry_is_no_end}
 
 given-end : (result : Result Entry FeedFault) → given result ≡ Ok (Some End) → result ≡ Ok End
@@ -37,7 +37,7 @@ content_is_no_end sheet season events proofs content told =
         entry_is_no_end sheet season events proofs fields
         (given-end (entry_of sheet season events proofs fields) told)
 
-told-behind : (new : Reader) (number : ℕ) (told : Result (Option Entry) FeedFault)
+told-behind : (new : LineReaderView) (number : ℕ) (told : Result (Option Entry) FeedFault)
     (result : Option (Result Entry FeedStop)) → number ≡ new.position.lines
     → AnswersLine number told result → (told ≡ Ok (Some End) → ⊥)
     → answer_there new result ≡ Ok (line.Text number)
@@ -58,7 +58,7 @@ told-behind new number told (Some (Err OutOfMemory)) is answer no_end =
 
 -- what comes of a line came of the line passed last
 pub line-behind : (sheet : Sheet) (season : Results) (events : ℕ) (proofs : Bool)
-    (content : List ℕ) (new : Reader) (number : ℕ)
+    (content : List ℕ) (new : LineReaderView) (number : ℕ)
     (result : Option (Result Entry FeedStop)) → number ≡ new.position.lines
     → AnswersLine number (entry_in sheet season events proofs content) result
     → answer_there new result ≡ Ok (line.Text number)

@@ -10,12 +10,12 @@ use Rattle.std.proofs.lemmas.List.{length-map}
 use Rattle.std.proofs.lemmas.List.Quantifiers.{position-Some}
 use Rattle.league_core.specs.declared.sheet.Sheet.{Sheet}
 use Rattle.league_core.specs.declared.sheet.Club.{Club}
-use Rattle.league_core.specs.Limits.{most_deduction, most_events, most_goals}
-use Rattle.league_core.specs.Results.{Results, is_score}
-use Rattle.league_core.specs.Seasons.{IsSeasonOf}
+use Rattle.league_core.specs.game.Limits.{most_deduction, most_events, most_goals}
+use Rattle.league_core.specs.game.Results.{Results, is_score}
+use Rattle.league_core.specs.game.Seasons.{IsSeasonOf}
 use Rattle.fixture_sheet.specs.Fields.{field}
 use Rattle.fixture_sheet.specs.Texts.{only_if, if_within, is_number, text_of}
-use Rattle.fixture_sheet.specs.Drafts.{names_of}
+use Rattle.fixture_sheet.specs.Records.{names_of}
 use Rattle.fixture_sheet.specs.Records.{club_named}
 use Rattle.result_log.specs.declared.entry.Entry.{Entry}
 use Rattle.result_log.specs.declared.entry.Entry.TheVariants.{End}
@@ -25,13 +25,13 @@ use Rattle.result_log.specs.declared.fault.FeedFault.{FeedFault}
 use Rattle.result_log.specs.declared.fault.FeedFault.TheVariants.{WrongWidth, UnknownFixture}
 use Rattle.result_log.specs.declared.fault.FeedFault.TheVariants.{UnknownClub, BadGoals, BadPoints}
 use Rattle.result_log.specs.declared.fault.FeedFault.TheVariants.{AlreadyPlayed, NotPlayed, LogFull}
-use Rattle.result_log.specs.Records.{IsEntryAt, club_told, entry_by, entry_of, entry_told}
-use Rattle.result_log.specs.Records.{fixture_told, found_number, names_a_club, has_fixture}
+use Rattle.result_log.specs.Records.{IsEntryAt, club_in, entry_by, entry_of, entry_in_fields}
+use Rattle.result_log.specs.Records.{fixture_in, found_number, names_a_club, has_fixture}
 use Rattle.result_log.specs.Records.{has_goals}
 use Rattle.result_log.specs.Records.{has_points, has_result, tells_a_score, is_event, is_for_club}
 use Rattle.result_log.specs.Records.{is_for_fixture, is_for_played, is_for_unplayed}
 use Rattle.result_log.specs.Records.{is_field_within}
-use Rattle.result_log.specs.Records.{kind_of, score_told, tests_of, told_unless, width_of}
+use Rattle.result_log.specs.Records.{kind_of, score_in, tests_of, value_unless, width_of}
 
 -- ---- ranges
 
@@ -58,14 +58,14 @@ range-within least most text within =
 
 -- a fixture of the sheet
 fixture-within : (sheet : Sheet) (fields : List (List ℕ)) → has_fixture sheet fields ≡ true
-    → fixture_told fields < length sheet.fixtures
+    → fixture_in fields < length sheet.fixtures
 fixture-within sheet fields has =
     let range = range-within 1 (length sheet.fixtures) (field 1 fields) has in
     omega (arith, range.0, range.1)
 
 -- a score that may be
 score-within : (fields : List (List ℕ)) → has_goals fields ≡ true
-    → is_score (score_told fields) ≡ true
+    → is_score (score_in fields) ≡ true
 score-within fields has =
     let parts = and_parts (is_field_within 0 most_goals (field 2 fields))
     (is_field_within 0 most_goals (field 3
@@ -93,11 +93,12 @@ record KnownOf (sheet : Sheet) (events : ℕ) (fields : List (List ℕ)) (kind :
   goals : (tells_a_score kind && not (has_goals fields)) ≡ false
   points : (is_for_club kind && not (has_points fields)) ≡ false
   room : (is_event kind && nat_le most_events events) ≡ false
-  is : entry_told sheet fields kind ≡ entry
+  is : entry_in_fields sheet fields kind ≡ entry
 
 told_as : (sheet : Sheet) (season : Results) (events : ℕ) (fields : List (List ℕ)) (kind : Kind)
     (entry : Entry)
-    → told_unless (tests_of sheet season events fields kind) (entry_told sheet fields kind) ≡ Ok
+    → value_unless (tests_of sheet season events fields kind) (entry_in_fields sheet fields kind) ≡
+    Ok
     entry
     → KnownOf sheet events fields kind entry
 told_as sheet season events fields kind entry told =
@@ -109,9 +110,9 @@ told_as sheet season events fields kind entry told =
     let goals = passed (tells_a_score kind && not (has_goals fields)) BadGoals _ entry club.1 in
     let points = passed (is_for_club kind && not (has_points fields)) BadPoints
     _ entry goals.1 in
-    let played = passed (is_for_unplayed kind && has_result season (fixture_told fields))
+    let played = passed (is_for_unplayed kind && has_result season (fixture_in fields))
     AlreadyPlayed _ entry points.1 in
-    let open_yet = passed (is_for_played kind && not (has_result season (fixture_told fields)))
+    let open_yet = passed (is_for_played kind && not (has_result season (fixture_in fields)))
     NotPlayed _ entry played.1 in
     let room = passed (is_event kind && nat_le most_events events) LogFull
     _ entry open_yet.1 in
@@ -127,7 +128,7 @@ told_as sheet season events fields kind entry told =
 -- the fixture of a record is one of the season's
 fixture_of_season : (sheet : Sheet) (season : Results) (fields : List (List ℕ))
     → IsSeasonOf sheet season → not (has_fixture sheet fields) ≡ false
-    → fixture_told fields < length season.scores
+    → fixture_in fields < length season.scores
 fixture_of_season sheet season fields of_sheet has =
     let inside = fixture-within sheet fields (not-false _ has) in
     let same = of_sheet.scores in
@@ -150,7 +151,7 @@ found-within names (Some place) inside some = inside place refl
 -- the club of a record is one of the season's
 club_of_season : (sheet : Sheet) (season : Results) (fields : List (List ℕ))
     → IsSeasonOf sheet season → names_a_club sheet fields ≡ true
-    → club_told sheet fields < length season.deductions
+    → club_in sheet fields < length season.deductions
 club_of_season sheet season fields of_sheet has =
     let inside = found-within (names_of sheet) (club_named sheet (field 1 fields))
     (λ place is. named-within sheet (text_of (field 1 fields)) place is) has in
@@ -160,7 +161,8 @@ club_of_season sheet season fields of_sheet has =
 may_come : (sheet : Sheet) (season : Results) (events : ℕ) (proofs : Bool)
     (fields : List (List ℕ)) (kind : Kind) (entry : Entry) → IsSeasonOf sheet season
     → (kind ≡ kinds.Proofs → proofs ≡ true)
-    → told_unless (tests_of sheet season events fields kind) (entry_told sheet fields kind) ≡ Ok
+    → value_unless (tests_of sheet season events fields kind) (entry_in_fields sheet fields kind) ≡
+    Ok
     entry
     → IsEntryAt season events proofs entry
 may_come sheet season events proofs fields kinds.Result entry of_sheet allowed told =
@@ -242,7 +244,7 @@ pub entry_is_no_end : (sheet : Sheet) (season : Results) (events : ℕ) (proofs 
 entry_is_no_end sheet season events proofs fields told =
     by_kind (kind_of proofs (field 0 fields)) told
   where
-    no_end : (kind : Kind) → entry_told sheet fields kind ≡ End → ⊥
+    no_end : (kind : Kind) → entry_in_fields sheet fields kind ≡ End → ⊥
     no_end kinds.Result is = cc
     no_end kinds.Fix is = cc
     no_end kinds.Void is = cc

@@ -1,24 +1,24 @@
--- Lemmas on rounds: a feed is its first round and the feed behind it.
+-- Lemmas on rounds: a feed is its first round and the feed after it.
 use Rattle.std.proofs.Common.{◌≡◌, ℕ, Bool, List, [], ◌∷◌, ◌++◌, Option, None, Some, Result, Ok}
 use Rattle.std.proofs.Common.{Err}
 use Rattle.std.proofs.Common.{refl, sym, ap, ◌∙◌, append_assoc, append-nil}
 use Rattle.league_core.specs.declared.sheet.Sheet.{Sheet}
 use Rattle.league_core.specs.declared.season.Event.{Event}
-use Rattle.league_core.specs.Seasons.{epoch_of, season_after}
-use Rattle.port_core.specs.declared.answers.ReadStop.{ReadStop}
+use Rattle.league_core.specs.game.Seasons.{epoch_of, season_after}
+use Rattle.port_core.specs.declared.line.ReadStop.{ReadStop}
 use Rattle.port_core.specs.Contents.{Contents}
 use Rattle.result_log.specs.declared.entry.Entry.{Entry}
 use Rattle.result_log.specs.declared.entry.Entry.TheVariants.{Change, Ask, Proofs, End}
 use Rattle.result_log.specs.declared.fault.FeedFault.{FeedFault}
-use Rattle.result_log.specs.Feeds.{Feed, Round, entry_in, feed_by, feed_from, feed_of, round_by}
-use Rattle.result_log.specs.Feeds.{round_from, round_of, with_entry}
-use Rattle.result_log.specs.Laws.{feed_behind, with_events}
+use Rattle.result_log.specs.Feeds.{Feed, entry_in, feed_by, feed_from, feed_of, with_entry}
+use Rattle.result_log.specs.inside.FeedParts.{Round, round_by, round_from, round_of}
+use Rattle.result_log.specs.inside.Laws.{feed_after, with_events}
 
--- a round, and what is behind it
+-- a round, and what comes after it
 abbrev feed_by_round : Sheet → Bool → List Event → Round → Feed
 feed_by_round sheet proofs events round =
     with_events round.events
-    (feed_behind sheet proofs (events ++ round.events) round.rest round.close)
+    (feed_after sheet proofs (events ++ round.events) round.rest round.close)
 
 -- a line more
 feed_by-round : (sheet : Sheet) (proofs : Bool) (number : ℕ) (lines : List (ℕ × List ℕ))
@@ -35,7 +35,7 @@ feed_by-round sheet proofs number lines ending events behind (Ok None) = behind 
 feed_by-round sheet proofs number lines ending events behind (Ok (Some (Change event))) =
     let round = round_from sheet proofs lines ending (events ++ event ∷ []) in
     ap (with_entry (Change event)) (behind (events ++ event ∷ [])
-    ∙ ap (λ all. with_events round.events (feed_behind sheet proofs all round.rest round.close))
+    ∙ ap (λ all. with_events round.events (feed_after sheet proofs all round.rest round.close))
     (append_assoc events (event ∷ []) round.events))
 feed_by-round sheet proofs number lines ending events behind (Ok (Some Ask)) =
     ap (λ all. with_entry Ask (feed_from sheet proofs lines ending all)) (sym (append-nil events))

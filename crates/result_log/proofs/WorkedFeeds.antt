@@ -6,7 +6,7 @@ use Rattle.csv.specs.Machine.{next_record}
 use Rattle.csv.specs.Reading.{strip_bom}
 use Rattle.league_core.specs.declared.sheet.Sheet.{Sheet}
 use Rattle.league_core.specs.declared.season.Event.TheVariants.{Set, Clear}
-use Rattle.league_core.specs.WorkedRows.{pair}
+use Rattle.league_core.specs.rows.WorkedRows.{pair}
 use Rattle.port_core.specs.Contents.{Contents, ended}
 use Rattle.result_log.specs.declared.entry.Entry.{Entry}
 use Rattle.result_log.specs.declared.entry.Entry.TheVariants.{Change, Ask, Proofs, End}
@@ -27,7 +27,7 @@ ended_so home away = Change (Set 0 (record { home = home; away = away }))
 abbrev lines_of : List (ℕ × List ℕ) → Contents
 lines_of lines = record { lines = lines; ending = Ok 20 }
 
--- a result, its correction, and its annulment, each with an ask behind it
+-- a result, its correction, and its annulment, each with an ask after it
 corrected_and_annulled :
     feed_of league false
     (lines_of ((7, codes "result,1,1,1") ∷ (8, codes "ask")
@@ -41,7 +41,7 @@ corrected_and_annulled :
 unfolding next_record strip_bom
 corrected_and_annulled = refl
 
--- a second result is refused at its line, and what is behind it is not read
+-- a second result is refused at its line, and what comes after it is not read
 told_twice :
     feed_of league false
     (lines_of ((7, codes "result,1,0,0") ∷ (8, codes "ask")
@@ -73,7 +73,7 @@ goals_too_many :
 unfolding next_record strip_bom
 goals_too_many = refl
 
--- padded lines, a line of empty fields, leading zeros, and proofs behind the feed
+-- padded lines, a line of empty fields, leading zeros, and proofs after the feed
 padded :
     feed_of league true
     (lines_of ((7, codes "result,01,000099,7,,") ∷ (8, codes ",,")

@@ -7,9 +7,9 @@ use Rattle.std.specs.Str.Parse.{digits_value}
 use Rattle.league_core.specs.declared.sheet.Sheet.{Sheet}
 use Rattle.league_core.specs.declared.season.Score.{Score}
 use Rattle.league_core.specs.declared.season.Event.TheVariants.{Set, Clear, Deduct}
-use Rattle.league_core.specs.Limits.{most_deduction, most_events, most_goals}
-use Rattle.league_core.specs.Results.{Results}
-use Rattle.league_core.specs.Seasons.{IsEventOf}
+use Rattle.league_core.specs.game.Limits.{most_deduction, most_events, most_goals}
+use Rattle.league_core.specs.game.Results.{Results}
+use Rattle.league_core.specs.game.Seasons.{IsEventOf}
 use Rattle.fixture_sheet.specs.Fields.{field}
 use Rattle.fixture_sheet.specs.Texts.{number_within}
 use Rattle.fixture_sheet.specs.Records.{club_named}
@@ -96,12 +96,12 @@ abbrev pub number_in_field : ℕ → List (List ℕ) → ℕ
 number_in_field place fields = digits_value 10 (field place fields)
 
 -- the fixture, by its number from 0; a feed counts fixtures from 1
-abbrev pub fixture_told : List (List ℕ) → ℕ
-fixture_told fields = number_in_field 1 fields - 1
+abbrev pub fixture_in : List (List ℕ) → ℕ
+fixture_in fields = number_in_field 1 fields - 1
 
 -- the score
-abbrev pub score_told : List (List ℕ) → Score
-score_told fields = record { home = number_in_field 2 fields; away = number_in_field 3 fields }
+abbrev pub score_in : List (List ℕ) → Score
+score_in fields = record { home = number_in_field 2 fields; away = number_in_field 3 fields }
 
 -- a number that is found
 abbrev pub found_number : Option ℕ → ℕ
@@ -109,18 +109,18 @@ found_number None = 0
 found_number (Some number) = number
 
 -- the club, by its number from 0
-abbrev pub club_told : Sheet → List (List ℕ) → ℕ
-club_told sheet fields = found_number (club_named sheet (field 1 fields))
+abbrev pub club_in : Sheet → List (List ℕ) → ℕ
+club_in sheet fields = found_number (club_named sheet (field 1 fields))
 
 -- the entry
-abbrev pub entry_told : Sheet → List (List ℕ) → Kind → Entry
-entry_told sheet fields kind.Result = Change (Set (fixture_told fields) (score_told fields))
-entry_told sheet fields kind.Fix = Change (Set (fixture_told fields) (score_told fields))
-entry_told sheet fields kind.Void = Change (Clear (fixture_told fields))
-entry_told sheet fields kind.Deduct = Change
-    (Deduct (club_told sheet fields) (number_in_field 2 fields))
-entry_told sheet fields kind.Ask = Ask
-entry_told sheet fields kind.Proofs = Proofs
+abbrev pub entry_in_fields : Sheet → List (List ℕ) → Kind → Entry
+entry_in_fields sheet fields kind.Result = Change (Set (fixture_in fields) (score_in fields))
+entry_in_fields sheet fields kind.Fix = Change (Set (fixture_in fields) (score_in fields))
+entry_in_fields sheet fields kind.Void = Change (Clear (fixture_in fields))
+entry_in_fields sheet fields kind.Deduct = Change
+    (Deduct (club_in sheet fields) (number_in_field 2 fields))
+entry_in_fields sheet fields kind.Ask = Ask
+entry_in_fields sheet fields kind.Proofs = Proofs
 
 -- ---- the tests
 
@@ -157,8 +157,8 @@ event_tests sheet season events fields kind =
     ∷ (is_for_club kind && not (names_a_club sheet fields), UnknownClub)
     ∷ (tells_a_score kind && not (has_goals fields), BadGoals)
     ∷ (is_for_club kind && not (has_points fields), BadPoints)
-    ∷ (is_for_unplayed kind && has_result season (fixture_told fields), AlreadyPlayed)
-    ∷ (is_for_played kind && not (has_result season (fixture_told fields)), NotPlayed)
+    ∷ (is_for_unplayed kind && has_result season (fixture_in fields), AlreadyPlayed)
+    ∷ (is_for_played kind && not (has_result season (fixture_in fields)), NotPlayed)
     ∷ (is_event kind && nat_le most_events events, LogFull)
     ∷ []
 
@@ -169,24 +169,24 @@ tests_of sheet season events fields kind =
     ∷ event_tests sheet season events fields kind
 
 -- a value, or the refusal of the first test that says yes
-abbrev pub told_unless : {A : Type 0} → List (Bool × FeedFault) → A → Result A FeedFault
-told_unless [] value = Ok value
-told_unless (test ∷ tests) value = if test.0 then Err test.1 else told_unless tests value
+abbrev pub value_unless : {A : Type 0} → List (Bool × FeedFault) → A → Result A FeedFault
+value_unless [] value = Ok value
+value_unless (test ∷ tests) value = if test.0 then Err test.1 else value_unless tests value
 
 -- the entry that a record of this kind is, if it is of any
 abbrev pub entry_by :
     Sheet → Results → ℕ → List (List ℕ) → Option Kind → Result Entry FeedFault
 entry_by sheet season events fields None = Err UnknownRecord
 entry_by sheet season events fields (Some kind) =
-    told_unless (tests_of sheet season events fields kind) (entry_told sheet fields kind)
+    value_unless (tests_of sheet season events fields kind) (entry_in_fields sheet fields kind)
 
--- the entry that a record is, in this season, behind so many events
+-- the entry that a record is, in this season, after so many events
 abbrev pub entry_of :
     Sheet → Results → ℕ → Bool → List (List ℕ) → Result Entry FeedFault
 entry_of sheet season events proofs fields =
     entry_by sheet season events fields (kind_of proofs (field 0 fields))
 
--- an entry may come in this season, behind so many events: its event is one that the season may be
+-- an entry may come in this season, after so many events: its event is one that the season may be
 -- told, with room for it, and proofs follow only where they may
 abbrev pub IsEntryAt : Results → ℕ → Bool → Entry → Type 0
 IsEntryAt season events proofs (Change event) = IsEventOf season event × (events < most_events)

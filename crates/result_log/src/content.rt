@@ -1,8 +1,8 @@
 //! The entry of one line.
 
 ghost use Rattle.std.specs.Prelude.{◌≤◌, IfOk, IfSome, length};
-ghost use Rattle.league_core.specs.Seasons.{IsSeasonOf};
-ghost use Rattle.result_log.specs.Calls.{AnswersContent};
+ghost use Rattle.league_core.specs.game.Seasons.{IsSeasonOf};
+ghost use Rattle.result_log.specs.inside.Calls.{AnswersContent};
 ghost use Rattle.result_log.specs.Feeds.{entry_in};
 ghost use Rattle.result_log.specs.Records.{IsEntryAt};
 

@@ -1,16 +1,15 @@
 //! The next entry of an input.
 
 ghost use Rattle.std.specs.Prelude.{◌≡◌, ◌≤◌, IfOk, IfSome, length};
-ghost use Rattle.league_core.specs.Seasons.{IsSeasonOf};
-ghost use Rattle.port_core.specs.Readers.{LeavesReader, PassesTo, TakesInput, contents_to_come};
-ghost use Rattle.port_core.specs.Readers.{given_by};
-ghost use Rattle.result_log.specs.Calls.{ComesThere, PassesToEntry};
-ghost use Rattle.result_log.specs.Calls.{AnswersLine, CountsEntry, CountsRecord, MovesToEntry};
-ghost use Rattle.result_log.specs.Calls.{MovesToRecord, ReadsEntry, ReadsRecord};
-ghost use Rattle.result_log.specs.Calls.{entry_answer_behind};
-ghost use Rattle.result_log.specs.Calls.{answer_there};
+ghost use Rattle.league_core.specs.game.Seasons.{IsSeasonOf};
+ghost use Rattle.port_core.specs.Readers.{TakesInput, contents_to_come};
+ghost use Rattle.port_core.specs.inside.ReaderCalls.{LeavesReader, PassesTo, given_by};
+ghost use Rattle.result_log.specs.inside.Calls.{ComesThere, PassesToEntry, AnswersLine};
+ghost use Rattle.result_log.specs.inside.Calls.{CountsEntry, CountsRecord, MovesToEntry};
+ghost use Rattle.result_log.specs.inside.Calls.{MovesToRecord, ReadsEntry, ReadsRecord};
+ghost use Rattle.result_log.specs.inside.Calls.{entry_answer_after, answer_there};
 ghost use Rattle.result_log.specs.Feeds.{entry_in};
-ghost use Rattle.result_log.specs.LastReads.{StopsAtEntry, StopsAtRecord};
+ghost use Rattle.result_log.specs.inside.LastReads.{StopsAtEntry, StopsAtRecord};
 ghost use Rattle.result_log.specs.Records.{IsEntryAt};
 
 use crate::content::read_content;
@@ -21,7 +20,7 @@ use port_core::{Line, LineReader, Source};
 use std::alloc::Global;
 
 /// Reads on to the next record, and gives its entry, or the first refusal of that line. Lines whose
-/// fields are all empty are passed over. Behind an answer the reader stands at the next line.
+/// fields are all empty are passed over. After an answer the reader stands at the next line.
 ///
 /// `events` is how many events came before, and `season` is the season after them; `proofs` is
 /// whether proofs may follow the feed.
@@ -49,7 +48,7 @@ pub fn next_entry<S: Source>(
         reader.old reader.new (S.left source.old) (S.left source.new)
         (S.ended source.old) (S.ended source.new) result }
     ensures leaves { LeavesReader reader.new (S.left source.new)
-        (entry_answer_behind reader.new result) }
+        (entry_answer_after reader.new result) }
     ensures takes { TakesInput reader.old reader.new (S.left source.old) (S.left source.new) }
     ensures moves { MovesToEntry reader.old reader.new result }
 

@@ -2,13 +2,14 @@
 
 ghost use Rattle.std.specs.Prelude.{◌≡◌, ◌≢◌, ◌≤◌, ◌<◌, ◌∷◌, [], IfOk, IfSome, Ok, length, nat_le};
 ghost use Rattle.std.specs.Prelude.{not};
-ghost use Rattle.league_core.specs.Seasons.{IsSeasonOf};
+ghost use Rattle.league_core.specs.game.Seasons.{IsSeasonOf};
 ghost use Rattle.fixture_sheet.specs.Texts.{only_if};
-ghost use Rattle.result_log.specs.Records.{IsEntryAt, entry_of, club_told, entry_told, event_tests};
-ghost use Rattle.result_log.specs.Records.{fixture_told, names_a_club, has_fixture, has_goals};
-ghost use Rattle.result_log.specs.Records.{has_points, has_result, number_in_field, score_told};
-ghost use Rattle.result_log.specs.Records.{told_unless};
-ghost use Rattle.league_core.specs.Limits.{most_deduction, most_events};
+ghost use Rattle.result_log.specs.Records.{IsEntryAt, entry_of, club_in, entry_in_fields};
+ghost use Rattle.result_log.specs.Records.{event_tests};
+ghost use Rattle.result_log.specs.Records.{fixture_in, names_a_club, has_fixture, has_goals};
+ghost use Rattle.result_log.specs.Records.{has_points, has_result, number_in_field, score_in};
+ghost use Rattle.result_log.specs.Records.{value_unless};
+ghost use Rattle.league_core.specs.game.Limits.{most_deduction, most_events};
 
 use crate::entry::Entry;
 use crate::fault::FeedFault;
@@ -59,9 +60,9 @@ fn read_result(
 ) -> Result<Entry, FeedFault>
     requires of_sheet { IsSeasonOf sheet.now season.now }
     requires numbers { length sheet.now.fixtures ≤ 65535 }
-    ensures { result ≡ told_unless
+    ensures { result ≡ value_unless
         (event_tests sheet.now season.now events fields.now Kind.Result)
-        (entry_told sheet.now fields.now Kind.Result) }
+        (entry_in_fields sheet.now fields.now Kind.Result) }
 {
     let Some(fixture) = fixture_of(sheet, fields) else {
         return Err(FeedFault::UnknownFixture);
@@ -84,9 +85,9 @@ fn read_fix(
 ) -> Result<Entry, FeedFault>
     requires of_sheet { IsSeasonOf sheet.now season.now }
     requires numbers { length sheet.now.fixtures ≤ 65535 }
-    ensures { result ≡ told_unless
+    ensures { result ≡ value_unless
         (event_tests sheet.now season.now events fields.now Kind.Fix)
-        (entry_told sheet.now fields.now Kind.Fix) }
+        (entry_in_fields sheet.now fields.now Kind.Fix) }
 {
     let Some(fixture) = fixture_of(sheet, fields) else {
         return Err(FeedFault::UnknownFixture);
@@ -106,9 +107,9 @@ fn read_void(
 ) -> Result<Entry, FeedFault>
     requires of_sheet { IsSeasonOf sheet.now season.now }
     requires numbers { length sheet.now.fixtures ≤ 65535 }
-    ensures { result ≡ told_unless
+    ensures { result ≡ value_unless
         (event_tests sheet.now season.now events fields.now Kind.Void)
-        (entry_told sheet.now fields.now Kind.Void) }
+        (entry_in_fields sheet.now fields.now Kind.Void) }
 {
     let Some(fixture) = fixture_of(sheet, fields) else {
         return Err(FeedFault::UnknownFixture);
@@ -119,11 +120,11 @@ fn read_void(
 // `deduct,CLUB,P`.
 fn read_deduct(sheet: &Sheet, events: u64, fields: &Fields) -> Result<Entry, FeedFault>
     requires { length sheet.now.clubs ≤ 255 }
-    ensures { result ≡ told_unless
+    ensures { result ≡ value_unless
         ((not (names_a_club sheet.now fields.now), FeedFault.UnknownClub)
         ∷ (not (has_points fields.now), FeedFault.BadPoints)
         ∷ (nat_le most_events events, FeedFault.LogFull) ∷ [])
-        (entry_told sheet.now fields.now Kind.Deduct) }
+        (entry_in_fields sheet.now fields.now Kind.Deduct) }
 {
     let Some(club) = club_of(sheet, fields) else {
         return Err(FeedFault::UnknownClub);
@@ -138,7 +139,7 @@ fn read_deduct(sheet: &Sheet, events: u64, fields: &Fields) -> Result<Entry, Fee
 fn club_of(sheet: &Sheet, fields: &Fields) -> Option<u8>
     requires { length sheet.now.clubs ≤ 255 }
     ensures { result
-        ≡ only_if (names_a_club sheet.now fields.now) (club_told sheet.now fields.now) }
+        ≡ only_if (names_a_club sheet.now fields.now) (club_in sheet.now fields.now) }
 {
     club_named(sheet, fields.at(1))
 }
@@ -157,7 +158,7 @@ fn points_of(fields: &Fields) -> Option<u8>
 // The fixture of the second field, by its number from 0.
 fn fixture_of(sheet: &Sheet, fields: &Fields) -> Option<u16>
     requires { length sheet.now.fixtures ≤ 65535 }
-    ensures value { result ≡ only_if (has_fixture sheet.now fields.now) (fixture_told fields.now) }
+    ensures value { result ≡ only_if (has_fixture sheet.now fields.now) (fixture_in fields.now) }
     ensures within { IfSome result (λ fixture. fixture < length sheet.now.fixtures) }
 {
     let fixtures = sheet.fixtures.len() as u32;
@@ -169,7 +170,7 @@ fn fixture_of(sheet: &Sheet, fields: &Fields) -> Option<u16>
 
 // The score of the third and the fourth field.
 fn score_of(fields: &Fields) -> Option<Score>
-    ensures { result ≡ only_if (has_goals fields.now) (score_told fields.now) }
+    ensures { result ≡ only_if (has_goals fields.now) (score_in fields.now) }
 {
     let home = number_within(0, u32::from(MOST_GOALS), fields.at(2))?;
     let away = number_within(0, u32::from(MOST_GOALS), fields.at(3))?;
@@ -187,7 +188,7 @@ fn change_played(
     event: Event,
 ) -> Result<Entry, FeedFault>
     requires { fixture < length season.now.scores }
-    ensures { result ≡ told_unless
+    ensures { result ≡ value_unless
         ((not (has_result season.now fixture), FeedFault.NotPlayed)
         ∷ (nat_le most_events events, FeedFault.LogFull) ∷ []) (Entry.Change event) }
 {
@@ -199,7 +200,7 @@ fn change_played(
 
 // The event, where there is room for it.
 fn change(events: u64, event: Event) -> Result<Entry, FeedFault>
-    ensures { result ≡ told_unless ((nat_le most_events events, FeedFault.LogFull) ∷ [])
+    ensures { result ≡ value_unless ((nat_le most_events events, FeedFault.LogFull) ∷ [])
         (Entry.Change event) }
 {
     if u64::from(MOST_EVENTS) <= events {

@@ -2,7 +2,7 @@
 //! that outcomes and ranges of goals up to three can leave, for what its two sides can be wished.
 
 ghost use Rattle.std.specs.Prelude.{IsTrue};
-ghost use Rattle.league_core.specs.Zones.{is_of_score};
+ghost use Rattle.league_core.specs.search.Zones.{is_of_score};
 
 use example_finish::first_option;
 use league_core::{Literal, Score, Test};
@@ -165,5 +165,17 @@ fn a_cell_takes_the_first_of_its_scores(rt: HostRuntime) -> Result<(), Fail> {
     some = some.saturating_add(check_ranges(&rt, with(any, HOME, true)));
     some = some.saturating_add(check_ranges(&rt, with(any, DRAW, true)));
     assert_eq!(&rt; some, 481);
+    Ok(())
+}
+
+// A score beyond the goal limit is a cell's only one as well.
+#[test]
+fn a_cell_of_one_score_takes_it(rt: HostRuntime) -> Result<(), Fail> {
+    let lost = Score { home: 1, away: 2 };
+    assert!(&rt; check(&rt, &Cell::only(lost)));
+    assert_eq!(&rt; first_option(&Cell::only(lost), true, false), Some(lost));
+    let high = Score { home: 12, away: 0 };
+    assert_eq!(&rt; first_option(&Cell::only(high), false, true), Some(high));
+    assert!(&rt; !Cell::only(high).allows(&lost));
     Ok(())
 }

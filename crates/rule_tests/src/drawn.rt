@@ -1,7 +1,7 @@
 //! Drawn ways through the trees of drawn leagues: both halves of each split have a finish.
 
 ghost use Rattle.std.specs.Prelude.{◌≡◌, ◌<◌, IfOk, IsTrue};
-ghost use Rattle.league_core.specs.Seasons.{IsLeague};
+ghost use Rattle.league_core.specs.game.Seasons.{IsLeague};
 
 use crate::help::{go_on, is_of_sheet, worked};
 use league_core::{Claim, Listing, Literal, Question, Test, Zone};

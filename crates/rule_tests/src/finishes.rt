@@ -1,10 +1,10 @@
 //! Reaches over every finish of drawn leagues, beside the plain program.
 
-ghost use Rattle.league_core.specs.Seasons.{IsLeague};
+ghost use Rattle.league_core.specs.game.Seasons.{IsLeague};
 
 use crate::plain::{Entrant, Plain};
 use crate::ranking::count_around;
-use finish_walk::{Reach, finish_count, reaches};
+use exhaustive_walk::{Reach, finish_count, reaches};
 use sample_leagues::Sample;
 use std::alloc::Global;
 use std::process::Abort;

@@ -1,10 +1,10 @@
 //! Drawn groups of drawn leagues: their blocks, records and sums beside the plain program.
 
 ghost use Rattle.std.specs.Prelude.{◌<◌, ◌≤◌, ℕ, IsTrue};
-ghost use Rattle.league_core.specs.Seasons.{IsLeague};
-ghost use Rattle.league_core.specs.Sums.{has_club};
-ghost use Rattle.league_core.specs.ClubSets.{clubs_in};
-ghost use Rattle.tie_criteria.specs.Groups.{IsGroupOf};
+ghost use Rattle.league_core.specs.game.Seasons.{IsLeague};
+ghost use Rattle.league_core.specs.game.Sums.{has_club};
+ghost use Rattle.league_core.specs.game.ClubSets.{clubs_in};
+ghost use Rattle.tie_criteria.specs.inside.Groups.{IsGroupOf};
 
 use crate::plain::{Entrant, Group, Plain, has};
 use league_core::ClubSet;

@@ -33,6 +33,9 @@ const LATER: &[u8] = b"league,Later,2\nclub,C,1\nclub,X,2\nclub,Y,3\nclub,Z,4\nm
 match,C,Y\nmatch,C,Y\nmatch,X,Z\nmatch,X,Y\nmatch,Z,Y\nmatch,Z,X\nseason\nresult,1,1,0
 result,2,0,0\nresult,3,0,0\nresult,4,1,0\nresult,5,0,0\n";
 
+/// C and X meet once, with at most four goals a side.
+const GOALS: &[u8] = b"league,Goals,4\nclub,C,1\nclub,X,2\nmatch,C,X\nseason\n";
+
 fn full(
     rt: &impl Abort,
     alloc: Global,
@@ -56,4 +59,58 @@ fn outcomes_are_split_by_the_points_of_rivals_behind(rt: HostRuntime) -> Result<
     full(&rt, rt.alloc(), BREAKS, &zone, Test::Home { fixture: 5 })?;
     full(&rt, rt.alloc(), LEVEL, &zone, Test::Home { fixture: 6 })?;
     full(&rt, rt.alloc(), LATER, &zone, Test::Home { fixture: 6 })
+}
+
+fn of_goals(
+    home: bool,
+    draw: bool,
+    bounds: &[Literal],
+    alloc: Global,
+) -> Result<Vec<Literal>, Fail> {
+    let won = Test::Home { fixture: 0 };
+    let drawn = Test::Draw { fixture: 0 };
+    let mut zone = vec![in alloc; behind(1)]?;
+    zone.push(Literal {
+        test: won,
+        yes: home,
+    })?;
+    zone.push(Literal {
+        test: drawn,
+        yes: draw,
+    })?;
+    zone.extend_from_slice(bounds)?;
+    Ok(zone)
+}
+
+const fn home_most(most: u8) -> Test {
+    Test::HomeMost { fixture: 0, most }
+}
+
+fn bound(most: u8, yes: bool) -> Literal {
+    Literal {
+        test: home_most(most),
+        yes,
+    }
+}
+
+// The middle of the wider range of goals. A draw has 0 to 4 on either side. A home win has 1 to 4
+// and 0 to 3; where A wins without a goal of the home side, it has 1 to 4.
+#[test]
+fn goals_are_split_in_the_middle(rt: HostRuntime) -> Result<(), Fail> {
+    let alloc = rt.alloc();
+    let zone = of_goals(false, true, &[], alloc)?;
+    full(&rt, alloc, GOALS, &zone, home_most(2))?;
+    let zone = of_goals(false, true, &[bound(2, true)], alloc)?;
+    full(&rt, alloc, GOALS, &zone, home_most(1))?;
+    let zone = of_goals(false, true, &[bound(2, false)], alloc)?;
+    full(&rt, alloc, GOALS, &zone, home_most(3))?;
+    let zone = of_goals(false, false, &[bound(0, true)], alloc)?;
+    let most = 2;
+    full(
+        &rt,
+        alloc,
+        GOALS,
+        &zone,
+        Test::AwayMost { fixture: 0, most },
+    )
 }

@@ -2,13 +2,14 @@
 
 ghost use Rattle.std.specs.Prelude.{◌≡◌, ◌<◌, IfOk, OnOk, IsTrue, length};
 ghost use Rattle.league_core.specs.declared.sheet.Sheet.{Sheet};
-ghost use Rattle.league_core.specs.Options.{has_finish};
-ghost use Rattle.league_core.specs.Questions.{IsQuestionOf};
-ghost use Rattle.league_core.specs.Seasons.{IsLeague};
-ghost use Rattle.league_core.specs.Zones.{is_zone_of, is_test_of, is_of_rival, IsZoneFor};
-ghost use Rattle.league_core.specs.Zones.{marked_before, marked_after};
+ghost use Rattle.league_core.specs.search.Options.{has_finish};
+ghost use Rattle.league_core.specs.game.Questions.{IsQuestionOf};
+ghost use Rattle.league_core.specs.game.Seasons.{IsLeague};
+ghost use Rattle.league_core.specs.search.Zones.{is_zone_of, is_test_of, is_of_rival, IsZoneFor};
+ghost use Rattle.league_core.specs.search.Zones.{marked_before, marked_after};
 
-use branch_rules::{choose, work};
+use branch_rules::{choose, work, work_with};
+use flow_bound::FlowKeep;
 use league_core::{Claim, Listing, Literal, OutOfMemory, Question, Sheet, Test, Zone};
 use reason_core::{Done, Piece};
 use sample_leagues::{Sample, sample_of};
@@ -64,7 +65,7 @@ fn choice_in(rt: &impl Abort, zone_box: &ZoneBox, question: &Question) -> Litera
     choose(zone_box, question)
 }
 
-fn chosen_behind(
+fn chosen_after(
     rt: &impl Abort,
     zone_box: &mut ZoneBox,
     question: &Question,
@@ -84,7 +85,7 @@ fn chosen_over(
     zone: &[Literal],
 ) -> Result<Literal, Fail> {
     let mut zone_box = ZoneBox::over(alloc, played, &[])?;
-    chosen_behind(rt, &mut zone_box, question, zone)
+    chosen_after(rt, &mut zone_box, question, zone)
 }
 
 fn chosen_in(
@@ -245,5 +246,21 @@ pub fn worked(
 {
     let piece = piece_of(alloc, sample, question, literals)?;
     check_piece(rt, alloc, sample, &piece)?;
-    Ok(work(alloc, &sample.sheet, piece)?)
+    Ok(work(alloc, &sample.sheet, &piece)?)
+}
+
+/// What `work_with` finds there, from what the keep holds.
+pub fn worked_with(
+    rt: &impl Abort,
+    alloc: Global,
+    sample: &Sample,
+    question: &Question,
+    literals: &[Literal],
+    keep: &mut FlowKeep,
+) -> Result<Done, Fail>
+    requires { IsLeague sample.now.sheet sample.now.season }
+{
+    let piece = piece_of(alloc, sample, question, literals)?;
+    check_piece(rt, alloc, sample, &piece)?;
+    Ok(work_with(alloc, &sample.sheet, &piece, keep)?)
 }

@@ -5,8 +5,8 @@
 //! `ranking`, `finishes` and `groups` compare it with what the crates below answer, and `rounds`
 //! has them do so over drawn leagues in both orders of the criteria. `help` has boxes and pieces;
 //! `hand` the worked zones of a full window, `windows` those of a narrow one; `drawn` goes down
-//! drawn ways; `pieces` has the findings in pieces that are worked by hand, and `cells` the option
-//! of each cell.
+//! drawn ways; `pieces` has the findings in pieces that are worked by hand, `lots` finishes that
+//! lots decide, and `cells` the option of each cell.
 #![tactic(auto)]
 
 #[cfg(test)]
@@ -21,6 +21,8 @@ mod groups;
 mod hand;
 #[cfg(test)]
 mod help;
+#[cfg(test)]
+mod lots;
 #[cfg(test)]
 mod pieces;
 #[cfg(test)]

@@ -1,9 +1,10 @@
 //! Pieces of three leagues that are worked on paper: C, the first club, is asked about the first
 //! place.
 
-ghost use Rattle.league_core.specs.Seasons.{IsLeague};
+ghost use Rattle.league_core.specs.game.Seasons.{IsLeague};
 
-use crate::help::{ahead, asked, behind, worked};
+use crate::help::{ahead, asked, behind, worked_with};
+use flow_bound::FlowKeep;
 use league_core::{Claim, ClubSet, Finish, Literal, Question, Reason, Score, Test};
 use reason_core::Done;
 use sample_leagues::{Sample, sample_of};
@@ -48,10 +49,11 @@ fn found_with(
     sample: &Sample,
     question: &Question,
     literals: &[Literal],
+    keep: &mut FlowKeep,
 ) -> Result<Found, Fail>
     requires { IsLeague sample.now.sheet sample.now.season }
 {
-    let done = worked(rt, alloc, sample, question, literals)?;
+    let done = worked_with(rt, alloc, sample, question, literals, keep)?;
     Ok(found_in(&done))
 }
 
@@ -61,9 +63,10 @@ fn work_in(
     text: &[u8],
     question: &Question,
     literals: &[Literal],
+    keep: &mut FlowKeep,
 ) -> Result<Found, Fail> {
     let sample = sample_of(alloc, text).ok_or("no league")?;
-    found_with(rt, alloc, &sample, question, literals)
+    found_with(rt, alloc, &sample, question, literals, keep)
 }
 
 fn last_score(finish: &Finish) -> Option<Score> {
@@ -82,7 +85,29 @@ fn finds(
     zone: &[Literal],
     wanted: Found,
 ) -> Result<(), Fail> {
-    let found = work_in(rt, alloc, text, &asked(claim, -99, 1800), zone)?;
+    let mut keep = FlowKeep::new();
+    let found = work_in(rt, alloc, text, &asked(claim, -99, 1800), zone, &mut keep)?;
+    assert!(rt; found == wanted, "{text:?}");
+    Ok(())
+}
+
+// Asserts what is found where C is to be inside, from what the pieces before left.
+fn inside_from(
+    rt: &impl Abort,
+    alloc: Global,
+    text: &[u8],
+    zone: &[Literal],
+    keep: &mut FlowKeep,
+    wanted: Found,
+) -> Result<(), Fail> {
+    let found = work_in(
+        rt,
+        alloc,
+        text,
+        &asked(Claim::Inside, -99, 1800),
+        zone,
+        keep,
+    )?;
     assert!(rt; found == wanted, "{text:?}");
     Ok(())
 }
@@ -138,7 +163,19 @@ fn rivals_that_cannot_come_up_refute_pieces_alone(rt: HostRuntime) -> Result<(),
     outside(&rt, alloc, &[behind(1), behind(2), behind(3)], COUNT)
 }
 
-fn all_behind_and(tests: &[Literal], alloc: Global) -> Result<Vec<Literal>, Fail> {
+// A cut of X and Y is found, then another league where they make none, then the cut once more.
+#[test]
+fn pieces_are_worked_on_with_one_keep(rt: HostRuntime) -> Result<(), Fail> {
+    let alloc = rt.alloc();
+    let mut keep = FlowKeep::new();
+    let both = [behind(1), behind(2)];
+    inside_from(&rt, alloc, LEVEL, &[behind(1)], &mut keep, rival(2))?;
+    inside_from(&rt, alloc, LEVEL, &both, &mut keep, low(6))?;
+    inside_from(&rt, alloc, DRAWN, &both, &mut keep, rival(3))?;
+    inside_from(&rt, alloc, LEVEL, &both, &mut keep, low(6))
+}
+
+fn all_after_and(tests: &[Literal], alloc: Global) -> Result<Vec<Literal>, Fail> {
     let mut zone = vec![in alloc; behind(1), behind(2), behind(3)]?;
     zone.extend_from_slice(tests)?;
     Ok(zone)
@@ -151,7 +188,7 @@ fn level_after_draws(
     tests: &[Literal],
     wanted: Found,
 ) -> Result<(), Fail> {
-    let zone = all_behind_and(tests, alloc)?;
+    let zone = all_after_and(tests, alloc)?;
     finds(rt, alloc, DRAWN, Claim::Inside, &zone, wanted)
 }
 

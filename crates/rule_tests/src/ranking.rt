@@ -1,9 +1,9 @@
 //! What the ranking answers for a league beside the plain program.
 
-ghost use Rattle.league_core.specs.Seasons.{IsLeague};
+ghost use Rattle.league_core.specs.game.Seasons.{IsLeague};
 
 use crate::plain::{Entrant, Plain};
-use final_rank::{Span, place, spans, table};
+use final_rank::{PlaceRange, place, spans, table};
 use league_core::Lots;
 use sample_leagues::{Draws, Sample};
 use std::alloc::Global;
@@ -45,7 +45,7 @@ pub fn count_around(plain: &Plain, club: Entrant) -> Counted {
     counted
 }
 
-fn compare_spans(rt: &impl Abort, plain: &Plain, found: &[Span], round: u32) {
+fn compare_spans(rt: &impl Abort, plain: &Plain, found: &[PlaceRange], round: u32) {
     assert_eq!(rt; found.len(), plain.clubs.len(), "league {round}");
     for (club, span) in plain.clubs.iter().zip(found) {
         let counted = count_around(plain, *club);

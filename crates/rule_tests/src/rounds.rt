@@ -1,7 +1,7 @@
 //! Drawn leagues, each looked at beside the plain program.
 
 ghost use Rattle.std.specs.Prelude.{IfOk};
-ghost use Rattle.league_core.specs.Seasons.{IsLeague};
+ghost use Rattle.league_core.specs.game.Seasons.{IsLeague};
 
 use crate::finishes::check_drawn_reaches;
 use crate::groups::check_drawn_group;

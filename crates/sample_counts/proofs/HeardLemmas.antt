@@ -10,15 +10,15 @@ use Rattle.league_core.specs.declared.sheet.Sheet.{Sheet}
 use Rattle.league_core.specs.declared.season.Score.{Score}
 use Rattle.league_core.specs.declared.season.Event.{Event}
 use Rattle.league_core.specs.declared.season.Event.TheVariants.{Set, Clear, Deduct}
-use Rattle.league_core.specs.Results.{Results}
-use Rattle.league_core.specs.Seasons.{IsSeasonOf, IsEventOf, AreEventsOf, unplayed_season}
-use Rattle.league_core.specs.Seasons.{season_after}
-use Rattle.branch_pool.specs.States.{PoolState, out_count}
-use Rattle.branch_pool.specs.Goodness.{IsSoundPool}
-use Rattle.branch_pool.specs.Steps.{Changes, pool_changed}
+use Rattle.league_core.specs.game.Results.{Results}
+use Rattle.league_core.specs.game.Seasons.{IsSeasonOf, IsEventOf, AreEventsOf, unplayed_season}
+use Rattle.league_core.specs.game.Seasons.{season_after}
+use Rattle.branch_pool.specs.inside.States.{PoolView, out_count}
+use Rattle.branch_pool.specs.inside.Goodness.{IsSoundPool}
+use Rattle.branch_pool.specs.inside.Steps.{Changes, pool_changed}
 use Rattle.verdict_run.specs.Samples.{sample_sheet, sample_events, sample_event}
 use Rattle.verdict_run.proofs.ShownLemmas.{pool_league}
-use Rattle.sample_counts.specs.SampleCounts.{IsBegun, HasHeard, IsSamplePool}
+use Rattle.sample_counts.specs.inside.SamplePools.{IsBegun, HasHeard, IsSamplePool}
 
 -- what may be told of a sheet may be told of each of its seasons
 event_of : (sheet : Sheet) (season : Results) (event : Event) → IsSeasonOf sheet season
@@ -38,7 +38,7 @@ event_of sheet season (Deduct club points) of_sheet may =
     (omega (arith, inside, deductions, length-replicate {A = ℕ} (length sheet.clubs) 0), may.1)
 
 -- so the next event may be told
-pub next_may_be : (old pool : PoolState) (events : List Event) (i : ℕ) (d : Event)
+pub next_may_be : (old pool : PoolView) (events : List Event) (i : ℕ) (d : Event)
     → i < length events → AreEventsOf old.sheet events → HasHeard old (take i events) pool
     → IsSoundPool pool → IsEventOf pool.season (get_or events i d)
 next_may_be old pool events i d inside may heard sound =

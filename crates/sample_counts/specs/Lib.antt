@@ -1,2 +1,3 @@
--- What is counted, and the pool of a sample league.
+-- What is counted in a sample league.
 pub mod SampleCounts
+pub mod inside

@@ -1,12 +1,9 @@
 -- The words of the verdicts of a sample league, counted.
-use Rattle.std.specs.Prelude.{◌≡◌, ℕ, Bool, true, false, List, [], count_by}
-use Rattle.league_core.specs.declared.season.Event.{Event}
-use Rattle.league_core.specs.Seasons.{season_after}
-use Rattle.branch_pool.specs.States.{PoolState, out_count}
+use Rattle.std.specs.Prelude.{◌≡◌, ℕ, Bool, true, false, List, count_by}
+use Rattle.league_core.specs.game.Seasons.{season_after}
 use Rattle.verdict_run.specs.declared.word.Word.{Word}
 use Rattle.verdict_run.specs.declared.word.Word.TheVariants.{Clinched, Lost, Possible, Unsettled}
 use Rattle.verdict_run.specs.declared.word.Verdict.{Verdict}
-use Rattle.verdict_run.specs.AskedQuestions.{questions_of}
 use Rattle.verdict_run.specs.Items.{AreVerdictsOf}
 use Rattle.verdict_run.specs.Samples.{sample_sheet, sample_events}
 use Rattle.sample_counts.specs.declared.counts.Counts.{Counts}
@@ -49,22 +46,3 @@ IsCountOfSample seed counts =
     (verdicts : List Verdict)
     × AreVerdictsOf sample_sheet (season_after sample_sheet (sample_events seed)) verdicts
     × (counts ≡ counts_of verdicts)
-
--- nothing was reported to the pool, and nothing is out
-pub record IsBegun (pool : PoolState) : Type 0 where
-  pub log : pool.log ≡ []
-  pub home : out_count pool.loans ≡ 0
-
--- the pool has heard of these events and of no others; what it asks is the same, and nothing is out
-pub record HasHeard (old : PoolState) (events : List Event) (new : PoolState) : Type 0 where
-  pub log : new.log ≡ events
-  pub sheet : new.sheet ≡ old.sheet
-  pub questions : new.questions ≡ old.questions
-  pub home : out_count new.loans ≡ 0
-
--- the pool of a seed: the sheet of the samples with all its questions, and the seed's results
-pub record IsSamplePool (seed : ℕ) (pool : PoolState) : Type 0 where
-  pub sheet : pool.sheet ≡ sample_sheet
-  pub questions : pool.questions ≡ questions_of pool.sheet
-  pub season : pool.season ≡ season_after sample_sheet (sample_events seed)
-  pub home : out_count pool.loans ≡ 0

@@ -1,9 +1,9 @@
 //! The pool of a sample league.
 
 ghost use Rattle.std.specs.Prelude.{◌<◌, ◌≤◌, IfOk, OnOk, length};
-ghost use Rattle.league_core.specs.Limits.{most_events};
-ghost use Rattle.league_core.specs.Seasons.{AreEventsOf};
-ghost use Rattle.sample_counts.specs.SampleCounts.{IsSamplePool, IsBegun, HasHeard};
+ghost use Rattle.league_core.specs.game.Limits.{most_events};
+ghost use Rattle.league_core.specs.game.Seasons.{AreEventsOf};
+ghost use Rattle.sample_counts.specs.inside.SamplePools.{IsSamplePool, IsBegun, HasHeard};
 
 use branch_pool::Pool;
 use league_core::{Event, OutOfMemory};
@@ -18,7 +18,7 @@ pub fn sample_pool(alloc: Global, seed: u64) -> Result<Pool, OutOfMemory>
     let asked = questions(alloc, &sheet)?;
     let mut pool = Pool::begin(alloc, sheet, asked)?;
     tell_all(&mut pool, events.as_slice())?;
-    pool.is_sound();
+    pool.recall_invariant();
     Ok(pool)
 }
 
@@ -30,8 +30,8 @@ fn tell_all(pool: &mut Pool, events: &[Event]) -> Result<(), OutOfMemory>
     ensures { OnOk result (HasHeard pool.old events.now pool.new) }
 {
     for event in events {
-        pool.is_sound();
-        pool.tell(*event)?;
+        pool.recall_invariant();
+        pool.change_with_room(*event)?;
     }
     Ok(())
 }

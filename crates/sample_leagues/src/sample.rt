@@ -1,8 +1,8 @@
-//! A league of a text: its sheet, and the season behind its feed.
+//! A league of a text: its sheet, and the season after its feed.
 
 ghost use Rattle.std.specs.Prelude.{◌≤◌, IfSome, IsTrue, length};
-ghost use Rattle.league_core.specs.Seasons.{IsLeague, IsSeasonOf};
-ghost use Rattle.league_core.specs.Sheets.{IsWithinLimits};
+ghost use Rattle.league_core.specs.game.Seasons.{IsLeague, IsSeasonOf};
+ghost use Rattle.league_core.specs.game.Sheets.{IsWithinLimits};
 
 use fixture_sheet::read_sheet;
 use league_core::{Season, Sheet};
@@ -18,7 +18,7 @@ pub struct Sample {
 }
 
 /// The league of a text, with all that its feed reports. None where the text is refused, where its
-/// feed has more than 10,000 entries, and where memory is wanting.
+/// feed has more than 10,000 entries, and if memory runs out.
 pub fn sample_of(alloc: Global, text: &[u8]) -> Option<Sample>
     ensures { IfSome result (λ sample. IsLeague sample.sheet sample.season) }
 {

@@ -2,7 +2,7 @@
 
 ghost use Rattle.std.specs.Prelude.{◌≡◌, length};
 ghost use Rattle.league_core.specs.declared.sheet.Sheet.{Sheet};
-ghost use Rattle.league_core.specs.Zones.{is_zone_of, is_test_of};
+ghost use Rattle.league_core.specs.search.Zones.{is_zone_of, is_test_of};
 
 use league_core::{Literal, Sheet, Test};
 

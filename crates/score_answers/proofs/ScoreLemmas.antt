@@ -4,17 +4,17 @@ use Rattle.std.proofs.Common.{drop, get_or, Option, Result, add-one}
 use Rattle.std.specs.Io.KnownBytes.{append_known}
 use Rattle.std.proofs.Math.Seq.{drop-cons}
 use Rattle.league_core.specs.declared.sheet.Sheet.{Sheet}
-use Rattle.port_core.specs.Ports.{AppendsFront}
+use Rattle.port_core.specs.Ports.{AppendsPrefix}
 use Rattle.cert_text.specs.ExampleLines.{text_of_proof_lines}
 use Rattle.score_answers.specs.declared.bound.Score2.{Score2}
 use Rattle.score_answers.specs.declared.bound.ClubScores.{ClubScores}
 use Rattle.output_rows.specs.declared.output.OutputStop.{OutputStop}
 use Rattle.output_rows.specs.Rows.{ask_row}
 use Rattle.output_rows.specs.Parts.{club_name}
-use Rattle.output_rows.specs.Outputs.{Puts}
+use Rattle.output_rows.specs.inside.Outputs.{Puts}
 use Rattle.output_rows.proofs.OutputLemmas.{front-more, puts-behind}
 use Rattle.score_answers.specs.ScoreRows.{score_row}
-use Rattle.score_answers.specs.SpentLines.{tree_lines}
+use Rattle.score_answers.specs.ScoreTexts.{tree_lines}
 use Rattle.score_answers.specs.ScoreTexts.{trees_text, score_item}
 use Rattle.score_answers.specs.ScoreTexts.{text_of_score_items, text_of_scores}
 
@@ -29,7 +29,7 @@ items-next sheet scores i found inside is =
     ∙ ap (λ n. score_item sheet found ++ text_of_score_items sheet (drop n scores))
     (sym (add-one i))
 
--- the row and the trees behind it, whole or a front of them
+-- the row and the trees after it, whole or a prefix of them
 pub item-puts : {A : Type 0} (sheet : Sheet) (found : ClubScores) (name : List ℕ)
     (old now next : Option (List ℕ)) (result : Result A OutputStop)
     → name ≡ club_name sheet found.club
@@ -41,18 +41,18 @@ item-puts {A} sheet found name old now next result named before puts =
     puts-behind (score_row found.line (club_name sheet found.club) found.scores)
     (trees_text found.scores) old now next result (subst P named before) puts
 
--- a front of the row is one of the item
+-- a prefix of the row is one of the item
 pub item-front : (sheet : Sheet) (found : ClubScores) (name : List ℕ)
     (old now : Option (List ℕ)) → name ≡ club_name sheet found.club
-    → AppendsFront old now (score_row found.line name found.scores)
-    → AppendsFront old now (score_item sheet found)
+    → AppendsPrefix old now (score_row found.line name found.scores)
+    → AppendsPrefix old now (score_item sheet found)
 item-front sheet found name old now named front =
     let P : List ℕ → Type 0 =
-    λ t. AppendsFront old now (score_row found.line t found.scores) in
+    λ t. AppendsPrefix old now (score_row found.line t found.scores) in
     front-more (score_row found.line (club_name sheet found.club) found.scores)
     (trees_text found.scores) old now (subst P named front)
 
--- the tree of the possible score and the one behind it
+-- the tree of the possible score and the one after it
 pub trees-puts : {A : Type 0} (scores : Score2) (old now next : Option (List ℕ))
     (result : Result A OutputStop)
     → now ≡ append_known old (text_of_proof_lines (tree_lines scores.pqs))
@@ -63,13 +63,13 @@ trees-puts {A} scores old now next result before puts =
     (text_of_proof_lines (tree_lines scores.gqs)) old now next result before puts
 
 pub trees-front : (scores : Score2) (old now : Option (List ℕ))
-    → AppendsFront old now (text_of_proof_lines (tree_lines scores.pqs))
-    → AppendsFront old now (trees_text scores)
+    → AppendsPrefix old now (text_of_proof_lines (tree_lines scores.pqs))
+    → AppendsPrefix old now (trees_text scores)
 trees-front scores old now front =
     front-more (text_of_proof_lines (tree_lines scores.pqs))
     (text_of_proof_lines (tree_lines scores.gqs)) old now front
 
--- the row of the ask and what is written behind it, whole or a front of it
+-- the row of the ask and what is written after it, whole or a prefix of it
 pub scores-put : {A : Type 0} (sheet : Sheet) (epoch : ℕ) (scores : List ClubScores)
     (old now next : Option (List ℕ)) (result : Result A OutputStop)
     → now ≡ append_known old (ask_row epoch)
@@ -79,7 +79,7 @@ scores-put {A} sheet epoch scores old now next result before puts =
     puts-behind (ask_row epoch) (text_of_score_items sheet scores) old now next result before puts
 
 pub scores-front : (sheet : Sheet) (epoch : ℕ) (scores : List ClubScores)
-    (old now : Option (List ℕ)) → AppendsFront old now (ask_row epoch)
-    → AppendsFront old now (text_of_scores sheet epoch scores)
+    (old now : Option (List ℕ)) → AppendsPrefix old now (ask_row epoch)
+    → AppendsPrefix old now (text_of_scores sheet epoch scores)
 scores-front sheet epoch scores old now front =
     front-more (ask_row epoch) (text_of_score_items sheet scores) old now front

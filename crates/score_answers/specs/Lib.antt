@@ -1,4 +1,4 @@
--- Reading order: the rows, the lines behind them, and the whole answer.
+-- Reading order: the rows, and the whole answer.
 pub mod ScoreRows
-pub mod SpentLines
 pub mod ScoreTexts
+pub mod inside

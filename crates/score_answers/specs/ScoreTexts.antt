@@ -1,14 +1,22 @@
 -- What the mode `scores` answers: for each line and each club the row of its two numbers, and
--- behind it the spent trees of those that are a range, that of the possible score first.
+-- after it the spent trees of those that are a range, that of the possible score first.
 use Rattle.std.specs.Prelude.{ℕ, List, [], ◌∷◌, ◌++◌}
 use Rattle.league_core.specs.declared.sheet.Sheet.{Sheet}
 use Rattle.cert_text.specs.ExampleLines.{text_of_proof_lines}
+use Rattle.cert_text.specs.declared.proof_line.ProofLine.{ProofLine}
 use Rattle.score_answers.specs.declared.bound.Score2.{Score2}
 use Rattle.score_answers.specs.declared.bound.ClubScores.{ClubScores}
-use Rattle.score_answers.specs.SpentLines.{tree_lines}
 use Rattle.output_rows.specs.Rows.{ask_row}
 use Rattle.output_rows.specs.Parts.{club_name}
 use Rattle.score_answers.specs.ScoreRows.{score_row}
+use Rattle.score_answers.specs.declared.bound.Bound.{Bound}
+use Rattle.score_answers.specs.declared.bound.Bound.TheVariants.{Known, None, Between}
+
+-- the spent tree of a range under its head; no line where there is none
+abbrev pub tree_lines : Bound → List ProofLine
+tree_lines (Known number) = []
+tree_lines None = []
+tree_lines (Between low high spent) = spent.items
 
 -- both trees as a text, that of the possible score first
 abbrev pub trees_text : Score2 → List ℕ

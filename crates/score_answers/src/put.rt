@@ -1,10 +1,11 @@
 //! The numbers on their way to the sink, row by row.
 
 ghost use Rattle.cert_text.specs.ExampleLines.{text_of_proof_lines};
-ghost use Rattle.output_rows.specs.Outputs.{CountsPut, Puts};
+ghost use Rattle.output_rows.specs.inside.Outputs.{CountsPut, Puts};
 ghost use Rattle.score_answers.specs.ScoreRows.{score_row};
-ghost use Rattle.score_answers.specs.SpentLines.{AreInLineRange, IsInLineRange, IsBoundInRange};
-ghost use Rattle.score_answers.specs.SpentLines.{tree_lines};
+ghost use Rattle.score_answers.specs.inside.SpentLines.{AreInLineRange, IsInLineRange};
+ghost use Rattle.score_answers.specs.inside.SpentLines.{IsBoundInRange};
+ghost use Rattle.score_answers.specs.ScoreTexts.{tree_lines};
 ghost use Rattle.score_answers.specs.ScoreTexts.{trees_text, score_item};
 ghost use Rattle.score_answers.specs.ScoreTexts.{text_of_score_items, text_of_scores};
 
@@ -16,8 +17,8 @@ use port_core::Sink;
 use std::alloc::Global;
 
 /// Writes the row of an ask and the row of each line and club, with the spent trees of its ranges
-/// behind it, that of the possible score first. `epoch` is how many events came before the ask.
-/// After a stop a front of the text went out, perhaps none of it.
+/// after it, that of the possible score first. `epoch` is how many events came before the ask.
+/// After a stop a prefix of the text went out, perhaps none of it.
 pub fn put_scores<K: Sink>(
     alloc: Global,
     epoch: u64,

@@ -13,25 +13,25 @@ use Rattle.std.proofs.lemmas.List.{get_or_append_left, get_or_push, length_push}
 use Rattle.league_core.specs.declared.sheet.Sheet.{Sheet}
 use Rattle.league_core.specs.declared.season.Score.{Score}
 use Rattle.league_core.specs.declared.zone.Literal.{Literal}
-use Rattle.league_core.specs.Results.{Results}
-use Rattle.league_core.specs.Finishes.{same_score, may_end}
+use Rattle.league_core.specs.game.Results.{Results}
+use Rattle.league_core.specs.game.Finishes.{same_score, may_end}
 use Rattle.std.proofs.lemmas.Bool.{ltb-true}
 use Rattle.std.proofs.lemmas.List.Folds.{list_any-append}
 use Rattle.std.proofs.lemmas.List.Sums.{AllPass-from_list_all}
 use Rattle.league_core.specs.declared.zone.Test.{Test}
 use Rattle.league_core.specs.declared.zone.Test.TheVariants.{Home, Draw, HomeMost, AwayMost, Rival}
-use Rattle.league_core.specs.Zones.{is_on, is_of_rival, passes, is_as_said, marked_before}
-use Rattle.league_core.specs.Zones.{marked_after, is_test_of, is_zone_of}
-use Rattle.league_core.specs.Options.{meets_literal, options_from, options_in}
-use Rattle.league_core.specs.Options.{has_score, has_option, has_one_score, has_finish, is_single}
+use Rattle.league_core.specs.search.Zones.{is_on, is_of_rival, passes, is_as_said, marked_before}
+use Rattle.league_core.specs.search.Zones.{marked_after, is_test_of, is_zone_of}
+use Rattle.league_core.specs.search.Options.{meets_literal, options_from, options_in, has_score}
+use Rattle.league_core.specs.search.Options.{has_option, has_one_score, has_finish, is_single}
 use Rattle.league_core.proofs.OptionLemmas.{same_score-true, same_score-itself, has_score-first}
 use Rattle.league_core.proofs.OptionLemmas.{has_score-options_of}
 use Rattle.league_core.proofs.OptionLemmas.{length-options_from, all_options}
 use Rattle.league_core.proofs.OptionLemmas.{each_option}
 use Rattle.league_core.proofs.LiteralLemmas.{options_at, options_at-with, meets-other, meets-own}
 use Rattle.score_box.specs.declared.cell.Cell.{Cell}
-use Rattle.score_box.specs.Cells.{allows, IsCellOf, IsEmptyCell, IsExactCell, HasOneScore}
-use Rattle.score_box.specs.Boxes.{AreCellsOf, IsTestBelow}
+use Rattle.score_box.specs.inside.Cells.{allows, IsCellOf, IsEmptyCell, IsExactCell, HasOneScore}
+use Rattle.score_box.specs.inside.Boxes.{AreCellsOf, IsTestBelow}
 
 -- cells of a zone become those of the zone with one literal more
 abbrev pub TakesLiteral : List Cell → List Cell → Literal → Type 0

@@ -5,12 +5,12 @@ use Rattle.std.proofs.Common.{◌∙◌, arith}
 use Rattle.std.proofs.lemmas.Bool.{and_parts, and_from, lt-ltb, le-ltb, le-leb, leb-true, ltb-true}
 use Rattle.std.proofs.lemmas.Bool.{eq-eqb, eqb-true, ne_eqb}
 use Rattle.league_core.specs.declared.season.Score.{Score}
-use Rattle.league_core.specs.Options.{score_of, is_home_win, is_draw, is_away_win}
+use Rattle.league_core.specs.search.Options.{score_of, is_home_win, is_draw, is_away_win}
 use Rattle.league_core.proofs.OutcomeLemmas.{outcome_cases}
 use Rattle.score_box.specs.declared.cell.Cell.{Cell}
-use Rattle.score_box.specs.declared.cell.goals.Goals.{Goals}
-use Rattle.score_box.specs.Cells.{is_within, keeps_outcome, allows, IsAllowed, IsSpanOf, AllowsNone}
-use Rattle.score_box.specs.Cells.{IsAt}
+use Rattle.score_box.specs.declared.cell.goals.GoalRange.{GoalRange}
+use Rattle.score_box.specs.inside.Cells.{is_within, keeps_outcome, allows, IsAllowed, IsSpanOf}
+use Rattle.score_box.specs.inside.Cells.{AllowsNone, IsAt}
 
 -- the goals of a score lie in both ranges of the cell
 pub record IsInRanges (cell : Cell) (score : Score) : Type 0 where
@@ -250,11 +250,11 @@ away_wins_span cell least most kept home away reach upper lower =
     }
 
 -- what is said of the goals of an outcome, where the cell has any
-abbrev pub Says : Cell → (Score → Bool) → Option Goals → Type 0
+abbrev pub Says : Cell → (Score → Bool) → Option GoalRange → Type 0
 Says cell test goals = MatchOption goals (AllowsNone cell test) (IsSpanOf cell test)
 
 -- a score of an outcome whose goals are all at one score is that score
-at_score : (cell : Cell) (test : Score → Bool) (goals : Option Goals) (score other : Score)
+at_score : (cell : Cell) (test : Score → Bool) (goals : Option GoalRange) (score other : Score)
     → Says cell test goals → IfSome goals (IsAt score) → IsAllowed cell test other → score ≡ other
 at_score cell test None score other says at is = absurd (says other is)
 at_score cell test (Some goals) score other says at is =
@@ -264,7 +264,7 @@ at_score cell test (Some goals) score other says at is =
     λ i. record { home = home i; away = away i }
 
 -- where the goals of each outcome are all at one score, the cell has no other
-pub no_other : (cell : Cell) (home draws away : Option Goals) (score : Score)
+pub no_other : (cell : Cell) (home draws away : Option GoalRange) (score : Score)
     → Says cell is_home_win home → Says cell is_draw draws → Says cell is_away_win away
     → IfSome home (IsAt score) → IfSome draws (IsAt score) → IfSome away (IsAt score)
     → (other : Score) → allows cell other ≡ true → score ≡ other
@@ -279,7 +279,7 @@ no_other cell home draws away score home_says draws_say away_says home_at draws_
     (record { allowed = allowed; passed = passed }))
 
 -- where the cell has no other score, the goals of each outcome are all at it
-pub all_at : (cell : Cell) (test : Score → Bool) (goals : Option Goals) (score : Score)
+pub all_at : (cell : Cell) (test : Score → Bool) (goals : Option GoalRange) (score : Score)
     → Says cell test goals → ((other : Score) → allows cell other ≡ true → score ≡ other)
     → IfSome goals (IsAt score)
 all_at cell test None score says only = tt

@@ -10,7 +10,7 @@ use Rattle.std.proofs.lemmas.List.Sums.{length-filter}
 use Rattle.std.specs.List.{All}
 use Rattle.std.proofs.lemmas.Bool.{eq-eqb, ne_eqb}
 use Rattle.league_core.specs.declared.sheet.Sheet.{Sheet}
-use Rattle.league_core.specs.Sheets.{IsWithinLimits}
+use Rattle.league_core.specs.game.Sheets.{IsWithinLimits}
 use Rattle.std.proofs.Common.{refl, sym, ap, ◌∙◌, inl, inr, arith}
 use Rattle.std.proofs.lemmas.Int.{ints, clamps}
 use Rattle.std.proofs.lemmas.Bool.{false≢true, cases_lt, cases_eq, eqb-true, false_from_ne_true}
@@ -20,10 +20,10 @@ use Rattle.std.proofs.lemmas.List.Sums.{sum_by-set, get_or-le-sum_by}
 use Rattle.std.proofs.lemmas.List.Sums.{count_by_more_no, count_by_more_yes}
 use Rattle.league_core.specs.declared.sheet.Fixture.{Fixture}
 use Rattle.league_core.specs.declared.season.Score.{Score}
-use Rattle.league_core.specs.Sums.{match_points}
-use Rattle.league_core.specs.Options.{has_option, has_one_outcome}
-use Rattle.league_core.specs.PointRanges.{Range, one_value, range_of, range_from}
-use Rattle.league_core.specs.PointRanges.{points_together, points_of_sides}
+use Rattle.league_core.specs.game.Sums.{match_points}
+use Rattle.league_core.specs.search.Options.{has_option, has_one_outcome}
+use Rattle.league_core.specs.search.PointRanges.{Range, one_value, range_of, range_from}
+use Rattle.league_core.specs.search.PointRanges.{points_together, points_of_sides}
 use Rattle.league_core.proofs.OptionLemmas.{has_score-first}
 use Rattle.league_core.proofs.PointRangeLemmas.{range_of-same}
 use Rattle.league_core.proofs.PointsLemmas.{match_worth}
@@ -31,12 +31,12 @@ use Rattle.league_core.proofs.RangeLemmas.{range_of-none}
 use Rattle.league_core.proofs.FixtureLemmas.{fixture_of_sheet}
 use Rattle.score_box.specs.declared.cell.Cell.{Cell}
 use Rattle.score_box.specs.declared.points.outcomes.MatchPoints.{MatchPoints}
-use Rattle.score_box.specs.Cells.{IsCellOf, IsEmptyCell}
-use Rattle.score_box.specs.Points.{IsPointsOf}
-use Rattle.score_box.specs.Boxes.{open_outcomes_in}
-use Rattle.score_box.specs.Ends.{alone_in, alone_over, empty_in, end_at, IsMatch, AreSpans}
-use Rattle.score_box.specs.Ends.{MovesSpans}
-use Rattle.score_box.specs.Cells.{HasOneOutcome}
+use Rattle.score_box.specs.inside.Cells.{IsCellOf, IsEmptyCell}
+use Rattle.score_box.specs.inside.Points.{IsPointsOf}
+use Rattle.score_box.specs.inside.Boxes.{open_outcomes_in}
+use Rattle.score_box.specs.inside.Ends.{alone_in, alone_over, empty_in, end_at, IsMatch, AreSpans}
+use Rattle.score_box.specs.inside.Ends.{MovesSpans}
+use Rattle.score_box.specs.inside.Cells.{HasOneOutcome}
 use Rattle.score_box.proofs.OutcomeLemmas.{one_outcome_of, outcome_of_cell}
 
 -- ---- bounds

@@ -5,22 +5,22 @@ use Rattle.std.specs.List.{list_any}
 use Rattle.std.proofs.lemmas.Bool.{false≢true, false_from_ne_true}
 use Rattle.std.proofs.lemmas.Bool.{ltb-true, eqb-true}
 use Rattle.league_core.specs.declared.season.Score.{Score}
-use Rattle.league_core.specs.Options.{is_home_win, is_draw, is_away_win}
-use Rattle.league_core.specs.Finishes.{same_score}
+use Rattle.league_core.specs.search.Options.{is_home_win, is_draw, is_away_win}
+use Rattle.league_core.specs.game.Finishes.{same_score}
 use Rattle.league_core.proofs.OptionLemmas.{same_score-true, same_score-itself}
 use Rattle.league_core.proofs.OutcomeLemmas.{outcome_cases}
 use Rattle.league_core.proofs.OptionTestLemmas.{any_shows, any_gives}
 use Rattle.score_box.specs.declared.cell.Cell.{Cell}
 use Rattle.score_box.specs.declared.points.left.OutcomesLeft.{OutcomesLeft}
 use Rattle.score_box.specs.declared.points.outcomes.MatchPoints.{MatchPoints}
-use Rattle.score_box.specs.declared.cell.goals.Goals.{Goals}
+use Rattle.score_box.specs.declared.cell.goals.GoalRange.{GoalRange}
 use Rattle.score_box.proofs.CellLemmas.{Says, ranges_of, keeps_home_win, keeps_draw}
 use Rattle.score_box.proofs.CellLemmas.{keeps_away_win, allows_from}
-use Rattle.score_box.specs.Cells.{allows, IsAllowed, at_most_one, HasOneOutcome, IsCellOf}
-use Rattle.score_box.specs.Cells.{IsEmptyCell, keeps_outcome}
-use Rattle.score_box.specs.Cells.{is_within, HasPassing, IsExactCell}
-use Rattle.score_box.specs.Points.{least_of_three, most_of_three, IsPointsOf}
-use Rattle.score_box.specs.Points.{AreOutcomesLeft, AreOutcomesAmong}
+use Rattle.score_box.specs.inside.Cells.{allows, IsAllowed, at_most_one, HasOneOutcome, IsCellOf}
+use Rattle.score_box.specs.inside.Cells.{IsEmptyCell, keeps_outcome, is_within, HasPassing}
+use Rattle.score_box.specs.inside.Cells.{IsExactCell}
+use Rattle.score_box.specs.inside.Points.{least_of_three, most_of_three, IsPointsOf}
+use Rattle.score_box.specs.inside.Points.{AreOutcomesLeft, AreOutcomesAmong}
 use Rattle.score_box.proofs.OutcomeLemmas.{decided}
 use Rattle.score_box.proofs.PointLemmas.{has_outcome, some_outcome, points_of_outcomes}
 
@@ -151,7 +151,7 @@ same_passing cell other test has same left = record {
     back : (score : Score) → IsAllowed other test score → IsAllowed cell test score
     back score one = record { allowed = same score ∙ one.allowed; passed = one.passed }
 
-    moved : (goals : Option Goals) → Says cell test goals → Says other test goals
+    moved : (goals : Option GoalRange) → Says cell test goals → Says other test goals
     moved None none = λ score one. none score (back score one)
     moved (Some goals) span = record {
       within = λ score one. span.within score (back score one);

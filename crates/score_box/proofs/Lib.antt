@@ -8,6 +8,5 @@ pub mod PointLemmas
 pub mod LeftLemmas
 pub mod EndLemmas
 pub mod TotalLemmas
-pub mod GroupLemmas
 pub mod SplitLemmas
 pub mod SetLemmas

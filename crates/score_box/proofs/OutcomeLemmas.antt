@@ -6,9 +6,9 @@ use Rattle.std.proofs.lemmas.Bool.{false≢true, ltb-true, eqb-true, or_cases, o
 use Rattle.std.proofs.lemmas.Bool.{false_from_ne_true}
 use Rattle.std.proofs.lemmas.List.Sums.{count_by_more_no, count_by_more_yes}
 use Rattle.league_core.specs.declared.season.Score.{Score}
-use Rattle.league_core.specs.Finishes.{same_score}
-use Rattle.league_core.specs.Options.{is_home_win, is_draw, is_away_win, same_outcome, has_score}
-use Rattle.league_core.specs.Options.{has_one_outcome}
+use Rattle.league_core.specs.game.Finishes.{same_score}
+use Rattle.league_core.specs.search.Options.{is_home_win, is_draw, is_away_win, same_outcome}
+use Rattle.league_core.specs.search.Options.{has_score, has_one_outcome}
 use Rattle.league_core.proofs.OptionLemmas.{same_score-true, has_score-first, each_option}
 use Rattle.league_core.proofs.OptionLemmas.{all_options}
 use Rattle.league_core.proofs.OutcomeLemmas.{outcome_cases, one_of_three}
@@ -17,10 +17,10 @@ use Rattle.league_core.proofs.OutcomeLemmas.{same_outcome-home, same_outcome-dra
 use Rattle.league_core.proofs.OutcomeLemmas.{same_outcome-away, same_outcome-itself}
 use Rattle.league_core.proofs.OutcomeLemmas.{same_outcome-joined}
 use Rattle.score_box.specs.declared.cell.Cell.{Cell}
-use Rattle.score_box.specs.declared.cell.goals.Goals.{Goals}
-use Rattle.score_box.specs.Cells.{allows, IsAllowed, AllowsNone, IsCellOf, at_most_one}
-use Rattle.score_box.specs.Cells.{HasOneOutcome}
-use Rattle.score_box.specs.Boxes.{open_outcomes_in}
+use Rattle.score_box.specs.declared.cell.goals.GoalRange.{GoalRange}
+use Rattle.score_box.specs.inside.Cells.{allows, IsAllowed, AllowsNone, IsCellOf, at_most_one}
+use Rattle.score_box.specs.inside.Cells.{HasOneOutcome}
+use Rattle.score_box.specs.inside.Boxes.{open_outcomes_in}
 use Rattle.score_box.proofs.CellLemmas.{Says}
 
 -- where one score is a home win, a draw or an away win, all are
@@ -143,7 +143,7 @@ draw_and_away cell draw away one d a =
     omega arith
 
 -- one outcome at most exactly where no two of the three have a score
-pub decided : (cell : Cell) (home draws away : Option Goals) → Says cell is_home_win home
+pub decided : (cell : Cell) (home draws away : Option GoalRange) → Says cell is_home_win home
     → Says cell is_draw draws → Says cell is_away_win away
     → (at_most_one (is_some home) (is_some draws) (is_some away) ≡ true → HasOneOutcome cell)
     × (HasOneOutcome cell → at_most_one (is_some home) (is_some draws) (is_some away) ≡ true)

@@ -9,8 +9,8 @@ use Rattle.std.proofs.lemmas.List.{take_more, ext_get_or, get_or_past}
 use Rattle.std.proofs.lemmas.List.Elements.{filter_agree}
 use Rattle.std.proofs.lemmas.Bool.{cases_lt}
 use Rattle.std.proofs.Common.{◌≤◌, append_assoc}
-use Rattle.league_core.specs.Options.{meets, endings, options_in}
-use Rattle.score_box.specs.Settings.{Setting}
+use Rattle.league_core.specs.search.Options.{meets, endings, options_in}
+use Rattle.score_box.specs.inside.Settings.{ZoneBoxView}
 use Rattle.std.proofs.lemmas.List.Folds.{list_all-append}
 use Rattle.std.proofs.lemmas.List.FromFn.{filter_of_map_range_with_len_more}
 use Rattle.std.proofs.Math.Seq.{take-append_seam}
@@ -19,22 +19,21 @@ use Rattle.league_core.specs.declared.sheet.Sheet.{Sheet}
 use Rattle.league_core.specs.declared.season.Score.{Score}
 use Rattle.league_core.specs.declared.zone.Literal.{Literal}
 use Rattle.league_core.specs.declared.club_set.ClubSet.{ClubSet}
-use Rattle.league_core.specs.Results.{Results}
-use Rattle.league_core.specs.Sums.{has_club}
-use Rattle.league_core.specs.ClubSets.{clubs_in}
-use Rattle.league_core.specs.Zones.{is_on, is_of_rival, is_test_of, is_zone_of}
-use Rattle.league_core.specs.Options.{meets_literal, options_of, options_from}
-use Rattle.league_core.specs.Options.{has_score}
+use Rattle.league_core.specs.game.Results.{Results}
+use Rattle.league_core.specs.game.Sums.{has_club}
+use Rattle.league_core.specs.game.ClubSets.{clubs_in}
+use Rattle.league_core.specs.search.Zones.{is_on, is_of_rival, is_test_of, is_zone_of}
+use Rattle.league_core.specs.search.Options.{meets_literal, options_of, options_from, has_score}
 use Rattle.league_core.proofs.OptionLemmas.{length-options_from}
 use Rattle.league_core.proofs.LiteralLemmas.{options_at, options_at-with, meets-other}
 use Rattle.score_box.specs.declared.cell.Cell.{Cell}
-use Rattle.score_box.specs.Cells.{allows, IsCellOf, IsExactCell}
-use Rattle.score_box.specs.Unplayed.{is_unplayed, unplayed_below}
-use Rattle.score_box.specs.Boxes.{AreCellsOf, IsSetOf}
+use Rattle.score_box.specs.inside.Cells.{allows, IsCellOf, IsExactCell}
+use Rattle.score_box.specs.inside.Unplayed.{is_unplayed, unplayed_below}
+use Rattle.score_box.specs.inside.Boxes.{AreCellsOf, IsSetOf}
 use Rattle.score_box.specs.declared.ends.Ends.{Ends}
-use Rattle.score_box.specs.Ends.{AreEnds}
+use Rattle.score_box.specs.inside.Ends.{AreEnds}
 use Rattle.score_box.specs.declared.trail.Undo.{Undo}
-use Rattle.score_box.specs.Stages.{IsBoxOf, IsUndoOf}
+use Rattle.score_box.specs.inside.PlayedViews.{IsBoxOf, IsUndoOf}
 use Rattle.score_box.proofs.TrailLemmas.{trail_more, trail_less}
 use Rattle.score_box.specs.declared.totals.Totals.{Totals}
 use Rattle.score_box.proofs.EndLemmas.{set_is}
@@ -286,15 +285,16 @@ cell_set cells f cell options within are score =
     ∙ are.each f cell (omega (arith, length-set cells f cell)) score
 
 -- a step of the path
-pub step_more : (start now new : Setting) (literals : List Literal) (i : ℕ) (d : Literal)
+pub step_more : (start now new : ZoneBoxView) (literals : List Literal) (i : ℕ) (d : Literal)
     → i < length literals
     → now ≡ record start { zone = start.zone ++ take i literals }
     → new ≡ record now { zone = now.zone ++ get_or literals i d ∷ [] }
     → new ≡ record start { zone = start.zone ++ take (i + 1) literals }
 step_more start now new literals i d within is next =
     next
-    ∙ ap (λ (b : Setting). let r : Setting = record b { zone = b.zone ++ get_or literals i d ∷ [] }
+    ∙ ap (λ (b : ZoneBoxView). let r : ZoneBoxView = record b
+    { zone = b.zone ++ get_or literals i d ∷ [] }
     in r) is
-    ∙ ap (λ (z : List Literal). let r : Setting = record start { zone = z } in r)
+    ∙ ap (λ (z : List Literal). let r : ZoneBoxView = record start { zone = z } in r)
     (append_assoc start.zone (take i literals) (get_or literals i d ∷ [])
     ∙ ap (λ z. start.zone ++ z) (sym (take_more literals i d within)))

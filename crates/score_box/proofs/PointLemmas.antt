@@ -7,18 +7,18 @@ use Rattle.std.proofs.lemmas.Int.{ints}
 use Rattle.std.proofs.lemmas.Bool.{false≢true, cases_lt}
 use Rattle.std.proofs.lemmas.Bool.{false_from_ne_true}
 use Rattle.league_core.specs.declared.season.Score.{Score}
-use Rattle.league_core.specs.Options.{is_home_win, is_draw, is_away_win}
-use Rattle.league_core.specs.PointRanges.{points_of_sides}
-use Rattle.league_core.specs.PointRanges.{won_points, drawn_points, lost_points}
+use Rattle.league_core.specs.search.Options.{is_home_win, is_draw, is_away_win}
+use Rattle.league_core.specs.search.PointRanges.{points_of_sides, won_points, drawn_points}
+use Rattle.league_core.specs.search.PointRanges.{lost_points}
 use Rattle.league_core.proofs.OutcomeLemmas.{outcome_cases}
 use Rattle.league_core.proofs.WorthLemmas.{points_at_win, points_at_draw, points_at_loss}
 use Rattle.league_core.proofs.WorthLemmas.{won_points-most, drawn_points-most}
 use Rattle.league_core.proofs.PointRangeLemmas.{Reaches, least-is, greatest-is}
 use Rattle.score_box.specs.declared.cell.Cell.{Cell}
-use Rattle.score_box.specs.declared.cell.goals.Goals.{Goals}
-use Rattle.score_box.specs.Cells.{allows, IsCellOf, IsEmptyCell, IsAllowed}
+use Rattle.score_box.specs.declared.cell.goals.GoalRange.{GoalRange}
+use Rattle.score_box.specs.inside.Cells.{allows, IsCellOf, IsEmptyCell, IsAllowed}
 use Rattle.score_box.specs.declared.points.outcomes.MatchPoints.{MatchPoints}
-use Rattle.score_box.specs.Points.{least_of_three, most_of_three, IsPointsOf}
+use Rattle.score_box.specs.inside.Points.{least_of_three, most_of_three, IsPointsOf}
 use Rattle.score_box.proofs.CellLemmas.{Says}
 
 -- each outcome that may come gives at least the least, and at most the most
@@ -150,20 +150,21 @@ most_given wins draws losses home away some =
     ]
 
 -- a score of the cell of an outcome, where the cell has one
-pub has_outcome : (cell : Cell) (test : Score → Bool) (goals : Option Goals) → Says cell test goals
+pub has_outcome : (cell : Cell) (test : Score → Bool) (goals : Option GoalRange)
+    → Says cell test goals
     → is_some goals ≡ true → (score : Score) × IsAllowed cell test score
 has_outcome cell test None says some = absurd (false≢true some)
 has_outcome cell test (Some goals) says some = (says.home_most.0, says.home_most.1)
 
 -- and where a score has the outcome, the cell has one
-pub some_outcome : (cell : Cell) (test : Score → Bool) (goals : Option Goals) (score : Score)
+pub some_outcome : (cell : Cell) (test : Score → Bool) (goals : Option GoalRange) (score : Score)
     → Says cell test goals → allows cell score ≡ true → test score ≡ true → is_some goals ≡ true
 some_outcome cell test None score says allowed passed =
     absurd (says score (record { allowed = allowed; passed = passed }))
 some_outcome cell test (Some goals) score says allowed passed = refl
 
 -- a cell that is not empty has a score of one of the outcomes
-some_of_three : (cell : Cell) (home draws away : Option Goals) → Says cell is_home_win home
+some_of_three : (cell : Cell) (home draws away : Option GoalRange) → Says cell is_home_win home
     → Says cell is_draw draws → Says cell is_away_win away → ¬ IsEmptyCell cell
     → (is_some home || is_some draws || is_some away) ≡ true
 some_of_three cell (Some goals) draws away home_says draws_say away_says some = refl
@@ -178,7 +179,7 @@ some_of_three cell None None None home_says draws_say away_says some =
     (λ passed. away_says score (record { allowed = allowed; passed = passed })))))
 
 -- an option that reaches what an outcome gives
-reached : (cell : Cell) (options : List Score) (home draws away : Option Goals) (h a : Bool)
+reached : (cell : Cell) (options : List Score) (home draws away : Option GoalRange) (h a : Bool)
     (points : ℕ) → IsCellOf cell options → Says cell is_home_win home → Says cell is_draw draws
     → Says cell is_away_win away → IsGiven (is_some home) (is_some draws) (is_some away) h a points
     → Reaches (points_of_sides h a) options (pos points)
@@ -227,7 +228,7 @@ in_order wins draws losses home away points (inr (inr (some, same))) =
     let above = (most_above wins draws losses home away).2 some in omega arith
 
 -- the least and the most of the outcomes that a cell has are those of its options
-pub points_of_outcomes : (cell : Cell) (home draws away : Option Goals) (h a : Bool)
+pub points_of_outcomes : (cell : Cell) (home draws away : Option GoalRange) (h a : Bool)
     (points : MatchPoints) → Says cell is_home_win home → Says cell is_draw draws
     → Says cell is_away_win away → ¬ IsEmptyCell cell
     → points.least ≡ least_of_three (is_some home) (is_some draws) (is_some away) h a

@@ -11,15 +11,15 @@ use Rattle.league_core.specs.declared.sheet.Sheet.{Sheet}
 use Rattle.league_core.specs.declared.sheet.Fixture.{Fixture}
 use Rattle.league_core.specs.declared.season.Score.{Score}
 use Rattle.league_core.specs.declared.zone.Literal.{Literal}
-use Rattle.league_core.specs.Results.{Results}
-use Rattle.league_core.specs.Seasons.{IsLeague}
-use Rattle.league_core.specs.Sums.{has_club, match_points, worth_to, sum_over}
-use Rattle.league_core.specs.ClubSets.{clubs_below}
-use Rattle.league_core.specs.Options.{has_finish, has_option, options_in}
+use Rattle.league_core.specs.game.Results.{Results}
+use Rattle.league_core.specs.game.Seasons.{IsLeague}
+use Rattle.league_core.specs.game.Sums.{has_club, match_points, worth_to, sum_over}
+use Rattle.league_core.specs.game.ClubSets.{clubs_below}
+use Rattle.league_core.specs.search.Options.{has_finish, has_option, options_in}
 use Rattle.league_core.proofs.HalfLemmas.{root_has_finish}
-use Rattle.league_core.specs.PointRanges.{Range, range_of, range_from, total_of}
-use Rattle.league_core.specs.PointRanges.{points_together, points_of_sides}
-use Rattle.league_core.specs.PointRanges.{least_points_of, most_points_of}
+use Rattle.league_core.specs.search.PointRanges.{Range, range_of, range_from, total_of}
+use Rattle.league_core.specs.search.PointRanges.{points_together, points_of_sides, least_points_of}
+use Rattle.league_core.specs.search.PointRanges.{most_points_of}
 use Rattle.league_core.proofs.OptionLemmas.{length-options_from}
 use Rattle.league_core.proofs.OutcomeLemmas.{outcome_cases}
 use Rattle.league_core.proofs.PointRangeLemmas.{range_of-same, points_together-sides}
@@ -31,11 +31,11 @@ use Rattle.score_box.specs.declared.cell.Cell.{Cell}
 use Rattle.score_box.specs.declared.points.PointRange.{PointRange}
 use Rattle.score_box.specs.declared.points.outcomes.MatchPoints.{MatchPoints}
 use Rattle.score_box.specs.declared.totals.Totals.{Totals}
-use Rattle.score_box.specs.Boxes.{AreCellsOf}
-use Rattle.score_box.specs.Ends.{IsMatch, AreSpans, end_at, empty_in}
-use Rattle.score_box.specs.Points.{IsPointsOf, IsRangeOver, left_to}
-use Rattle.score_box.specs.Totals.{AreTables, totals_at, no_totals, points_column}
-use Rattle.score_box.specs.Unplayed.{unplayed_in}
+use Rattle.score_box.specs.inside.Boxes.{AreCellsOf}
+use Rattle.score_box.specs.inside.Ends.{IsMatch, AreSpans, end_at, empty_in}
+use Rattle.score_box.specs.inside.Points.{IsPointsOf, IsRangeOver, left_to}
+use Rattle.score_box.specs.inside.Totals.{AreTables, totals_at, no_totals, points_column}
+use Rattle.score_box.specs.inside.Unplayed.{unplayed_in}
 use Rattle.score_box.proofs.EndLemmas.{IsSmall, matches_of, range_small, all_counted}
 use Rattle.score_box.proofs.SplitLemmas.{IsEnd, least_end, greatest_end, end_at_fixture}
 use Rattle.score_box.proofs.SplitLemmas.{KeepsPlayed}

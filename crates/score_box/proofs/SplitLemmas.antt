@@ -15,12 +15,12 @@ use Rattle.league_core.specs.declared.sheet.Sheet.{Sheet}
 use Rattle.league_core.specs.declared.sheet.Fixture.{Fixture}
 use Rattle.league_core.specs.declared.season.Score.{Score}
 use Rattle.league_core.specs.declared.zone.Literal.{Literal}
-use Rattle.league_core.specs.Results.{Results}
-use Rattle.league_core.specs.Sums.{has_club, if_played, sum_over}
-use Rattle.league_core.specs.ClubSets.{clubs_below}
-use Rattle.league_core.specs.Options.{has_option, has_finish, meets, options_of, options_in}
-use Rattle.league_core.specs.PointRanges.{Range, one_value, added, range_of, range_from, total_of}
-use Rattle.league_core.specs.PointRanges.{points_together, points_of_sides}
+use Rattle.league_core.specs.game.Results.{Results}
+use Rattle.league_core.specs.game.Sums.{has_club, if_played, sum_over}
+use Rattle.league_core.specs.game.ClubSets.{clubs_below}
+use Rattle.league_core.specs.search.Options.{has_option, has_finish, meets, options_of, options_in}
+use Rattle.league_core.specs.search.PointRanges.{Range, one_value, added, range_of, range_from}
+use Rattle.league_core.specs.search.PointRanges.{total_of, points_together, points_of_sides}
 use Rattle.league_core.proofs.ClubSetLemmas.{has_club-clubs_below}
 use Rattle.league_core.proofs.OptionLemmas.{length-options_from}
 use Rattle.league_core.proofs.PlainLemmas.{list_all-at}
@@ -30,8 +30,8 @@ use Rattle.league_core.proofs.PointRangeLemmas.{total_of-append}
 use Rattle.score_box.proofs.PathLemmas.{unplayed_below-zero, unplayed_below-suc}
 use Rattle.league_core.proofs.SumLemmas.{total_of-zero}
 use Rattle.league_core.proofs.LiteralLemmas.{options_at}
-use Rattle.score_box.specs.Unplayed.{is_unplayed, unplayed_below, unplayed_in}
-use Rattle.score_box.specs.Ends.{alone_in, alone_over}
+use Rattle.score_box.specs.inside.Unplayed.{is_unplayed, unplayed_below, unplayed_in}
+use Rattle.score_box.specs.inside.Ends.{alone_in, alone_over}
 use Rattle.score_box.proofs.EndLemmas.{alone_sides}
 
 -- a range of numbers that begins one later

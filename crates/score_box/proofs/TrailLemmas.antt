@@ -8,15 +8,15 @@ use Rattle.league_core.specs.declared.season.Score.{Score}
 use Rattle.league_core.specs.declared.zone.Literal.{Literal}
 use Rattle.league_core.specs.declared.zone.Test.{Test}
 use Rattle.league_core.specs.declared.zone.Test.TheVariants.{Home, Draw, HomeMost, AwayMost, Rival}
-use Rattle.league_core.specs.Zones.{is_on}
-use Rattle.league_core.specs.Options.{options_from, has_score}
+use Rattle.league_core.specs.search.Zones.{is_on}
+use Rattle.league_core.specs.search.Options.{options_from, has_score}
 use Rattle.league_core.proofs.OptionLemmas.{length-options_from}
 use Rattle.league_core.proofs.LiteralLemmas.{options_at}
 use Rattle.score_box.specs.declared.cell.Cell.{Cell}
 use Rattle.score_box.specs.declared.trail.Undo.{Undo}
-use Rattle.score_box.specs.Cells.{allows, IsExactCell}
-use Rattle.score_box.specs.Boxes.{AreCellsOf, IsTestBelow}
-use Rattle.score_box.specs.Stages.{IsCellBefore, IsUndoOf, IsTrailOf}
+use Rattle.score_box.specs.inside.Cells.{allows, IsExactCell}
+use Rattle.score_box.specs.inside.Boxes.{AreCellsOf, IsTestBelow}
+use Rattle.score_box.specs.inside.PlayedViews.{IsCellBefore, IsUndoOf, IsTrailOf}
 
 -- a literal is on a fixture that is there
 below_on : (test : Test) (fixtures clubs number : ℕ) → IsTestBelow fixtures clubs test
@@ -53,7 +53,7 @@ cell_before limit zone scores cells literal cell are below is number on =
       subst IsExactCell (sym (is number cell on)) (are.exact number cell within),
     )
 
--- the same undo of the same literal behind the same zone
+-- the same undo of the same literal after the same zone
 undo_same : (limit : ℕ) (scores : List (Option Score)) (zone zone_too : List Literal)
     (literal literal_too : Literal) (undo undo_too : Undo) → zone ≡ zone_too
     → literal ≡ literal_too → undo ≡ undo_too → IsUndoOf limit scores zone literal undo

@@ -1,10 +1,2 @@
--- The setting of a box, what a cell stands for, then what a box does, then the points that it
--- leaves.
-pub mod Settings
-pub mod Cells
-pub mod Unplayed
-pub mod Boxes
-pub mod Ends
-pub mod Totals
-pub mod Stages
-pub mod Points
+-- All words of this crate stand in inside/: no promise of the program rests on them.
+pub mod inside

@@ -2,14 +2,15 @@
 
 ghost use Rattle.std.specs.Prelude.{◌≡◌, ◌&&◌, nat_le, IsTrue, ◌↔◌};
 ghost use Rattle.league_core.specs.declared.season.Score.{Score};
-ghost use Rattle.league_core.specs.Zones.{passes, is_as_said, is_of_score};
-ghost use Rattle.league_core.specs.Options.{is_home_win, is_draw};
-ghost use Rattle.score_box.specs.Cells.{allows, is_within, keeps_outcome, IsEmptyCell};
+ghost use Rattle.league_core.specs.game.Finishes.{same_score};
+ghost use Rattle.league_core.specs.search.Zones.{passes, is_as_said, is_of_score};
+ghost use Rattle.league_core.specs.search.Options.{is_home_win, is_draw};
+ghost use Rattle.score_box.specs.inside.Cells.{allows, is_within, keeps_outcome, IsEmptyCell};
 
 mod exact;
 mod goals;
 
-pub use goals::{Goals, at_most_one};
+pub use goals::{GoalRange, at_most_one};
 use league_core::{Literal, Score, Test};
 
 /// A set of scores: those whose outcome is kept and whose goals are in the two ranges. Contracts
@@ -39,6 +40,21 @@ impl Cell {
             home_most: goal_limit,
             away_least: 0,
             away_most: goal_limit,
+        }
+    }
+
+    /// This score alone, whatever the goal limit.
+    pub fn only(score: Score) -> Cell
+        ensures { (other : Score) → allows result other ≡ same_score score other }
+    {
+        Cell {
+            home_win: true,
+            draw: true,
+            away_win: true,
+            home_least: score.home,
+            home_most: score.home,
+            away_least: score.away,
+            away_most: score.away,
         }
     }
 

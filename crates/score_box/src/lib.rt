@@ -3,8 +3,8 @@
 //! `Cell` has the open scores of one fixture, `ZoneBox` those of a zone, fixture by fixture, with
 //! the zone's marks; `Played` has what many boxes of one season share. No list of scores is ever
 //! made: a cell is a set of outcomes and two ranges of goals. The meaning is in league_core's
-//! `specs/Options.antt` and `specs/PointRanges.antt`, and what a cell and a box stand for in
-//! `specs/Cells.antt` and `specs/Boxes.antt` here.
+//! `specs/search/Options.antt` and `specs/search/PointRanges.antt`, and what a cell and a box stand
+//! for in `specs/inside/Cells.antt` and `specs/inside/Boxes.antt` here.
 #![tactic(auto)]
 
 mod cell;
@@ -18,7 +18,7 @@ mod totals;
 mod trail;
 mod zone_box;
 
-pub use cell::{Cell, Goals};
+pub use cell::{Cell, GoalRange};
 pub use own::{own_least, own_most};
 pub use played::Played;
 pub use points::{MatchPoints, OutcomesLeft, PointRange};

@@ -1,11 +1,11 @@
 //! The rivals that a zone marks.
 
 ghost use Rattle.std.specs.Prelude.{◌≡◌, ℕ, ◌<◌, ◌&&◌, ◌||◌, not, false};
-ghost use Rattle.league_core.specs.Sums.{has_club};
-ghost use Rattle.league_core.specs.ClubSets.{clubs_in};
-ghost use Rattle.league_core.specs.Limits.{set_width};
-ghost use Rattle.league_core.specs.Zones.{is_of_rival};
-ghost use Rattle.score_box.specs.Boxes.{IsSetOf, IsTestBelow};
+ghost use Rattle.league_core.specs.game.Sums.{has_club};
+ghost use Rattle.league_core.specs.game.ClubSets.{clubs_in};
+ghost use Rattle.league_core.specs.game.Limits.{set_width};
+ghost use Rattle.league_core.specs.search.Zones.{is_of_rival};
+ghost use Rattle.score_box.specs.inside.Boxes.{IsSetOf, IsTestBelow};
 
 use league_core::{ClubSet, Literal, Test};
 

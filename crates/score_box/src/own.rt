@@ -1,10 +1,10 @@
 //! What the question's own club can have in its window.
 
 ghost use Rattle.std.specs.Prelude.{◌≡◌, ◌<◌, ◌≤ℤ◌, neg_ℤ, length};
-ghost use Rattle.league_core.specs.Limits.{most_points};
-ghost use Rattle.league_core.specs.PointRanges.{own_least, own_most};
-ghost use Rattle.score_box.specs.Points.{most_taken_off};
-ghost use Rattle.score_box.specs.Settings.{HasFinish};
+ghost use Rattle.league_core.specs.game.Limits.{most_points};
+ghost use Rattle.league_core.specs.search.PointRanges.{own_least, own_most};
+ghost use Rattle.score_box.specs.inside.Points.{most_taken_off};
+ghost use Rattle.score_box.specs.inside.Settings.{HasFinish};
 
 use crate::zone_box::ZoneBox;
 use league_core::Question;

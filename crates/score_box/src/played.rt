@@ -2,16 +2,16 @@
 
 ghost use Rattle.std.specs.Prelude.{◌≡◌, ◌<◌, ◌≤◌, ◌++◌, ◌↔◌, IsTrue, IfOk, [], ◌∷◌, length};
 ghost use Rattle.std.specs.Prelude.{if◌then◌else◌};
-ghost use Rattle.league_core.specs.Limits.{most_fixtures};
-ghost use Rattle.league_core.specs.Options.{options_in};
-ghost use Rattle.league_core.specs.Sums.{sum_of, points_of};
-ghost use Rattle.league_core.specs.PairSums.{sum_against};
-ghost use Rattle.league_core.specs.Seasons.{IsLeague, IsSeasonOf};
-ghost use Rattle.league_core.specs.Sheets.{IsWithinLimits};
-ghost use Rattle.score_box.specs.Boxes.{AreCellsOf};
-ghost use Rattle.score_box.specs.Ends.{AreEnds};
-ghost use Rattle.score_box.specs.Totals.{AreTables, AreTotals, AreTotalsNear};
-ghost use Rattle.score_box.specs.Unplayed.{is_unplayed, unplayed_in};
+ghost use Rattle.league_core.specs.game.Limits.{most_fixtures};
+ghost use Rattle.league_core.specs.search.Options.{options_in};
+ghost use Rattle.league_core.specs.game.Sums.{sum_of, points_of};
+ghost use Rattle.league_core.specs.inside.PairSums.{sum_against};
+ghost use Rattle.league_core.specs.game.Seasons.{IsLeague, IsSeasonOf};
+ghost use Rattle.league_core.specs.game.Sheets.{IsWithinLimits};
+ghost use Rattle.score_box.specs.inside.Boxes.{AreCellsOf};
+ghost use Rattle.score_box.specs.inside.Ends.{AreEnds};
+ghost use Rattle.score_box.specs.inside.Totals.{AreTables, AreTotals, AreTotalsNear};
+ghost use Rattle.score_box.specs.inside.Unplayed.{is_unplayed, unplayed_in};
 
 use crate::cell::Cell;
 use crate::ends::Ends;
@@ -34,11 +34,11 @@ pub struct Played<'a> {
 }
 
 impl<'a> Model for Played<'a> {
-    ghost use Rattle.score_box.specs.Stages.{Stage};
+    ghost use Rattle.score_box.specs.inside.PlayedViews.{PlayedView};
 
-    ghost Value = { Stage };
+    ghost Value = { PlayedView };
 
-    ghost use Rattle.score_box.specs.Stages.{ArePlayed};
+    ghost use Rattle.score_box.specs.inside.PlayedViews.{ArePlayed};
 
     ghost view = { λ p. record { sheet = p.sheet.now; season = p.season.now } };
 

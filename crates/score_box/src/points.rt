@@ -5,11 +5,11 @@ ghost use Rattle.std.specs.Prelude.{◌≡◌, ◌≢◌, ◌<◌, ◌≤◌, po
 ghost use Rattle.std.specs.Prelude.{length, slice_index};
 ghost use Rattle.std.specs.Prelude.{if◌then◌else◌};
 ghost use Rattle.std.specs.List.{All};
-ghost use Rattle.league_core.specs.Limits.{most_fixtures, most_points, set_width};
-ghost use Rattle.league_core.specs.ClubSets.{clubs_in};
-ghost use Rattle.league_core.specs.PointRanges.{total_of};
-ghost use Rattle.score_box.specs.Cells.{IsEmptyCell};
-ghost use Rattle.score_box.specs.Points.{IsPointsOf, IsRangeOver, most_taken_off};
+ghost use Rattle.league_core.specs.game.Limits.{most_fixtures, most_points, set_width};
+ghost use Rattle.league_core.specs.game.ClubSets.{clubs_in};
+ghost use Rattle.league_core.specs.search.PointRanges.{total_of};
+ghost use Rattle.score_box.specs.inside.Cells.{IsEmptyCell};
+ghost use Rattle.score_box.specs.inside.Points.{IsPointsOf, IsRangeOver, most_taken_off};
 
 mod left;
 mod outcomes;

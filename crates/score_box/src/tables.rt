@@ -4,14 +4,13 @@ ghost use Rattle.std.specs.Prelude.{◌≡◌, ◌≢◌, ◌<◌, ◌≤◌, �
 ghost use Rattle.std.specs.Prelude.{◌∷◌, neg_ℤ, ◌≤ℤ◌, if◌then◌else◌, length};
 ghost use Rattle.std.specs.List.{All};
 ghost use Rattle.league_core.specs.declared.season.Score.{Score};
-ghost use Rattle.league_core.specs.Limits.{most_fixtures};
-ghost use Rattle.league_core.specs.ClubSets.{clubs_in};
-ghost use Rattle.league_core.specs.Sums.{has_club, if_played, worth_to, worth_among};
-ghost use Rattle.league_core.specs.PointRanges.{total_of};
-ghost use Rattle.score_box.specs.Ends.{IsMatch};
-ghost use Rattle.score_box.specs.Totals.{AreTables, AreTotalsNear, TotalsGrowBy, AddsScore};
-ghost use Rattle.score_box.specs.Totals.{AddsPairs};
-ghost use Rattle.score_box.specs.Totals.{no_totals, totals_at, pair_place};
+ghost use Rattle.league_core.specs.game.Limits.{most_fixtures};
+ghost use Rattle.league_core.specs.game.ClubSets.{clubs_in};
+ghost use Rattle.league_core.specs.game.Sums.{has_club, if_played, worth_to, worth_among};
+ghost use Rattle.league_core.specs.search.PointRanges.{total_of};
+ghost use Rattle.score_box.specs.inside.Ends.{IsMatch};
+ghost use Rattle.score_box.specs.inside.Totals.{AreTables, AreTotalsNear, TotalsGrowBy, AddsScore};
+ghost use Rattle.score_box.specs.inside.Totals.{AddsPairs, no_totals, totals_at, pair_place};
 
 use crate::totals::Totals;
 use league_core::{ClubSet, Fixture, OutOfMemory, Score};
@@ -68,13 +67,8 @@ impl Tables {
         ensures near { AreTotalsNear 5000000 result }
     {
         let mut totals = Totals::NONE;
-        let mut left = group;
-        for _step in 0..group.len() {
-            let rival = left.first_club();
-            let more = totals.with(&self.of_pair(club, rival));
-            let others = left.without(ClubSet::single(rival));
-            totals = more;
-            left = others;
+        for rival in group.clubs() {
+            totals = totals.with(&self.of_pair(club, rival));
         }
         totals
     }

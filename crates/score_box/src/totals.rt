@@ -1,8 +1,8 @@
 //! What matches add up to for one club, by each of the six measures that a ranking counts.
 
 ghost use Rattle.std.specs.Prelude.{◌≡◌, ◌≤ℤ◌, pos, false, if◌then◌else◌};
-ghost use Rattle.league_core.specs.Sums.{match_points};
-ghost use Rattle.score_box.specs.Totals.{AreTogether, AreTotalsNear, TotalsGrowBy};
+ghost use Rattle.league_core.specs.game.Sums.{match_points};
+ghost use Rattle.score_box.specs.inside.Totals.{AreTogether, AreTotalsNear, TotalsGrowBy};
 
 /// A row of totals: three points for a win and one for a draw, goals scored less goals let in,
 /// goals scored, those of them that were scored away, wins, and those of them away from home.

@@ -2,9 +2,9 @@
 
 ghost use Rattle.std.specs.Prelude.{◌≡◌, ◌<◌, ◌++◌, ℕ, true, OnOk, OnErr, [], ◌∷◌, length};
 ghost use Rattle.std.specs.Prelude.{slice_index_or};
-ghost use Rattle.league_core.specs.Limits.{set_width};
-ghost use Rattle.league_core.specs.Zones.{is_on};
-ghost use Rattle.score_box.specs.Boxes.{IsTestBelow};
+ghost use Rattle.league_core.specs.game.Limits.{set_width};
+ghost use Rattle.league_core.specs.search.Zones.{is_on};
+ghost use Rattle.score_box.specs.inside.Boxes.{IsTestBelow};
 
 use crate::cell::Cell;
 use crate::marks::Marks;

@@ -3,17 +3,17 @@
 ghost use Rattle.std.specs.Prelude.{◌≡◌, ◌↔◌, ◌<◌, ◌≤ℤ◌, pos, neg_ℤ, IsTrue, IfOk, [], length};
 ghost use Rattle.std.specs.Prelude.{slice_index_or};
 ghost use Rattle.std.specs.List.{All};
-ghost use Rattle.league_core.specs.Sheets.{IsWithinLimits};
-ghost use Rattle.league_core.specs.Seasons.{IsLeague, IsSeasonOf};
-ghost use Rattle.league_core.specs.ClubSets.{clubs_in};
-ghost use Rattle.league_core.specs.Limits.{most_points};
-ghost use Rattle.league_core.specs.PointRanges.{least_points_of, most_points_of};
-ghost use Rattle.league_core.specs.Zones.{is_zone_of, marked_before, marked_after};
-ghost use Rattle.league_core.specs.Options.{options_in, has_score, has_finish, is_single};
-ghost use Rattle.score_box.specs.Cells.{IsCellOf, HasOneScore};
-ghost use Rattle.score_box.specs.Boxes.{IsSetOf};
-ghost use Rattle.score_box.specs.Settings.{HasFinish};
-ghost use Rattle.score_box.specs.Points.{most_taken_off};
+ghost use Rattle.league_core.specs.game.Sheets.{IsWithinLimits};
+ghost use Rattle.league_core.specs.game.Seasons.{IsLeague, IsSeasonOf};
+ghost use Rattle.league_core.specs.game.ClubSets.{clubs_in};
+ghost use Rattle.league_core.specs.game.Limits.{most_points};
+ghost use Rattle.league_core.specs.search.PointRanges.{least_points_of, most_points_of};
+ghost use Rattle.league_core.specs.search.Zones.{is_zone_of, marked_before, marked_after};
+ghost use Rattle.league_core.specs.search.Options.{options_in, has_score, has_finish, is_single};
+ghost use Rattle.score_box.specs.inside.Cells.{IsCellOf, HasOneScore};
+ghost use Rattle.score_box.specs.inside.Boxes.{IsSetOf};
+ghost use Rattle.score_box.specs.inside.Settings.{HasFinish};
+ghost use Rattle.score_box.specs.inside.Points.{most_taken_off};
 
 mod build;
 mod looks;
@@ -47,11 +47,11 @@ pub struct ZoneBox<'a> {
 }
 
 impl<'a> Model for ZoneBox<'a> {
-    ghost use Rattle.score_box.specs.Settings.{Setting};
+    ghost use Rattle.score_box.specs.inside.Settings.{ZoneBoxView};
 
-    ghost Value = { Setting };
+    ghost Value = { ZoneBoxView };
 
-    ghost use Rattle.score_box.specs.Stages.{IsBoxOf};
+    ghost use Rattle.score_box.specs.inside.PlayedViews.{IsBoxOf};
 
     ghost view = { λ b. record {
       sheet = b.sheet.now;

@@ -2,15 +2,15 @@
 //! found, without a next one.
 
 ghost use Rattle.std.specs.Prelude.{◌≡◌, length};
-ghost use Rattle.league_core.specs.Seasons.{IsEventOf, season_after};
-ghost use Rattle.league_core.specs.Sheets.{IsWithinLimits};
-ghost use Rattle.pool_lock.specs.Lends.{IsWorkAfter};
+ghost use Rattle.league_core.specs.game.Seasons.{IsEventOf, season_after};
+ghost use Rattle.league_core.specs.game.Sheets.{IsWithinLimits};
+ghost use Rattle.pool_lock.specs.inside.Lends.{IsWorkAfter};
 
 use crate::cases::{Case, ticket_of};
 use crate::found::{finding_at, lose};
-use crate::rounds::see_round;
+use crate::watched::watched;
 use branch_pool::{Answer, Gave, Ticket, Turn};
-use branch_rules::Worker;
+use branch_rules::ZoneSolver;
 use league_core::{Event, OutOfMemory, Sheet};
 use pool_lock::{Front, Job, PoolLock, WorkBadge};
 use reason_core::Solver;
@@ -66,7 +66,7 @@ pub fn be_late<J: Job, R: Wait>(
     requires limits { IsWithinLimits sheet.now }
     requires may_be { IsEventOf (season_after J.sheet front.old) event }
 {
-    lock.rest(rt, front);
+    lock.feeder_idle(rt, front);
     let ticket = ticket_of(rt, lock, badge)?;
     let told = lock.report(rt, front, event).is_ok();
     lock.shut(rt, front);
@@ -119,7 +119,7 @@ fn turns_at<J: Job, R: Wait>(
     requires work { IsWorkAfter J.sheet badge.old.list ticket.now }
 {
     let played = Played::of(alloc, sheet, &ticket.piece.season)?;
-    let mut solver = Worker::new(alloc, &played)?;
+    let mut solver = ZoneSolver::new(alloc, &played)?;
     turns_by(rt, lock, badge, ticket.epoch, &mut solver)
 }
 
@@ -149,7 +149,7 @@ fn turns_by<J: Job, R: Wait, W: Solver>(
 
 #[test]
 fn work_in_the_pool_waits_until_the_feed_is_shut(rt: HostRuntime) -> Result<(), Fail> {
-    let round = see_round(&rt, rt.alloc(), Case::Early)?;
+    let round = watched(&rt, Case::Early)?;
     assert_eq!(rt;
         (round.first_two, round.last_two),
         (
@@ -162,7 +162,7 @@ fn work_in_the_pool_waits_until_the_feed_is_shut(rt: HostRuntime) -> Result<(), 
 
 #[test]
 fn all_is_worked_out_in_the_pool_once_the_feed_is_shut(rt: HostRuntime) -> Result<(), Fail> {
-    let round = see_round(&rt, rt.alloc(), Case::Alone)?;
+    let round = watched(&rt, Case::Alone)?;
     assert_eq!(rt;
         (round.first_two, round.last_two, round.out),
         (
@@ -176,7 +176,7 @@ fn all_is_worked_out_in_the_pool_once_the_feed_is_shut(rt: HostRuntime) -> Resul
 
 #[test]
 fn no_work_is_done_in_the_pool_by_who_missed_a_result(rt: HostRuntime) -> Result<(), Fail> {
-    let round = see_round(&rt, rt.alloc(), Case::Late)?;
+    let round = watched(&rt, Case::Late)?;
     assert_eq!(rt;
         (
             round.first_two,

@@ -1,9 +1,9 @@
 //! What two workers do with the first two questions, and when the result is reported.
 
 ghost use Rattle.std.specs.Prelude.{◌≡◌, IfOk};
-ghost use Rattle.league_core.specs.Seasons.{IsEventOf, season_after};
-ghost use Rattle.league_core.specs.Sheets.{IsWithinLimits};
-ghost use Rattle.pool_lock.specs.Lends.{IsWorkAfter};
+ghost use Rattle.league_core.specs.game.Seasons.{IsEventOf, season_after};
+ghost use Rattle.league_core.specs.game.Sheets.{IsWithinLimits};
+ghost use Rattle.pool_lock.specs.inside.Lends.{IsWorkAfter};
 
 use crate::alone::{be_alone, be_late};
 use crate::found::{finding_at, found_at, lose};
@@ -76,12 +76,12 @@ pub fn meet<J: Job, R: Wait>(
             Case::Late => be_late(rt, alloc, sheet, lock, front, one, event),
             Case::Early | Case::Alone => {
                 tell(rt, lock, front, one, event)?;
-                lock.rest(rt, front);
+                lock.feeder_idle(rt, front);
                 be_alone(rt, alloc, sheet, lock, front, one, case)
             }
             Case::Worked | Case::InTurn | Case::OtherPiece | Case::Lost => {
                 tell(rt, lock, front, one, event)?;
-                lock.rest(rt, front);
+                lock.feeder_idle(rt, front);
                 play(rt, alloc, sheet, lock, one, two, case)
             }
         },
@@ -89,7 +89,7 @@ pub fn meet<J: Job, R: Wait>(
     }
 }
 
-// Reports the first event. Where memory is wanting the word is as before, and so are pool and
+// Reports the first event. If memory runs out the word is as before, and so are pool and
 // front: the event can be reported again, and is the first one.
 fn tell<J: Job, R: Wait>(
     rt: &R,

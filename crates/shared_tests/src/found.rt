@@ -1,15 +1,15 @@
 //! What is found at tickets, and tickets that are lost.
 
 ghost use Rattle.std.specs.Prelude.{◌≡◌, IfOk};
-ghost use Rattle.league_core.specs.Sheets.{IsWithinLimits};
-ghost use Rattle.reason_core.specs.Dones.{IsTrueDone, IsTrueOf};
-ghost use Rattle.pool_lock.specs.Lends.{IsWorkAfter};
+ghost use Rattle.league_core.specs.game.Sheets.{IsWithinLimits};
+ghost use Rattle.reason_core.specs.inside.Dones.{IsTrueDone, IsTrueOf};
+ghost use Rattle.pool_lock.specs.inside.Lends.{IsWorkAfter};
 
 use branch_pool::Ticket;
-use branch_rules::{Worker, work};
-use league_core::{OutOfMemory, Sheet, Zone};
+use branch_rules::{ZoneSolver, work};
+use league_core::{OutOfMemory, Sheet};
 use pool_lock::{Job, WorkBadge};
-use reason_core::{Done, Finding, Piece, Solver};
+use reason_core::{Done, Finding, Solver};
 use score_box::Played;
 use std::alloc::Global;
 
@@ -27,14 +27,14 @@ pub fn finding_at<J: Job>(
 {
     let _ = badge;
     let played = Played::of(alloc, sheet, &ticket.piece.season)?;
-    let mut worker = Worker::new(alloc, &played)?;
+    let mut worker = ZoneSolver::new(alloc, &played)?;
     worker.solve(
         &ticket.piece.question,
         ticket.piece.zone.literals.as_slice(),
     )
 }
 
-/// What is found at a ticket; nothing where memory is wanting.
+/// What is found at a ticket; nothing if memory runs out.
 pub fn found_at<J: Job>(alloc: Global, sheet: &Sheet, badge: &WorkBadge<J>, ticket: &Ticket) -> Done
     requires of_job { sheet.now ≡ J.sheet }
     requires limits { IsWithinLimits sheet.now }
@@ -42,25 +42,10 @@ pub fn found_at<J: Job>(alloc: Global, sheet: &Sheet, badge: &WorkBadge<J>, tick
     ensures { IsTrueDone J.sheet result }
 {
     let _ = badge;
-    match copy_of(alloc, &ticket.piece) {
-        Ok(piece) => match work(alloc, sheet, piece) {
-            Ok(done) => done,
-            Err(OutOfMemory) => Done::Undone,
-        },
+    match work(alloc, sheet, &ticket.piece) {
+        Ok(done) => done,
         Err(OutOfMemory) => Done::Undone,
     }
-}
-
-fn copy_of(alloc: Global, piece: &Piece) -> Result<Piece, OutOfMemory>
-    ensures { IfOk result (λ copy. copy ≡ piece.now) }
-{
-    let season = piece.season.copy(alloc)?;
-    let literals = piece.zone.literals.copy(alloc)?;
-    Ok(Piece {
-        season,
-        question: piece.question,
-        zone: Zone { literals },
-    })
 }
 
 /// Lets a ticket go.

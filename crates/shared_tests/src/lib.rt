@@ -1,9 +1,10 @@
-//! Worked rows of what threads share, and want of memory in trees, pools and reports: tests alone.
+//! Worked rows of what threads share, and running out of memory in trees, pools and reports: tests
+//! alone.
 //!
-//! `trees` has the calls on a tree while memory is wanting, `pools` those on a pool, `reports` a
+//! `trees` has the calls on a tree while memory runs out, `pools` those on a pool, `reports` a
 //! report to the lock round one: they are made to be run with each allocation failing in turn, as
 //! `checks/memory` does; `rt try --test --fail-alloc N` does it for the Nth. One of them in which
-//! memory is wanting beside its call has nothing to say, and ends in the error that tells of it.
+//! memory runs out beside its call has nothing to say, and ends in the error that tells of it.
 #![tactic(auto)]
 
 #[cfg(test)]
@@ -26,3 +27,5 @@ mod reports;
 mod rounds;
 #[cfg(test)]
 mod trees;
+#[cfg(test)]
+mod watched;

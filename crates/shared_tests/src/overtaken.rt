@@ -1,6 +1,6 @@
 //! A result that comes while tickets are out.
 
-ghost use Rattle.league_core.specs.Seasons.{IsEventOf, season_after};
+ghost use Rattle.league_core.specs.game.Seasons.{IsEventOf, season_after};
 
 use crate::cases::ticket_of;
 use crate::found::lose;
@@ -22,14 +22,14 @@ pub fn be_overtaken<J: Job, R: Wait>(
 ) -> Result<Option<(Gave, Gave)>, Fail>
     requires may_be { IsEventOf (season_after J.sheet front.old) event }
 {
-    lock.rest(rt, front);
+    lock.feeder_idle(rt, front);
     let first = ticket_of(rt, lock, one)?;
     match ticket_of(rt, lock, two) {
         Ok(second) => {
             let told = lock.report(rt, front, event).is_ok();
             let gave = give_undone(rt, lock, one, first);
             let other = give_undone(rt, lock, two, second);
-            lock.rest(rt, front);
+            lock.feeder_idle(rt, front);
             if told && next_number(rt, lock, one)? == 0 {
                 Ok(Some((gave, other)))
             } else {

@@ -1,8 +1,8 @@
-//! Calls on a pool while memory is wanting.
+//! Calls on a pool while memory runs out.
 
 ghost use Rattle.std.specs.Prelude.{◌≡◌, IfOk};
-ghost use Rattle.league_core.specs.Sheets.{IsWithinLimits};
-ghost use Rattle.branch_pool.specs.States.{out_count};
+ghost use Rattle.league_core.specs.game.Sheets.{IsWithinLimits};
+ghost use Rattle.branch_pool.specs.inside.States.{out_count};
 
 use crate::cases::Case;
 use crate::rounds::pool_of;
@@ -90,7 +90,7 @@ fn a_pool_begins_or_not(rt: HostRuntime) -> Result<(), Fail> {
     Ok(())
 }
 
-// Takes and gives back; false where memory is wanting.
+// Takes and gives back; false if memory runs out.
 fn is_taken(pool: &mut Pool) -> bool {
     match pool.take() {
         Took::Lent(ticket) => pool.give(ticket, Done::Undone) == Gave::Kept,
@@ -116,7 +116,7 @@ fn take_leaves_the_pool(rt: HostRuntime) -> Result<(), Fail> {
     Ok(())
 }
 
-// Reports a result; false where memory is wanting.
+// Reports a result; false if memory runs out.
 fn is_told(pool: &mut Pool) -> Result<bool, Fail> {
     if pool.season().scores().is_empty() {
         return Err("no match".into());

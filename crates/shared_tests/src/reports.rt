@@ -1,10 +1,10 @@
-//! A report to the lock round a pool that was worked on, while memory is wanting.
+//! A report to the lock round a pool that was worked on, while memory runs out.
 
 ghost use Rattle.std.specs.Prelude.{◌≡◌, All, IfOk, OnOk};
-ghost use Rattle.league_core.specs.Seasons.{IsEventOf, season_after};
-ghost use Rattle.branch_pool.specs.States.{out_count};
-ghost use Rattle.epoch_cancel.specs.Seats.{seat_of};
-ghost use Rattle.pool_lock.specs.Lends.{IsEyeAfter};
+ghost use Rattle.league_core.specs.game.Seasons.{IsEventOf, season_after};
+ghost use Rattle.branch_pool.specs.inside.States.{out_count};
+ghost use Rattle.epoch_cancel.specs.inside.Seats.{seat_of};
+ghost use Rattle.pool_lock.specs.inside.Lends.{IsEyeAfter};
 
 use crate::pools::{all_nodes, is_at, is_split, stays, worked};
 use crate::rounds::{Seated, may_be_told, take_seats};
@@ -30,7 +30,7 @@ struct Told {
     at_last: Option<u64>,
 }
 
-/// The nodes of a pool, and a word behind its events with the seats of its lock.
+/// The nodes of a pool, and a word after its events with the seats of its lock.
 #[derive(Drop)]
 struct Beside {
     nodes: Vec<TreeNode>,

@@ -3,17 +3,18 @@
 //! (refuted), and the same of B.
 
 ghost use Rattle.std.specs.Prelude.{◌≡◌, ◌≤◌, [], All, IfOk, IsTrue, length};
-ghost use Rattle.league_core.specs.Codes.{has_code};
-ghost use Rattle.league_core.specs.Limits.{most_events};
-ghost use Rattle.league_core.specs.Questions.{IsQuestionOf};
-ghost use Rattle.league_core.specs.Seasons.{IsEventOf, season_after};
-ghost use Rattle.league_core.specs.Sheets.{IsWithinLimits};
-ghost use Rattle.branch_pool.specs.States.{out_count};
-ghost use Rattle.epoch_cancel.specs.Seats.{seat_of};
-ghost use Rattle.pool_lock.specs.Lends.{IsEyeAfter};
+ghost use Rattle.league_core.specs.inside.Codes.{has_code};
+ghost use Rattle.league_core.specs.game.Limits.{most_events};
+ghost use Rattle.league_core.specs.game.Questions.{IsQuestionOf};
+ghost use Rattle.league_core.specs.game.Seasons.{IsEventOf, season_after};
+ghost use Rattle.league_core.specs.game.Sheets.{IsWithinLimits};
+ghost use Rattle.branch_pool.specs.inside.States.{out_count};
+ghost use Rattle.epoch_cancel.specs.inside.Seats.{seat_of};
+ghost use Rattle.pool_lock.specs.inside.Lends.{IsEyeAfter};
 
 use crate::cases::{Case, event_of, meet};
 use crate::end::{Round, seen};
+use crate::watched::watched;
 use branch_pool::{Answer, Gave, Pool};
 use epoch_cancel::{EpochWord, Eye, Front, Owner};
 use league_core::{Event, OutOfMemory, Question, Season, Sheet};
@@ -55,7 +56,7 @@ fn round_of<R: Wait>(rt: &R, alloc: Global, sheet: &Sheet, case: Case) -> Result
     round_as::<Brand, R>(rt, alloc, sheet, Blank::new(1), seated, pool, event, case)
 }
 
-/// A word behind these events, with its seats and so many workers' eyes.
+/// A word after these events, with its seats and so many workers' eyes.
 pub fn take_seats(alloc: Global, log: &[Event], workers: u8) -> Result<Seated, Fail>
     requires few { length log.now ≤ most_events }
     requires codes { All (λ event. IsTrue (has_code event)) log.now }
@@ -182,7 +183,7 @@ fn may_be(season: &Season, event: &Event) -> bool
 
 #[test]
 fn what_is_found_comes_to_the_pool(rt: HostRuntime) -> Result<(), Fail> {
-    let round = see_round(&rt, rt.alloc(), Case::Worked)?;
+    let round = watched(&rt, Case::Worked)?;
     assert_eq!(rt;
         (round.gave, round.first_two, round.is_told),
         (BOTH_KEPT, Some((Answer::Won, Answer::Refuted)), true)
@@ -192,7 +193,7 @@ fn what_is_found_comes_to_the_pool(rt: HostRuntime) -> Result<(), Fail> {
 
 #[test]
 fn what_is_found_comes_with_the_next_loan(rt: HostRuntime) -> Result<(), Fail> {
-    let round = see_round(&rt, rt.alloc(), Case::InTurn)?;
+    let round = watched(&rt, Case::InTurn)?;
     assert_eq!(rt;
         (round.gave, round.first_two),
         (BOTH_KEPT, Some((Answer::Won, Answer::Refuted)))
@@ -202,7 +203,7 @@ fn what_is_found_comes_with_the_next_loan(rt: HostRuntime) -> Result<(), Fail> {
 
 #[test]
 fn what_is_of_another_piece_counts_as_nothing(rt: HostRuntime) -> Result<(), Fail> {
-    let round = see_round(&rt, rt.alloc(), Case::OtherPiece)?;
+    let round = watched(&rt, Case::OtherPiece)?;
     assert_eq!(rt;
         (round.gave, round.first_two, round.out),
         (BOTH_KEPT, Some((Answer::NotYet, Answer::NotYet)), 0)
@@ -212,7 +213,7 @@ fn what_is_of_another_piece_counts_as_nothing(rt: HostRuntime) -> Result<(), Fai
 
 #[test]
 fn what_is_out_at_the_end_comes_home(rt: HostRuntime) -> Result<(), Fail> {
-    let round = see_round(&rt, rt.alloc(), Case::Lost)?;
+    let round = watched(&rt, Case::Lost)?;
     assert_eq!(rt;
         (round.gave, round.first_two, round.out),
         (None, Some((Answer::NotYet, Answer::NotYet)), 0)
@@ -222,7 +223,7 @@ fn what_is_out_at_the_end_comes_home(rt: HostRuntime) -> Result<(), Fail> {
 
 #[test]
 fn what_is_out_when_a_result_comes_is_stale(rt: HostRuntime) -> Result<(), Fail> {
-    let round = see_round(&rt, rt.alloc(), Case::Overtaken)?;
+    let round = watched(&rt, Case::Overtaken)?;
     let stale = Gave::Stale { epoch: 1 };
     assert_eq!(rt;
         (round.gave, round.out, round.are_open),
@@ -232,8 +233,8 @@ fn what_is_out_when_a_result_comes_is_stale(rt: HostRuntime) -> Result<(), Fail>
 }
 
 #[test]
-fn what_is_over_is_told_once_the_feed_is_shut(rt: HostRuntime) -> Result<(), Fail> {
-    let round = see_round(&rt, rt.alloc(), Case::Shut)?;
+fn lend_returns_over_after_shut(rt: HostRuntime) -> Result<(), Fail> {
+    let round = watched(&rt, Case::Shut)?;
     assert_eq!(rt; (round.gave, round.logged), (None, 0));
     Ok(())
 }

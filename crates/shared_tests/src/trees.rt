@@ -1,11 +1,11 @@
-//! Calls on a tree while memory is wanting.
+//! Calls on a tree while memory runs out.
 
 ghost use Rattle.std.specs.Prelude.{◌≡◌, true, All, IsTrue, IfOk, length};
 ghost use Rattle.league_core.specs.declared.sheet.Sheet.{Sheet};
-ghost use Rattle.league_core.specs.Seasons.{IsLeague};
-ghost use Rattle.league_core.specs.Trees.{open_leaf, branch};
-ghost use Rattle.league_core.specs.Zones.{is_test_of};
-ghost use Rattle.tree_reuse.specs.Calls.{IsNodeOf, AreTestsOf};
+ghost use Rattle.league_core.specs.game.Seasons.{IsLeague};
+ghost use Rattle.league_core.specs.search.Trees.{open_leaf, branch};
+ghost use Rattle.league_core.specs.search.Zones.{is_test_of};
+ghost use Rattle.tree_reuse.specs.inside.Calls.{IsNodeOf, AreTestsOf};
 
 use league_core::{Claim, OutOfMemory, Question, Reason, Season, Sheet, Test, TreeNode};
 use sample_leagues::{Sample, is_below, sample_of};
@@ -119,7 +119,7 @@ fn tree_of(nodes: Vec<TreeNode>) -> Result<Tree, TreeStop> {
     Tree::of_nodes(*nodes.allocator(), nodes)
 }
 
-// Whether the list of a text gives its tree; none where memory is wanting.
+// Whether the list of a text gives its tree; none if memory runs out.
 fn gives_tree(alloc: Global, text: &[u8]) -> Result<Option<bool>, Fail> {
     let made = tree_of(nodes_of(alloc, text)?);
     is_made(&made, text)
@@ -172,7 +172,7 @@ const A_FIRST: Question = Question {
     high: 1800,
 };
 
-// What the season leaves of a tree; none where memory is wanting.
+// What the season leaves of a tree; none if memory runs out.
 fn carried(alloc: Global, tree: &Tree) -> Result<Option<Tree>, Fail> {
     let sample = sample_of(alloc, TWO_CLUBS).ok_or("no league")?;
     carried_in(alloc, &sample, tree)

@@ -1,61 +1,43 @@
 -- Answers: a step at each club of a group in turn, and what the steps of the sure order
 -- say.
 use Rattle.std.proofs.Common.{◌≡◌, ◌≢◌, ◌⊎◌, inl, inr, ℕ, ◌+◌, ◌<◌, ℤ, pos, neg_ℤ, ◌+ℤ◌, ◌-ℤ◌}
-use Rattle.std.proofs.Common.{Bool, true, false, nat_lt, ◌&&◌, ◌||◌, ◌==◌, cond, List, [], ◌∷◌}
+use Rattle.std.proofs.Common.{Bool, false, nat_lt, ◌&&◌, ◌||◌, ◌==◌, cond, List, [], ◌∷◌, ◌++◌}
 use Rattle.std.proofs.Common.{slice_index}
 use Rattle.std.proofs.Common.{refl, sym, ap, ◌∙◌, arith}
 use Rattle.std.proofs.lemmas.Bool.{false≢true, cases_eq, cases_lt, eq-eqb, ne_eqb}
 use Rattle.std.proofs.lemmas.Bool.{lt-ltb, le-ltb, cases_Bool}
 use Rattle.std.proofs.lemmas.Int.{ints}
 use Rattle.league_core.specs.declared.sheet.Sheet.{Sheet}
-use Rattle.league_core.specs.declared.club_set.ClubSet.{ClubSet}
-use Rattle.league_core.specs.ClubSets.{clubs_in}
-use Rattle.tie_criteria.proofs.MemberLemmas.{IsLeftOf, IsTakenOff, all_left, left_next, each_next}
-use Rattle.tie_criteria.proofs.MemberLemmas.{each_left}
+use Rattle.league_core.proofs.SeenLemmas.{each_seen, not_seen}
 use Rattle.league_core.specs.declared.season.Score.{Score}
 use Rattle.league_core.specs.declared.sure.Sure.{Sure}
 use Rattle.league_core.specs.declared.sure.Sure.TheVariants.{Above, Below, Level, Unknown}
-use Rattle.league_core.specs.Results.{Results}
-use Rattle.league_core.specs.Sums.{has_club, match_points, worth_to, worth_among}
-use Rattle.league_core.specs.Ahead.{rank_of}
-use Rattle.league_core.specs.PointRanges.{Range, one_value, added, range_from, points_together}
-use Rattle.league_core.specs.PointRanges.{deducted_from, points_range}
-use Rattle.league_core.specs.SureOrder.{sure_by_range, sure_by_ranges, sure_then, sure_by_points}
-use Rattle.league_core.specs.SureOrder.{is_level, is_apart, record_ranges, overall_ranges}
-use Rattle.league_core.specs.SureOrder.{first_sum_ranges}
+use Rattle.league_core.specs.game.Results.{Results}
+use Rattle.league_core.specs.game.Sums.{has_club, match_points, worth_to, worth_among}
+use Rattle.league_core.specs.game.Ahead.{rank_of}
+use Rattle.league_core.specs.search.PointRanges.{Range, one_value, added, range_from}
+use Rattle.league_core.specs.search.PointRanges.{points_together, deducted_from, points_range}
+use Rattle.league_core.specs.search.SureOrder.{sure_by_range, sure_by_ranges, sure_then}
+use Rattle.league_core.specs.search.SureOrder.{sure_by_points, is_level, is_apart, record_ranges}
+use Rattle.league_core.specs.search.SureOrder.{overall_ranges, first_sum_ranges}
 use Rattle.tie_criteria.specs.declared.measure.Measure.TheVariants.{Points, Difference, Goals}
 use Rattle.tie_criteria.specs.declared.measure.Measure.TheVariants.{AwayGoals, Wins, AwayWins}
 use Rattle.tie_criteria.specs.declared.measure.Measure.{Measure}
-use Rattle.tie_criteria.specs.Measures.{worth_of}
+use Rattle.tie_criteria.specs.inside.Measures.{worth_of}
 use Rattle.tie_bound.specs.declared.answer_sets.Answers.{Answers}
 use Rattle.tie_bound.specs.declared.parts.Parts.{Parts}
 use Rattle.tie_bound.specs.declared.sums.Sums.{Sums}
-use Rattle.tie_bound.specs.Spans.{as_range}
-use Rattle.tie_bound.specs.Sums.{range_by, sums_at}
-use Rattle.tie_bound.specs.Tables.{AreSums}
-use Rattle.tie_bound.specs.Answers.{record_spans_of, first_spans_of, ranges_of, overall_spans_of}
-use Rattle.tie_bound.specs.Answers.{by_table}
-use Rattle.tie_bound.specs.Answers.{by_overall_table, is_sure_by}
-use Rattle.tie_bound.specs.Answers.{answer_at, AreLevelIn, StepDecides, IsStepIn}
+use Rattle.tie_bound.specs.inside.Spans.{as_range}
+use Rattle.tie_bound.specs.inside.Sums.{range_by, sums_at}
+use Rattle.tie_bound.specs.inside.Tables.{AreSums}
+use Rattle.tie_bound.specs.inside.Answers.{record_spans_of, first_spans_of, ranges_of}
+use Rattle.tie_bound.specs.inside.Answers.{overall_spans_of, by_table, by_overall_table, is_sure_by}
+use Rattle.tie_bound.specs.inside.Answers.{answer_at, AreLevelIn, StepDecides, IsStepIn}
 
--- a step in the clubs of a group on its way: those that are left have their old answers still
-pub record IsOnTheWay (next : ℕ → Sure) (group left : ClubSet) (steps : ℕ) (old now : Answers)
-    : Type 0 where
-  pub left_is : IsLeftOf group left steps
-  pub done : (club : ℕ) → has_club (clubs_in group) club ≡ true
-      → has_club (clubs_in left) club ≡ false
-      → answer_at now club ≡ sure_then (answer_at old club) (next club)
-  pub kept : (club : ℕ) → has_club (clubs_in left) club ≡ true
-      → answer_at now club ≡ answer_at old club
-  pub outside : (club : ℕ) → has_club (clubs_in group) club ≡ false
-      → answer_at now club ≡ answer_at old club
-
-pub step_begins : (next : ℕ → Sure) (group : ClubSet) (old : Answers)
-    → IsOnTheWay next group group 0 old old
-step_begins next group old = record {
-  left_is = all_left group;
-  done = λ club has gone. absurd (false≢true (sym gone ∙ has));
-  kept = λ club has. refl;
+-- before the first club nothing has changed
+pub step_begins : (next : ℕ → Sure) (old : Answers) → IsStepIn [] next old old
+step_begins next old = record {
+  inside = λ club has. absurd (false≢true has);
   outside = λ club out. refl;
 }
 
@@ -74,41 +56,22 @@ put_beside at club answer old new put apart =
     put.is club
     ∙ ap (λ b. cond b answer (answer_at old club)) (ne_eqb at club (λ same. apart (sym same)))
 
-pub step_goes_on : (next : ℕ → Sure) (group left rest : ClubSet) (at steps : ℕ)
-    (old now new : Answers) (answer : Sure) → IsOnTheWay next group left steps old now
-    → IsTakenOff left rest at → IsPut at answer now new
-    → answer ≡ sure_then (answer_at now at) (next at)
-    → IsOnTheWay next group rest (steps + 1) old new
-step_goes_on next group left rest at steps old now new answer so_far taken put is =
-    let inside = so_far.left_is.part at taken.among in
-    let apart = λ (club : ℕ) (other : club ≢ at).
-    put_beside at club answer now new put other in
-    record {
-      left_is = left_next group left rest at steps so_far.left_is taken;
-      done = each_next
-          (λ club. answer_at now club ≡ sure_then (answer_at old club) (next club))
-          (λ club. answer_at new club ≡ sure_then (answer_at old club) (next club)) group left rest
-          at taken (λ club other before. apart club other ∙ before)
-          (put_here at answer now new put
-          ∙ is
-          ∙ ap (λ a. sure_then a (next at)) (so_far.kept at taken.among))
-          so_far.done;
-      kept = each_left (λ club. answer_at now club ≡ answer_at old club)
-          (λ club. answer_at new club ≡ answer_at old club) left rest at taken
-          (λ club other before. apart club other ∙ before) so_far.kept;
-      outside = λ club out.
-          apart club (λ same. false≢true (sym out
-          ∙ ap (has_club (clubs_in group)) same ∙ inside))
-          ∙ so_far.outside club out;
-    }
-
-pub step_ends : (next : ℕ → Sure) (group left : ClubSet) (steps : ℕ) (old now : Answers)
-    → IsOnTheWay next group left steps old now
-    → ((club : ℕ) → has_club (clubs_in left) club ≡ false)
-    → IsStepIn (clubs_in group) next old now
-step_ends next group left steps old now so_far none = record {
-  inside = λ club has. so_far.done club has (none club);
-  outside = so_far.outside;
+-- the clubs so far have gone on, and so does the next one
+pub step_goes_on : (next : ℕ → Sure) (seen : List ℕ) (at : ℕ) (old now new : Answers)
+    (answer : Sure) → IsStepIn seen next old now → has_club seen at ≡ false
+    → IsPut at answer now new → answer ≡ sure_then (answer_at now at) (next at)
+    → IsStepIn (seen ++ at ∷ []) next old new
+step_goes_on next seen at old now new answer so_far is_new put is = record {
+  inside = each_seen
+      (λ club. answer_at now club ≡ sure_then (answer_at old club) (next club))
+      (λ club. answer_at new club ≡ sure_then (answer_at old club) (next club)) seen at
+      (λ club apart before. put_beside at club answer now new put apart ∙ before)
+      (put_here at answer now new put ∙ is
+      ∙ ap (λ a. sure_then a (next at)) (so_far.outside at is_new))
+      so_far.inside;
+  outside = λ club out.
+      let apart = not_seen seen at club out in
+      put_beside at club answer now new put apart.0 ∙ so_far.outside club apart.1;
 }
 
 -- where an answer is not level the next step changes nothing

@@ -4,11 +4,11 @@ use Rattle.std.proofs.Common.{List, refl, sym, ap, ◌∙◌}
 use Rattle.std.proofs.lemmas.Bool.{eqb-true}
 use Rattle.league_core.specs.declared.sure.Sure.{Sure}
 use Rattle.league_core.specs.declared.sure.Sure.TheVariants.{Above, Below, Level, Unknown}
-use Rattle.league_core.specs.Sums.{has_club}
-use Rattle.league_core.specs.ClubSets.{clubs_in}
-use Rattle.league_core.specs.SureOrder.{is_above, is_below, is_level}
+use Rattle.league_core.specs.game.Sums.{has_club}
+use Rattle.league_core.specs.game.ClubSets.{clubs_in}
+use Rattle.league_core.specs.search.SureOrder.{is_above, is_below, is_level}
 use Rattle.tie_bound.specs.declared.answer_sets.Answers.{Answers}
-use Rattle.tie_bound.specs.Answers.{in_sets, answer_at, is_answer}
+use Rattle.tie_bound.specs.inside.Answers.{in_sets, answer_at, is_answer}
 
 -- the answer of a club, from which of the sets have it
 pub answer_is : (answers : Answers) (club : ℕ) (above below level : Bool)

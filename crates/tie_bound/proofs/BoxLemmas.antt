@@ -1,9 +1,9 @@
 -- The options of a box: one list for each fixture.
 use Rattle.std.proofs.Common.{◌≡◌, length}
 use Rattle.league_core.proofs.OptionLemmas.{length-options_from}
-use Rattle.score_box.specs.Settings.{Setting}
-use Rattle.tie_bound.specs.Boxes.{options_in_box}
+use Rattle.score_box.specs.inside.Settings.{ZoneBoxView}
+use Rattle.tie_bound.specs.inside.Boxes.{options_in_box}
 
 -- as many lists of options as the season has fixtures
-pub length-options : (box : Setting) → length (options_in_box box) ≡ length box.season.scores
+pub length-options : (box : ZoneBoxView) → length (options_in_box box) ≡ length box.season.scores
 length-options box = length-options_from box.sheet.goal_limit box.zone 0 box.season.scores

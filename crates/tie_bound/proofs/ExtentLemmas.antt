@@ -4,8 +4,8 @@ use Rattle.std.proofs.Common.{refl, sym, ap, ◌∙◌, arith}
 use Rattle.std.proofs.lemmas.Int.{ints}
 use Rattle.std.proofs.lemmas.Bool.{false≢true}
 use Rattle.league_core.specs.declared.season.Score.{Score}
-use Rattle.league_core.specs.PointRanges.{Range}
-use Rattle.league_core.specs.Extents.{IsExtent, IsNearZero}
+use Rattle.league_core.specs.search.PointRanges.{Range}
+use Rattle.league_core.specs.inside.Extents.{IsExtent, IsNearZero}
 use Rattle.league_core.proofs.ExtentLemmas.{extent_near}
 use Rattle.league_core.proofs.OptionLemmas.{has_score-first}
 use Rattle.league_core.proofs.WorthLemmas.{points_near, difference_near, goals_near}
@@ -13,12 +13,12 @@ use Rattle.league_core.proofs.WorthLemmas.{away_goals_near, wins_near, away_wins
 use Rattle.tie_criteria.specs.declared.measure.Measure.{Measure}
 use Rattle.tie_criteria.specs.declared.measure.Measure.TheVariants.{Points, Difference, Goals}
 use Rattle.tie_criteria.specs.declared.measure.Measure.TheVariants.{AwayGoals, Wins, AwayWins}
-use Rattle.tie_criteria.specs.Measures.{worth_of}
+use Rattle.tie_criteria.specs.inside.Measures.{worth_of}
 use Rattle.score_box.specs.declared.cell.Cell.{Cell}
-use Rattle.score_box.specs.Cells.{allows, IsCellOf, IsEmptyCell}
-use Rattle.tie_bound.specs.declared.span.GoalSpan.{GoalSpan}
-use Rattle.tie_bound.specs.Spans.{IsSpanNear}
-use Rattle.tie_bound.specs.Sides.{goals_by, AreGoalsOf}
+use Rattle.score_box.specs.inside.Cells.{allows, IsCellOf, IsEmptyCell}
+use Rattle.tie_bound.specs.declared.int_range.GoalSpan.{GoalSpan}
+use Rattle.tie_bound.specs.inside.Spans.{IsSpanNear}
+use Rattle.tie_bound.specs.inside.Sides.{goals_by, AreGoalsOf}
 
 -- the goals of a side
 pub goals_extent : (cell : Cell) (away : Bool) (goals : GoalSpan) → AreGoalsOf cell away goals

@@ -5,16 +5,16 @@ use Rattle.std.proofs.Common.{nat_lt, cond, sym, ap, ◌∙◌, inl, inr, arith}
 use Rattle.std.proofs.lemmas.Int.{ints}
 use Rattle.std.proofs.lemmas.Bool.{lt-ltb, le-ltb, ne_eqb, cases_lt}
 use Rattle.league_core.specs.declared.season.Score.{Score}
-use Rattle.league_core.specs.Sums.{goal_difference, wins}
-use Rattle.league_core.specs.Options.{score_of, is_draw}
-use Rattle.league_core.specs.PointRanges.{Range}
-use Rattle.league_core.specs.Extents.{IsExtent}
+use Rattle.league_core.specs.game.Sums.{goal_difference, wins}
+use Rattle.league_core.specs.search.Options.{score_of, is_draw}
+use Rattle.league_core.specs.search.PointRanges.{Range}
+use Rattle.league_core.specs.inside.Extents.{IsExtent}
 use Rattle.score_box.specs.declared.cell.Cell.{Cell}
-use Rattle.score_box.specs.Cells.{allows, keeps_outcome}
+use Rattle.score_box.specs.inside.Cells.{allows, keeps_outcome}
 use Rattle.score_box.proofs.CellLemmas.{IsInRanges, ranges_of, allows_from}
-use Rattle.tie_bound.specs.declared.span.GoalSpan.{GoalSpan}
-use Rattle.tie_bound.specs.Spans.{IsMargin}
-use Rattle.tie_bound.specs.Sides.{to_side, AreGoalsOf, Wins as WinsAll}
+use Rattle.tie_bound.specs.declared.int_range.GoalSpan.{GoalSpan}
+use Rattle.tie_bound.specs.inside.Spans.{IsMargin}
+use Rattle.tie_bound.specs.inside.Sides.{to_side, AreGoalsOf, Wins as WinsAll}
 
 -- two wins of one side have one outcome, so a cell that has the one and lies round the other has
 -- both

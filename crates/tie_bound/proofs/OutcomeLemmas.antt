@@ -3,16 +3,16 @@ use Rattle.std.proofs.Common.{◌≡◌, Bool, true, false}
 use Rattle.std.proofs.Common.{sym, ◌∙◌, arith}
 use Rattle.std.proofs.lemmas.Bool.{false_from_ne_true}
 use Rattle.league_core.specs.declared.season.Score.{Score}
-use Rattle.league_core.specs.Options.{is_home_win, is_draw, is_away_win}
+use Rattle.league_core.specs.search.Options.{is_home_win, is_draw, is_away_win}
 use Rattle.league_core.proofs.OutcomeLemmas.{outcome_cases}
 use Rattle.score_box.specs.declared.cell.Cell.{Cell}
-use Rattle.score_box.specs.declared.cell.goals.Goals.{Goals}
-use Rattle.score_box.specs.Cells.{allows, AllowsNone, IsSpanOf, IsEmptyCell}
-use Rattle.tie_bound.specs.declared.span.GoalSpan.{GoalSpan}
-use Rattle.tie_bound.specs.Sides.{AreGoalsOf}
+use Rattle.score_box.specs.declared.cell.goals.GoalRange.{GoalRange}
+use Rattle.score_box.specs.inside.Cells.{allows, AllowsNone, IsSpanOf, IsEmptyCell}
+use Rattle.tie_bound.specs.declared.int_range.GoalSpan.{GoalSpan}
+use Rattle.tie_bound.specs.inside.Sides.{AreGoalsOf}
 
 -- the goals of the outcome are those of all scores
-pub home_goals_are : (cell : Cell) (test : Score → Bool) (span : Goals) (own : GoalSpan)
+pub home_goals_are : (cell : Cell) (test : Score → Bool) (span : GoalRange) (own : GoalSpan)
     → ((score : Score) → allows cell score ≡ true → test score ≡ true) → IsSpanOf cell test span
     → own.least ≡ span.home_least → own.most ≡ span.home_most → AreGoalsOf cell false own
 home_goals_are cell test span own all is least most = record {
@@ -23,7 +23,7 @@ home_goals_are cell test span own all is least most = record {
   most = (is.home_most.0, is.home_most.1.allowed, is.home_most.2 ∙ sym most);
 }
 
-pub away_goals_are : (cell : Cell) (test : Score → Bool) (span : Goals) (own : GoalSpan)
+pub away_goals_are : (cell : Cell) (test : Score → Bool) (span : GoalRange) (own : GoalSpan)
     → ((score : Score) → allows cell score ≡ true → test score ≡ true) → IsSpanOf cell test span
     → own.least ≡ span.away_least → own.most ≡ span.away_most → AreGoalsOf cell true own
 away_goals_are cell test span own all is least most = record {

@@ -12,17 +12,18 @@ use Rattle.league_core.specs.declared.question.Claim.TheVariants.{Inside, Outsid
 use Rattle.league_core.specs.declared.question.Question.{Question}
 use Rattle.league_core.specs.declared.sure.Sure.{Sure}
 use Rattle.league_core.specs.declared.sure.Sure.TheVariants.{Above, Below, Level, Unknown}
-use Rattle.league_core.specs.Sums.{has_club}
-use Rattle.league_core.specs.Zones.{rivals_of, marked_before, marked_after}
-use Rattle.league_core.specs.Reasons.{too_many, is_surely_above, is_surely_below}
-use Rattle.league_core.specs.SureOrder.{sure_then, sure_by_points}
-use Rattle.league_core.specs.SureOrder.{sure_order, is_above, is_below}
+use Rattle.league_core.specs.game.Sums.{has_club}
+use Rattle.league_core.specs.search.Zones.{rivals_of, marked_before, marked_after}
+use Rattle.league_core.specs.search.Reasons.{too_many, is_surely_above, is_surely_below}
+use Rattle.league_core.specs.search.SureOrder.{sure_then, sure_by_points, sure_order, is_above}
+use Rattle.league_core.specs.search.SureOrder.{is_below}
 use Rattle.league_core.proofs.PlainLemmas.{same_tests}
-use Rattle.score_box.specs.Settings.{Setting}
+use Rattle.score_box.specs.inside.Settings.{ZoneBoxView}
 use Rattle.tie_bound.specs.declared.answer_sets.Answers.{Answers}
-use Rattle.tie_bound.specs.Boxes.{options_in_box}
-use Rattle.tie_bound.specs.Answers.{answer_at, AreByPoints}
-use Rattle.tie_bound.specs.Rivals.{are_too_many_with, is_wrong_with, refutes_with, refutes_surely}
+use Rattle.tie_bound.specs.inside.Boxes.{options_in_box}
+use Rattle.tie_bound.specs.inside.Answers.{answer_at, AreByPoints}
+use Rattle.tie_bound.specs.inside.Rivals.{are_too_many_with, is_wrong_with, refutes_with}
+use Rattle.tie_bound.specs.inside.Rivals.{refutes_surely}
 use Rattle.tie_bound.proofs.RivalLemmas.{rival_below}
 
 -- a test that passes wherever another does
@@ -75,7 +76,7 @@ at_least_more : (line few many : ℕ) → few ≤ many → nat_le line few ≡ t
 at_least_more line few many more is =
     let low = leb-true line few is in le-leb line many (omega arith)
 
-pub refutes_more : (box : Setting) (question : Question)
+pub refutes_more : (box : ZoneBoxView) (question : Question)
     (above below above_too below_too : ℕ → Bool)
     → ((x : ℕ) → has_club (rivals_of box.sheet question.club) x ≡ true → above x ≡ true →
     above_too x ≡ true)
@@ -123,7 +124,7 @@ refutes_more box question above below above_too below_too more_above more_below 
         (λ x has. or_more (marked_after box.zone x) (below x) (below_too x)
         (more_below x has)))
 
-pub refutes_same : (box : Setting) (question : Question)
+pub refutes_same : (box : ZoneBoxView) (question : Question)
     (above below above_too below_too : ℕ → Bool)
     → ((x : ℕ) → has_club (rivals_of box.sheet question.club) x ≡ true → above x ≡ above_too x)
     → ((x : ℕ) → has_club (rivals_of box.sheet question.club) x ≡ true → below x ≡ below_too x)
@@ -165,7 +166,8 @@ not_above Level next is = refl
 not_above Unknown next is = refl
 
 -- the clubs that points put above and below, from the answers by points
-pub above_by_points : (box : Setting) (club : ℕ) (answers : Answers) → AreByPoints box club answers
+pub above_by_points : (box : ZoneBoxView) (club : ℕ) (answers : Answers)
+    → AreByPoints box club answers
     → (x : ℕ) → is_above (answer_at answers x) ≡ (nat_lt x (length box.sheet.clubs)
     && is_above (sure_by_points box.sheet box.season (options_in_box box) x club))
 above_by_points box club answers by_points x =
@@ -178,7 +180,8 @@ above_by_points box club answers by_points x =
     at true answer = refl
     at false answer = refl
 
-pub below_by_points : (box : Setting) (club : ℕ) (answers : Answers) → AreByPoints box club answers
+pub below_by_points : (box : ZoneBoxView) (club : ℕ) (answers : Answers)
+    → AreByPoints box club answers
     → (x : ℕ) → is_below (answer_at answers x) ≡ (nat_lt x (length box.sheet.clubs)
     && is_below (sure_by_points box.sheet box.season (options_in_box box) x club))
 below_by_points box club answers by_points x =
@@ -192,7 +195,7 @@ below_by_points box club answers by_points x =
     at false answer = refl
 
 -- points that put a club above or below are not overruled
-pub refuted_by_points : (box : Setting) (question : Question) (above below : ℕ → Bool)
+pub refuted_by_points : (box : ZoneBoxView) (question : Question) (above below : ℕ → Bool)
     → ((x : ℕ) → above x ≡ (nat_lt x (length box.sheet.clubs) && is_above (sure_by_points box.sheet
     box.season (options_in_box box) x question.club)))
     → ((x : ℕ) → below x ≡ (nat_lt x (length box.sheet.clubs) && is_below (sure_by_points box.sheet
@@ -212,7 +215,8 @@ refuted_by_points box question above below above_is below_is refuted =
     refuted)
 
 -- and where all that points leave open would not refute, nothing does
-pub open_by_points : (box : Setting) (question : Question) (above below most_above most_below : ℕ
+pub open_by_points : (box : ZoneBoxView) (question : Question)
+    (above below most_above most_below : ℕ
     → Bool)
     → ((x : ℕ) → above x ≡ (nat_lt x (length box.sheet.clubs) && is_above (sure_by_points box.sheet
     box.season (options_in_box box) x question.club)))

@@ -5,9 +5,9 @@ use Rattle.std.specs.List.{list_any, range_with_len}
 use Rattle.std.proofs.lemmas.Bool.{false≢true, ltb-true, and_parts}
 use Rattle.std.proofs.lemmas.List.Sums.{length-filter}
 use Rattle.league_core.specs.declared.sheet.Sheet.{Sheet}
-use Rattle.league_core.specs.Sums.{has_club}
-use Rattle.league_core.specs.ClubSets.{clubs_below}
-use Rattle.league_core.specs.Zones.{rivals_of}
+use Rattle.league_core.specs.game.Sums.{has_club}
+use Rattle.league_core.specs.game.ClubSets.{clubs_below}
+use Rattle.league_core.specs.search.Zones.{rivals_of}
 use Rattle.league_core.proofs.ClubSetLemmas.{clubs_below-filter, has_club-filter, has_club-range}
 
 -- a rival is a club of the sheet

@@ -6,14 +6,15 @@ use Rattle.league_core.specs.declared.sheet.Sheet.{Sheet}
 use Rattle.league_core.specs.declared.season.Score.{Score}
 use Rattle.league_core.specs.declared.sure.Sure.{Sure}
 use Rattle.league_core.specs.declared.sure.Sure.TheVariants.{Unknown}
-use Rattle.league_core.specs.SureOrder.{sure_then, is_level, by_record_ranges, by_overall_ranges}
-use Rattle.league_core.specs.SureOrder.{is_surely_in, are_all_sure, sure_within, sure_in}
-use Rattle.league_core.specs.ClubSets.{clubs_below}
+use Rattle.league_core.specs.search.SureOrder.{sure_then, is_level, by_record_ranges}
+use Rattle.league_core.specs.search.SureOrder.{by_overall_ranges, is_surely_in, are_all_sure}
+use Rattle.league_core.specs.search.SureOrder.{sure_within, sure_in}
+use Rattle.league_core.specs.game.ClubSets.{clubs_below}
 use Rattle.league_core.proofs.ClubSetLemmas.{clubs_below-filter}
-use Rattle.league_core.specs.Sums.{has_club}
+use Rattle.league_core.specs.game.Sums.{has_club}
 use Rattle.league_core.proofs.SureLemmas.{sure_then-assoc, sure_then-level}
 use Rattle.tie_bound.specs.declared.answer_sets.Answers.{Answers}
-use Rattle.tie_bound.specs.Answers.{answer_at, AreLevelIn, StepDecides}
+use Rattle.tie_bound.specs.inside.Answers.{answer_at, AreLevelIn, StepDecides}
 use Rattle.tie_bound.proofs.AnswerLemmas.{is_level-then}
 use Rattle.tie_bound.proofs.AnswerLemmas.{not_level, not_level_keeps}
 

@@ -11,27 +11,27 @@ use Rattle.std.proofs.lemmas.List.{get_or-set_same, get_or-set_other, take_all}
 use Rattle.std.proofs.lemmas.List.{get_or-replicate, get_or_past, length-replicate}
 use Rattle.league_core.specs.declared.sheet.Fixture.{Fixture}
 use Rattle.league_core.specs.declared.season.Score.{Score}
-use Rattle.league_core.specs.Sheets.{is_fixture}
-use Rattle.league_core.specs.Sums.{Worth, has_club, worth_to, worth_among, sum_over}
-use Rattle.league_core.specs.PointRanges.{Range, one_value, range_of, range_from, total_of}
+use Rattle.league_core.specs.game.Sheets.{is_fixture}
+use Rattle.league_core.specs.game.Sums.{Worth, has_club, worth_to, worth_among, sum_over}
+use Rattle.league_core.specs.search.PointRanges.{Range, one_value, range_of, range_from, total_of}
 use Rattle.league_core.proofs.SumLemmas.{sum_over-agree, sum_over-zero}
 use Rattle.league_core.proofs.RangeLemmas.{same_range}
 use Rattle.league_core.proofs.FixtureLemmas.{ends_low}
 use Rattle.tie_criteria.specs.declared.measure.Measure.{Measure}
 use Rattle.tie_criteria.specs.declared.measure.Measure.TheVariants.{Points, Difference, Goals}
 use Rattle.tie_criteria.specs.declared.measure.Measure.TheVariants.{AwayGoals, Wins, AwayWins}
-use Rattle.tie_criteria.specs.Measures.{worth_of}
+use Rattle.tie_criteria.specs.inside.Measures.{worth_of}
 use Rattle.score_box.specs.declared.totals.Totals.{Totals}
-use Rattle.score_box.specs.Totals.{total_in, worth_in, AreTotals, AreTotalsNear}
-use Rattle.score_box.specs.Unplayed.{unplayed_in}
+use Rattle.score_box.specs.inside.Totals.{total_in, worth_in, AreTotals, AreTotalsNear}
+use Rattle.score_box.specs.inside.Unplayed.{unplayed_in}
 use Rattle.score_box.proofs.SplitLemmas.{least_end, greatest_end, end_at_fixture, no_match}
 use Rattle.score_box.proofs.SplitLemmas.{range_split, KeepsPlayed, total_take}
 use Rattle.score_box.proofs.SplitLemmas.{unplayed_few}
 use Rattle.tie_bound.specs.declared.sums.Sums.{Sums}
-use Rattle.tie_bound.specs.Spans.{IsSpanNear}
-use Rattle.tie_bound.specs.Sums.{range_by, no_sums, sums_at, AreNear, SpansGrowBy}
-use Rattle.tie_bound.specs.Tables.{Value}
-use Rattle.tie_bound.specs.Rows.{column_of, IsRow, AreRows}
+use Rattle.tie_bound.specs.inside.Spans.{IsSpanNear}
+use Rattle.tie_bound.specs.inside.Sums.{range_by, no_sums, sums_at, AreNear, SpansGrowBy}
+use Rattle.tie_bound.specs.inside.Tables.{Value}
+use Rattle.tie_bound.specs.inside.Rows.{column_of, IsRow, AreRows}
 use Rattle.tie_bound.proofs.SoFarLemmas.{no_sums-is}
 
 -- the column of a measure counts what the measure does

@@ -3,25 +3,25 @@ use Rattle.std.proofs.Common.{◌≡◌, ◌≤◌, pos, Bool, true, false, not}
 use Rattle.std.proofs.Common.{cond, [], refl, sym, ap, ◌∙◌, arith}
 use Rattle.std.proofs.lemmas.Int.{ints}
 use Rattle.league_core.specs.declared.season.Score.{Score}
-use Rattle.league_core.specs.Sums.{match_points, goal_difference, goals, away_goals, wins}
-use Rattle.league_core.specs.Sums.{away_wins}
-use Rattle.league_core.specs.PointRanges.{Range, one_value, negated, range_of}
-use Rattle.league_core.specs.Extents.{IsExtent}
+use Rattle.league_core.specs.game.Sums.{match_points, goal_difference, goals, away_goals, wins}
+use Rattle.league_core.specs.game.Sums.{away_wins}
+use Rattle.league_core.specs.search.PointRanges.{Range, one_value, negated, range_of}
+use Rattle.league_core.specs.inside.Extents.{IsExtent}
 use Rattle.league_core.proofs.ExtentLemmas.{extent-is, extent_at, one_extent, negated_extent}
 use Rattle.league_core.proofs.WorthLemmas.{points_won, points_drawn, points_lost}
 use Rattle.league_core.proofs.WorthLemmas.{one_win, no_win, one_away_win, no_away_win}
 use Rattle.tie_criteria.specs.declared.measure.Measure.{Measure}
 use Rattle.tie_criteria.specs.declared.measure.Measure.TheVariants.{Points, Difference, Goals}
 use Rattle.tie_criteria.specs.declared.measure.Measure.TheVariants.{AwayGoals, Wins, AwayWins}
-use Rattle.tie_criteria.specs.Measures.{worth_of}
+use Rattle.tie_criteria.specs.inside.Measures.{worth_of}
 use Rattle.score_box.specs.declared.cell.Cell.{Cell}
-use Rattle.score_box.specs.Cells.{allows, IsEmptyCell}
-use Rattle.tie_bound.specs.declared.span.GoalSpan.{GoalSpan}
+use Rattle.score_box.specs.inside.Cells.{allows, IsEmptyCell}
+use Rattle.tie_bound.specs.declared.int_range.GoalSpan.{GoalSpan}
 use Rattle.tie_bound.specs.declared.sums.Sums.{Sums}
-use Rattle.tie_bound.specs.Spans.{as_range, IsSpanNear, IsMargin}
-use Rattle.tie_bound.specs.Sums.{range_by, no_sums}
-use Rattle.tie_bound.specs.Sides.{goals_by, to_side, AreGoalsOf, Wins as WinsAll, Draws as DrawsAll}
-use Rattle.tie_bound.specs.Sides.{Loses as LosesAll, AreSumsOf}
+use Rattle.tie_bound.specs.inside.Spans.{as_range, IsSpanNear, IsMargin}
+use Rattle.tie_bound.specs.inside.Sums.{range_by, no_sums}
+use Rattle.tie_bound.specs.inside.Sides.{goals_by, to_side, AreGoalsOf, Wins as WinsAll}
+use Rattle.tie_bound.specs.inside.Sides.{Draws as DrawsAll, Loses as LosesAll, AreSumsOf}
 use Rattle.tie_bound.proofs.ExtentLemmas.{goals_extent, near_extent, worth_near, no_options}
 use Rattle.tie_bound.proofs.MarginLemmas.{home_margin, away_margin}
 

@@ -5,17 +5,17 @@ use Rattle.std.proofs.Common.{drop, sym, ap, refl, ◌∙◌, subst, arith}
 use Rattle.std.proofs.lemmas.Int.{ints}
 use Rattle.league_core.specs.declared.sheet.Fixture.{Fixture}
 use Rattle.league_core.specs.declared.season.Score.{Score}
-use Rattle.league_core.specs.PointRanges.{Range, one_value, added, range_of, range_from}
+use Rattle.league_core.specs.search.PointRanges.{Range, one_value, added, range_of, range_from}
 use Rattle.league_core.proofs.PointRangeLemmas.{range_from-more, range_from-all}
 use Rattle.league_core.proofs.RangeLemmas.{added-none, none-added, added-assoc}
 use Rattle.tie_criteria.specs.declared.measure.Measure.{Measure}
 use Rattle.tie_criteria.specs.declared.measure.Measure.TheVariants.{Points, Difference, Goals}
 use Rattle.tie_criteria.specs.declared.measure.Measure.TheVariants.{AwayGoals, Wins, AwayWins}
-use Rattle.tie_criteria.specs.Measures.{worth_of}
+use Rattle.tie_criteria.specs.inside.Measures.{worth_of}
 use Rattle.tie_bound.specs.declared.sums.Sums.{Sums}
-use Rattle.tie_bound.specs.Spans.{IsSpanNear}
-use Rattle.tie_bound.specs.Sums.{range_by, no_sums, AreNear, SpansGrowBy}
-use Rattle.tie_bound.specs.Tables.{Value}
+use Rattle.tie_bound.specs.inside.Spans.{IsSpanNear}
+use Rattle.tie_bound.specs.inside.Sums.{range_by, no_sums, AreNear, SpansGrowBy}
+use Rattle.tie_bound.specs.inside.Tables.{Value}
 
 -- the sums so far: with what is left of the matches they are the whole
 pub record IsSoFar (matches : List Fixture) (options : List (List Score)) (value : Value)

@@ -7,17 +7,17 @@ use Rattle.std.proofs.lemmas.Int.{ints}
 use Rattle.std.proofs.lemmas.List.{get_or-set_same, get_or-set_other, length-set}
 use Rattle.league_core.specs.declared.sheet.Fixture.{Fixture}
 use Rattle.league_core.specs.declared.season.Score.{Score}
-use Rattle.league_core.specs.Sums.{has_club, worth_to, worth_among}
-use Rattle.league_core.specs.PointRanges.{Range, added, range_of}
+use Rattle.league_core.specs.game.Sums.{has_club, worth_to, worth_among}
+use Rattle.league_core.specs.search.PointRanges.{Range, added, range_of}
 use Rattle.league_core.proofs.RangeLemmas.{added-none, range_of-none}
 use Rattle.tie_criteria.specs.declared.measure.Measure.{Measure}
-use Rattle.tie_criteria.specs.Measures.{worth_of}
+use Rattle.tie_criteria.specs.inside.Measures.{worth_of}
 use Rattle.score_box.specs.declared.cell.Cell.{Cell}
-use Rattle.score_box.specs.Cells.{IsCellOf}
+use Rattle.score_box.specs.inside.Cells.{IsCellOf}
 use Rattle.tie_bound.specs.declared.sums.Sums.{Sums}
-use Rattle.tie_bound.specs.Spans.{IsSpanNear}
-use Rattle.tie_bound.specs.Sums.{range_by, no_sums, sums_at, AreNear, SpansGrowBy}
-use Rattle.tie_bound.specs.Sides.{to_side, AreSumsOf}
+use Rattle.tie_bound.specs.inside.Spans.{IsSpanNear}
+use Rattle.tie_bound.specs.inside.Sums.{range_by, no_sums, sums_at, AreNear, SpansGrowBy}
+use Rattle.tie_bound.specs.inside.Sides.{to_side, AreSumsOf}
 
 near_added : (bound more : ℕ) (range other : Range) → IsSpanNear bound range → IsSpanNear more other
     → IsSpanNear (bound + more) (added range other)

@@ -8,29 +8,29 @@ use Rattle.league_core.specs.declared.sheet.Order.TheVariants.{OverallFirst}
 use Rattle.league_core.specs.declared.season.Score.{Score}
 use Rattle.league_core.specs.declared.sure.Sure.{Sure}
 use Rattle.league_core.specs.declared.sure.Sure.TheVariants.{Unknown}
-use Rattle.league_core.specs.Sums.{has_club, worth_among}
-use Rattle.league_core.specs.Ahead.{rank_of}
-use Rattle.league_core.specs.SureOrder.{sure_by_ranges, sure_then, sure_by_points, is_level}
-use Rattle.league_core.specs.SureOrder.{is_apart, record_ranges, overall_ranges, first_sum_ranges}
-use Rattle.league_core.specs.SureOrder.{by_record_ranges, by_overall_ranges, by_first_sum_ranges}
-use Rattle.league_core.specs.SureOrder.{is_surely_in, is_surely_out, are_all_sure}
-use Rattle.league_core.specs.SureOrder.{is_surely_level_overall, is_surely_apart_overall}
-use Rattle.league_core.specs.SureOrder.{are_all_sure_overall, surely_level_overall, sure_in}
-use Rattle.league_core.specs.SureOrder.{sure_by, level_on_points, sure_order}
-use Rattle.league_core.specs.ClubSets.{clubs_below}
+use Rattle.league_core.specs.game.Sums.{has_club, worth_among}
+use Rattle.league_core.specs.game.Ahead.{rank_of}
+use Rattle.league_core.specs.search.SureOrder.{sure_by_ranges, sure_then, sure_by_points, is_level}
+use Rattle.league_core.specs.search.SureOrder.{is_apart, record_ranges, overall_ranges}
+use Rattle.league_core.specs.search.SureOrder.{first_sum_ranges, by_record_ranges}
+use Rattle.league_core.specs.search.SureOrder.{by_overall_ranges, by_first_sum_ranges, is_surely_in}
+use Rattle.league_core.specs.search.SureOrder.{is_surely_out, are_all_sure, is_surely_level_overall}
+use Rattle.league_core.specs.search.SureOrder.{is_surely_apart_overall, are_all_sure_overall}
+use Rattle.league_core.specs.search.SureOrder.{surely_level_overall, sure_in, sure_by}
+use Rattle.league_core.specs.search.SureOrder.{level_on_points, sure_order}
+use Rattle.league_core.specs.game.ClubSets.{clubs_below}
 use Rattle.league_core.proofs.ClubSetLemmas.{clubs_below-filter_range}
 use Rattle.league_core.proofs.SureLemmas.{sure_then-assoc}
-use Rattle.score_box.specs.Settings.{Setting}
+use Rattle.score_box.specs.inside.Settings.{ZoneBoxView}
 use Rattle.tie_bound.specs.declared.answer_sets.Answers.{Answers}
 use Rattle.tie_bound.specs.declared.parts.Parts.TheVariants.{Record, FirstSums}
 use Rattle.tie_bound.specs.declared.sums.Sums.{Sums}
-use Rattle.tie_bound.specs.Sums.{sums_at}
-use Rattle.tie_bound.specs.Boxes.{options_in_box}
-use Rattle.tie_bound.specs.Tables.{AreSums, AreSumsFor}
-use Rattle.tie_bound.specs.Answers.{record_spans_of, first_spans_of, overall_spans_of, by_table}
-use Rattle.tie_bound.specs.Answers.{by_overall_table, is_sure_by, answer_at, AreByPoints}
-use Rattle.tie_bound.specs.Answers.{AreLevelIn}
-use Rattle.tie_bound.specs.Answers.{StepDecides, IsStepIn}
+use Rattle.tie_bound.specs.inside.Sums.{sums_at}
+use Rattle.tie_bound.specs.inside.Boxes.{options_in_box}
+use Rattle.tie_bound.specs.inside.Tables.{AreSums, AreSumsFor}
+use Rattle.tie_bound.specs.inside.Answers.{record_spans_of, first_spans_of, overall_spans_of}
+use Rattle.tie_bound.specs.inside.Answers.{by_table, by_overall_table, is_sure_by, answer_at}
+use Rattle.tie_bound.specs.inside.Answers.{AreByPoints, AreLevelIn, StepDecides, IsStepIn}
 use Rattle.tie_bound.proofs.AnswerLemmas.{record_spans_of-is, overall_spans_of-is}
 use Rattle.tie_bound.proofs.AnswerLemmas.{first_spans_of-is, step_decides, AreOthersDecided}
 
@@ -194,7 +194,7 @@ overall_first_sure sheet options club group level rival answers taken last sure 
     (sure_then first (after_first_sums sheet options group rival club b))) sure)
 
 -- by points and then by the criteria within the group of all clubs on the club's points
-pub sure_order-is : (box : Setting) (club bits rival : ℕ) (answers last : Answers)
+pub sure_order-is : (box : ZoneBoxView) (club bits rival : ℕ) (answers last : Answers)
     → length box.sheet.clubs ≤ 24 → AreByPoints box club answers
     → AreLevelIn (length box.sheet.clubs) answers (clubs_below 32 bits)
     → rival < length box.sheet.clubs

@@ -4,14 +4,14 @@ use Rattle.std.proofs.Common.{pos, eqb, cond, List, [], refl, sym, ap, ◌∙◌
 use Rattle.std.proofs.lemmas.Bool.{false≢true, ne_eqb}
 use Rattle.league_core.specs.declared.sheet.Fixture.{Fixture}
 use Rattle.league_core.specs.declared.season.Score.{Score}
-use Rattle.league_core.specs.Sums.{has_club, worth_to}
-use Rattle.league_core.specs.PointRanges.{Range, range_of}
+use Rattle.league_core.specs.game.Sums.{has_club, worth_to}
+use Rattle.league_core.specs.search.PointRanges.{Range, range_of}
 use Rattle.tie_criteria.specs.declared.measure.Measure.{Measure}
-use Rattle.tie_criteria.specs.Measures.{worth_of}
+use Rattle.tie_criteria.specs.inside.Measures.{worth_of}
 use Rattle.tie_bound.specs.declared.sums.Sums.{Sums}
-use Rattle.tie_bound.specs.Sums.{no_sums, AreNear, SpansGrowBy}
-use Rattle.tie_bound.specs.Sides.{to_side}
-use Rattle.tie_bound.specs.Tables.{IsWanted}
+use Rattle.tie_bound.specs.inside.Sums.{no_sums, AreNear, SpansGrowBy}
+use Rattle.tie_bound.specs.inside.Sides.{to_side}
+use Rattle.tie_bound.specs.inside.Tables.{IsWanted}
 use Rattle.tie_bound.proofs.TableLemmas.{same_sums}
 use Rattle.tie_bound.proofs.RowLemmas.{past_over}
 

@@ -1,9 +1,2 @@
--- Read in this order: it is the order in which the notions rest on each other.
-pub mod Spans
-pub mod Sums
-pub mod Sides
-pub mod Boxes
-pub mod Tables
-pub mod Rows
-pub mod Answers
-pub mod Rivals
+-- All words of this crate stand in inside/: no promise of the program rests on them.
+pub mod inside

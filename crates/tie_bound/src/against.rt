@@ -4,18 +4,19 @@
 
 ghost use Rattle.std.specs.Prelude.{◌≡◌, ◌<◌, ℕ, true, IsTrue, length};
 ghost use Rattle.league_core.specs.declared.sheet.Order.TheVariants.{OverallFirst};
-ghost use Rattle.league_core.specs.Sums.{has_club};
-ghost use Rattle.league_core.specs.ClubSets.{clubs_in};
-ghost use Rattle.league_core.specs.SureOrder.{sure_by, sure_order};
-ghost use Rattle.tie_bound.specs.Boxes.{options_in_box, have_one_outcome};
-ghost use Rattle.tie_bound.specs.Answers.{answer_at, AreByPoints, AreLevelIn, StepDecidesFor};
+ghost use Rattle.league_core.specs.game.Sums.{has_club};
+ghost use Rattle.league_core.specs.game.ClubSets.{clubs_in};
+ghost use Rattle.league_core.specs.search.SureOrder.{sure_by, sure_order};
+ghost use Rattle.tie_bound.specs.inside.Boxes.{options_in_box, have_one_outcome};
+ghost use Rattle.tie_bound.specs.inside.Answers.{answer_at, AreByPoints, AreLevelIn};
+ghost use Rattle.tie_bound.specs.inside.Answers.{StepDecidesFor};
 
 use crate::answer_sets::Answers;
 use crate::answers::{are_all_sure, by_ends, by_points, leave_open, take_parts};
 use crate::parts::Parts;
-use crate::rounds::take_rounds;
+use crate::selected::sums_for;
 use crate::table::sums_over;
-use crate::wanted::sums_for;
+use crate::tie_rounds::take_rounds;
 use league_core::{ClubSet, Order};
 use score_box::ZoneBox;
 

@@ -3,10 +3,10 @@
 
 ghost use Rattle.std.specs.Prelude.{◌≡◌, ℕ, ◌<◌, ◌≤◌, ◌==◌, ◌&&◌, nat_lt, if◌then◌else◌};
 ghost use Rattle.league_core.specs.declared.sure.Sure.TheVariants.{Unknown};
-ghost use Rattle.league_core.specs.Sums.{has_club};
-ghost use Rattle.league_core.specs.ClubSets.{clubs_in};
-ghost use Rattle.league_core.specs.SureOrder.{is_above, is_below, is_level};
-ghost use Rattle.tie_bound.specs.Answers.{answer_at};
+ghost use Rattle.league_core.specs.game.Sums.{has_club};
+ghost use Rattle.league_core.specs.game.ClubSets.{clubs_in};
+ghost use Rattle.league_core.specs.search.SureOrder.{is_above, is_below, is_level};
+ghost use Rattle.tie_bound.specs.inside.Answers.{answer_at};
 
 use crate::order::is_answer;
 use league_core::{ClubSet, Sure};

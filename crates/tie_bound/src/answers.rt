@@ -4,26 +4,26 @@
 ghost use Rattle.std.specs.Prelude.{◌≡◌, ◌<◌, ◌-ℤ◌, ◌≤ℤ◌, ◌&&◌, ◌||◌, pos, length, slice_index};
 ghost use Rattle.std.specs.List.{list_all};
 ghost use Rattle.league_core.specs.declared.sure.Sure.TheVariants.{Unknown};
-ghost use Rattle.league_core.specs.Sums.{worth_to};
-ghost use Rattle.league_core.specs.Ahead.{rank_of};
-ghost use Rattle.league_core.specs.ClubSets.{clubs_in};
-ghost use Rattle.league_core.specs.PointRanges.{one_value, added};
-ghost use Rattle.league_core.specs.SureOrder.{sure_by_ranges, sure_then, is_level, is_apart};
-ghost use Rattle.score_box.specs.Settings.{HasFinish};
-ghost use Rattle.tie_bound.specs.Spans.{as_range, IsSpanNear};
-ghost use Rattle.tie_bound.specs.Sums.{sums_at};
-ghost use Rattle.tie_bound.specs.Boxes.{options_in_box};
-ghost use Rattle.tie_bound.specs.Tables.{AreSums};
-ghost use Rattle.tie_bound.specs.Answers.{ranges_of, overall_spans_of, by_table};
-ghost use Rattle.tie_bound.specs.Answers.{by_overall_table, is_sure_by, AreByPoints, IsStepIn};
+ghost use Rattle.league_core.specs.game.Sums.{worth_to};
+ghost use Rattle.league_core.specs.game.Ahead.{rank_of};
+ghost use Rattle.league_core.specs.game.ClubSets.{clubs_in};
+ghost use Rattle.league_core.specs.search.PointRanges.{one_value, added};
+ghost use Rattle.league_core.specs.search.SureOrder.{sure_by_ranges, sure_then, is_level, is_apart};
+ghost use Rattle.score_box.specs.inside.Settings.{HasFinish};
+ghost use Rattle.tie_bound.specs.inside.Spans.{as_range, IsSpanNear};
+ghost use Rattle.tie_bound.specs.inside.Sums.{sums_at};
+ghost use Rattle.tie_bound.specs.inside.Boxes.{options_in_box};
+ghost use Rattle.tie_bound.specs.inside.Tables.{AreSums};
+ghost use Rattle.tie_bound.specs.inside.Answers.{ranges_of, overall_spans_of, by_table};
+ghost use Rattle.tie_bound.specs.inside.Answers.{by_overall_table, is_sure_by, AreByPoints};
+ghost use Rattle.tie_bound.specs.inside.Answers.{IsStepIn};
 
 use crate::answer_sets::Answers;
 use crate::ends::ends_of;
+use crate::int_range::IntRange;
 use crate::order::{are_apart, by_overall, by_parts, by_span, is_answer, then};
 use crate::parts::Parts;
-use crate::span::Span;
 use crate::sums::{Sums, sums_at};
-use league_core::limits::SET_WIDTH;
 use league_core::{ClubSet, Season, Sheet, Sure};
 use score_box::ZoneBox;
 
@@ -59,12 +59,12 @@ pub fn by_points(zone_box: &ZoneBox, overall: &[Sums], club: u8) -> Answers
 }
 
 // The club's points: these match points, less what is taken off.
-fn points_of(season: &Season, won: Span, club: u8) -> Span
+fn points_of(season: &Season, won: IntRange, club: u8) -> IntRange
     requires { IsSpanNear 6000000 (as_range won) }
     ensures { as_range result ≡ added (as_range won)
         (one_value (pos 0 -ℤ pos (slice_index season.now.deductions club))) }
 {
-    won.plus(Span::only(-deducted(season.deductions(), club)))
+    won.plus(IntRange::only(-deducted(season.deductions(), club)))
 }
 
 // The points that are taken off the club, in match points.
@@ -87,15 +87,9 @@ pub fn take_parts(
 {
     let own = sums_at(table, club);
     let mut now = answers;
-    let mut left = group;
-    for _step in 0..SET_WIDTH {
-        if left.is_empty() {
-            return now;
-        }
-        let rival = left.first_club();
+    for rival in group.clubs() {
         let answer = then_parts(now.of(rival), parts, table, rival, &own);
         now = now.put(rival, answer);
-        left = left.without(ClubSet::single(rival));
     }
     now
 }
@@ -127,15 +121,9 @@ pub fn take_overall(
     let own = sums_at(overall, club);
     let own_rank = sheet.rank_of(club);
     let mut now = answers;
-    let mut left = group;
-    for _step in 0..SET_WIDTH {
-        if left.is_empty() {
-            return now;
-        }
-        let rival = left.first_club();
+    for rival in group.clubs() {
         let answer = then_overall(now.of(rival), sheet, overall, rival, &own, own_rank);
         now = now.put(rival, answer);
-        left = left.without(ClubSet::single(rival));
     }
     now
 }
@@ -169,14 +157,8 @@ pub fn leave_open(answers: Answers, group: ClubSet) -> Answers
     ensures { IsStepIn (clubs_in group) (λ rival. Unknown) answers result }
 {
     let mut now = answers;
-    let mut left = group;
-    for _step in 0..SET_WIDTH {
-        if left.is_empty() {
-            return now;
-        }
-        let rival = left.first_club();
+    for rival in group.clubs() {
         now = now.put(rival, then(now.of(rival), Sure::Unknown));
-        left = left.without(ClubSet::single(rival));
     }
     now
 }
@@ -186,16 +168,10 @@ pub fn are_all_sure(parts: Parts, table: &[Sums], group: ClubSet, club: u8) -> b
     ensures { result ≡ list_all (is_sure_by parts table.now club) (clubs_in group) }
 {
     let own = sums_at(table, club);
-    let mut left = group;
-    for _step in 0..SET_WIDTH {
-        if left.is_empty() {
-            return true;
-        }
-        let other = left.first_club();
+    for other in group.clubs() {
         if !is_sure(parts, &sums_at(table, other), &own) {
             return false;
         }
-        left = left.without(ClubSet::single(other));
     }
     true
 }

@@ -1,10 +1,10 @@
 //! The clubs that are surely above a club and those that are surely below it.
 
 ghost use Rattle.std.specs.Prelude.{◌≡◌, ◌≤◌, ◌&&◌, ℕ, nat_lt, not};
-ghost use Rattle.league_core.specs.Sums.{has_club};
-ghost use Rattle.league_core.specs.ClubSets.{clubs_in};
-ghost use Rattle.league_core.specs.SureOrder.{is_above, is_below};
-ghost use Rattle.tie_bound.specs.Answers.{answer_at};
+ghost use Rattle.league_core.specs.game.Sums.{has_club};
+ghost use Rattle.league_core.specs.game.ClubSets.{clubs_in};
+ghost use Rattle.league_core.specs.search.SureOrder.{is_above, is_below};
+ghost use Rattle.tie_bound.specs.inside.Answers.{answer_at};
 
 use crate::answer_sets::Answers;
 use league_core::ClubSet;

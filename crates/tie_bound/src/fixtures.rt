@@ -1,7 +1,7 @@
 //! The fixtures of a box, with what is known of them.
 
 ghost use Rattle.std.specs.Prelude.{◌≡◌, length};
-ghost use Rattle.league_core.specs.Sheets.{IsWithinLimits};
+ghost use Rattle.league_core.specs.game.Sheets.{IsWithinLimits};
 
 use league_core::Fixture;
 use score_box::ZoneBox;

@@ -3,10 +3,10 @@
 ghost use Rattle.std.specs.Prelude.{◌≡◌, ◌<◌, ◌&&◌, ℕ, Bool, length};
 ghost use Rattle.std.specs.List.{list_all};
 ghost use Rattle.league_core.specs.declared.zone.Reason.TheVariants.{Count, Window, Low, High};
-ghost use Rattle.league_core.specs.ClubSets.{clubs_in};
-ghost use Rattle.league_core.specs.Reasons.{has_reason, has_member, times};
-ghost use Rattle.score_box.specs.Boxes.{IsSetOf};
-ghost use Rattle.score_box.specs.Settings.{HasFinish};
+ghost use Rattle.league_core.specs.game.ClubSets.{clubs_in};
+ghost use Rattle.league_core.specs.search.Reasons.{has_reason, has_member, times};
+ghost use Rattle.score_box.specs.inside.Boxes.{IsSetOf};
+ghost use Rattle.score_box.specs.inside.Settings.{HasFinish};
 
 use crate::rivals::rivals_of;
 use crate::tie::tie_reason;

@@ -1,9 +1,9 @@
 //! Who is certainly before whom in a zone in which every match has one outcome but its scores may
 //! be open, and the reason that rests on it; and whether a reason that is given holds.
 //!
-//! The meaning is league_core's `specs/SureOrder.antt` and `Reasons.antt`; read these first, then
-//! `specs/Sums.antt` here, which ties the tables of this crate to them. No call takes memory:
-//! tables of the clubs stand on the stack.
+//! The meaning is league_core's `specs/search/SureOrder.antt` and `Reasons.antt`; read these first,
+//! then `specs/inside/Sums.antt` here, which ties the tables of this crate to them. No call takes
+//! memory: tables of the clubs stand on the stack.
 #![tactic(auto)]
 
 mod against;
@@ -13,19 +13,19 @@ mod apart;
 mod ends;
 mod fixtures;
 mod given;
+mod int_range;
 mod order;
 mod outcomes;
 mod parts;
 mod rivals;
-mod rounds;
 mod rows;
+mod selected;
 mod sides;
-mod span;
 mod sums;
 mod sure;
 mod table;
 mod tie;
-mod wanted;
+mod tie_rounds;
 
 pub use given::{count_reason, high_reason, holds, low_reason, window_reason};
 pub use league_core::Sure;

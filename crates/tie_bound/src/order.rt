@@ -1,20 +1,20 @@
 //! Comparisons of two clubs' sums, each a range: what is sure of a rival against the club.
 
 ghost use Rattle.std.specs.Prelude.{◌≡◌, ◌||◌, int_lt, neg_ℤ, pos};
-ghost use Rattle.league_core.specs.PointRanges.{one_value};
-ghost use Rattle.league_core.specs.SureOrder.{sure_by_range, sure_by_ranges, sure_then, is_apart};
-ghost use Rattle.tie_bound.specs.Spans.{as_range};
-ghost use Rattle.tie_bound.specs.Answers.{record_spans_of, first_spans_of, ranges_of};
-ghost use Rattle.tie_bound.specs.Answers.{overall_spans_of};
-ghost use Rattle.tie_bound.specs.Answers.{is_answer};
+ghost use Rattle.league_core.specs.search.PointRanges.{one_value};
+ghost use Rattle.league_core.specs.search.SureOrder.{sure_by_range, sure_by_ranges, sure_then};
+ghost use Rattle.league_core.specs.search.SureOrder.{is_apart};
+ghost use Rattle.tie_bound.specs.inside.Spans.{as_range};
+ghost use Rattle.tie_bound.specs.inside.Answers.{record_spans_of, first_spans_of, ranges_of};
+ghost use Rattle.tie_bound.specs.inside.Answers.{overall_spans_of, is_answer};
 
+use crate::int_range::IntRange;
 use crate::parts::Parts;
-use crate::span::Span;
 use crate::sums::Sums;
 use league_core::Sure;
 
 /// Ranges that lie apart decide, two equal single values leave the two level.
-pub fn by_span(rival: Span, club: Span) -> Sure
+pub fn by_span(rival: IntRange, club: IntRange) -> Sure
     ensures { result ≡ sure_by_range (as_range rival) (as_range club) }
 {
     if club.greatest < rival.least {
@@ -82,10 +82,10 @@ pub fn by_overall(rival: &Sums, club: &Sums, rival_rank: u16, club_rank: u16) ->
 }
 
 // A rank as a sum that is better the greater it is.
-fn rank_span(rank: u16) -> Span
+fn rank_span(rank: u16) -> IntRange
     ensures { as_range result ≡ one_value (neg_ℤ (pos rank)) }
 {
-    Span::only(-i32::from(rank))
+    IntRange::only(-i32::from(rank))
 }
 
 /// One of these parts is surely different.
@@ -100,7 +100,7 @@ pub fn are_apart(parts: Parts, rival: &Sums, club: &Sums) -> bool
     }
 }
 
-fn lie_apart(rival: Span, club: Span) -> bool
+fn lie_apart(rival: IntRange, club: IntRange) -> bool
     ensures { result
         ≡ (int_lt club.greatest rival.least || int_lt rival.greatest club.least) }
 {

@@ -1,7 +1,7 @@
 //! Whether each match has one outcome.
 
 ghost use Rattle.std.specs.Prelude.{◌≡◌};
-ghost use Rattle.tie_bound.specs.Boxes.{have_one_outcome};
+ghost use Rattle.tie_bound.specs.inside.Boxes.{have_one_outcome};
 
 use score_box::ZoneBox;
 

@@ -1,9 +1,9 @@
 //! The rivals of a club, and how they are marked, as sets.
 
 ghost use Rattle.std.specs.Prelude.{◌≡◌, ◌≤◌, length};
-ghost use Rattle.league_core.specs.ClubSets.{clubs_in};
-ghost use Rattle.league_core.specs.Zones.{rivals_of};
-ghost use Rattle.tie_bound.specs.Rivals.{AreRivalsIn};
+ghost use Rattle.league_core.specs.game.ClubSets.{clubs_in};
+ghost use Rattle.league_core.specs.search.Zones.{rivals_of};
+ghost use Rattle.tie_bound.specs.inside.Rivals.{AreRivalsIn};
 
 use league_core::{ClubSet, Sheet};
 use score_box::ZoneBox;

@@ -1,13 +1,12 @@
 //! Tables of the clubs' sums over the matches that are played, by looks at what a box keeps.
 
 ghost use Rattle.std.specs.Prelude.{◌≡◌, ◌<◌, ℕ, true, length};
-ghost use Rattle.league_core.specs.Sums.{has_club, worth_to, worth_among};
-ghost use Rattle.league_core.specs.ClubSets.{clubs_in};
-ghost use Rattle.tie_bound.specs.Rows.{AreRows, IsRow};
+ghost use Rattle.league_core.specs.game.Sums.{has_club, worth_to, worth_among};
+ghost use Rattle.league_core.specs.game.ClubSets.{clubs_in};
+ghost use Rattle.tie_bound.specs.inside.Rows.{AreRows, IsRow};
 
 use crate::sums::Sums;
 use league_core::ClubSet;
-use league_core::limits::SET_WIDTH;
 use score_box::ZoneBox;
 
 /// Each club's sums over all matches that are played, by the clubs' numbers.
@@ -32,14 +31,8 @@ pub fn rows_among(zone_box: &ZoneBox, group: ClubSet) -> [Sums; 24]
 {
     let _sheet = zone_box.sheet();
     let mut table = [Sums::NONE; 24];
-    let mut left = group;
-    for _step in 0..SET_WIDTH {
-        if left.is_empty() {
-            return table;
-        }
-        let club = left.first_club();
+    for club in group.clubs() {
         table[club as usize] = row_among(zone_box, group, club);
-        left = left.without(ClubSet::single(club));
     }
     table
 }

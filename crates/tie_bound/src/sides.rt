@@ -4,12 +4,12 @@
 
 ghost use Rattle.std.specs.Prelude.{◌≡◌, Bool, true, false, not};
 ghost use Rattle.score_box.specs.declared.cell.Cell.{Cell};
-ghost use Rattle.score_box.specs.Cells.{HasOneOutcome};
-ghost use Rattle.tie_bound.specs.Sides.{AreGoalsOf, Wins, Draws, Loses, AreSumsOf};
+ghost use Rattle.score_box.specs.inside.Cells.{HasOneOutcome};
+ghost use Rattle.tie_bound.specs.inside.Sides.{AreGoalsOf, Wins, Draws, Loses, AreSumsOf};
 
-use crate::span::{GoalSpan, Span};
+use crate::int_range::{GoalSpan, IntRange};
 use crate::sums::Sums;
-use score_box::{Cell, Goals};
+use score_box::{Cell, GoalRange};
 
 /// What a match adds for its two sides.
 #[derive(Clone, Copy)]
@@ -50,7 +50,7 @@ impl Sides {
     }
 }
 
-fn home_goals(goals: &Goals) -> GoalSpan
+fn home_goals(goals: &GoalRange) -> GoalSpan
     ensures least { result.least ≡ goals.now.home_least }
     ensures most { result.most ≡ goals.now.home_most }
 {
@@ -60,7 +60,7 @@ fn home_goals(goals: &Goals) -> GoalSpan
     }
 }
 
-fn away_goals(goals: &Goals) -> GoalSpan
+fn away_goals(goals: &GoalRange) -> GoalSpan
     ensures least { result.least ≡ goals.now.away_least }
     ensures most { result.most ≡ goals.now.away_most }
 {
@@ -76,12 +76,12 @@ fn won(own: GoalSpan, other: GoalSpan, away: bool) -> Sums
         → AreGoalsOf cell (not away) other → AreSumsOf cell away result }
 {
     Sums {
-        points: Span::only(3),
+        points: IntRange::only(3),
         difference: own.margin(other),
         goals: own.span(),
         away_goals: own.span().only_if(away),
-        wins: Span::only(1),
-        away_wins: Span::only(1).only_if(away),
+        wins: IntRange::only(1),
+        away_wins: IntRange::only(1).only_if(away),
     }
 }
 
@@ -90,12 +90,12 @@ fn drawn(own: GoalSpan, away: bool) -> Sums
         → AreSumsOf cell away result }
 {
     Sums {
-        points: Span::only(1),
-        difference: Span::only(0),
+        points: IntRange::only(1),
+        difference: IntRange::only(0),
         goals: own.span(),
         away_goals: own.span().only_if(away),
-        wins: Span::only(0),
-        away_wins: Span::only(0),
+        wins: IntRange::only(0),
+        away_wins: IntRange::only(0),
     }
 }
 
@@ -104,11 +104,11 @@ fn lost(own: GoalSpan, other: GoalSpan, away: bool) -> Sums
         → AreGoalsOf cell (not away) other → AreSumsOf cell away result }
 {
     Sums {
-        points: Span::only(0),
+        points: IntRange::only(0),
         difference: other.margin(own).negated(),
         goals: own.span(),
         away_goals: own.span().only_if(away),
-        wins: Span::only(0),
-        away_wins: Span::only(0),
+        wins: IntRange::only(0),
+        away_wins: IntRange::only(0),
     }
 }

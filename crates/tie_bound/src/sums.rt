@@ -1,29 +1,29 @@
 //! The ranges of a club's six sums.
 
 ghost use Rattle.std.specs.Prelude.{◌≡◌, pos};
-ghost use Rattle.league_core.specs.PointRanges.{one_value, added};
+ghost use Rattle.league_core.specs.search.PointRanges.{one_value, added};
 ghost use Rattle.tie_criteria.specs.declared.measure.Measure.{Measure};
-ghost use Rattle.tie_bound.specs.Spans.{IsSpanNear};
-ghost use Rattle.score_box.specs.Totals.{total_in};
-ghost use Rattle.tie_bound.specs.Rows.{column_of};
-ghost use Rattle.tie_bound.specs.Sums.{range_by, sums_at};
+ghost use Rattle.tie_bound.specs.inside.Spans.{IsSpanNear};
+ghost use Rattle.score_box.specs.inside.Totals.{total_in};
+ghost use Rattle.tie_bound.specs.inside.Rows.{column_of};
+ghost use Rattle.tie_bound.specs.inside.Sums.{range_by, sums_at};
 
-use crate::span::Span;
+use crate::int_range::IntRange;
 use score_box::Totals;
 
 /// What matches can add up to for a club, by each of the six measures.
 #[derive(Clone, Copy)]
 pub struct Sums {
-    pub points: Span,
-    pub difference: Span,
-    pub goals: Span,
-    pub away_goals: Span,
-    pub wins: Span,
-    pub away_wins: Span,
+    pub points: IntRange,
+    pub difference: IntRange,
+    pub goals: IntRange,
+    pub away_goals: IntRange,
+    pub wins: IntRange,
+    pub away_wins: IntRange,
 }
 
 impl Sums {
-    const NOTHING: Span = Span {
+    const NOTHING: IntRange = IntRange {
         least: 0,
         greatest: 0,
     };
@@ -44,12 +44,12 @@ impl Sums {
             ≡ one_value (total_in totals.now (column_of measure)) }
     {
         Sums {
-            points: Span::only(totals.points),
-            difference: Span::only(totals.difference),
-            goals: Span::only(totals.goals),
-            away_goals: Span::only(totals.away_goals),
-            wins: Span::only(totals.wins),
-            away_wins: Span::only(totals.away_wins),
+            points: IntRange::only(totals.points),
+            difference: IntRange::only(totals.difference),
+            goals: IntRange::only(totals.goals),
+            away_goals: IntRange::only(totals.away_goals),
+            wins: IntRange::only(totals.wins),
+            away_wins: IntRange::only(totals.away_wins),
         }
     }
 

@@ -1,8 +1,8 @@
 //! What is sure of one rival against a club.
 
 ghost use Rattle.std.specs.Prelude.{◌≡◌, ◌<◌, IsTrue, length};
-ghost use Rattle.league_core.specs.SureOrder.{sure_order};
-ghost use Rattle.tie_bound.specs.Boxes.{have_one_outcome};
+ghost use Rattle.league_core.specs.search.SureOrder.{sure_order};
+ghost use Rattle.tie_bound.specs.inside.Boxes.{have_one_outcome};
 
 use crate::against::{answers_against, answers_on_points};
 use league_core::{ClubSet, Sure};

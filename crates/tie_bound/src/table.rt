@@ -1,14 +1,14 @@
 //! The sums of all clubs of a box: rows of what was played, and a walk over the other matches.
 
 ghost use Rattle.std.specs.Prelude.{◌≡◌, ◌≢◌, ◌<◌, ◌≤◌, ◌&&◌, ℕ, true, IsTrue, length};
-ghost use Rattle.league_core.specs.Sums.{has_club, worth_to, worth_among};
-ghost use Rattle.league_core.specs.ClubSets.{clubs_in};
-ghost use Rattle.tie_bound.specs.Sums.{no_sums, sums_at, AreNear};
-ghost use Rattle.score_box.specs.Cells.{HasOneOutcome};
-ghost use Rattle.score_box.specs.Settings.{HasFinish};
-ghost use Rattle.tie_bound.specs.Rows.{AreRows};
-ghost use Rattle.tie_bound.specs.Boxes.{options_in_box, have_one_outcome};
-ghost use Rattle.tie_bound.specs.Tables.{AreSums, AddsSpansOfMatch};
+ghost use Rattle.league_core.specs.game.Sums.{has_club, worth_to, worth_among};
+ghost use Rattle.league_core.specs.game.ClubSets.{clubs_in};
+ghost use Rattle.tie_bound.specs.inside.Sums.{no_sums, sums_at, AreNear};
+ghost use Rattle.score_box.specs.inside.Cells.{HasOneOutcome};
+ghost use Rattle.score_box.specs.inside.Settings.{HasFinish};
+ghost use Rattle.tie_bound.specs.inside.Rows.{AreRows};
+ghost use Rattle.tie_bound.specs.inside.Boxes.{options_in_box, have_one_outcome};
+ghost use Rattle.tie_bound.specs.inside.Tables.{AreSums, AddsSpansOfMatch};
 
 use crate::fixtures::fixtures_of;
 use crate::rows::{rows_among, rows_over};

@@ -5,15 +5,15 @@
 ghost use Rattle.std.specs.Prelude.{◌≡◌, IsTrue, IfSome};
 ghost use Rattle.std.specs.List.{list_any};
 ghost use Rattle.league_core.specs.declared.zone.Reason.TheVariants.{Tie};
-ghost use Rattle.league_core.specs.Sums.{has_club};
-ghost use Rattle.league_core.specs.ClubSets.{clubs_in};
-ghost use Rattle.league_core.specs.Zones.{rivals_of};
-ghost use Rattle.league_core.specs.Options.{has_finish};
-ghost use Rattle.league_core.specs.Reasons.{has_reason};
-ghost use Rattle.tie_bound.specs.Answers.{AreByPoints};
-ghost use Rattle.tie_bound.specs.Boxes.{have_one_outcome};
-ghost use Rattle.tie_bound.specs.Rivals.{AreRivalsIn, are_too_many_with, is_wrong_with};
-ghost use Rattle.tie_bound.specs.Rivals.{refutes_with, refutes_surely};
+ghost use Rattle.league_core.specs.game.Sums.{has_club};
+ghost use Rattle.league_core.specs.game.ClubSets.{clubs_in};
+ghost use Rattle.league_core.specs.search.Zones.{rivals_of};
+ghost use Rattle.league_core.specs.search.Options.{has_finish};
+ghost use Rattle.league_core.specs.search.Reasons.{has_reason};
+ghost use Rattle.tie_bound.specs.inside.Answers.{AreByPoints};
+ghost use Rattle.tie_bound.specs.inside.Boxes.{have_one_outcome};
+ghost use Rattle.tie_bound.specs.inside.Rivals.{AreRivalsIn, are_too_many_with, is_wrong_with};
+ghost use Rattle.tie_bound.specs.inside.Rivals.{refutes_with, refutes_surely};
 
 use crate::against::{answers_against, answers_on_points};
 use crate::answer_sets::Answers;
@@ -45,7 +45,7 @@ fn is_refuted(zone_box: &ZoneBox, question: &Question) -> bool
     }
 }
 
-// What points alone tell: whether the question is refuted whoever the criteria put in front, or
+// What points alone tell: whether the question is refuted whoever the criteria put at the front, or
 // not refuted at all.
 fn by_points(
     zone_box: &ZoneBox,

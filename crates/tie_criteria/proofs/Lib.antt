@@ -8,4 +8,3 @@ pub mod OtherBlockLemmas
 pub mod AloneLemmas
 pub mod GroupLemmas
 pub mod OverallLemmas
-pub mod MemberLemmas

@@ -8,13 +8,13 @@ use Rattle.std.proofs.lemmas.List.{get_or-set_same, get_or-set_other, length-set
 use Rattle.league_core.specs.declared.sheet.Sheet.{Sheet}
 use Rattle.league_core.specs.declared.sheet.Fixture.{Fixture}
 use Rattle.league_core.specs.declared.season.Score.{Score}
-use Rattle.league_core.specs.Results.{Results}
-use Rattle.league_core.specs.Sums.{Worth, worth_to, worth_among, match_points}
-use Rattle.league_core.specs.Sums.{goal_difference, goals, if_played, sum_over}
-use Rattle.league_core.specs.HeadToHead.{head_to_head_of}
+use Rattle.league_core.specs.game.Results.{Results}
+use Rattle.league_core.specs.game.Sums.{Worth, worth_to, worth_among, match_points, goal_difference}
+use Rattle.league_core.specs.game.Sums.{goals, if_played, sum_over}
+use Rattle.league_core.specs.game.HeadToHead.{head_to_head_of}
 use Rattle.tie_criteria.specs.declared.triple.Triple.{Triple}
-use Rattle.tie_criteria.specs.Parts.{triple_parts}
-use Rattle.tie_criteria.specs.Records.{no_record, record_at, IsBounded, GrowsBy, AddsMatch}
+use Rattle.tie_criteria.specs.inside.Parts.{triple_parts}
+use Rattle.tie_criteria.specs.inside.Records.{no_record, record_at, IsBounded, GrowsBy, AddsMatch}
 use Rattle.tie_criteria.proofs.SumLemmas.{sum_over-drop, sum_over-drop_all}
 
 wider : (bound : ℕ) (triple : Triple) → IsBounded bound triple → IsBounded (bound + 255) triple

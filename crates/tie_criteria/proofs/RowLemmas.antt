@@ -4,15 +4,14 @@ use Rattle.std.proofs.Common.{true, eqb, List, [], ◌∷◌, map}
 use Rattle.std.proofs.Common.{refl}
 use Rattle.std.proofs.lemmas.Bool.{or_left, or_right, eq-eqb}
 use Rattle.league_core.specs.declared.sheet.Sheet.{Sheet}
-use Rattle.league_core.specs.Results.{Results}
-use Rattle.league_core.specs.Sums.{has_club}
+use Rattle.league_core.specs.game.Results.{Results}
+use Rattle.league_core.specs.game.Sums.{has_club}
 use Rattle.tie_criteria.specs.declared.triple.Triple.{Triple}
-use Rattle.tie_criteria.specs.Parts.{triple_parts}
-use Rattle.tie_criteria.specs.Records.{record_at}
-use Rattle.tie_criteria.specs.Records.{AreRecords}
+use Rattle.tie_criteria.specs.inside.Parts.{triple_parts}
+use Rattle.tie_criteria.specs.inside.Records.{record_at, AreRecords}
 use Rattle.tie_criteria.specs.declared.mini_table.Row.{Row}
-use Rattle.tie_criteria.specs.Groups.{IsGroupOf}
-use Rattle.tie_criteria.specs.MiniTables.{triple_in, row_of}
+use Rattle.tie_criteria.specs.inside.Groups.{IsGroupOf}
+use Rattle.tie_criteria.specs.inside.MiniTables.{triple_in, row_of}
 
 -- the row of a club by the records
 abbrev pub row_at : List Triple → ℕ → Row

@@ -7,14 +7,14 @@ use Rattle.league_core.specs.declared.sheet.Sheet.{Sheet}
 use Rattle.league_core.specs.declared.sheet.Club.{Club}
 use Rattle.league_core.specs.declared.sheet.Fixture.{Fixture}
 use Rattle.league_core.specs.declared.season.Score.{Score}
-use Rattle.league_core.specs.Sums.{if_played, sum_over}
-use Rattle.league_core.specs.Ahead.{rank_of}
+use Rattle.league_core.specs.game.Sums.{if_played, sum_over}
+use Rattle.league_core.specs.game.Ahead.{rank_of}
 use Rattle.std.proofs.Common.{subst, FitsSigned, to_z, of_z, w32, arith}
 use Rattle.std.proofs.lemmas.Int.{ints, to_z-of_z}
 use Rattle.tie_criteria.specs.declared.measure.Measure.{Measure}
 use Rattle.tie_criteria.specs.declared.measure.Measure.TheVariants.{Points, Difference, Goals}
 use Rattle.tie_criteria.specs.declared.measure.Measure.TheVariants.{AwayGoals, Wins, AwayWins}
-use Rattle.tie_criteria.specs.Sums.{IsNear}
+use Rattle.tie_criteria.specs.inside.Sums.{IsNear}
 
 -- the sum from a match on is what this match is worth, and the sum from the next one on
 pub sum_over-drop : (value : Fixture → Score → ℤ) (matches : List Fixture)

@@ -3,7 +3,7 @@
 //! The criteria are league_core's `Ahead`: the head-to-head record in the group, taken again in
 //! each smaller group that it leaves level, then the sums over all matches, then the fixed rank;
 //! or, by the sheet's order, difference and goals over all matches before all that. Read
-//! `specs/Parts.antt` first, which ties the types here to those definitions.
+//! `specs/inside/Parts.antt` first, which ties the types here to those definitions.
 #![tactic(auto)]
 
 mod blocks;

@@ -1,8 +1,8 @@
 //! What one match is worth to one club, by each of the six measures.
 
 ghost use Rattle.std.specs.Prelude.{◌≡◌, ◌≤ℤ◌, Bool, pos, neg_ℤ};
-ghost use Rattle.league_core.specs.Sums.{match_points, worth_to, if_played};
-ghost use Rattle.tie_criteria.specs.Measures.{worth_of, value_in};
+ghost use Rattle.league_core.specs.game.Sums.{match_points, worth_to, if_played};
+ghost use Rattle.tie_criteria.specs.inside.Measures.{worth_of, value_in};
 
 use league_core::{ClubSet, Fixture, Score};
 

@@ -3,10 +3,10 @@
 //! It takes one pass over the fixtures for the whole group.
 
 ghost use Rattle.std.specs.Prelude.{◌≡◌, IfOk, OnOk, if◌then◌else◌, [], ◌∷◌, ◌++◌, map};
-ghost use Rattle.league_core.specs.Seasons.{IsLeague};
-ghost use Rattle.league_core.specs.Sums.{has_club};
-ghost use Rattle.league_core.specs.ClubSets.{clubs_in};
-ghost use Rattle.tie_criteria.specs.Groups.{IsGroupOf};
+ghost use Rattle.league_core.specs.game.Seasons.{IsLeague};
+ghost use Rattle.league_core.specs.game.Sums.{has_club};
+ghost use Rattle.league_core.specs.game.ClubSets.{clubs_in};
+ghost use Rattle.tie_criteria.specs.inside.Groups.{IsGroupOf};
 
 use crate::records::records;
 use crate::triple::{Triple, triple_at};
@@ -37,7 +37,7 @@ impl Model for MiniTable {
 }
 
 impl MiniTable {
-    ghost use Rattle.tie_criteria.specs.MiniTables.{row_of};
+    ghost use Rattle.tie_criteria.specs.inside.MiniTables.{row_of};
 
     /// The table of the group from the matches that are played.
     pub fn of(

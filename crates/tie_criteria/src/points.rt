@@ -1,9 +1,9 @@
 //! A club's points: those of all its matches, less what is taken off.
 
 ghost use Rattle.std.specs.Prelude.{◌≡◌, ◌<◌, ◌-ℤ◌, pos, length};
-ghost use Rattle.league_core.specs.Seasons.{IsLeague};
-ghost use Rattle.league_core.specs.Sums.{points_of};
-ghost use Rattle.tie_criteria.specs.Sums.{IsNear};
+ghost use Rattle.league_core.specs.game.Seasons.{IsLeague};
+ghost use Rattle.league_core.specs.game.Sums.{points_of};
+ghost use Rattle.tie_criteria.specs.inside.Sums.{IsNear};
 
 use crate::measure::Matches;
 use crate::sums::sums_of;

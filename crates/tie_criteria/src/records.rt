@@ -1,11 +1,11 @@
 //! The records of all clubs in a group, in one pass over the fixtures.
 
 ghost use Rattle.std.specs.Prelude.{◌≡◌, ◌≢◌, ◌<◌, ℕ, length, IfOk};
-ghost use Rattle.league_core.specs.Seasons.{IsLeague};
-ghost use Rattle.league_core.specs.Sums.{Worth, worth_to, worth_among, if_played};
-ghost use Rattle.league_core.specs.ClubSets.{clubs_in};
-ghost use Rattle.tie_criteria.specs.Records.{no_record, record_at, IsBounded, GrowsBy, AddsMatch};
-ghost use Rattle.tie_criteria.specs.Records.{AreRecords};
+ghost use Rattle.league_core.specs.game.Seasons.{IsLeague};
+ghost use Rattle.league_core.specs.game.Sums.{Worth, worth_to, worth_among, if_played};
+ghost use Rattle.league_core.specs.game.ClubSets.{clubs_in};
+ghost use Rattle.tie_criteria.specs.inside.Records.{no_record, record_at, IsBounded, GrowsBy};
+ghost use Rattle.tie_criteria.specs.inside.Records.{AddsMatch, AreRecords};
 
 use crate::triple::Triple;
 use league_core::{ClubSet, Fixture, OutOfMemory, Score, Season, Sheet};

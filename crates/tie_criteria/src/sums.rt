@@ -1,11 +1,11 @@
 //! A club's sums over the matches of a season, by all six measures in one pass over the fixtures.
 
 ghost use Rattle.std.specs.Prelude.{◌≡◌, ◌||◌, ◌==◌, ◌+◌, ◌+ℤ◌, ℕ};
-ghost use Rattle.league_core.specs.Seasons.{IsLeague};
-ghost use Rattle.league_core.specs.Sums.{if_played, sum_over};
-ghost use Rattle.tie_criteria.specs.Measures.{worth_of, value_in};
+ghost use Rattle.league_core.specs.game.Seasons.{IsLeague};
+ghost use Rattle.league_core.specs.game.Sums.{if_played, sum_over};
+ghost use Rattle.tie_criteria.specs.inside.Measures.{worth_of, value_in};
 ghost use Rattle.tie_criteria.specs.declared.measure.Measure.{Measure};
-ghost use Rattle.tie_criteria.specs.Sums.{sum_by, IsNear};
+ghost use Rattle.tie_criteria.specs.inside.Sums.{sum_by, IsNear};
 
 use crate::measure::{Matches, Measure, if_played};
 use league_core::{Fixture, Score, Season, Sheet};

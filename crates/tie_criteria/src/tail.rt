@@ -2,10 +2,10 @@
 //! rank.
 
 ghost use Rattle.std.specs.Prelude.{◌≡◌, ◌<◌, length};
-ghost use Rattle.league_core.specs.Seasons.{IsLeague};
-ghost use Rattle.league_core.specs.HeadToHead.{by_first_difference};
-ghost use Rattle.league_core.specs.Ahead.{overall_of};
-ghost use Rattle.tie_criteria.specs.Parts.{tail_parts};
+ghost use Rattle.league_core.specs.game.Seasons.{IsLeague};
+ghost use Rattle.league_core.specs.game.HeadToHead.{by_first_difference};
+ghost use Rattle.league_core.specs.game.Ahead.{overall_of};
+ghost use Rattle.tie_criteria.specs.inside.Parts.{tail_parts};
 
 use crate::measure::Matches;
 use crate::sums::sums_of;

@@ -1,11 +1,11 @@
 //! The head-to-head record of a club in a group of clubs.
 
 ghost use Rattle.std.specs.Prelude.{◌≡◌, Bool};
-ghost use Rattle.league_core.specs.Seasons.{IsLeague};
-ghost use Rattle.league_core.specs.HeadToHead.{head_to_head_of, by_first_difference};
-ghost use Rattle.league_core.specs.ClubSets.{clubs_in};
-ghost use Rattle.tie_criteria.specs.Parts.{triple_parts, goal_parts};
-ghost use Rattle.tie_criteria.specs.Records.{record_at, IsBounded, GrowsBy};
+ghost use Rattle.league_core.specs.game.Seasons.{IsLeague};
+ghost use Rattle.league_core.specs.game.HeadToHead.{head_to_head_of, by_first_difference};
+ghost use Rattle.league_core.specs.game.ClubSets.{clubs_in};
+ghost use Rattle.tie_criteria.specs.inside.Parts.{triple_parts, goal_parts};
+ghost use Rattle.tie_criteria.specs.inside.Records.{record_at, IsBounded, GrowsBy};
 
 use crate::measure::{Matches, match_points};
 use crate::sums::sums_of;

@@ -10,16 +10,16 @@ use Rattle.std.proofs.lemmas.List.Edits.{length-remove}
 use Rattle.std.proofs.lemmas.Bool.{eq-eqb, ne_eqb, lt-ltb, false≢true}
 use Rattle.league_core.specs.declared.zone.Test.{Test}
 use Rattle.league_core.specs.declared.zone.Reason.{Reason}
-use Rattle.league_core.specs.Trees.{Tree, open_leaf, branch, has_open, is_refuted}
-use Rattle.league_core.specs.Trees.{node_count}
-use Rattle.league_core.specs.Lending.{put, times_lent, lent_count}
+use Rattle.league_core.specs.search.Trees.{Tree, open_leaf, branch, has_open, is_refuted}
+use Rattle.league_core.specs.search.Trees.{node_count}
+use Rattle.league_core.specs.inside.Lending.{put, times_lent, lent_count}
 use Rattle.league_core.proofs.LendingLemmas.{settled_is_refuted, refuted_is_settled}
 use Rattle.tree_reuse.specs.declared.node.Kind.{Kind}
 use Rattle.tree_reuse.specs.declared.node.Kind.TheVariants.{Open, Lent, Refuted, Split}
 use Rattle.tree_reuse.specs.declared.node.Node.{Node}
-use Rattle.tree_reuse.specs.Arena.{shape_over, shapes, tree_below, total, IsLeafKind, open_mark}
-use Rattle.tree_reuse.specs.Arena.{lent_mark, number_mark, node_mark, marks, IsListed}
-use Rattle.tree_reuse.specs.Arena.{IsArena, with_kind, IsLeafAt}
+use Rattle.tree_reuse.specs.inside.Arena.{shape_over, shapes, tree_below, total, IsLeafKind}
+use Rattle.tree_reuse.specs.inside.Arena.{open_mark, lent_mark, number_mark, node_mark, marks}
+use Rattle.tree_reuse.specs.inside.Arena.{IsListed, IsArena, with_kind, IsLeafAt}
 use Rattle.tree_reuse.proofs.MarkLemmas.{total-set, times_in-push, one_if-same}
 use Rattle.tree_reuse.proofs.MarkLemmas.{listed_within, listed_same, listed_added, listed_taken}
 use Rattle.tree_reuse.proofs.MarkLemmas.{taken_last, taken_at, listed_longer, listed_two}

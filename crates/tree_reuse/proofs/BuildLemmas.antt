@@ -17,20 +17,20 @@ use Rattle.league_core.specs.declared.tree.TreeNode.TheVariants.{Lent as lent_no
 use Rattle.league_core.specs.declared.tree.TreeNode.TheVariants.{Refuted as refuted_node}
 use Rattle.league_core.specs.declared.tree.TreeNode.TheVariants.{Split as split_node}
 use Rattle.league_core.specs.declared.zone.Test.{Test}
-use Rattle.league_core.specs.Trees.{Tree, open_leaf, lent_leaf, refuted_leaf, branch, preorder}
-use Rattle.league_core.specs.Trees.{node_count}
-use Rattle.league_core.specs.Lending.{lent_count}
-use Rattle.league_core.specs.TreeLists.{with_node, trees_of, only_tree, tree_of, tree_or_leaf}
+use Rattle.league_core.specs.search.Trees.{Tree, open_leaf, lent_leaf, refuted_leaf, branch}
+use Rattle.league_core.specs.search.Trees.{preorder, node_count}
+use Rattle.league_core.specs.inside.Lending.{lent_count}
+use Rattle.league_core.specs.inside.TreeLists.{with_node, trees_of, only_tree, tree_of}
+use Rattle.league_core.specs.inside.TreeLists.{tree_or_leaf}
 use Rattle.league_core.proofs.TreeListLemmas.{preorder-tree_of}
 use Rattle.tree_reuse.specs.declared.node.Kind.{Kind}
 use Rattle.tree_reuse.specs.declared.node.Kind.TheVariants.{Open, Lent, Refuted, Split}
 use Rattle.tree_reuse.specs.declared.node.Node.{Node}
-use Rattle.tree_reuse.specs.Arena.{shape_over, tree_below, IsLeafKind, open_mark, lent_mark}
-use Rattle.tree_reuse.specs.Arena.{marks, times_in, IsListed, IsArena, with_kind, filled}
-use Rattle.tree_reuse.specs.Arena.{halves_under, nodes_taken, places_taken, open_taken}
-use Rattle.tree_reuse.specs.Arena.{lent_taken, AllWithin, IsRoomy}
-use Rattle.league_core.specs.Rooms.{Roomy}
-use Rattle.tree_reuse.specs.declared.tree.TheConstants.{MOST_NODES}
+use Rattle.tree_reuse.specs.inside.Arena.{shape_over, tree_below, IsLeafKind, open_mark, lent_mark}
+use Rattle.tree_reuse.specs.inside.Arena.{marks, times_in, IsListed, IsArena, with_kind, filled}
+use Rattle.tree_reuse.specs.inside.Arena.{halves_under, nodes_taken, places_taken, open_taken}
+use Rattle.tree_reuse.specs.inside.Arena.{lent_taken, AllWithin, IsRoomy}
+use Rattle.league_core.specs.inside.Rooms.{RoomyListView}
 use Rattle.tree_reuse.proofs.MarkLemmas.{one_if, one_if-same, one_if-other, times_in-push}
 use Rattle.tree_reuse.proofs.MarkLemmas.{listed_within, listed_same, listed_added, listed_taken}
 use Rattle.tree_reuse.proofs.MarkLemmas.{listed_longer, listed_two}
@@ -41,6 +41,7 @@ use Rattle.tree_reuse.proofs.ArenaLemmas.{arena-nodes, arena-lent}
 use Rattle.tree_reuse.proofs.RoomLemmas.{any_node, root_arena}
 use Rattle.tree_reuse.proofs.FillLemmas.{filled-none, filled-set_leaf, filled_split}
 use Rattle.tree_reuse.proofs.FillLemmas.{length-filled}
+use Rattle.tree_reuse.specs.inside.Calls.{most_nodes}
 
 -- the place on top among all that are open
 pub places_count : (opens rest : List ℕ) (at number : ℕ)
@@ -706,8 +707,8 @@ arena_turned nodes places opens turned lents arena none is =
     })
 
 -- what was made has room for each lent leaf
-pub built_roomy : (size : ℕ) (made done : Roomy Node) (waits waiting lent : Roomy ℕ)
-    → IsArena made.items waits.items lent.items → length made.items ≤ size → size ≤ MOST_NODES
+pub built_roomy : (size : ℕ) (made done : RoomyListView Node) (waits waiting lent : RoomyListView ℕ)
+    → IsArena made.items waits.items lent.items → length made.items ≤ size → size ≤ most_nodes
     → done.items ≡ made.items → waiting.items ≡ waits.items
     → 2 * length lent.items ≤ done.room → 2 * length lent.items ≤ waiting.room
     → IsRoomy done waiting lent

@@ -6,12 +6,12 @@ use Rattle.std.proofs.Common.{arith}
 use Rattle.std.proofs.lemmas.List.{get_or_append_left}
 use Rattle.std.proofs.lemmas.Option.{none-some, same_Some}
 use Rattle.league_core.specs.declared.zone.Test.{Test}
-use Rattle.league_core.specs.Trees.{Tree, open_leaf, branch}
+use Rattle.league_core.specs.search.Trees.{Tree, open_leaf, branch}
 use Rattle.tree_reuse.specs.declared.node.Kind.{Kind}
 use Rattle.tree_reuse.specs.declared.node.Kind.TheVariants.{Open, Lent, Refuted, Split}
 use Rattle.tree_reuse.specs.declared.node.Node.{Node}
-use Rattle.tree_reuse.specs.Arena.{shape_over, shapes, AllWithin, AreHalvesWithin, IsLeafKind}
-use Rattle.tree_reuse.specs.Arena.{filled}
+use Rattle.tree_reuse.specs.inside.Arena.{shape_over, shapes, AllWithin, AreHalvesWithin}
+use Rattle.tree_reuse.specs.inside.Arena.{IsLeafKind, filled}
 
 -- no node is given a tree
 abbrev pub NoneGiven : List (Option Tree) → Type 0
@@ -61,7 +61,7 @@ filled-set_leaf (Some other ∷ given) (node ∷ nodes) (suc at) written tree wi
     ap (λ trees. other ∷ trees)
     (filled-set_leaf given nodes at written tree (omega arith) is leaf shape)
 
--- trees further behind change nothing for a node whose halves stand before them
+-- trees further after change nothing for a node whose halves stand before them
 shape_over-within : (kind : Kind) (trees more : List Tree) → AreHalvesWithin kind (length trees)
     → shape_over kind (trees ++ more) ≡ shape_over kind trees
 shape_over-within Open trees more within = refl

@@ -6,8 +6,8 @@ use Rattle.std.proofs.lemmas.List.Sums.{sum_by-cons}
 use Rattle.tree_reuse.specs.declared.node.Kind.{Kind}
 use Rattle.tree_reuse.specs.declared.node.Kind.TheVariants.{Open, Lent, Refuted, Split}
 use Rattle.tree_reuse.specs.declared.node.Node.{Node}
-use Rattle.tree_reuse.specs.Arena.{total, lent_mark, number_mark, marks, times_in, IsListed}
-use Rattle.tree_reuse.specs.Arena.{IsLeafAt}
+use Rattle.tree_reuse.specs.inside.Arena.{total, lent_mark, number_mark, marks, times_in, IsListed}
+use Rattle.tree_reuse.specs.inside.Arena.{IsLeafAt}
 use Rattle.tree_reuse.proofs.MarkLemmas.{one_if, one_if-same, listed_within}
 use Rattle.tree_reuse.proofs.ArenaLemmas.{marked_at, length-marks}
 

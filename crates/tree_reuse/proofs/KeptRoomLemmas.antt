@@ -1,19 +1,20 @@
 -- The calls on a tree leave the way that it keeps as it was: it leads to where it led.
 use Rattle.std.proofs.Common.{◌≡◌, ℕ, List, [], ◌∷◌, ◌++◌, get_or, set, sym, ap, ◌∙◌, subst}
 use Rattle.std.specs.List.{remove}
-use Rattle.league_core.specs.Rooms.{Roomy}
+use Rattle.league_core.specs.inside.Rooms.{RoomyListView}
 use Rattle.league_core.specs.declared.zone.Literal.{Literal}
 use Rattle.tree_reuse.specs.declared.node.Kind.{Kind}
 use Rattle.tree_reuse.specs.declared.node.Kind.TheVariants.{Open}
 use Rattle.tree_reuse.specs.declared.node.Node.{Node}
-use Rattle.tree_reuse.specs.Arena.{with_kind, IsArena, IsLeafAt, IsLeafKind, IsRoomy}
-use Rattle.tree_reuse.specs.KeptWays.{LeadsToNode}
+use Rattle.tree_reuse.specs.inside.Arena.{with_kind, IsArena, IsLeafAt, IsLeafKind, IsRoomy}
+use Rattle.tree_reuse.specs.inside.KeptWays.{LeadsToNode}
 use Rattle.tree_reuse.proofs.ArenaLemmas.{top_is_open}
 use Rattle.tree_reuse.proofs.KeptWayLemmas.{leads-set, leads-more}
 use Rattle.tree_reuse.proofs.RoomLemmas.{any_node, last_lent, leaf_removed, lent_kind}
 
 -- where the leaf on top of the open ones is lent
-pub leads_lent : (nodes more done : Roomy Node) (waiting taken lent last : Roomy ℕ) (leaf : ℕ)
+pub leads_lent : (nodes more done : RoomyListView Node) (waiting taken lent last : RoomyListView ℕ)
+    (leaf : ℕ)
     (kind : Kind) (literals : List Literal) (at : ℕ) → IsRoomy nodes waiting lent
     → more.items ≡ nodes.items → taken.items ≡ waiting.items
     → taken.items ≡ last.items ++ leaf ∷ []
@@ -32,7 +33,8 @@ leads_lent nodes more done waiting taken lent last leaf kind literals at roomy s
     (subst (λ (k : Kind). IsLeafKind k) (sym top.kind) tt) leads)
 
 -- where a lent leaf comes back
-pub leads_back : (number : ℕ) (nodes done : Roomy Node) (lent less : Roomy ℕ) (list : List Node)
+pub leads_back : (number : ℕ) (nodes done : RoomyListView Node) (lent less : RoomyListView ℕ)
+    (list : List Node)
     (slice : List ℕ) (place leaf : ℕ) (kind : Kind) (literals : List Literal) (at : ℕ)
     → list ≡ nodes.items → slice ≡ lent.items
     → IsLeafAt number list slice place (get_or slice place 0)
@@ -48,8 +50,9 @@ leads_back number nodes done lent less list slice place leaf kind literals at sa
     (leads-set nodes.items leaf kind literals at is.in_nodes
     (subst (λ (k : Kind). IsLeafKind k) (sym (is.kind any_node)) tt) leads)
 
--- where two nodes more stand behind all others
-pub leads_pushed : (nodes one two : Roomy Node) (first second : Node) (literals : List Literal)
+-- where two nodes more come after all others
+pub leads_pushed : (nodes one two : RoomyListView Node) (first second : Node)
+    (literals : List Literal)
     (at : ℕ) → one.items ≡ nodes.items ++ first ∷ [] → two.items ≡ one.items ++ second ∷ []
     → LeadsToNode nodes.items literals at → LeadsToNode two.items literals at
 leads_pushed nodes one two first second literals at one_is two_is leads =
@@ -59,7 +62,8 @@ leads_pushed nodes one two first second literals at one_is two_is leads =
     (leads-more nodes.items (first ∷ []) literals at leads)))
 
 -- where the last of the lent leaves is open again
-pub leads_opened : (nodes done : Roomy Node) (waiting lent less : Roomy ℕ) (leaf : ℕ)
+pub leads_opened : (nodes done : RoomyListView Node) (waiting lent less : RoomyListView ℕ)
+    (leaf : ℕ)
     (literals : List Literal) (at : ℕ) → IsRoomy nodes waiting lent
     → lent.items ≡ less.items ++ leaf ∷ []
     → ((default : Node) → done.items

@@ -10,12 +10,14 @@ use Rattle.std.proofs.lemmas.List.{get_or_append_left, length-set, reverse-appen
 use Rattle.std.proofs.lemmas.List.{reverse-reverse}
 use Rattle.league_core.specs.declared.zone.Test.{Test}
 use Rattle.league_core.specs.declared.zone.Literal.{Literal}
-use Rattle.league_core.specs.Lending.{times_lent}
+use Rattle.league_core.specs.inside.Lending.{times_lent}
 use Rattle.tree_reuse.specs.declared.node.Kind.{Kind}
 use Rattle.tree_reuse.specs.declared.node.Kind.TheVariants.{Open, Lent, Refuted, Split}
 use Rattle.tree_reuse.specs.declared.node.Node.{Node}
-use Rattle.tree_reuse.specs.Arena.{tree_below, with_kind, IsLeafKind, IsLinked, IsWayTo, IsLeafAt}
-use Rattle.tree_reuse.specs.KeptWays.{split_test, IsStep, LeadsToNode, TakesInHand, AreClimbing}
+use Rattle.tree_reuse.specs.inside.Arena.{tree_below, with_kind, IsLeafKind, IsLinked, IsPathTo}
+use Rattle.tree_reuse.specs.inside.Arena.{IsLeafAt}
+use Rattle.tree_reuse.specs.inside.KeptWays.{split_test, IsStep, LeadsToNode, TakesInHand}
+use Rattle.tree_reuse.specs.inside.KeptWays.{AreClimbing}
 use Rattle.tree_reuse.proofs.LinkLemmas.{way_up, way_starts}
 use Rattle.tree_reuse.proofs.RoomLemmas.{any_node}
 
@@ -98,7 +100,7 @@ leads-set nodes leaf kind (literal ∷ before) at within is_leaf leads = (
   leads-set nodes leaf kind before leads.0 within is_leaf leads.2,
 )
 
--- so it is with more nodes behind all others
+-- so it is with more nodes after all others
 step_more : (nodes more : List Node) (literal : Literal) (at parent : ℕ)
     → IsStep nodes literal at parent → IsStep (nodes ++ more) literal at parent
 step_more nodes more literal at parent step =
@@ -126,12 +128,12 @@ leads-more nodes more (literal ∷ before) at leads = (
 )
 
 -- the node's parent, to which the way without its last literal leads
-pub record LeadsUp (nodes : List Node) (at : ℕ) (way : List Literal) : Type 0 where
+pub record LeadsUp (nodes : List Node) (at : ℕ) (zone_box : List Literal) : Type 0 where
   pub parent : ℕ
   pub above : parent < at
   pub within : at < length nodes
   pub parent_is : (default : Node) → (get_or nodes at default).parent ≡ parent
-  pub leads : LeadsToNode nodes (reverse way) parent
+  pub leads : LeadsToNode nodes (reverse zone_box) parent
 
 pub leads_up : (nodes : List Node) (at : ℕ) (old new : List Literal) (popped : Option Literal)
     → 0 < at → LeadsToNode nodes (reverse old) at → old ≡ new ++ option_to_list popped
@@ -153,20 +155,20 @@ leads_up nodes at old new (Some literal) later leads is none =
     }
 
 -- where the first of two nodes that come up goes up
-pub first_climbs : (nodes : List Node) (to one other up : ℕ) (way less hand : List Literal)
-    → AreClimbing nodes to one other way hand → LeadsToNode nodes (reverse less) up
+pub first_climbs : (nodes : List Node) (to one other up : ℕ) (zone_box less hand : List Literal)
+    → AreClimbing nodes to one other zone_box hand → LeadsToNode nodes (reverse less) up
     → AreClimbing nodes to up other less hand
-first_climbs nodes to one other up way less hand are leads = record {
+first_climbs nodes to one other up zone_box less hand are leads = record {
   leads = leads;
   within = are.within;
   down = are.down;
 }
 
 -- where the second does
-pub second_climbs : (nodes : List Node) (to one other up : ℕ) (way hand more : List Literal)
-    → AreClimbing nodes to one other way hand → TakesInHand nodes other hand more up
-    → AreClimbing nodes to one up way more
-second_climbs nodes to one other up way hand more are takes =
+pub second_climbs : (nodes : List Node) (to one other up : ℕ) (zone_box hand more : List Literal)
+    → AreClimbing nodes to one other zone_box hand → TakesInHand nodes other hand more up
+    → AreClimbing nodes to one up zone_box more
+second_climbs nodes to one other up zone_box hand more are takes =
     let within = are.within in
     let above = takes.step.above in
     record {
@@ -179,20 +181,20 @@ second_climbs nodes to one other up way hand more are takes =
     }
 
 -- where they have met
-pub have_met : (nodes : List Node) (to one other : ℕ) (way hand : List Literal)
-    → AreClimbing nodes to one other way hand → one ≡ other
-    → LeadsToNode nodes (hand ++ reverse way) to
-have_met nodes to one other way hand are same =
-    are.down (reverse way)
-    (subst (λ (k : ℕ). LeadsToNode nodes (reverse way) k) same are.leads)
+pub have_met : (nodes : List Node) (to one other : ℕ) (zone_box hand : List Literal)
+    → AreClimbing nodes to one other zone_box hand → one ≡ other
+    → LeadsToNode nodes (hand ++ reverse zone_box) to
+have_met nodes to one other zone_box hand are same =
+    are.down (reverse zone_box)
+    (subst (λ (k : ℕ). LeadsToNode nodes (reverse zone_box) k) same are.leads)
 
 -- what leads to a node comes before the way from there to a lent leaf
 leads_whole : (number : ℕ) (nodes : List Node) (literals : List Literal) (at : ℕ)
     (rest : List Literal) → IsLinked nodes → times_lent number (tree_below nodes 0) ≡ 1
-    → LeadsToNode nodes literals at → IsWayTo number (tree_below nodes at) rest
-    → IsWayTo number (tree_below nodes 0) (reverse literals ++ rest)
+    → LeadsToNode nodes literals at → IsPathTo number (tree_below nodes at) rest
+    → IsPathTo number (tree_below nodes 0) (reverse literals ++ rest)
 leads_whole number nodes [] at rest linked once leads to =
-    subst (λ (k : ℕ). IsWayTo number (tree_below nodes k) rest) leads to
+    subst (λ (k : ℕ). IsPathTo number (tree_below nodes k) rest) leads to
 leads_whole number nodes (literal ∷ before) at rest linked once leads to =
     let step = leads.1 in
     let above = step.above in
@@ -202,23 +204,23 @@ leads_whole number nodes (literal ∷ before) at rest linked once leads to =
     let kind_is = ap (λ (k : ℕ). (get_or nodes k any_node).kind) parent_is ∙ split.2 in
     let up = way_up number nodes at any_node literal.test split.0 split.1 rest linked (omega arith)
     step.within kind_is once to in
-    let beside = subst (λ (b : Bool). IsWayTo number
+    let beside = subst (λ (b : Bool). IsPathTo number
     (tree_below nodes (get_or nodes at any_node).parent)
     (record { test = literal.test; yes = b } ∷ rest)) (step.side any_node) up in
-    let there = subst (λ (k : ℕ). IsWayTo number (tree_below nodes k) (literal ∷ rest)) parent_is
+    let there = subst (λ (k : ℕ). IsPathTo number (tree_below nodes k) (literal ∷ rest)) parent_is
     beside in
-    subst (λ (way : List Literal). IsWayTo number (tree_below nodes 0) way)
+    subst (λ (zone_box : List Literal). IsPathTo number (tree_below nodes 0) zone_box)
     (sym (ap (λ ls. ls ++ rest) (reverse-append (literal ∷ []) before)
     ∙ append_assoc (reverse before) (literal ∷ []) rest))
     (leads_whole number nodes before leads.0 (literal ∷ rest) linked once leads.2 there)
 
 -- so what leads to a lent leaf is its zone
 pub kept_way_is : (number : ℕ) (nodes : List Node) (lents : List ℕ) (place leaf : ℕ)
-    (way : List Literal) → IsLeafAt number nodes lents place leaf → IsLinked nodes
-    → times_lent number (tree_below nodes 0) ≡ 1 → LeadsToNode nodes (reverse way) leaf
-    → IsWayTo number (tree_below nodes 0) way
-kept_way_is number nodes lents place leaf way at linked once leads =
-    subst (λ (literals : List Literal). IsWayTo number (tree_below nodes 0) literals)
-    (append-nil (reverse (reverse way)) ∙ reverse-reverse way)
-    (leads_whole number nodes (reverse way) leaf [] linked once leads
+    (zone_box : List Literal) → IsLeafAt number nodes lents place leaf → IsLinked nodes
+    → times_lent number (tree_below nodes 0) ≡ 1 → LeadsToNode nodes (reverse zone_box) leaf
+    → IsPathTo number (tree_below nodes 0) zone_box
+kept_way_is number nodes lents place leaf zone_box at linked once leads =
+    subst (λ (literals : List Literal). IsPathTo number (tree_below nodes 0) literals)
+    (append-nil (reverse (reverse zone_box)) ∙ reverse-reverse zone_box)
+    (leads_whole number nodes (reverse zone_box) leaf [] linked once leads
     (way_starts number nodes lents place leaf any_node [] at refl))

@@ -11,15 +11,15 @@ use Rattle.std.proofs.lemmas.List.{get_or_append_left, get_or-append-add, get_or
 use Rattle.std.proofs.lemmas.List.{reverse-append}
 use Rattle.league_core.specs.declared.zone.Test.{Test}
 use Rattle.league_core.specs.declared.zone.Literal.{Literal}
-use Rattle.league_core.specs.Zones.{with_test}
-use Rattle.league_core.specs.Trees.{Tree, open_leaf, lent_leaf, branch}
-use Rattle.league_core.specs.Lending.{times_lent, lent_zones}
+use Rattle.league_core.specs.search.Zones.{with_test}
+use Rattle.league_core.specs.search.Trees.{Tree, open_leaf, lent_leaf, branch}
+use Rattle.league_core.specs.inside.Lending.{times_lent, lent_zones}
 use Rattle.league_core.proofs.LendingLemmas.{length-lent_zones, lent_zones_absent}
 use Rattle.tree_reuse.specs.declared.node.Kind.{Kind}
 use Rattle.tree_reuse.specs.declared.node.Kind.TheVariants.{Open, Lent, Refuted, Split}
 use Rattle.tree_reuse.specs.declared.node.Node.{Node}
-use Rattle.tree_reuse.specs.Arena.{shape_over, shapes, tree_below, IsHalf, IsLinked, IsLeafKind}
-use Rattle.tree_reuse.specs.Arena.{IsWayTo, IsLeafAt}
+use Rattle.tree_reuse.specs.inside.Arena.{shape_over, shapes, tree_below, IsHalf, IsLinked}
+use Rattle.tree_reuse.specs.inside.Arena.{IsLeafKind, IsPathTo, IsLeafAt}
 use Rattle.tree_reuse.proofs.ShapeLemmas.{shapes-at}
 
 -- what stands within a list is the same, whatever is said of what stands past it
@@ -305,48 +305,49 @@ below_root number nodes default (suc fuel) (suc at) linked few within =
         omega arith
 
 -- the way to a leaf that is lent is empty
-pub way_to_leaf : (number : ℕ) → IsWayTo number (lent_leaf number) []
+pub way_to_leaf : (number : ℕ) → IsPathTo number (lent_leaf number) []
 way_to_leaf number = record {
   zones = λ zone. ap (λ b. cond b (zone ∷ []) []) (eq-eqb number number refl)
       ∙ ap (λ z. z ∷ []) (sym (append-nil zone));
 }
 
 -- a leaf that is lent once has one zone
-lent_once : (number : ℕ) (tree : Tree) (way : List Literal) → IsWayTo number tree way
+lent_once : (number : ℕ) (tree : Tree) (zone_box : List Literal) → IsPathTo number tree zone_box
     → times_lent number tree ≡ 1
-lent_once number tree way to =
+lent_once number tree zone_box to =
     sym (length-lent_zones number tree []) ∙ ap length (to.zones [])
 
 -- one literal more leads from the split to the leaf
 way_beside : (number : ℕ) (side : Bool) (test : Test) (fresh : Bool) (here other : Tree)
-    (way : List Literal) → IsWayTo number here way → times_lent number other ≡ 0
-    → IsWayTo number (half_beside side test fresh here other)
-    (record { test = test; yes = side } ∷ way)
-way_beside number true test fresh here other way to none = record {
+    (zone_box : List Literal) → IsPathTo number here zone_box → times_lent number other ≡ 0
+    → IsPathTo number (half_beside side test fresh here other)
+    (record { test = test; yes = side } ∷ zone_box)
+way_beside number true test fresh here other zone_box to none = record {
   zones = λ zone.
       ap (λ zones. zones ++ lent_zones number (with_test zone test false) other)
       (to.zones (with_test zone test true))
-      ∙ ap (λ zones. ((with_test zone test true ++ way) ∷ []) ++ zones)
+      ∙ ap (λ zones. ((with_test zone test true ++ zone_box) ∷ []) ++ zones)
       (lent_zones_absent number other (with_test zone test false) none)
-      ∙ ap (λ z. z ∷ []) (append_assoc zone (record { test = test; yes = true } ∷ []) way);
+      ∙ ap (λ z. z ∷ []) (append_assoc zone (record { test = test; yes = true } ∷ []) zone_box);
 }
-way_beside number false test fresh here other way to none = record {
+way_beside number false test fresh here other zone_box to none = record {
   zones = λ zone.
       ap (λ zones. zones ++ lent_zones number (with_test zone test false) here)
       (lent_zones_absent number other (with_test zone test true) none)
       ∙ to.zones (with_test zone test false)
-      ∙ ap (λ z. z ∷ []) (append_assoc zone (record { test = test; yes = false } ∷ []) way);
+      ∙ ap (λ z. z ∷ []) (append_assoc zone (record { test = test; yes = false } ∷ []) zone_box);
 }
 
 -- so the way goes on from a node to its parent
 pub way_up : (number : ℕ) (nodes : List Node) (at : ℕ) (default : Node) (test : Test)
-    (fresh : Bool) (half : ℕ) (way : List Literal) → IsLinked nodes → 0 < at → at < length nodes
+    (fresh : Bool) (half : ℕ) (zone_box : List Literal) → IsLinked nodes → 0 < at
+    → at < length nodes
     → (get_or nodes (get_or nodes at default).parent default).kind ≡ Split test fresh half
     → times_lent number (tree_below nodes 0) ≡ 1
-    → IsWayTo number (tree_below nodes at) way
-    → IsWayTo number (tree_below nodes (get_or nodes at default).parent)
-    (record { test = test; yes = (get_or nodes at default).yes } ∷ way)
-way_up number nodes at default test fresh half way linked later within is once to =
+    → IsPathTo number (tree_below nodes at) zone_box
+    → IsPathTo number (tree_below nodes (get_or nodes at default).parent)
+    (record { test = test; yes = (get_or nodes at default).yes } ∷ zone_box)
+way_up number nodes at default test fresh half zone_box linked later within is once to =
     let node = get_or nodes at default in
     let link = linked at default later within in
     let before = link.0 in
@@ -356,12 +357,12 @@ way_up number nodes at default test fresh half way linked later within is once t
     half_is in
     let sum = half_lends number node.yes test fresh (tree_below nodes at) other in
     let both = ap (times_lent number) tree in
-    let here = lent_once number (tree_below nodes at) way to in
+    let here = lent_once number (tree_below nodes at) zone_box to in
     let most = below_root number nodes default node.parent node.parent linked (omega arith)
     (omega arith) in
     let none : times_lent number other ≡ 0 = omega arith in
-    subst (λ (t : Tree). IsWayTo number t (record { test = test; yes = node.yes } ∷ way))
-    (sym tree) (way_beside number node.yes test fresh (tree_below nodes at) other way to none)
+    subst (λ (t : Tree). IsPathTo number t (record { test = test; yes = node.yes } ∷ zone_box))
+    (sym tree) (way_beside number node.yes test fresh (tree_below nodes at) other zone_box to none)
 
 -- the parent of a node is a split
 pub parent_splits : (nodes : List Node) (at : ℕ) (default : Node) → IsLinked nodes → 0 < at
@@ -374,29 +375,31 @@ parent_splits nodes at default linked later within leaf =
 
 -- the way begins at the leaf
 pub way_starts : (number : ℕ) (nodes : List Node) (lents : List ℕ) (place leaf : ℕ)
-    (default : Node) (way : List Literal) → IsLeafAt number nodes lents place leaf → way ≡ []
-    → IsWayTo number (tree_below nodes leaf) (reverse way)
-way_starts number nodes lents place leaf default way at none =
-    subst (λ (literals : List Literal). IsWayTo number (tree_below nodes leaf) (reverse literals))
+    (default : Node) (zone_box : List Literal) → IsLeafAt number nodes lents place leaf
+    → zone_box ≡ []
+    → IsPathTo number (tree_below nodes leaf) (reverse zone_box)
+way_starts number nodes lents place leaf default zone_box at none =
+    subst (λ (literals : List Literal). IsPathTo number (tree_below nodes leaf) (reverse literals))
     (sym none)
-    (subst (λ (tree : Tree). IsWayTo number tree [])
+    (subst (λ (tree : Tree). IsPathTo number tree [])
     (sym (shapes-at nodes leaf default at.in_nodes
     ∙ ap (λ kind. shape_over kind (drop (suc leaf) (shapes nodes))) (at.kind default)))
     (way_to_leaf number))
 
 -- and goes on by one literal
 pub way_on : (number : ℕ) (nodes : List Node) (at : ℕ) (default : Node) (test : Test)
-    (fresh : Bool) (half : ℕ) (way more : List Literal) → IsLinked nodes → 0 < at
+    (fresh : Bool) (half : ℕ) (zone_box more : List Literal) → IsLinked nodes → 0 < at
     → at < length nodes
     → (get_or nodes (get_or nodes at default).parent default).kind ≡ Split test fresh half
     → times_lent number (tree_below nodes 0) ≡ 1
-    → IsWayTo number (tree_below nodes at) (reverse way)
-    → more ≡ way ++ record { test = test; yes = (get_or nodes at default).yes } ∷ []
-    → IsWayTo number (tree_below nodes (get_or nodes at default).parent) (reverse more)
-way_on number nodes at default test fresh half way more linked later within is once to longer =
+    → IsPathTo number (tree_below nodes at) (reverse zone_box)
+    → more ≡ zone_box ++ record { test = test; yes = (get_or nodes at default).yes } ∷ []
+    → IsPathTo number (tree_below nodes (get_or nodes at default).parent) (reverse more)
+way_on number nodes at default test fresh half zone_box more linked later within is once to longer =
     let literal : Literal = record { test = test; yes = (get_or nodes at default).yes } in
-    let turned : literal ∷ reverse way ≡ reverse more =
-    sym (ap reverse longer ∙ reverse-append way (literal ∷ [])) in
+    let turned : literal ∷ reverse zone_box ≡ reverse more =
+    sym (ap reverse longer ∙ reverse-append zone_box (literal ∷ [])) in
     subst (λ (literals : List Literal).
-    IsWayTo number (tree_below nodes (get_or nodes at default).parent) literals) turned
-    (way_up number nodes at default test fresh half (reverse way) linked later within is once to)
+    IsPathTo number (tree_below nodes (get_or nodes at default).parent) literals) turned
+    (way_up number nodes at default test fresh half (reverse zone_box) linked later within is once
+    to)

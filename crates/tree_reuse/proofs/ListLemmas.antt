@@ -6,9 +6,9 @@ use Rattle.std.specs.Option.{is_some}
 use Rattle.std.proofs.lemmas.Bool.{ne_eqb}
 use Rattle.league_core.specs.declared.tree.TreeNode.{TreeNode}
 use Rattle.league_core.specs.declared.tree.TreeNode.TheVariants.{Split, Open, Lent, Refuted}
-use Rattle.league_core.specs.Trees.{Tree, open_leaf, lent_leaf, refuted_leaf, branch}
-use Rattle.league_core.specs.TreeLists.{with_node, trees_of, only_tree, tree_of}
-use Rattle.tree_reuse.specs.Arena.{is_split_node}
+use Rattle.league_core.specs.search.Trees.{Tree, open_leaf, lent_leaf, refuted_leaf, branch}
+use Rattle.league_core.specs.inside.TreeLists.{with_node, trees_of, only_tree, tree_of}
+use Rattle.tree_reuse.specs.inside.Arena.{is_split_node}
 
 -- what stands from here on is so many trees
 pub record ReadsTrees (nodes : List TreeNode) (at count : ℕ) : Type 0 where
@@ -16,7 +16,7 @@ pub record ReadsTrees (nodes : List TreeNode) (at count : ℕ) : Type 0 where
   pub read : trees_of (drop at nodes) ≡ Some trees
   pub many : length trees ≡ count
 
--- in front of what is no trees nothing is read
+-- before what is no trees nothing is read
 with_node-none : (node : TreeNode) → with_node node None ≡ None
 with_node-none Open = refl
 with_node-none (Lent number) = refl
@@ -31,7 +31,7 @@ trees_of-none (suc at) [] unread = unread
 trees_of-none (suc at) (node ∷ nodes) unread =
     ap (with_node node) (trees_of-none at nodes unread) ∙ with_node-none node
 
--- the list from a node on, by what is behind it
+-- the list from a node on, by what comes after it
 read_at : (nodes : List TreeNode) (at from : ℕ) (default : TreeNode) → at < length nodes
     → from ≡ at + 1
     → trees_of (drop at nodes) ≡ with_node (get_or nodes at default) (trees_of (drop from nodes))

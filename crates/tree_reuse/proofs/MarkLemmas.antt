@@ -6,7 +6,7 @@ use Rattle.std.specs.List.{remove}
 use Rattle.std.proofs.lemmas.Bool.{cases_Bool, eqb-true, eqb-false, eq-eqb}
 use Rattle.std.proofs.lemmas.List.{get_or_past, set-get_or}
 use Rattle.std.proofs.lemmas.List.Sums.{sum_by_push, sum_by-remove}
-use Rattle.tree_reuse.specs.Arena.{total, times_in, IsListed}
+use Rattle.tree_reuse.specs.inside.Arena.{total, times_in, IsListed}
 
 -- one where two numbers are the same, none otherwise
 abbrev pub one_if : ℕ → ℕ → ℕ

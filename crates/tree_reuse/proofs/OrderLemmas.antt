@@ -15,12 +15,13 @@ use Rattle.league_core.specs.declared.zone.Test.{Test}
 use Rattle.tree_reuse.specs.declared.node.Kind.{Kind}
 use Rattle.tree_reuse.specs.declared.node.Kind.TheVariants.{Open, Lent, Refuted, Split}
 use Rattle.tree_reuse.specs.declared.node.Node.{Node}
-use Rattle.tree_reuse.specs.Arena.{AreHalvesWithin, AllWithin, IsLeafKind, times_in, with_kind}
-use Rattle.tree_reuse.specs.Arena.{halves_under, nodes_taken, places_taken, open_taken}
-use Rattle.tree_reuse.specs.Order.{opens_over, opens_from, opens_in}
+use Rattle.tree_reuse.specs.inside.Arena.{AreHalvesWithin, AllWithin, IsLeafKind, times_in}
+use Rattle.tree_reuse.specs.inside.Arena.{with_kind, halves_under, nodes_taken, places_taken}
+use Rattle.tree_reuse.specs.inside.Arena.{open_taken}
+use Rattle.tree_reuse.specs.inside.Order.{opens_over, opens_from, opens_in}
 use Rattle.tree_reuse.proofs.MarkLemmas.{one_if}
-use Rattle.league_core.specs.Trees.{Tree}
-use Rattle.tree_reuse.specs.Arena.{IsArena, open_mark}
+use Rattle.league_core.specs.search.Trees.{Tree}
+use Rattle.tree_reuse.specs.inside.Arena.{IsArena, open_mark}
 use Rattle.tree_reuse.proofs.ArenaLemmas.{marked_at}
 use Rattle.tree_reuse.proofs.MarkLemmas.{one_if-same}
 use Rattle.tree_reuse.proofs.RoomLemmas.{any_node}
@@ -86,7 +87,7 @@ over_replaced at number new (Split test fresh half) behind apart =
     (get_or-replaced at new behind (suc half))
     ∙ sym (replaced-append at new (get_or behind half []) (get_or behind (suc half) []))
 
--- what stands behind a number does not have it
+-- what comes after a number does not have it
 replaced-behind : (at more : ℕ) (new : List ℕ) (nodes : List Node) → at < more
     → map (replaced at new) (opens_from more nodes) ≡ opens_from more nodes
 replaced-behind at more new [] less = refl

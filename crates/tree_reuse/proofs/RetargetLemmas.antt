@@ -13,28 +13,27 @@ use Rattle.league_core.specs.declared.zone.Test.TheVariants.{Home, Draw, HomeMos
 use Rattle.league_core.specs.declared.zone.Literal.{Literal}
 use Rattle.league_core.specs.declared.tree.TreeNode.{TreeNode}
 use Rattle.league_core.specs.declared.tree.TreeNode.TheVariants.{Split, Open, Lent, Refuted}
-use Rattle.league_core.specs.Results.{Results}
-use Rattle.league_core.specs.Zones.{with_test, is_of_rival, is_of_score, marked_before}
-use Rattle.league_core.specs.Zones.{marked_after, is_marked, is_test_of}
-use Rattle.league_core.specs.Options.{has_finish}
-use Rattle.league_core.specs.Reasons.{has_reason}
-use Rattle.league_core.specs.Trees.{Tree, open_leaf, lent_leaf, refuted_leaf, branch, NodesMeet}
-use Rattle.league_core.specs.Trees.{preorder, node_count, new_count, has_open}
-use Rattle.league_core.specs.Lending.{lent_count, times_lent}
-use Rattle.league_core.specs.Splits.{IsProperNode, is_proper, have_both_finish}
+use Rattle.league_core.specs.game.Results.{Results}
+use Rattle.league_core.specs.search.Zones.{with_test, is_of_rival, is_of_score, marked_before}
+use Rattle.league_core.specs.search.Zones.{marked_after, is_marked, is_test_of}
+use Rattle.league_core.specs.search.Options.{has_finish}
+use Rattle.league_core.specs.search.Reasons.{has_reason}
+use Rattle.league_core.specs.search.Trees.{Tree, open_leaf, lent_leaf, refuted_leaf, branch}
+use Rattle.league_core.specs.search.Trees.{NodesMeet, preorder, node_count, new_count, has_open}
+use Rattle.league_core.specs.inside.Lending.{lent_count, times_lent}
+use Rattle.league_core.specs.search.Splits.{IsProperNode, is_proper, have_both_finish}
 use Rattle.league_core.proofs.HalfLemmas.{half_has_finish, root_has_finish, no_rival, after_in_half}
-use Rattle.league_core.specs.TreeLists.{tree_of, tree_of-preorder}
+use Rattle.league_core.specs.inside.TreeLists.{tree_of, tree_of-preorder}
 use Rattle.league_core.proofs.TreeLemmas.{length-preorder}
 use Rattle.league_core.proofs.TreeListLemmas.{preorder_injective}
 use Rattle.league_core.proofs.LendingLemmas.{times_lent-le}
 use Rattle.league_core.proofs.HalfLemmas.{before_in_half}
 use Rattle.tree_reuse.specs.declared.halves.Halves.{Halves}
 use Rattle.tree_reuse.specs.declared.halves.Halves.TheVariants.{Both, YesAlone, NoAlone}
-use Rattle.tree_reuse.specs.declared.halves.TheConstants.{MOST_KEPT}
-use Rattle.tree_reuse.specs.Calls.{IsNodeOf, AreTestsOf}
-use Rattle.tree_reuse.specs.Retargets.{halves_by, halves_in, leaf_kept, retargeted_from}
-use Rattle.tree_reuse.specs.Retargets.{within_limit, retargeted}
-use Rattle.tree_reuse.specs.RetargetLaws.{IsKeptNode}
+use Rattle.tree_reuse.specs.inside.Calls.{IsNodeOf, AreTestsOf}
+use Rattle.tree_reuse.specs.inside.Retargets.{halves_by, halves_in, leaf_kept, retargeted_from}
+use Rattle.tree_reuse.specs.inside.Retargets.{most_kept, within_limit, retargeted}
+use Rattle.tree_reuse.specs.inside.RetargetLaws.{IsKeptNode}
 
 -- what holds of the tree in each case of the halves that stay holds of the one that is chosen
 in_each : (P : Tree → Type 0) (halves : Halves) (both yes_half no_half : Tree)
@@ -267,12 +266,12 @@ kept_nodes sheet before season question was zone (branch test fresh yes_half no_
     (marks-score was zone test false (of_score.1 no) same) some proper.2)
 
 -- a tree within the limit stays, and one open leaf stands for another
-limit_cases : (P : Tree → Type 0) (tree : Tree) → (node_count tree ≤ MOST_KEPT → P tree)
+limit_cases : (P : Tree → Type 0) (tree : Tree) → (node_count tree ≤ most_kept → P tree)
     → P open_leaf → P (within_limit tree)
-limit_cases P tree within at_leaf = by_test (nat_le (node_count tree) MOST_KEPT) refl
+limit_cases P tree within at_leaf = by_test (nat_le (node_count tree) most_kept) refl
   where
-    by_test : (b : Bool) → nat_le (node_count tree) MOST_KEPT ≡ b → P (cond b tree open_leaf)
-    by_test true is = within (leb-true (node_count tree) MOST_KEPT is)
+    by_test : (b : Bool) → nat_le (node_count tree) most_kept ≡ b → P (cond b tree open_leaf)
+    by_test true is = within (leb-true (node_count tree) most_kept is)
     by_test false is = at_leaf
 
 -- what is carried over lends nothing
@@ -301,10 +300,10 @@ new_count-retargeted sheet season question tree =
 -- it has no more nodes than before, and no more than the limit
 pub node_count-retargeted : (sheet : Sheet) (season : Results) (question : Question) (tree : Tree)
     → (node_count (retargeted sheet season question tree) ≤ node_count tree)
-    × (node_count (retargeted sheet season question tree) ≤ MOST_KEPT)
+    × (node_count (retargeted sheet season question tree) ≤ most_kept)
 unfolding retargeted
 node_count-retargeted sheet season question tree =
-    limit_cases (λ new. (node_count new ≤ node_count tree) × (node_count new ≤ MOST_KEPT))
+    limit_cases (λ new. (node_count new ≤ node_count tree) × (node_count new ≤ most_kept))
     (retargeted_from sheet season question [] tree)
     (λ within. (node_count-retargeted_from sheet season question [] tree, within))
     (node_count-some tree, omega arith)
@@ -380,7 +379,7 @@ open_leaf_stays sheet season question tree is =
 -- a list of more nodes than the limit is that of a tree that becomes one open leaf
 pub retargeted-many : (sheet : Sheet) (season : Results) (question : Question) (tree : Tree)
     (found : List TreeNode) → found ≡ preorder (retargeted_from sheet season question [] tree)
-    → MOST_KEPT < length found → open_leaf ≡ retargeted sheet season question tree
+    → most_kept < length found → open_leaf ≡ retargeted sheet season question tree
 unfolding retargeted
 retargeted-many sheet season question tree found is many =
     let new = retargeted_from sheet season question [] tree in
@@ -390,7 +389,7 @@ retargeted-many sheet season question tree found is many =
 -- any other is that of the tree that is left
 pub retargeted-few : (sheet : Sheet) (season : Results) (question : Question) (tree kept : Tree)
     (found : List TreeNode) → found ≡ preorder (retargeted_from sheet season question [] tree)
-    → length found ≤ MOST_KEPT → preorder kept ≡ found
+    → length found ≤ most_kept → preorder kept ≡ found
     → kept ≡ retargeted sheet season question tree
 unfolding retargeted
 retargeted-few sheet season question tree kept found is few same =
@@ -398,7 +397,7 @@ retargeted-few sheet season question tree kept found is few same =
     let count : length found ≡ node_count new = ap length is ∙ length-preorder new in
     preorder_injective kept new (same ∙ is)
     ∙ ap (λ b. cond b new open_leaf)
-    (sym (le-leb (node_count new) MOST_KEPT (omega arith)))
+    (sym (le-leb (node_count new) most_kept (omega arith)))
 
 -- it is that of a tree
 pub retargeted-read : (sheet : Sheet) (season : Results) (question : Question) (tree : Tree)

@@ -8,20 +8,18 @@ use Rattle.std.specs.List.{remove}
 use Rattle.std.proofs.lemmas.Bool.{ltb-true}
 use Rattle.std.proofs.lemmas.List.{length-set}
 use Rattle.std.proofs.lemmas.List.Edits.{length-remove}
-use Rattle.league_core.specs.Rooms.{Roomy}
+use Rattle.league_core.specs.inside.Rooms.{RoomyListView}
 use Rattle.league_core.specs.declared.zone.Test.{Test}
 use Rattle.league_core.specs.declared.zone.Reason.{Reason}
-use Rattle.league_core.specs.Trees.{Tree, open_leaf, lent_leaf, refuted_leaf, branch, has_open}
-use Rattle.league_core.specs.Trees.{node_count}
-use Rattle.league_core.specs.Lending.{put, times_lent, lent_count, all_opened}
-use Rattle.tree_reuse.specs.declared.tree.TheConstants.{MOST_NODES}
+use Rattle.league_core.specs.search.Trees.{Tree, open_leaf, lent_leaf, refuted_leaf, branch}
+use Rattle.league_core.specs.search.Trees.{has_open, node_count}
+use Rattle.league_core.specs.inside.Lending.{put, times_lent, lent_count, all_opened}
 use Rattle.tree_reuse.specs.declared.node.Kind.{Kind}
 use Rattle.tree_reuse.specs.declared.node.Kind.TheVariants.{Open, Lent, Refuted, Split}
 use Rattle.tree_reuse.specs.declared.node.Node.{Node}
-use Rattle.tree_reuse.specs.Arena.{tree_below, total, marks, number_mark, with_kind, IsArena}
-use Rattle.tree_reuse.specs.Arena.{IsLeafAt}
-use Rattle.tree_reuse.specs.Arena.{IsRoomy, shapes, weights, times_in, IsListed, IsLeafKind}
-use Rattle.tree_reuse.specs.Arena.{open_mark, lent_mark}
+use Rattle.tree_reuse.specs.inside.Arena.{tree_below, total, marks, number_mark, with_kind, IsArena}
+use Rattle.tree_reuse.specs.inside.Arena.{IsLeafAt, IsRoomy, shapes, weights, times_in, IsListed}
+use Rattle.tree_reuse.specs.inside.Arena.{IsLeafKind, open_mark, lent_mark}
 use Rattle.tree_reuse.proofs.MarkLemmas.{one_if-other, one_if-same, times_in-push, listed_within}
 use Rattle.tree_reuse.proofs.MarkLemmas.{listed_added, listed_taken, taken_last}
 use Rattle.tree_reuse.proofs.ShapeLemmas.{shapes-set_opened, get_or-mapped}
@@ -30,13 +28,14 @@ use Rattle.tree_reuse.proofs.ArenaLemmas.{arena-nodes, arena-lent, arena-number,
 use Rattle.tree_reuse.proofs.ArenaLemmas.{top_is_open, lent_step, lent_once_step, lent_tree}
 use Rattle.tree_reuse.proofs.ArenaLemmas.{reopened_step, refuted_step, leaf_tree, nodes_split}
 use Rattle.tree_reuse.proofs.ArenaLemmas.{split_step, split_tree}
+use Rattle.tree_reuse.specs.inside.Calls.{most_nodes}
 
 -- some node, for what stands past a list
 abbrev pub any_node : Node
 any_node = record { kind = Open; parent = 0; yes = false }
 
 -- where a leaf is open the stack has it
-pub some_waiting : (nodes : Roomy Node) (waiting lent : Roomy ℕ) (tree : Tree)
+pub some_waiting : (nodes : RoomyListView Node) (waiting lent : RoomyListView ℕ) (tree : Tree)
     → IsRoomy nodes waiting lent → tree_below nodes.items 0 ≡ tree → has_open tree ≡ true
     → 0 < length waiting.items
 some_waiting nodes waiting lent tree roomy is some =
@@ -45,14 +44,16 @@ some_waiting nodes waiting lent tree roomy is some =
     ∙ ap has_open is ∙ some)
 
 -- what a write and two moves between the lists make of a tree
-pub record LendsLast (number : ℕ) (tree : Tree) (nodes : Roomy Node) (waiting lent : Roomy ℕ)
+pub record LendsLast (number : ℕ) (tree : Tree) (nodes : RoomyListView Node)
+    (waiting lent : RoomyListView ℕ)
     : Type 0 where
   pub roomy : IsRoomy nodes waiting lent
   pub back : put number open_leaf (tree_below nodes.items 0) ≡ tree
   pub once : times_lent number (tree_below nodes.items 0) ≡ 1
 
 -- the leaf that was on top
-pub last_within : (nodes more : Roomy Node) (waiting taken lent last : Roomy ℕ) (leaf : ℕ)
+pub last_within : (nodes more : RoomyListView Node) (waiting taken lent last : RoomyListView ℕ)
+    (leaf : ℕ)
     → IsRoomy nodes waiting lent → more.items ≡ nodes.items → taken.items ≡ waiting.items
     → taken.items ≡ last.items ++ leaf ∷ [] → leaf < length more.items
 last_within nodes more waiting taken lent last leaf roomy same same_waiting popped =
@@ -61,10 +62,10 @@ last_within nodes more waiting taken lent last leaf roomy same same_waiting popp
     let top = top_is_open nodes.items last.items lent.items leaf any_node arena in
     subst (λ (ns : List Node). leaf < length ns) (sym same) top.in_nodes
 
-pub lends_last : (number : ℕ) (tree : Tree) (nodes more done : Roomy Node)
-    (waiting taken last lent longer lents : Roomy ℕ) (leaf room : ℕ)
+pub lends_last : (number : ℕ) (tree : Tree) (nodes more done : RoomyListView Node)
+    (waiting taken last lent longer lents : RoomyListView ℕ) (leaf room : ℕ)
     → IsRoomy nodes waiting lent → tree_below nodes.items 0 ≡ tree
-    → times_lent number tree ≡ 0 → node_count tree + lent_count tree ≤ MOST_NODES
+    → times_lent number tree ≡ 0 → node_count tree + lent_count tree ≤ most_nodes
     → more.items ≡ nodes.items → taken.items ≡ waiting.items → longer.items ≡ lent.items
     → room ≡ 2 * (length lent.items + 1) → room ≤ more.room → room ≤ taken.room
     → taken.items ≡ last.items ++ leaf ∷ [] → last.room ≡ taken.room + 1
@@ -112,7 +113,8 @@ lends_last number tree nodes more done waiting taken last lent longer lents leaf
     }
 
 -- the leaf of a number is marked once
-pub marked_once : (number : ℕ) (tree : Tree) (nodes : Roomy Node) (waiting lent : Roomy ℕ)
+pub marked_once : (number : ℕ) (tree : Tree) (nodes : RoomyListView Node)
+    (waiting lent : RoomyListView ℕ)
     (list : List Node) → IsRoomy nodes waiting lent → tree_below nodes.items 0 ≡ tree
     → times_lent number tree ≡ 1 → list ≡ nodes.items
     → total (marks (number_mark number) list) ≡ 1
@@ -122,12 +124,14 @@ marked_once number tree nodes waiting lent list roomy is once same =
     ∙ ap (times_lent number) is ∙ once
 
 -- what the return of a lent leaf makes of a tree
-pub record Returns (tree : Tree) (nodes : Roomy Node) (waiting lent : Roomy ℕ) : Type 0 where
+pub record Returns (tree : Tree) (nodes : RoomyListView Node) (waiting lent : RoomyListView ℕ) :
+    Type 0 where
   pub roomy : IsRoomy nodes waiting lent
   pub tree_is : tree_below nodes.items 0 ≡ tree
 
 -- the leaf was taken off the list of lent ones
-pub leaf_removed : (number : ℕ) (nodes : Roomy Node) (lent less : Roomy ℕ) (list : List Node)
+pub leaf_removed : (number : ℕ) (nodes : RoomyListView Node) (lent less : RoomyListView ℕ)
+    (list : List Node)
     (slice : List ℕ) (place leaf : ℕ) → list ≡ nodes.items → slice ≡ lent.items
     → IsLeafAt number list slice place (get_or slice place 0)
     → leaf ≡ get_or lent.items place leaf → less.items ≡ remove lent.items place
@@ -146,7 +150,8 @@ leaf_removed number nodes lent less list slice place leaf same same_lent at take
     in_range (x ∷ xs) (suc i) other within = in_range xs i other (omega arith)
 
 -- so it stands among the nodes
-pub removed_within : (number : ℕ) (nodes : Roomy Node) (lent less : Roomy ℕ) (list : List Node)
+pub removed_within : (number : ℕ) (nodes : RoomyListView Node) (lent less : RoomyListView ℕ)
+    (list : List Node)
     (slice : List ℕ) (place leaf : ℕ) → list ≡ nodes.items → slice ≡ lent.items
     → IsLeafAt number list slice place (get_or slice place 0)
     → leaf ≡ get_or lent.items place leaf → less.items ≡ remove lent.items place
@@ -156,8 +161,9 @@ removed_within number nodes lent less list slice place leaf same same_lent at ta
     removed in
     there.in_nodes
 
-pub reopens : (number : ℕ) (tree : Tree) (nodes done : Roomy Node)
-    (waiting lent less longer : Roomy ℕ) (list : List Node) (slice : List ℕ) (place leaf : ℕ)
+pub reopens : (number : ℕ) (tree : Tree) (nodes done : RoomyListView Node)
+    (waiting lent less longer : RoomyListView ℕ) (list : List Node) (slice : List ℕ)
+    (place leaf : ℕ)
     → IsRoomy nodes waiting lent → tree_below nodes.items 0 ≡ tree → times_lent number tree ≡ 1
     → list ≡ nodes.items → slice ≡ lent.items
     → IsLeafAt number list slice place (get_or slice place 0)
@@ -193,7 +199,8 @@ reopens number tree nodes done waiting lent less longer list slice place leaf ro
           ∙ ap (put number open_leaf) is;
     }
 
-pub refutes : (number : ℕ) (tree : Tree) (nodes done : Roomy Node) (waiting lent less : Roomy ℕ)
+pub refutes : (number : ℕ) (tree : Tree) (nodes done : RoomyListView Node)
+    (waiting lent less : RoomyListView ℕ)
     (list : List Node) (slice : List ℕ) (place leaf : ℕ) (reason : Reason) (fresh : Bool)
     → IsRoomy nodes waiting lent → tree_below nodes.items 0 ≡ tree → times_lent number tree ≡ 1
     → list ≡ nodes.items → slice ≡ lent.items
@@ -230,7 +237,8 @@ refutes number tree nodes done waiting lent less list slice place leaf reason fr
           ∙ ap (put number (refuted_leaf reason fresh)) is;
     }
 
-pub splits : (number : ℕ) (tree : Tree) (nodes done : Roomy Node) (waiting lent less longer : Roomy
+pub splits : (number : ℕ) (tree : Tree) (nodes done : RoomyListView Node)
+    (waiting lent less longer : RoomyListView
     ℕ)
     (list : List Node) (slice : List ℕ) (place leaf half : ℕ) (test : Test)
     → IsRoomy nodes waiting lent → tree_below nodes.items 0 ≡ tree → times_lent number tree ≡ 1
@@ -277,8 +285,8 @@ splits number tree nodes done waiting lent less longer list slice place leaf hal
     }
 
 -- the same of the two nodes and the two numbers as they are pushed
-pub splits_pushed : (number : ℕ) (tree : Tree) (nodes written one two : Roomy Node)
-    (waiting lent less second first : Roomy ℕ) (list : List Node) (slice : List ℕ)
+pub splits_pushed : (number : ℕ) (tree : Tree) (nodes written one two : RoomyListView Node)
+    (waiting lent less second first : RoomyListView ℕ) (list : List Node) (slice : List ℕ)
     (place leaf size : ℕ) (test : Test)
     → IsRoomy nodes waiting lent → tree_below nodes.items 0 ≡ tree → times_lent number tree ≡ 1
     → list ≡ nodes.items → slice ≡ lent.items
@@ -347,7 +355,7 @@ root_arena = record {
 }
 
 -- one open leaf is an arena
-root_roomy : (nodes : Roomy Node) (waiting lent : Roomy ℕ)
+root_roomy : (nodes : RoomyListView Node) (waiting lent : RoomyListView ℕ)
     → nodes.items ≡ record { kind = Open; parent = 0; yes = true } ∷ [] → waiting.items ≡ 0 ∷ []
     → lent.items ≡ [] → IsRoomy nodes waiting lent
 root_roomy nodes waiting lent nodes_are waiting_are none =
@@ -362,7 +370,7 @@ root_roomy nodes waiting lent nodes_are waiting_are none =
     }
 
 -- one open leaf is an arena, as it is pushed on empty lists
-pub root_pushed : (nodes begun : Roomy Node) (waiting started lent : Roomy ℕ)
+pub root_pushed : (nodes begun : RoomyListView Node) (waiting started lent : RoomyListView ℕ)
     (none : List Node) (empty : List ℕ)
     → nodes.items ≡ begun.items ++ record { kind = Open; parent = 0; yes = true } ∷ []
     → begun.items ≡ none → none ≡ [] → waiting.items ≡ started.items ++ 0 ∷ []
@@ -375,7 +383,8 @@ root_pushed nodes begun waiting started lent none empty pushed begun_is none_is 
     (waits ∙ ap (λ list. list ++ 0 ∷ []) (started_is ∙ empty_is)) no_lent
 
 -- a leaf that goes off the end of the list of lent ones is open
-pub record OpensLast (opened : Tree) (nodes : Roomy Node) (waiting lent : Roomy ℕ) : Type 0 where
+pub record OpensLast (opened : Tree) (nodes : RoomyListView Node) (waiting lent : RoomyListView ℕ) :
+    Type 0 where
   pub roomy : IsRoomy nodes waiting lent
   pub same : all_opened (tree_below nodes.items 0) ≡ opened
 
@@ -392,7 +401,7 @@ lent_marks (Refuted reason fresh) marked = absurd (omega arith)
 lent_marks (Split test fresh half) marked = absurd (omega arith)
 
 -- it stands among the nodes, and is lent
-pub last_lent : (nodes : Roomy Node) (waiting lent less : Roomy ℕ) (leaf : ℕ)
+pub last_lent : (nodes : RoomyListView Node) (waiting lent less : RoomyListView ℕ) (leaf : ℕ)
     → IsRoomy nodes waiting lent → lent.items ≡ less.items ++ leaf ∷ []
     → (leaf < length nodes.items) × (1 ≤ lent_mark (get_or nodes.items leaf any_node).kind)
 last_lent nodes waiting lent less leaf roomy popped =
@@ -409,7 +418,8 @@ last_lent nodes waiting lent less leaf roomy popped =
     let some = marked.1 in
     (within, omega arith)
 
-pub opens_last : (opened : Tree) (nodes done : Roomy Node) (waiting lent less longer : Roomy ℕ)
+pub opens_last : (opened : Tree) (nodes done : RoomyListView Node)
+    (waiting lent less longer : RoomyListView ℕ)
     (leaf : ℕ) → IsRoomy nodes waiting lent → all_opened (tree_below nodes.items 0) ≡ opened
     → lent.items ≡ less.items ++ leaf ∷ [] → done.room ≡ nodes.room
     → ((default : Node) → done.items
@@ -466,7 +476,7 @@ all_opened-none (branch test fresh yes_half no_half) none =
     (all_opened-none yes_half (omega arith))
     ∙ ap (λ half. branch test fresh yes_half half) (all_opened-none no_half (omega arith))
 
-pub opens_all : (opened : Tree) (nodes : Roomy Node) (waiting lent : Roomy ℕ)
+pub opens_all : (opened : Tree) (nodes : RoomyListView Node) (waiting lent : RoomyListView ℕ)
     → OpensLast opened nodes waiting lent → length lent.items ≡ 0
     → tree_below nodes.items 0 ≡ opened
 opens_all opened nodes waiting lent opens none =

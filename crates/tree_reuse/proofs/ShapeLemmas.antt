@@ -5,19 +5,19 @@ use Rattle.std.proofs.Common.{[], ◌∷◌, ◌++◌, length, map, get_or, set,
 use Rattle.std.proofs.Common.{arith}
 use Rattle.std.proofs.lemmas.Bool.{eq-eqb}
 use Rattle.league_core.specs.declared.zone.Test.{Test}
-use Rattle.league_core.specs.Trees.{Tree, open_leaf, lent_leaf, branch}
-use Rattle.league_core.specs.Lending.{put, all_opened}
+use Rattle.league_core.specs.search.Trees.{Tree, open_leaf, lent_leaf, branch}
+use Rattle.league_core.specs.inside.Lending.{put, all_opened}
 use Rattle.tree_reuse.specs.declared.node.Kind.{Kind}
 use Rattle.tree_reuse.specs.declared.node.Kind.TheVariants.{Open, Lent, Refuted, Split}
 use Rattle.tree_reuse.specs.declared.node.Node.{Node}
-use Rattle.tree_reuse.specs.Arena.{shape_over, shapes, tree_below, total, marks, number_mark}
-use Rattle.tree_reuse.specs.Arena.{lent_mark}
+use Rattle.tree_reuse.specs.inside.Arena.{shape_over, shapes, tree_below, total, marks, number_mark}
+use Rattle.tree_reuse.specs.inside.Arena.{lent_mark}
 
 pub length-shapes : (nodes : List Node) → length (shapes nodes) ≡ length nodes
 length-shapes [] = refl
 length-shapes (node ∷ nodes) = ap suc (length-shapes nodes)
 
--- the tree of a node by the trees behind it
+-- the tree of a node by the trees after it
 pub shapes-at : (nodes : List Node) (at : ℕ) (default : Node) → at < length nodes
     → tree_below nodes at ≡ shape_over (get_or nodes at default).kind (drop (suc at) (shapes nodes))
 shapes-at [] at default within = absurd (omega arith)
@@ -46,7 +46,7 @@ split_mapped change leaf test fresh half trees into =
     ∙ ap (λ tree. branch test fresh (get_or (map change trees) half open_leaf) tree)
     (sym (get_or-mapped change leaf trees (suc half)))
 
--- where a node is not lent under the number, the tree that is put there comes in behind it
+-- where a node is not lent under the number, the tree that is put there comes in after it
 put_over : (number : ℕ) (new : Tree) (kind : Kind) (trees : List Tree)
     → number_mark number kind ≡ 0
     → put number new (shape_over kind trees) ≡ shape_over kind (map (put number new) trees)

@@ -6,13 +6,13 @@ use Rattle.std.proofs.Common.{append-nil}
 use Rattle.std.proofs.lemmas.List.{reverse-append}
 use Rattle.league_core.specs.declared.tree.TreeNode.{TreeNode}
 use Rattle.league_core.specs.declared.zone.Test.{Test}
-use Rattle.league_core.specs.Trees.{branch, preorder, node_count}
+use Rattle.league_core.specs.search.Trees.{branch, preorder, node_count}
 use Rattle.tree_reuse.specs.declared.node.Kind.{Kind}
 use Rattle.tree_reuse.specs.declared.node.Kind.TheVariants.{Open, Lent, Refuted, Split}
 use Rattle.tree_reuse.specs.declared.node.Node.{Node}
-use Rattle.tree_reuse.specs.Arena.{shape_over, shapes, tree_below, AllWithin, AreHalvesWithin}
-use Rattle.tree_reuse.specs.Arena.{listed_kind}
-use Rattle.tree_reuse.specs.Arena.{stack_after, pending, pending_count, AreNodes, HasRoomFor}
+use Rattle.tree_reuse.specs.inside.Arena.{shape_over, shapes, tree_below, AllWithin}
+use Rattle.tree_reuse.specs.inside.Arena.{AreHalvesWithin, listed_kind, stack_after, pending}
+use Rattle.tree_reuse.specs.inside.Arena.{pending_count, AreNodes, HasRoomFor}
 use Rattle.tree_reuse.specs.declared.node.TheConstants.{MOST_NUMBERS}
 use Rattle.tree_reuse.proofs.ShapeLemmas.{shapes-at}
 use Rattle.tree_reuse.proofs.LinkLemmas.{half_tree}

@@ -7,17 +7,16 @@ use Rattle.std.proofs.Common.{◌∙◌}
 use Rattle.std.proofs.Common.{subst, arith, length-append}
 use Rattle.std.proofs.lemmas.List.{get_or_append_left, length-set, length-map}
 use Rattle.league_core.specs.declared.zone.Test.{Test}
-use Rattle.league_core.specs.Trees.{Tree, open_leaf, lent_leaf, refuted_leaf, branch, node_count}
-use Rattle.league_core.specs.Trees.{has_open}
-use Rattle.league_core.specs.Lending.{lent_count, times_lent}
+use Rattle.league_core.specs.search.Trees.{Tree, open_leaf, lent_leaf, refuted_leaf, branch}
+use Rattle.league_core.specs.search.Trees.{node_count, has_open}
+use Rattle.league_core.specs.inside.Lending.{lent_count, times_lent}
 use Rattle.league_core.proofs.LendingLemmas.{some_of_sum}
 use Rattle.tree_reuse.specs.declared.node.Kind.{Kind}
 use Rattle.tree_reuse.specs.declared.node.Kind.TheVariants.{Open, Lent, Refuted, Split}
 use Rattle.tree_reuse.specs.declared.node.Node.{Node}
-use Rattle.tree_reuse.specs.Arena.{shape_over, shapes, tree_below, total, weight_over, weights}
-use Rattle.tree_reuse.specs.Arena.{IsWhole}
-use Rattle.tree_reuse.specs.Arena.{AreHalvesWithin, AllWithin, IsLeafKind, open_mark, lent_mark}
-use Rattle.tree_reuse.specs.Arena.{number_mark, node_mark, marks}
+use Rattle.tree_reuse.specs.inside.Arena.{shape_over, shapes, tree_below, total, weight_over}
+use Rattle.tree_reuse.specs.inside.Arena.{weights, IsWhole, AreHalvesWithin, AllWithin, IsLeafKind}
+use Rattle.tree_reuse.specs.inside.Arena.{open_mark, lent_mark, number_mark, node_mark, marks}
 use Rattle.tree_reuse.proofs.MarkLemmas.{total-append, total-set}
 use Rattle.tree_reuse.proofs.ShapeLemmas.{length-shapes}
 
@@ -74,7 +73,7 @@ within-set_leaf (node ∷ nodes) (suc at) written within new = (
   within-set_leaf nodes at written within.1 new,
 )
 
--- weights further behind change nothing for a node whose halves stand before them
+-- weights further after change nothing for a node whose halves stand before them
 weight_over-within : (own : ℕ) (kind : Kind) (ws more : List ℕ) → AreHalvesWithin kind (length ws)
     → weight_over own kind (ws ++ more) ≡ weight_over own kind ws
 weight_over-within own Open ws more within = refl

@@ -3,8 +3,8 @@
 ghost use Rattle.std.specs.Prelude.{◌≡◌, ◌<◌, length, slice_index, slice_index_or};
 ghost use Rattle.std.specs.Prelude.{slice_set, if◌then◌else◌};
 ghost use Rattle.tree_reuse.specs.declared.node.Node.{Node};
-ghost use Rattle.tree_reuse.specs.Arena.{with_kind, IsListed, marks, lent_mark, number_mark, total};
-ghost use Rattle.tree_reuse.specs.Arena.{IsLeafAt};
+ghost use Rattle.tree_reuse.specs.inside.Arena.{with_kind, IsListed, marks, lent_mark, number_mark};
+ghost use Rattle.tree_reuse.specs.inside.Arena.{total, IsLeafAt};
 
 use crate::node::{Kind, Node};
 use league_core::RoomyList;

@@ -3,13 +3,13 @@
 ghost use Rattle.std.specs.Prelude.{◌≡◌, ◌<◌, ◌≤◌, ◌+◌, ◌++◌, ◌∷◌, [], ℕ, List, length, reverse};
 ghost use Rattle.std.specs.Prelude.{IfOk, IsTrue};
 ghost use Rattle.std.specs.Option.{is_some};
-ghost use Rattle.league_core.specs.TreeLists.{tree_of};
-ghost use Rattle.tree_reuse.specs.Arena.{kind_over, halves_under, is_split_node};
-ghost use Rattle.tree_reuse.specs.Builds.{Starts, TakesNode, IsBuilt};
+ghost use Rattle.league_core.specs.inside.TreeLists.{tree_of};
+ghost use Rattle.tree_reuse.specs.inside.Arena.{kind_over, halves_under, is_split_node};
+ghost use Rattle.tree_reuse.specs.inside.Calls.{most_nodes};
+ghost use Rattle.tree_reuse.specs.inside.Builds.{Starts, TakesNode, IsBuilt};
 
 use crate::arena::write;
 use crate::node::{Kind, MOST_NUMBERS, Node};
-use crate::tree::MOST_NODES;
 use league_core::{OutOfMemory, RoomyList, TreeNode};
 use std::alloc::Global;
 
@@ -77,7 +77,7 @@ impl Build {
 
     /// What is made of the list of a tree. The first open leaf of the list is on top of the stack.
     pub fn of_list(alloc: Global, list: &[TreeNode]) -> Result<Build, OutOfMemory>
-        requires few { length list.now ≤ MOST_NODES }
+        requires few { length list.now ≤ most_nodes }
         requires some { IsTrue (is_some (tree_of list.now)) }
         ensures { IfOk result (IsBuilt list.now) }
     {

@@ -2,23 +2,23 @@
 
 ghost use Rattle.std.specs.Prelude.{◌≡◌, ◌<◌, ◌≤◌, IsTrue, [], ◌∷◌, ◌++◌, length, reverse, IfOk};
 ghost use Rattle.std.specs.Prelude.{OnOk, Some};
-ghost use Rattle.league_core.specs.Zones.{is_test_of};
-ghost use Rattle.league_core.specs.Options.{has_finish};
-ghost use Rattle.league_core.specs.Reasons.{has_reason};
-ghost use Rattle.league_core.specs.Trees.{preorder};
+ghost use Rattle.league_core.specs.search.Zones.{is_test_of};
+ghost use Rattle.league_core.specs.search.Options.{has_finish};
+ghost use Rattle.league_core.specs.search.Reasons.{has_reason};
+ghost use Rattle.league_core.specs.search.Trees.{preorder};
 ghost use Rattle.tree_reuse.specs.declared.carry.Part.TheVariants.{Kept};
-ghost use Rattle.tree_reuse.specs.Retargets.{halves_in, leaf_kept, retargeted_from};
-ghost use Rattle.tree_reuse.specs.Carrying.{way_after, halves_kept};
-ghost use Rattle.tree_reuse.specs.Steps.{literal_of, zone_of_part};
-ghost use Rattle.tree_reuse.specs.Carrying.{parts_after, parts_dropped, parts_next, split_kept};
-ghost use Rattle.tree_reuse.specs.Carrying.{nodes_kept, nodes_next, IsLiteralOf};
-ghost use Rattle.tree_reuse.specs.Calls.{IsNodeOf};
-ghost use Rattle.tree_reuse.specs.Carrying.{ArePartsOf};
-ghost use Rattle.tree_reuse.specs.Calls.{AreTestsOf};
+ghost use Rattle.tree_reuse.specs.inside.Retargets.{halves_in, leaf_kept, retargeted_from};
+ghost use Rattle.tree_reuse.specs.inside.Carrying.{path_after, halves_kept};
+ghost use Rattle.tree_reuse.specs.inside.Steps.{literal_of, zone_of_part};
+ghost use Rattle.tree_reuse.specs.inside.Carrying.{parts_after, parts_dropped, parts_next};
+ghost use Rattle.tree_reuse.specs.inside.Carrying.{split_kept, nodes_kept, nodes_next, IsLiteralOf};
+ghost use Rattle.tree_reuse.specs.inside.Calls.{IsNodeOf};
+ghost use Rattle.tree_reuse.specs.inside.Carrying.{ArePartsOf};
+ghost use Rattle.tree_reuse.specs.inside.Calls.{AreTestsOf};
 
+use crate::box_moves::back_to;
 use crate::halves::Halves;
 use crate::tree::Tree;
-use crate::way::back_to;
 use league_core::{Literal, OutOfMemory, Question, Reason, Test, TreeNode};
 use score_box::ZoneBox;
 use std::alloc::Global;
@@ -37,18 +37,19 @@ pub enum Part {
 }
 
 // Which halves a split keeps here.
-fn halves(way: &mut ZoneBox, test: Test) -> Result<Halves, OutOfMemory>
-    requires { IsTrue (is_test_of way.old.sheet test) }
+fn halves(zone_box: &mut ZoneBox, test: Test) -> Result<Halves, OutOfMemory>
+    requires { IsTrue (is_test_of zone_box.old.sheet test) }
     ensures { IfOk result (λ halves.
-        (way.new ≡ way.old) × (halves ≡ halves_in way.old.sheet way.old.season way.old.zone test)) }
+        (zone_box.new ≡ zone_box.old)
+        × (halves ≡ halves_in zone_box.old.sheet zone_box.old.season zone_box.old.zone test)) }
 {
     if let Test::Rival { .. } = test {
         return Ok(Halves::Both);
     }
-    if !has_half(way, Literal { test, yes: true })? {
+    if !has_half(zone_box, Literal { test, yes: true })? {
         return Ok(Halves::NoAlone);
     }
-    let has_no_half = has_half(way, Literal { test, yes: false })?;
+    let has_no_half = has_half(zone_box, Literal { test, yes: false })?;
     Ok(if has_no_half {
         Halves::Both
     } else {
@@ -56,14 +57,15 @@ fn halves(way: &mut ZoneBox, test: Test) -> Result<Halves, OutOfMemory>
     })
 }
 
-fn has_half(way: &mut ZoneBox, literal: Literal) -> Result<bool, OutOfMemory>
-    requires { IsTrue (is_test_of way.old.sheet literal.test) }
-    ensures { IfOk result (λ has. (way.new ≡ way.old)
-        × (has ≡ has_finish way.old.sheet way.old.season (way.old.zone ++ literal ∷ []))) }
+fn has_half(zone_box: &mut ZoneBox, literal: Literal) -> Result<bool, OutOfMemory>
+    requires { IsTrue (is_test_of zone_box.old.sheet literal.test) }
+    ensures { IfOk result (λ has. (zone_box.new ≡ zone_box.old)
+        × (has ≡ has_finish zone_box.old.sheet zone_box.old.season
+        (zone_box.old.zone ++ literal ∷ []))) }
 {
-    way.cut(literal)?;
-    let has = way.has_finish();
-    way.uncut();
+    zone_box.cut(literal)?;
+    let has = zone_box.has_finish();
+    zone_box.uncut();
     Ok(has)
 }
 
@@ -109,21 +111,22 @@ fn drop_node(node: TreeNode, parts: &mut Vec<Part>) -> Result<(), OutOfMemory>
 }
 
 fn keep_split(
-    way: &mut ZoneBox,
+    zone_box: &mut ZoneBox,
     test: Test,
     parts: &mut Vec<Part>,
     found: &mut Vec<TreeNode>,
 ) -> Result<(), OutOfMemory>
-    requires { IsTrue (is_test_of way.old.sheet test) }
-    ensures same { IfOk result (λ _. way.new ≡ way.old) }
+    requires { IsTrue (is_test_of zone_box.old.sheet test) }
+    ensures same { IfOk result (λ _. zone_box.new ≡ zone_box.old) }
     ensures parts { IfOk result (λ _. reverse parts.new.items
-        ≡ halves_kept (halves_in way.old.sheet way.old.season way.old.zone test)
-        (length way.old.zone) test (reverse parts.old.items)) }
+        ≡ halves_kept (halves_in zone_box.old.sheet zone_box.old.season zone_box.old.zone test)
+        (length zone_box.old.zone) test (reverse parts.old.items)) }
     ensures found { IfOk result (λ _. found.new.items ≡ found.old.items
-        ++ split_kept (halves_in way.old.sheet way.old.season way.old.zone test) test) }
+        ++ split_kept (halves_in zone_box.old.sheet zone_box.old.season zone_box.old.zone test)
+        test) }
 {
-    let halves = halves(way, test)?;
-    push_halves(parts, halves, way.zone().len(), test)?;
+    let halves = halves(zone_box, test)?;
+    push_halves(parts, halves, zone_box.zone().len(), test)?;
     if let Halves::Both = halves {
         found.push(TreeNode::Split { test, fresh: false })?;
     }
@@ -131,17 +134,18 @@ fn keep_split(
 }
 
 fn keep_leaf(
-    way: &ZoneBox,
+    zone_box: &ZoneBox,
     question: &Question,
     reason: Reason,
     found: &mut Vec<TreeNode>,
 ) -> Result<(), OutOfMemory>
-    requires { question.now.club < length way.now.sheet.clubs }
+    requires { question.now.club < length zone_box.now.sheet.clubs }
     ensures { IfOk result (λ _. found.new.items ≡ found.old.items
         ++ preorder (leaf_kept
-        (has_reason way.now.sheet way.now.season question.now way.now.zone reason) reason)) }
+        (has_reason zone_box.now.sheet zone_box.now.season question.now zone_box.now.zone reason)
+        reason)) }
 {
-    let node = if holds(way, question, &reason) {
+    let node = if holds(zone_box, question, &reason) {
         TreeNode::Refuted {
             reason,
             fresh: false,
@@ -154,68 +158,72 @@ fn keep_leaf(
 }
 
 fn keep_node(
-    way: &mut ZoneBox,
+    zone_box: &mut ZoneBox,
     question: &Question,
     node: TreeNode,
     parts: &mut Vec<Part>,
     found: &mut Vec<TreeNode>,
 ) -> Result<(), OutOfMemory>
-    requires club { question.now.club < length way.old.sheet.clubs }
-    requires node { IsNodeOf way.old.sheet node }
-    ensures same { IfOk result (λ _. way.new ≡ way.old) }
+    requires club { question.now.club < length zone_box.old.sheet.clubs }
+    requires node { IsNodeOf zone_box.old.sheet node }
+    ensures same { IfOk result (λ _. zone_box.new ≡ zone_box.old) }
     ensures parts { IfOk result (λ _. reverse parts.new.items
-        ≡ parts_after way.old.sheet way.old.season way.old.zone node (reverse parts.old.items)) }
+        ≡ parts_after zone_box.old.sheet zone_box.old.season zone_box.old.zone node
+        (reverse parts.old.items)) }
     ensures found { IfOk result (λ _. found.new.items ≡ found.old.items
-        ++ nodes_kept way.old.sheet way.old.season question.now way.old.zone node) }
+        ++ nodes_kept zone_box.old.sheet zone_box.old.season question.now zone_box.old.zone node) }
 {
     match node {
         TreeNode::Open | TreeNode::Lent(_) => {
             found.push(TreeNode::Open)?;
             Ok(())
         }
-        TreeNode::Refuted { reason, .. } => keep_leaf(way, question, reason, found),
-        TreeNode::Split { test, .. } => keep_split(way, test, parts, found),
+        TreeNode::Refuted { reason, .. } => keep_leaf(zone_box, question, reason, found),
+        TreeNode::Split { test, .. } => keep_split(zone_box, test, parts, found),
     }
 }
 
-fn go_to(way: &mut ZoneBox, depth: usize, literal: Option<Literal>) -> Result<(), OutOfMemory>
-    requires depth { depth ≤ length way.old.zone }
-    requires literal { IsLiteralOf way.old.sheet literal }
+fn go_to(zone_box: &mut ZoneBox, depth: usize, literal: Option<Literal>) -> Result<(), OutOfMemory>
+    requires depth { depth ≤ length zone_box.old.zone }
+    requires literal { IsLiteralOf zone_box.old.sheet literal }
     ensures { IfOk result
-        (λ _. way.new ≡ record way.old { zone = zone_of_part way.old.zone depth literal }) }
+        (λ _. zone_box.new ≡ record zone_box.old
+        { zone = zone_of_part zone_box.old.zone depth literal }) }
 {
-    back_to(way, depth);
+    back_to(zone_box, depth);
     if let Some(literal) = literal {
-        way.cut(literal)?;
+        zone_box.cut(literal)?;
     }
     Ok(())
 }
 
 fn take_part(
-    way: &mut ZoneBox,
+    zone_box: &mut ZoneBox,
     question: &Question,
     part: Part,
     node: TreeNode,
     parts: &mut Vec<Part>,
     found: &mut Vec<TreeNode>,
 ) -> Result<(), OutOfMemory>
-    requires club { question.now.club < length way.old.sheet.clubs }
-    requires node { IsNodeOf way.old.sheet node }
-    requires part { ArePartsOf way.old.sheet (length way.old.zone) (part ∷ []) }
-    ensures way { IfOk result
-        (λ _. way.new ≡ record way.old { zone = way_after way.old.zone part }) }
+    requires club { question.now.club < length zone_box.old.sheet.clubs }
+    requires node { IsNodeOf zone_box.old.sheet node }
+    requires part { ArePartsOf zone_box.old.sheet (length zone_box.old.zone) (part ∷ []) }
+    ensures zone_box { IfOk result
+        (λ _. zone_box.new ≡ record zone_box.old { zone = path_after zone_box.old.zone part }) }
     ensures parts { IfOk result (λ _. reverse parts.new.items
-        ≡ parts_next way.old.sheet way.old.season (way_after way.old.zone part) part node
+        ≡ parts_next zone_box.old.sheet zone_box.old.season (path_after zone_box.old.zone part) part
+        node
         (reverse parts.old.items)) }
     ensures found { IfOk result (λ _. found.new.items ≡ found.old.items
-        ++ nodes_next way.old.sheet way.old.season question.now (way_after way.old.zone part) part
+        ++ nodes_next zone_box.old.sheet zone_box.old.season question.now
+        (path_after zone_box.old.zone part) part
         node) }
 {
     match part {
         Part::Dropped => drop_node(node, parts),
         Part::Kept { depth, literal } => {
-            go_to(way, depth, literal)?;
-            keep_node(way, question, node, parts, found)
+            go_to(zone_box, depth, literal)?;
+            keep_node(zone_box, question, node, parts, found)
         }
     }
 }
@@ -224,16 +232,17 @@ fn take_part(
 /// node. The box is one without a literal, and so it is again.
 pub fn carry(
     alloc: Global,
-    way: &mut ZoneBox,
+    zone_box: &mut ZoneBox,
     question: &Question,
     tree: &Tree,
 ) -> Result<Vec<TreeNode>, OutOfMemory>
-    requires root { way.old.zone ≡ [] }
-    requires club { question.now.club < length way.old.sheet.clubs }
-    requires tests { AreTestsOf way.old.sheet tree.now }
+    requires root { zone_box.old.zone ≡ [] }
+    requires club { question.now.club < length zone_box.old.sheet.clubs }
+    requires tests { AreTestsOf zone_box.old.sheet tree.now }
     ensures found { IfOk result (λ found. found.items
-        ≡ preorder (retargeted_from way.old.sheet way.old.season question.now [] tree.now)) }
-    ensures same { OnOk result (way.new ≡ way.old) }
+        ≡ preorder (retargeted_from zone_box.old.sheet zone_box.old.season question.now []
+        tree.now)) }
+    ensures same { OnOk result (zone_box.new ≡ zone_box.old) }
 {
     let nodes = tree.nodes()?;
     let mut parts = Vec::new(alloc);
@@ -242,9 +251,9 @@ pub fn carry(
     let mut found = Vec::with_capacity(alloc, nodes.len())?;
     let mut at = 0;
     while let Some(part) = parts.pop() {
-        take_part(way, question, part, nodes[at], &mut parts, &mut found)?;
+        take_part(zone_box, question, part, nodes[at], &mut parts, &mut found)?;
         at += 1;
     }
-    back_to(way, 0);
+    back_to(zone_box, 0);
     Ok(found)
 }

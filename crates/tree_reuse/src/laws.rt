@@ -1,12 +1,25 @@
-//! The laws of trees that are carried over to another season: functions that do nothing, each with
-//! laws as contract.
+//! The laws of trees and of what is carried over to another season: functions that do nothing, each
+//! with laws as contract.
 //!
-//! The statements are in `specs/RetargetLaws.antt`.
+//! The statements on what is carried over are in `specs/inside/RetargetLaws.antt`.
 
-ghost use Rattle.tree_reuse.specs.RetargetLaws.{RetargetedTreesLendNothing};
-ghost use Rattle.tree_reuse.specs.RetargetLaws.{RetargetedTreesHaveNothingNew};
-ghost use Rattle.tree_reuse.specs.RetargetLaws.{RetargetedTreesAreNoGreater};
-ghost use Rattle.tree_reuse.specs.RetargetLaws.{RetargetedTreesAreGood, ProperTreesAreOfTheSheet};
+ghost use Rattle.std.specs.Prelude.{◌≡◌};
+ghost use Rattle.tree_reuse.specs.inside.Calls.{most_nodes};
+ghost use Rattle.tree_reuse.specs.inside.Retargets.{most_kept};
+ghost use Rattle.tree_reuse.specs.inside.RetargetLaws.{RetargetedTreesLendNothing};
+ghost use Rattle.tree_reuse.specs.inside.RetargetLaws.{RetargetedTreesHaveNothingNew};
+ghost use Rattle.tree_reuse.specs.inside.RetargetLaws.{RetargetedTreesAreNoGreater};
+ghost use Rattle.tree_reuse.specs.inside.RetargetLaws.{RetargetedTreesAreGood};
+ghost use Rattle.tree_reuse.specs.inside.RetargetLaws.{ProperTreesAreOfTheSheet};
+
+use crate::halves::MOST_KEPT;
+use crate::tree::MOST_NODES;
+
+/// The constants are the numbers that the definitions state.
+pub fn constants_are_the_limits()
+    ensures nodes { MOST_NODES ≡ most_nodes }
+    ensures kept { MOST_KEPT ≡ most_kept }
+{}
 
 /// A tree that was carried over lends nothing, has nothing new and is no greater; where its splits
 /// were proper, all its nodes are good in the new season.

@@ -2,10 +2,10 @@
 
 ghost use Rattle.std.specs.Prelude.{◌≡◌, ◌<◌, ◌≤◌, ◌++◌, ◌∷◌, [], length, reverse, slice_index_or};
 ghost use Rattle.std.specs.Prelude.{IfOk};
-ghost use Rattle.league_core.specs.Trees.{preorder};
+ghost use Rattle.league_core.specs.search.Trees.{preorder};
 ghost use Rattle.tree_reuse.specs.declared.node.Node.{Node};
-ghost use Rattle.tree_reuse.specs.Arena.{AllWithin, tree_below, listed_kind, stack_after};
-ghost use Rattle.tree_reuse.specs.Arena.{HasRoomFor};
+ghost use Rattle.tree_reuse.specs.inside.Arena.{AllWithin, tree_below, listed_kind, stack_after};
+ghost use Rattle.tree_reuse.specs.inside.Arena.{HasRoomFor};
 
 use crate::node::{Kind, MOST_NUMBERS, Node};
 use league_core::{OutOfMemory, TreeNode};

@@ -5,8 +5,8 @@ use league_core::{Reason, Test};
 /// The most nodes of a tree, with two more for each lent leaf.
 pub const MOST_NUMBERS: u32 = 4_100_000_000;
 
-/// What stands in a node. The halves of a split stand behind it one after the other, the first of
-/// them so many places behind the next node.
+/// What stands in a node. The halves of a split come after it one after the other, the first of
+/// them so many places after the next node.
 #[derive(Clone, Copy)]
 pub enum Kind {
     Open,

@@ -1,15 +1,15 @@
 //! A tree carried over to another season.
 
 ghost use Rattle.std.specs.Prelude.{◌≡◌, ◌<◌, [], length, IfOk, OnOk};
-ghost use Rattle.league_core.specs.Seasons.{IsLeague};
-ghost use Rattle.tree_reuse.specs.Calls.{AreTestsOf};
-ghost use Rattle.tree_reuse.specs.Retargets.{retargeted};
+ghost use Rattle.league_core.specs.game.Seasons.{IsLeague};
+ghost use Rattle.tree_reuse.specs.inside.Calls.{AreTestsOf};
+ghost use Rattle.tree_reuse.specs.inside.Retargets.{retargeted};
 
+use crate::box_moves::root_box;
 use crate::carry::carry;
 use crate::halves::MOST_KEPT;
 use crate::stop::TreeStop;
 use crate::tree::Tree;
-use crate::way::root_box;
 use league_core::{OutOfMemory, Question, Season, Sheet};
 use score_box::{Played, ZoneBox};
 use std::alloc::Global;
@@ -51,26 +51,26 @@ pub fn retarget_over(
     if tree.is_one_open_leaf() {
         return Tree::root(alloc);
     }
-    let mut way = root_box(alloc, played)?;
-    retarget_by(alloc, &mut way, question, tree)
+    let mut zone_box = root_box(alloc, played)?;
+    retarget_by(alloc, &mut zone_box, question, tree)
 }
 
 /// What the season of this box leaves of a tree. The box is one without a literal, and after an
-/// `Ok` it is so again: it serves any number of trees. On want of memory nothing is said of it.
+/// `Ok` it is so again: it serves any number of trees. If memory runs out, nothing is said of it.
 pub fn retarget_by(
     alloc: Global,
-    way: &mut ZoneBox,
+    zone_box: &mut ZoneBox,
     question: &Question,
     tree: &Tree,
 ) -> Result<Tree, OutOfMemory>
-    requires root { way.old.zone ≡ [] }
-    requires club { question.now.club < length way.old.sheet.clubs }
-    requires tests { AreTestsOf way.old.sheet tree.now }
+    requires root { zone_box.old.zone ≡ [] }
+    requires club { question.now.club < length zone_box.old.sheet.clubs }
+    requires tests { AreTestsOf zone_box.old.sheet tree.now }
     ensures tree { IfOk result (λ new.
-        new ≡ retargeted way.old.sheet way.old.season question.now tree.now) }
-    ensures same { OnOk result (way.new ≡ way.old) }
+        new ≡ retargeted zone_box.old.sheet zone_box.old.season question.now tree.now) }
+    ensures same { OnOk result (zone_box.new ≡ zone_box.old) }
 {
-    let found = carry(alloc, way, question, tree)?;
+    let found = carry(alloc, zone_box, question, tree)?;
     if found.len() > MOST_KEPT as usize {
         return Tree::root(alloc);
     }

@@ -3,17 +3,17 @@
 ghost use Rattle.std.specs.Prelude.{◌≡◌, ◌≤◌, ◌+◌, ◌↔◌, true, length, IsTrue, IfOk};
 ghost use Rattle.std.specs.Prelude.{IfErr, OnOk, OnErr};
 ghost use Rattle.std.specs.Option.{is_some};
-ghost use Rattle.league_core.specs.TreeLists.{tree_of};
-ghost use Rattle.tree_reuse.specs.Stops.{WhyNoTree};
-ghost use Rattle.league_core.specs.Trees.{open_leaf, refuted_leaf, branch, node_count, has_open};
-ghost use Rattle.league_core.specs.Trees.{is_refuted, preorder, zones_of};
-ghost use Rattle.league_core.specs.Lending.{times_lent, lent_count, put, all_opened};
-ghost use Rattle.tree_reuse.specs.Calls.{Lending, literals_of};
-ghost use Rattle.tree_reuse.specs.Arena.{IsWayTo};
+ghost use Rattle.league_core.specs.inside.TreeLists.{tree_of};
+ghost use Rattle.tree_reuse.specs.inside.Stops.{WhyNoTree};
+ghost use Rattle.league_core.specs.search.Trees.{open_leaf, refuted_leaf, branch, node_count};
+ghost use Rattle.league_core.specs.search.Trees.{has_open, is_refuted, preorder, zones_of};
+ghost use Rattle.league_core.specs.inside.Lending.{times_lent, lent_count, put, all_opened};
+ghost use Rattle.tree_reuse.specs.inside.Calls.{Lending, literals_of, most_nodes};
+ghost use Rattle.tree_reuse.specs.inside.Arena.{IsPathTo};
 
 use crate::arena::{find, write};
 use crate::build::{Build, is_tree};
-use crate::kept_way::follow;
+use crate::last_path::move_to;
 use crate::list::list_nodes;
 use crate::node::{Kind, Node};
 use crate::stop::TreeStop;
@@ -34,26 +34,26 @@ pub struct Tree {
     lent: RoomyList<u32>,
     // The way from the root to a node, the one whose zone was answered last, and a list for the
     // time in which it is made.
-    way: Listing<Literal>,
+    zone_box: Listing<Literal>,
     last: u32,
     hand: Listing<Literal>,
 }
 
 impl Model for Tree {
-    ghost use Rattle.league_core.specs.Trees as trees;
-    ghost use Rattle.league_core.specs.TreeLists.{coded_tree};
+    ghost use Rattle.league_core.specs.search.Trees as trees;
+    ghost use Rattle.league_core.specs.inside.TreeLists.{coded_tree};
 
     ghost Value = { trees.Tree };
 
     ghost coded = { coded_tree };
 
-    ghost use Rattle.tree_reuse.specs.Arena.{tree_below};
-    ghost use Rattle.tree_reuse.specs.KeptWays.{KeepsWay};
+    ghost use Rattle.tree_reuse.specs.inside.Arena.{tree_below};
+    ghost use Rattle.tree_reuse.specs.inside.KeptWays.{KeepsPath};
 
     ghost view = { λ tree. tree_below tree.nodes.items 0 };
 
     ghost invariant = { λ tree.
-        KeepsWay tree.nodes tree.waiting tree.lent tree.way tree.last };
+        KeepsPath tree.nodes tree.waiting tree.lent tree.zone_box tree.last };
 }
 
 impl Tree {
@@ -72,14 +72,14 @@ impl Tree {
         });
         waiting.push(0);
         let lent = RoomyList::new(alloc);
-        let way = Listing::new(alloc);
+        let zone_box = Listing::new(alloc);
         let hand = Listing::new(alloc);
         Ok(Tree {
             alloc,
             nodes,
             waiting,
             lent,
-            way,
+            zone_box,
             last: 0,
             hand,
         })
@@ -115,11 +115,11 @@ impl Tree {
     }
 
     /// Lends an open leaf under a number that is not lent, and answers its zone; `None` where no
-    /// leaf is open. It takes the room that a split of this leaf needs; on want of memory the tree
+    /// leaf is open. It takes the room that a split of this leaf needs; if memory runs out the tree
     /// is as before. The leaf is the last one that was opened, of two halves the yes half.
     pub fn lend(&mut self, number: u64) -> Result<Option<Zone>, OutOfMemory>
         requires free { times_lent number self.old ≡ 0 }
-        requires few { node_count self.old + lent_count self.old ≤ MOST_NODES }
+        requires few { node_count self.old + lent_count self.old ≤ most_nodes }
         ensures ok { IfOk result (Lending number self.old self.new) }
         ensures err { OnErr result (self.new ≡ self.old) }
     {
@@ -139,7 +139,7 @@ impl Tree {
     // Lends the leaf on top of the open ones.
     fn lend_last(&mut self, number: u64) -> Result<(), OutOfMemory>
         requires free { times_lent number self.old ≡ 0 }
-        requires few { node_count self.old + lent_count self.old ≤ MOST_NODES }
+        requires few { node_count self.old + lent_count self.old ≤ most_nodes }
         requires some { has_open self.old ≡ true }
         ensures ok { OnOk result (put number open_leaf self.new ≡ self.old) }
         ensures once { OnOk result (times_lent number self.new ≡ 1) }
@@ -159,19 +159,19 @@ impl Tree {
     // The zone of the leaf that is lent under the number.
     fn zone(&mut self, number: u64) -> Result<Listing<Literal>, OutOfMemory>
         requires { times_lent number self.old ≡ 1 }
-        ensures way { IfOk result (IsWayTo number self.old) }
+        ensures zone_box { IfOk result (IsPathTo number self.old) }
         ensures same { self.new ≡ self.old }
     {
         let place = find(self.nodes.as_slice(), self.lent.as_slice(), number);
         let leaf = self.lent.as_slice()[place];
-        follow(
+        move_to(
             self.nodes.as_slice(),
             leaf,
             &mut self.last,
-            &mut self.way,
+            &mut self.zone_box,
             &mut self.hand,
         )?;
-        let literals = self.way.copy(self.alloc)?;
+        let literals = self.zone_box.copy(self.alloc)?;
         Ok(literals)
     }
 
@@ -243,10 +243,10 @@ impl Tree {
     }
 
     /// The tree whose nodes are this list; `NoTree` hands the list back exactly where no tree has
-    /// it, and want of memory lets it go. Its open leaves are lent as the list has them, the first
-    /// one first.
+    /// it, and running out of memory lets it go. Its open leaves are lent as the list has them, the
+    /// first one first.
     pub fn of_nodes(alloc: Global, nodes: Vec<TreeNode>) -> Result<Tree, TreeStop>
-        requires few { length nodes.items ≤ MOST_NODES }
+        requires few { length nodes.items ≤ most_nodes }
         ensures ok { IfOk result (λ tree. preorder tree ≡ nodes.items) }
         ensures err { IfErr result (WhyNoTree nodes.items) }
     {
@@ -260,7 +260,7 @@ impl Tree {
     }
 
     fn of_list(alloc: Global, list: &[TreeNode]) -> Result<Tree, OutOfMemory>
-        requires few { length list.now ≤ MOST_NODES }
+        requires few { length list.now ≤ most_nodes }
         requires some { IsTrue (is_some (tree_of list.now)) }
         ensures { IfOk result (λ tree. preorder tree ≡ list.now) }
     {
@@ -274,14 +274,14 @@ impl Tree {
             waiting,
             lent,
         } = build;
-        let way = Listing::new(alloc);
+        let zone_box = Listing::new(alloc);
         let hand = Listing::new(alloc);
         Ok(Tree {
             alloc,
             nodes,
             waiting,
             lent,
-            way,
+            zone_box,
             last: 0,
             hand,
         })

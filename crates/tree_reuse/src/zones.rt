@@ -2,10 +2,10 @@
 
 ghost use Rattle.std.specs.Prelude.{◌≡◌, ◌≤◌, ◌++◌, length, reverse, IsTrue, IfOk};
 ghost use Rattle.std.specs.Option.{is_some};
-ghost use Rattle.league_core.specs.Trees.{zones_of};
-ghost use Rattle.league_core.specs.TreeLists.{tree_of, tree_or_leaf};
-ghost use Rattle.tree_reuse.specs.Calls.{literals_of};
-ghost use Rattle.tree_reuse.specs.Steps.{zone_of_part, steps_after, zones_at};
+ghost use Rattle.league_core.specs.search.Trees.{zones_of};
+ghost use Rattle.league_core.specs.inside.TreeLists.{tree_of, tree_or_leaf};
+ghost use Rattle.tree_reuse.specs.inside.Calls.{literals_of};
+ghost use Rattle.tree_reuse.specs.inside.Steps.{zone_of_part, steps_after, zones_at};
 
 use crate::shorten::shorten;
 use league_core::{Listing, Literal, OutOfMemory, TreeNode, Zone};
@@ -26,7 +26,7 @@ pub fn list_zones(alloc: Global, list: &[TreeNode]) -> Result<Vec<Zone>, OutOfMe
         (λ zones. literals_of zones.items ≡ zones_of (tree_or_leaf (tree_of list.now))) }
 {
     let mut found = Vec::new(alloc);
-    let mut way = Listing::new(alloc);
+    let mut zone_box = Listing::new(alloc);
     let mut steps = Vec::new(alloc);
     let literal = None;
     steps.push(Step { depth: 0, literal })?;
@@ -34,19 +34,19 @@ pub fn list_zones(alloc: Global, list: &[TreeNode]) -> Result<Vec<Zone>, OutOfMe
         let Some(step) = steps.pop() else {
             unreachable!()
         };
-        go_to(&mut way, step)?;
-        take_node(alloc, *node, &way, &mut steps, &mut found)?;
+        go_to(&mut zone_box, step)?;
+        take_node(alloc, *node, &zone_box, &mut steps, &mut found)?;
     }
     Ok(found)
 }
 
-fn go_to(way: &mut Listing<Literal>, step: Step) -> Result<(), OutOfMemory>
-    requires { step.depth ≤ length way.old }
-    ensures { IfOk result (λ _. way.new ≡ zone_of_part way.old step.depth step.literal) }
+fn go_to(zone_box: &mut Listing<Literal>, step: Step) -> Result<(), OutOfMemory>
+    requires { step.depth ≤ length zone_box.old }
+    ensures { IfOk result (λ _. zone_box.new ≡ zone_of_part zone_box.old step.depth step.literal) }
 {
-    shorten(way, step.depth);
+    shorten(zone_box, step.depth);
     if let Some(literal) = step.literal {
-        way.push(literal)?;
+        zone_box.push(literal)?;
     }
     Ok(())
 }
@@ -54,23 +54,23 @@ fn go_to(way: &mut Listing<Literal>, step: Step) -> Result<(), OutOfMemory>
 fn take_node(
     alloc: Global,
     node: TreeNode,
-    way: &Listing<Literal>,
+    zone_box: &Listing<Literal>,
     steps: &mut Vec<Step>,
     found: &mut Vec<Zone>,
 ) -> Result<(), OutOfMemory>
     ensures steps { IfOk result (λ _. reverse steps.new.items
-        ≡ steps_after node (length way.now) (reverse steps.old.items)) }
+        ≡ steps_after node (length zone_box.now) (reverse steps.old.items)) }
     ensures found { IfOk result (λ _. literals_of found.new.items
-        ≡ literals_of found.old.items ++ zones_at node way.now) }
+        ≡ literals_of found.old.items ++ zones_at node zone_box.now) }
 {
     if let TreeNode::Split { test, .. } = node {
-        let depth = way.len();
+        let depth = zone_box.len();
         let literal = Some(Literal { test, yes: false });
         steps.push(Step { depth, literal })?;
         let literal = Some(Literal { test, yes: true });
         steps.push(Step { depth, literal })?;
     } else {
-        let literals = way.copy(alloc)?;
+        let literals = zone_box.copy(alloc)?;
         found.push(Zone { literals })?;
     }
     Ok(())

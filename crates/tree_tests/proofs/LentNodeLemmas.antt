@@ -7,10 +7,10 @@ use Rattle.std.specs.Prelude.{if◌then◌else◌}
 use Rattle.std.proofs.lemmas.List.Sums.{sum_by-cons, sum_by-append}
 use Rattle.league_core.specs.declared.tree.TreeNode.{TreeNode}
 use Rattle.league_core.specs.declared.tree.TreeNode.TheVariants.{Split}
-use Rattle.league_core.specs.Trees.{Tree, open_leaf, lent_leaf, refuted_leaf, branch, preorder}
-use Rattle.league_core.specs.Trees.{node_count}
-use Rattle.league_core.specs.Lending.{times_lent, lent_count}
-use Rattle.tree_tests.specs.LentNodes.{is_lent_node}
+use Rattle.league_core.specs.search.Trees.{Tree, open_leaf, lent_leaf, refuted_leaf, branch}
+use Rattle.league_core.specs.search.Trees.{preorder, node_count}
+use Rattle.league_core.specs.inside.Lending.{times_lent, lent_count}
+use Rattle.tree_tests.specs.inside.LentNodes.{is_lent_node}
 
 -- one leaf counts once or not at all
 counted_leaf : (is : Bool) → (if is then 1 else 0) ≡ 0 + cond is 1 0

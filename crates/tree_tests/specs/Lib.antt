@@ -1,2 +1,2 @@
--- How often a number is lent, as it is counted in a list of nodes.
-pub mod LentNodes
+-- All words of this crate stand in inside/: no promise of the program rests on them.
+pub mod inside

@@ -1,13 +1,13 @@
 //! Trees that are carried over a result.
 
 ghost use Rattle.std.specs.Prelude.{◌≡◌, All, IsTrue, IfOk, length};
-ghost use Rattle.league_core.specs.Seasons.{IsLeague};
+ghost use Rattle.league_core.specs.game.Seasons.{IsLeague};
 ghost use Rattle.league_core.specs.declared.sheet.Sheet.{Sheet};
-ghost use Rattle.tree_reuse.specs.Calls.{IsNodeOf, AreTestsOf};
+ghost use Rattle.tree_reuse.specs.inside.Calls.{IsNodeOf, AreTestsOf};
 
 use crate::rows::tree_or_fail;
-use boxed_trees::{BoxedTree, ZoneTree};
 use league_core::{Claim, OutOfMemory, Question, Sheet, Test, TreeNode};
+use reference_trees::{BoxedTree, ZoneTree};
 use sample_leagues::{Sample, sample_of};
 use std::alloc::Global;
 use std::test::Fail;

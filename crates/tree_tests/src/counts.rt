@@ -1,12 +1,12 @@
 //! How often a number is lent in a tree, and whether a tree has room for more nodes.
 
 ghost use Rattle.std.specs.Prelude.{◌≡◌, ◌+◌, ◌≤◌, IfOk, IsTrue, count_by};
-ghost use Rattle.league_core.specs.Trees.{node_count};
-ghost use Rattle.league_core.specs.Lending.{times_lent, lent_count};
-ghost use Rattle.tree_tests.specs.LentNodes.{is_lent_node};
+ghost use Rattle.league_core.specs.search.Trees.{node_count};
+ghost use Rattle.league_core.specs.inside.Lending.{times_lent, lent_count};
+ghost use Rattle.tree_tests.specs.inside.LentNodes.{is_lent_node};
 
-use boxed_trees::ZoneTree;
 use league_core::{OutOfMemory, TreeNode, Zone};
+use reference_trees::ZoneTree;
 use std::test::Fail;
 use tree_reuse::{MOST_NODES, Tree};
 

@@ -1,8 +1,8 @@
 //! Both bodies of a tree, driven by one drawn list of calls.
 
 use crate::counts::{lend_next, times_lent};
-use boxed_trees::{BoxedTree, ZoneTree};
 use league_core::{ClubSet, Reason, Test, Zone};
+use reference_trees::{BoxedTree, ZoneTree};
 use sample_leagues::Draws;
 use std::alloc::Global;
 use std::test::Fail;
@@ -218,7 +218,7 @@ fn begin_and_call(alloc: Global) -> Result<usize, Fail> {
 }
 
 #[test]
-fn both_bodies_do_the_same_calls(rt: HostRuntime) -> Result<(), Fail> {
+fn arena_and_boxed_trees_agree(rt: HostRuntime) -> Result<(), Fail> {
     let most = begin_and_call(rt.alloc())?;
     assert!(rt; MANY < most, "{most}");
     Ok(())

@@ -6,7 +6,7 @@
 #![tactic(auto)]
 
 #[cfg(test)]
-mod both;
+mod arena_vs_boxed;
 #[cfg(test)]
 mod carried;
 #[cfg(test)]

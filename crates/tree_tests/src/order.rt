@@ -49,7 +49,7 @@ fn zone(yes: bool, most: u8, yes_then: bool) -> [Literal; 2] {
 }
 
 // The zones of the leaves but the first, as the list has them.
-fn zones_behind() -> [[Literal; 2]; 3] {
+fn zones_after() -> [[Literal; 2]; 3] {
     [
         zone(true, 1, false),
         zone(false, 4, true),
@@ -79,7 +79,7 @@ fn lends_in_turn(tree: &mut Tree, zones: &[[Literal; 2]]) -> Result<bool, Fail> 
 
 fn listed_lends_in_turn(alloc: Global) -> Result<bool, Fail> {
     let mut tree = tree_or_fail(four_leaves(alloc)?)?;
-    lends_in_turn(&mut tree, zones_behind().as_slice())
+    lends_in_turn(&mut tree, zones_after().as_slice())
 }
 
 #[test]
@@ -91,7 +91,7 @@ fn a_tree_that_was_read_back_lends_from_its_first_leaf_on(rt: HostRuntime) -> Re
 // Whether the tree lends the first of four leaves under 7, and then the others in turn.
 fn lends_four(tree: &mut Tree) -> Result<(bool, bool), Fail> {
     let first = lends(tree, 7, zone(true, 1, true).as_slice())?;
-    Ok((first, lends_in_turn(tree, zones_behind().as_slice())?))
+    Ok((first, lends_in_turn(tree, zones_after().as_slice())?))
 }
 
 fn carried_lends_four(alloc: Global) -> Result<(bool, bool), Fail> {

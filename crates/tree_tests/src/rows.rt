@@ -3,8 +3,8 @@
 ghost use Rattle.std.specs.Prelude.{◌≡◌, ◌≤◌, IfOk, length};
 
 use crate::counts::{lend_next, times_lent};
-use boxed_trees::ZoneTree;
 use league_core::{Literal, OutOfMemory, Test, TreeNode, Zone};
+use reference_trees::ZoneTree;
 use std::alloc::Global;
 use std::test::Fail;
 use tree_reuse::{MOST_NODES, Tree, TreeStop};

@@ -12,12 +12,12 @@ use Rattle.league_core.specs.declared.sheet.Sheet.{Sheet}
 use Rattle.league_core.specs.declared.question.Claim.{Claim}
 use Rattle.league_core.specs.declared.question.Claim.TheVariants.{Inside, Outside}
 use Rattle.league_core.specs.declared.question.Question.{Question}
-use Rattle.league_core.specs.Sheets.{IsWithinLimits, is_line}
-use Rattle.league_core.specs.Questions.{IsQuestionOf, full_question}
+use Rattle.league_core.specs.game.Sheets.{IsWithinLimits, is_line}
+use Rattle.league_core.specs.game.Questions.{IsQuestionOf, full_question}
 use Rattle.league_core.proofs.ClubCountLemmas.{range_with_len-suc}
-use Rattle.verdict_run.specs.AskedQuestions.{both_questions, questions_of_line, questions_of}
+use Rattle.verdict_run.specs.inside.AskedQuestions.{both_questions, questions_of_line, questions_of}
 
--- two questions about the next club stand behind those so far
+-- two questions about the next club come after those so far
 pub line-push : (before : List Question) (line club : ℕ)
     → (before ++ questions_of_line club line) ++ both_questions line club
     ≡ before ++ questions_of_line (club + 1) line

@@ -8,5 +8,6 @@ pub mod ToldLemmas
 pub mod LineLemmas
 pub mod PartLemmas
 pub mod RowLemmas
+pub mod KeptLemmas
 pub mod VerdictLemmas
 pub mod SampleLemmas

@@ -27,7 +27,7 @@ score_lines-push fixture (first ∷ season) (last ∷ finish) played ended same 
     ∙ sym (append_assoc line lines (score_line_if (fixture + 1 + length season) played ended))
     ∙ ap (λ n. (line ++ lines) ++ score_line_if n played ended) there
 
--- a fixture more stands behind the lines so far
+-- a fixture more comes after the lines so far
 pub scores-step : (start before after : List ProofLine) (season finish : List (Option Score)) (i :
     ℕ)
     → i < length season → length finish ≡ length season

@@ -2,11 +2,11 @@
 -- back as new nodes.
 use Rattle.std.proofs.Common.{◌≡◌, ℕ, Bool, true, false, ◌&&◌, ◌==◌, cond, refl}
 use Rattle.std.proofs.lemmas.Bool.{and_parts, and_from}
-use Rattle.league_core.specs.Trees.{Tree, open_leaf, lent_leaf, refuted_leaf, branch}
-use Rattle.league_core.specs.Lending.{put}
+use Rattle.league_core.specs.search.Trees.{Tree, open_leaf, lent_leaf, refuted_leaf, branch}
+use Rattle.league_core.specs.inside.Lending.{put}
 use Rattle.reason_core.specs.declared.done.Done.{Done}
 use Rattle.reason_core.specs.declared.done.Done.TheVariants.{Refuted, Split, Won, Undone}
-use Rattle.branch_pool.specs.Steps.{leaf_given}
+use Rattle.branch_pool.specs.inside.Steps.{leaf_given}
 use Rattle.verdict_run.specs.NewTrees.{is_all_new}
 
 -- the parts of a split that is all new

@@ -11,11 +11,11 @@ use Rattle.std.proofs.lemmas.List.Folds.{list_all-append}
 use Rattle.std.proofs.lemmas.Option.{slice_get_within, get_or_from_slice_get}
 use Rattle.league_core.specs.declared.sheet.Sheet.{Sheet}
 use Rattle.league_core.specs.declared.question.Question.{Question}
-use Rattle.league_core.specs.Results.{Results, are_results}
-use Rattle.league_core.specs.Seasons.{IsLeague}
-use Rattle.league_core.specs.Questions.{IsExample, IsQuestionOf}
-use Rattle.league_core.specs.Trees.{Tree, open_leaf, lent_leaf, refuted_leaf, branch, preorder}
-use Rattle.league_core.specs.Trees.{is_refuted}
+use Rattle.league_core.specs.game.Results.{Results, are_results}
+use Rattle.league_core.specs.game.Seasons.{IsLeague}
+use Rattle.league_core.specs.game.Questions.{IsExample, IsQuestionOf}
+use Rattle.league_core.specs.search.Trees.{Tree, open_leaf, lent_leaf, refuted_leaf, branch}
+use Rattle.league_core.specs.search.Trees.{preorder, is_refuted}
 use Rattle.cert_text.specs.declared.proof_line.ProofLine.{ProofLine}
 use Rattle.cert_text.specs.Ranges.{is_in_range}
 use Rattle.cert_text.specs.TreeLines.{IsRefutationTree, IsFairSpentTree, plain_lines, marked_lines}
@@ -23,15 +23,16 @@ use Rattle.cert_text.specs.TreeLines.{with_tree_head, with_spent_head}
 use Rattle.cert_text.specs.ExampleLines.{example_lines}
 use Rattle.cert_text.proofs.TreeRangeLemmas.{plain_lines_in_range, marked_lines_in_range}
 use Rattle.cert_text.proofs.ExampleRangeLemmas.{example_in_range}
-use Rattle.branch_pool.specs.declared.seat.Example.{Example}
-use Rattle.branch_pool.specs.declared.seat.Seat.{Seat}
-use Rattle.branch_pool.specs.States.{PoolState}
-use Rattle.branch_pool.specs.Goodness.{IsSoundPool, IsGoodSeat, IsExampleOf}
+use Rattle.branch_pool.specs.declared.question_state.Example.{Example}
+use Rattle.branch_pool.specs.declared.question_state.QuestionState.{QuestionState}
+use Rattle.branch_pool.specs.inside.States.{PoolView}
+use Rattle.branch_pool.specs.inside.Goodness.{IsSoundPool, IsGoodSeat, IsExampleOf}
 use Rattle.verdict_run.specs.declared.part.Known.TheVariants.{Won, Refuted, Spent}
 use Rattle.verdict_run.specs.declared.part.Part.{Part}
 use Rattle.verdict_run.specs.NewTrees.{is_all_new, is_not_old}
-use Rattle.verdict_run.specs.Working.{AreSettled, IsEnough}
-use Rattle.verdict_run.specs.Parts.{IsAnswerPart, IsPartAt, IsRefutedPart, IsRefutedAt, IsDoneSeat}
+use Rattle.verdict_run.specs.inside.Working.{AreSettled, IsEnough}
+use Rattle.verdict_run.specs.inside.Parts.{IsAnswerPart, IsPartAt, IsRefutedPart, IsRefutedAt}
+use Rattle.verdict_run.specs.inside.Parts.{IsDoneSeat}
 use Rattle.verdict_run.proofs.SettledLemmas.{settled_at}
 use Rattle.verdict_run.proofs.ShownLemmas.{pool_league, pool_results, question_at, seat_meets}
 use Rattle.verdict_run.proofs.ShownLemmas.{refutes_seat, spends_seat, seat_decided}
@@ -97,7 +98,8 @@ spent_part sheet season question tree lines shown new are = record {
 -- ---- questions on which the work is done
 
 -- the question at a place of a pool
-pub done_at : (pool : PoolState) (place : ℕ) (seat : Seat) (sheet : Sheet) (season : Results)
+pub done_at : (pool : PoolView) (place : ℕ) (seat : QuestionState) (sheet : Sheet)
+    (season : Results)
     → IsSoundPool pool → AreSettled pool → slice_get pool.seats place ≡ Some seat
     → sheet ≡ pool.sheet → season ≡ pool.season → IsDoneSeat sheet season seat
 done_at pool place seat sheet season sound settled found same_sheet same_season =
@@ -114,22 +116,24 @@ done_at pool place seat sheet season sound settled found same_sheet same_season 
     let Q : Results → Type 0 = λ r. IsDoneSeat pool.sheet r seat in
     subst P (sym same_sheet) (subst Q (sym same_season) here)
   where
-    asked_at : (p : PoolState) (i : ℕ) (s : Seat) → IsSoundPool p → slice_get p.seats i ≡ Some s
+    asked_at : (p : PoolView) (i : ℕ) (s : QuestionState) → IsSoundPool p
+        → slice_get p.seats i ≡ Some s
         → IsQuestionOf p.sheet s.question
     asked_at p i s good at =
         let inside = slice_get_within p.seats i s at in
         let few : length p.questions ≡ length p.seats =
         ap (λ (qs : List Question). length qs) (sym good.asked)
-        ∙ length-map p.seats (λ (x : Seat). x.question) in
+        ∙ length-map p.seats (λ (x : QuestionState). x.question) in
         let is : get_or p.questions i s.question ≡ s.question =
         ap (λ (qs : List Question). get_or qs i s.question) (sym good.asked)
-        ∙ get_or-map (λ (x : Seat). x.question) p.seats i s s.question inside
-        ∙ ap (λ (x : Seat). x.question) (get_or_from_slice_get p.seats i s s at) in
+        ∙ get_or-map (λ (x : QuestionState). x.question) p.seats i s s.question inside
+        ∙ ap (λ (x : QuestionState). x.question) (get_or_from_slice_get p.seats i s s at) in
         subst (λ (q : Question). IsQuestionOf p.sheet q) is
         (good.questions i s.question (omega (arith, few, inside)))
 
 -- a part of the question at a place
-pub part_at : (pool : PoolState) (place : ℕ) (seat : Seat) (sheet : Sheet) (season : Results)
+pub part_at : (pool : PoolView) (place : ℕ) (seat : QuestionState) (sheet : Sheet)
+    (season : Results)
     (part : Part) → IsSoundPool pool → slice_get pool.seats place ≡ Some seat
     → sheet ≡ pool.sheet → season ≡ pool.season → IsAnswerPart sheet season seat.question part
     → IsPartAt pool place part
@@ -142,7 +146,8 @@ part_at pool place seat sheet season part sound found same_sheet same_season par
     (subst Q same_season (subst P same_sheet part_of))
 
 -- a part that refutes it
-pub refuted_there : (pool : PoolState) (place : ℕ) (seat : Seat) (sheet : Sheet) (season : Results)
+pub refuted_there : (pool : PoolView) (place : ℕ) (seat : QuestionState) (sheet : Sheet)
+    (season : Results)
     (part : Part) → IsSoundPool pool → slice_get pool.seats place ≡ Some seat
     → sheet ≡ pool.sheet → season ≡ pool.season → IsRefutedPart sheet season seat.question part
     → IsRefutedAt pool place part
@@ -154,7 +159,7 @@ refuted_there pool place seat sheet season part sound found same_sheet same_seas
     }
 
 -- an example that is kept is one
-pub done_won : (sheet : Sheet) (season : Results) (seat : Seat) (example : Example)
+pub done_won : (sheet : Sheet) (season : Results) (seat : QuestionState) (example : Example)
     → IsDoneSeat sheet season seat → seat.example ≡ Some example
     → IsExample sheet season seat.question example.finish example.lots
 done_won sheet season seat example done is =
@@ -163,13 +168,15 @@ done_won sheet season seat example done is =
     subst P is done.good.example
 
 -- a refuted tree refutes
-pub done_refuted : (sheet : Sheet) (season : Results) (seat : Seat) → IsDoneSeat sheet season seat
+pub done_refuted : (sheet : Sheet) (season : Results) (seat : QuestionState)
+    → IsDoneSeat sheet season seat
     → is_refuted seat.tree ≡ true → IsRefutationTree sheet season seat.question seat.tree
 done_refuted sheet season seat done refuted =
     refutes_seat sheet season seat done.league done.results done.good refuted
 
 -- what is neither won nor refuted is spent
-pub done_spent : (sheet : Sheet) (season : Results) (seat : Seat) → IsDoneSeat sheet season seat
+pub done_spent : (sheet : Sheet) (season : Results) (seat : QuestionState)
+    → IsDoneSeat sheet season seat
     → seat.example ≡ None → is_refuted seat.tree ≡ false
     → IsFairSpentTree sheet season seat.question sheet.budget seat.tree
 done_spent sheet season seat done none refuted =
@@ -177,7 +184,8 @@ done_spent sheet season seat done none refuted =
     (or_from (is_some seat.example) (is_refuted seat.tree) (ap is_some none) refuted) done.settled
 
 -- which a great enough budget never is
-pub done_enough : (sheet : Sheet) (season : Results) (seat : Seat) → IsDoneSeat sheet season seat
+pub done_enough : (sheet : Sheet) (season : Results) (seat : QuestionState)
+    → IsDoneSeat sheet season seat
     → seat.example ≡ None → is_refuted seat.tree ≡ false → IsEnough sheet season → ⊥
 done_enough sheet season seat done none refuted enough =
     false≢true (sym (or_from (is_some seat.example) (is_refuted seat.tree) (ap is_some none)

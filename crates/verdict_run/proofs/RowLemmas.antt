@@ -7,8 +7,8 @@ use Rattle.std.proofs.lemmas.Bool.{and_parts, ltb-true, leb-true}
 use Rattle.std.proofs.lemmas.List.Elements.{All-nil, All-cons, All-append}
 use Rattle.league_core.specs.declared.sheet.Sheet.{Sheet}
 use Rattle.league_core.specs.declared.question.Claim.{Claim}
-use Rattle.league_core.specs.Sheets.{IsWithinLimits, is_line}
-use Rattle.league_core.specs.Questions.{full_question, IsQuestionOf}
+use Rattle.league_core.specs.game.Sheets.{IsWithinLimits, is_line}
+use Rattle.league_core.specs.game.Questions.{full_question, IsQuestionOf}
 use Rattle.verdict_run.specs.Items.{AnswerRow, answer_rows, answer_rows_of}
 
 -- the questions about a row are questions about the sheet

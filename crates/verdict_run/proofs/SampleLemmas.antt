@@ -11,9 +11,9 @@ use Rattle.league_core.specs.declared.sheet.Club.{Club}
 use Rattle.league_core.specs.declared.sheet.Fixture.{Fixture}
 use Rattle.league_core.specs.declared.sheet.Order.TheVariants.{HeadFirst}
 use Rattle.league_core.specs.declared.season.Event.TheVariants.{Set}
-use Rattle.league_core.specs.Results.{Results, is_score}
-use Rattle.league_core.specs.Sheets.{IsWithinLimits}
-use Rattle.league_core.specs.Seasons.{AreEventsOf, IsEventOf, unplayed_season}
+use Rattle.league_core.specs.game.Results.{Results, is_score}
+use Rattle.league_core.specs.game.Sheets.{IsWithinLimits}
+use Rattle.league_core.specs.game.Seasons.{AreEventsOf, IsEventOf, unplayed_season}
 use Rattle.verdict_run.specs.Samples.{sample_sheet, sample_club, sample_fixture, sample_event}
 use Rattle.verdict_run.specs.Samples.{sample_events, state_after, next_state, drawn_from, drawn}
 

@@ -14,23 +14,22 @@ use Rattle.std.proofs.lemmas.Bool.{eq-eqb, eqb-true}
 use Rattle.std.proofs.lemmas.List.Elements.{All-head, All-tail}
 use Rattle.league_core.specs.declared.sheet.Sheet.{Sheet}
 use Rattle.league_core.specs.declared.question.Question.{Question}
-use Rattle.league_core.specs.Results.{Results}
-use Rattle.league_core.specs.Trees.{has_open, is_refuted, is_spent, new_count}
-use Rattle.league_core.specs.Lending.{lent_count}
+use Rattle.league_core.specs.game.Results.{Results}
+use Rattle.league_core.specs.search.Trees.{has_open, is_refuted, is_spent, new_count}
+use Rattle.league_core.specs.inside.Lending.{lent_count}
 use Rattle.league_core.proofs.LendingLemmas.{length-lent_zones, lent_count-none, settled_is_refuted}
-use Rattle.branch_pool.specs.declared.seat.Example.{Example}
-use Rattle.branch_pool.specs.declared.seat.Seat.{Seat}
+use Rattle.branch_pool.specs.declared.question_state.Example.{Example}
+use Rattle.branch_pool.specs.declared.question_state.QuestionState.{QuestionState}
 use Rattle.branch_pool.specs.declared.ticket.Answer.TheVariants.{Won, NotYet}
-use Rattle.branch_pool.specs.Calls.{answer_without, answer_of}
-use Rattle.branch_pool.specs.States.{PoolState, out_count}
-use Rattle.branch_pool.specs.States.{present_epoch}
-use Rattle.branch_pool.specs.Goodness.{IsSoundPool, IsGoodSeat, zones_due}
+use Rattle.branch_pool.specs.inside.Calls.{answer_without, answer_of}
+use Rattle.branch_pool.specs.inside.States.{PoolView, out_count, present_epoch}
+use Rattle.branch_pool.specs.inside.Goodness.{IsSoundPool, IsGoodSeat, zones_due}
 use Rattle.branch_pool.proofs.RunLemmas.{nothing_out}
 use Rattle.verdict_run.specs.NewTrees.{is_all_new}
-use Rattle.verdict_run.specs.Working.{is_settled, AreSettled, is_known, AreAllNew}
+use Rattle.verdict_run.specs.inside.Working.{is_settled, AreSettled, is_known, AreAllNew}
 
 -- where no number is out, no leaf is lent
-pub none_lent : (pool : PoolState) (place : ℕ) (seat : Seat) → IsSoundPool pool
+pub none_lent : (pool : PoolView) (place : ℕ) (seat : QuestionState) → IsSoundPool pool
     → out_count pool.loans ≡ 0 → slice_get pool.seats place ≡ Some seat → lent_count seat.tree ≡ 0
 none_lent pool place seat sound home found =
     lent_count-none seat.tree (λ number.
@@ -47,7 +46,7 @@ not_yet_by false false true open_yet = absurd (true≢false open_yet)
 not_yet_by false false false open_yet = refl
 
 -- where no question is answered by `NotYet`, the work on each is done
-pub settled_at : (pool : PoolState) (place : ℕ) (seat : Seat) → AreSettled pool
+pub settled_at : (pool : PoolView) (place : ℕ) (seat : QuestionState) → AreSettled pool
     → slice_get pool.seats place ≡ Some seat → is_settled pool.sheet seat ≡ true
 settled_at pool place seat settled found =
     elim (cases_Bool (is_settled pool.sheet seat)) as (λ _. is_settled pool.sheet seat ≡ true) [
@@ -68,7 +67,8 @@ spent_by example refuted units budget unknown settled =
     eqb-true units budget (subst P unknown settled)
 
 -- such a tree has as many new nodes as the budget, and an open leaf
-pub seat_spent : (sheet : Sheet) (season : Results) (seat : Seat) → IsGoodSeat sheet season seat
+pub seat_spent : (sheet : Sheet) (season : Results) (seat : QuestionState)
+    → IsGoodSeat sheet season seat
     → is_known seat ≡ false → is_settled sheet seat ≡ true
     → is_spent sheet.budget seat.tree ≡ true
 seat_spent sheet season seat good unknown settled =
@@ -92,44 +92,46 @@ seat_spent sheet season seat good unknown settled =
 -- ---- the one question of a pool
 
 -- what holds of the one question of a pool on which the work is done
-pub record IsOnlySeat (pool : PoolState) (question : Question) (seat : Seat) : Type 0 where
+pub record IsOnlySeat (pool : PoolView) (question : Question) (seat : QuestionState) : Type 0 where
   pub good : IsGoodSeat pool.sheet pool.season seat
   pub asks : seat.question ≡ question
   pub settled : is_settled pool.sheet seat ≡ true
   pub all_new : is_all_new seat.tree ≡ true
 
 -- the last seat of a pool with one question asks this question
-only_asks : (question : Question) (rest : List Seat) (seat : Seat)
-    → map (λ (s : Seat). s.question) (rest ++ seat ∷ []) ≡ question ∷ []
+only_asks : (question : Question) (rest : List QuestionState) (seat : QuestionState)
+    → map (λ (s : QuestionState). s.question) (rest ++ seat ∷ []) ≡ question ∷ []
     → seat.question ≡ question
 only_asks question [] seat is = cc
 only_asks question (first ∷ []) seat is = absurd (cc)
 only_asks question (first ∷ second ∷ rest) seat is = absurd (cc)
 
 -- what is true of all is true of the last
-all_last : (P : Seat → Type 0) (rest : List Seat) (seat : Seat) → All P (rest ++ seat ∷ [])
+all_last : (P : QuestionState → Type 0) (rest : List QuestionState) (seat : QuestionState)
+    → All P (rest ++ seat ∷ [])
     → P seat
 all_last P [] seat all = All-head P seat [] all
 all_last P (first ∷ rest) seat all = all_last P rest seat (All-tail P first (rest ++ seat ∷ []) all)
 
--- the last stands behind the others
-last_at : (rest : List Seat) (seat : Seat)
+-- the last comes after the others
+last_at : (rest : List QuestionState) (seat : QuestionState)
     → slice_get (rest ++ seat ∷ []) (length rest) ≡ Some seat
 last_at [] seat = refl
 last_at (first ∷ rest) seat = last_at rest seat
 
-pub only_seat : (pool : PoolState) (question : Question) (rest : List Seat) (seat : Seat)
+pub only_seat : (pool : PoolView) (question : Question) (rest : List QuestionState)
+    (seat : QuestionState)
     → IsSoundPool pool → pool.questions ≡ question ∷ [] → AreSettled pool → AreAllNew pool
     → pool.seats ≡ rest ++ seat ∷ [] → IsOnlySeat pool question seat
 only_seat pool question rest seat sound asked settled all_new are =
-    let New : Seat → Type 0 = λ s. is_all_new s.tree ≡ true in
-    let last : (P : Seat → Type 0) → All P pool.seats → P seat =
-    λ P all. let Q : List Seat → Type 0 = λ seats. All P seats in
+    let New : QuestionState → Type 0 = λ s. is_all_new s.tree ≡ true in
+    let last : (P : QuestionState → Type 0) → All P pool.seats → P seat =
+    λ P all. let Q : List QuestionState → Type 0 = λ seats. All P seats in
     all_last P rest seat (subst Q are all) in
     record {
       good = last (IsGoodSeat pool.sheet pool.season) sound.seats;
       asks = only_asks question rest seat
-          (ap (map (λ (s : Seat). s.question)) (sym are) ∙ sound.asked ∙ asked);
+          (ap (map (λ (s : QuestionState). s.question)) (sym are) ∙ sound.asked ∙ asked);
       settled = settled_at pool (length rest) seat settled
           (ap (λ seats. slice_get seats (length rest)) are ∙ last_at rest seat);
       all_new = last New all_new;

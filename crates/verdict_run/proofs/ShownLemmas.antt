@@ -12,29 +12,29 @@ use Rattle.std.proofs.lemmas.List.Elements.{All-set}
 use Rattle.std.proofs.lemmas.Option.{get_or_from_slice_get, slice_get_within, slice_get-get_or}
 use Rattle.league_core.specs.declared.sheet.Sheet.{Sheet}
 use Rattle.league_core.specs.declared.question.Question.{Question}
-use Rattle.league_core.specs.Results.{Results, are_results}
-use Rattle.league_core.specs.Seasons.{IsSeasonOf, IsLeague}
-use Rattle.league_core.specs.FinishList.{ways_to_finish}
-use Rattle.league_core.specs.Questions.{IsExample}
-use Rattle.league_core.specs.Verdicts.{HasNoExample}
-use Rattle.league_core.specs.Trees.{Tree, is_refuted}
-use Rattle.league_core.specs.Splits.{IsReasonTrue, IsUnitIfNew, AreReasonsTrue}
+use Rattle.league_core.specs.game.Results.{Results, are_results}
+use Rattle.league_core.specs.game.Seasons.{IsSeasonOf, IsLeague}
+use Rattle.league_core.specs.inside.FinishList.{ways_to_finish}
+use Rattle.league_core.specs.game.Questions.{IsExample}
+use Rattle.league_core.specs.game.Verdicts.{HasNoExample}
+use Rattle.league_core.specs.search.Trees.{Tree, is_refuted}
+use Rattle.league_core.specs.search.Splits.{IsReasonTrue, IsUnitIfNew, AreReasonsTrue}
 use Rattle.league_core.proofs.LogLemmas.{season_after_of, season_after_results}
 use Rattle.league_core.proofs.TreeLemmas.{NodesMeet-weaker}
 use Rattle.reason_laws.proofs.RefutationLemmas.{refutation_shows, refuted_from}
 use Rattle.reason_laws.proofs.WeightLemmas.{spent_below_finishes}
 use Rattle.cert_text.specs.TreeLines.{IsRefutationTree, IsFairSpentTree, are_tests_for}
 use Rattle.cert_text.proofs.ProperLemmas.{proper_tests}
-use Rattle.branch_pool.specs.declared.seat.Example.{Example}
-use Rattle.branch_pool.specs.declared.seat.Seat.{Seat}
-use Rattle.branch_pool.specs.States.{PoolState, out_count, has_work}
-use Rattle.branch_pool.specs.Goodness.{IsSoundPool, IsGoodSeat, IsGoodNode, IsExampleOf}
-use Rattle.branch_pool.specs.Steps.{seat_lent, seat_given, leaf_given}
+use Rattle.branch_pool.specs.declared.question_state.Example.{Example}
+use Rattle.branch_pool.specs.declared.question_state.QuestionState.{QuestionState}
+use Rattle.branch_pool.specs.inside.States.{PoolView, out_count, has_work}
+use Rattle.branch_pool.specs.inside.Goodness.{IsSoundPool, IsGoodSeat, IsGoodNode, IsExampleOf}
+use Rattle.branch_pool.specs.inside.Steps.{seat_lent, seat_given, leaf_given}
 use Rattle.branch_pool.proofs.RunLemmas.{no_work_answers}
-use Rattle.branch_pool.specs.Runs.{WorksNext}
+use Rattle.branch_pool.specs.inside.Runs.{WorksNext}
 use Rattle.branch_pool.proofs.GoodLemmas.{seat_proper}
-use Rattle.verdict_run.specs.Working.{WorksTo, no_turn, one_turn_more, is_settled, is_known}
-use Rattle.verdict_run.specs.Working.{AreSettled, AreAllNew, AreDecided, IsEnough}
+use Rattle.verdict_run.specs.inside.Working.{WorksTo, no_turn, one_turn_more, is_settled, is_known}
+use Rattle.verdict_run.specs.inside.Working.{AreSettled, AreAllNew, AreDecided, IsEnough}
 use Rattle.verdict_run.specs.NewTrees.{is_all_new}
 use Rattle.verdict_run.proofs.NewTreeLemmas.{is_all_new-put, is_all_new-lend, given_new}
 use Rattle.verdict_run.proofs.SettledLemmas.{seat_spent, settled_at, IsOnlySeat}
@@ -43,7 +43,8 @@ use Rattle.verdict_run.proofs.WorkLemmas.{works_home}
 -- ---- trees
 
 -- the reasons of a good question's refuted leaves hold
-reasons_hold : (sheet : Sheet) (season : Results) (seat : Seat) → IsGoodSeat sheet season seat
+reasons_hold : (sheet : Sheet) (season : Results) (seat : QuestionState)
+    → IsGoodSeat sheet season seat
     → AreReasonsTrue sheet season seat.question [] seat.tree
 reasons_hold sheet season seat good =
     NodesMeet-weaker (IsGoodNode sheet season seat.question)
@@ -51,7 +52,7 @@ reasons_hold sheet season seat good =
     good.nodes
 
 -- its tests are such as lines have
-tests_good : (sheet : Sheet) (season : Results) (seat : Seat) → IsLeague sheet season
+tests_good : (sheet : Sheet) (season : Results) (seat : QuestionState) → IsLeague sheet season
     → are_results season ≡ true → IsGoodSeat sheet season seat
     → are_tests_for sheet seat.question seat.tree ≡ true
 tests_good sheet season seat league results good =
@@ -59,7 +60,7 @@ tests_good sheet season seat league results good =
     (seat_proper sheet season seat good)
 
 -- a tree that is refuted is a refutation
-pub refutes_seat : (sheet : Sheet) (season : Results) (seat : Seat) → IsLeague sheet season
+pub refutes_seat : (sheet : Sheet) (season : Results) (seat : QuestionState) → IsLeague sheet season
     → are_results season ≡ true → IsGoodSeat sheet season seat
     → is_refuted seat.tree ≡ true → IsRefutationTree sheet season seat.question seat.tree
 refutes_seat sheet season seat league results good refuted = record {
@@ -77,7 +78,7 @@ refutation_is_true sheet season question tree club_in shown =
     (refuted_from sheet season question tree [] shown.refuted shown.reasons)
 
 -- a tree on which the budget is used up was spent fairly
-pub spends_seat : (sheet : Sheet) (season : Results) (seat : Seat) → IsLeague sheet season
+pub spends_seat : (sheet : Sheet) (season : Results) (seat : QuestionState) → IsLeague sheet season
     → are_results season ≡ true → IsGoodSeat sheet season seat → is_known seat ≡ false
     → is_settled sheet seat ≡ true
     → IsFairSpentTree sheet season seat.question sheet.budget seat.tree
@@ -96,7 +97,8 @@ spends_seat sheet season seat league results good unknown settled = record {
 -- ---- a great enough budget
 
 -- no question spends it
-pub seat_decided : (sheet : Sheet) (season : Results) (seat : Seat) → IsSeasonOf sheet season
+pub seat_decided : (sheet : Sheet) (season : Results) (seat : QuestionState)
+    → IsSeasonOf sheet season
     → seat.question.club < length sheet.clubs → IsEnough sheet season
     → IsGoodSeat sheet season seat → is_settled sheet seat ≡ true → is_known seat ≡ true
 seat_decided sheet season seat is_season club_in enough good settled =
@@ -114,40 +116,40 @@ seat_decided sheet season seat is_season club_in enough good settled =
 -- ---- trees that are all new
 
 -- after a turn they are all new again
-turn_new : (old new : PoolState) → WorksNext old new → AreAllNew old → AreAllNew new
+turn_new : (old new : PoolView) → WorksNext old new → AreAllNew old → AreAllNew new
 turn_new old new turn all =
-    let IsNew : Seat → Type 0 = λ seat. is_all_new seat.tree ≡ true in
+    let IsNew : QuestionState → Type 0 = λ seat. is_all_new seat.tree ≡ true in
     let place = turn.ticket.place in
-    let was = turn.taken.seat in
-    let lent = seat_lent turn.taken.tree was in
+    let was = turn.taken.takes.seat in
+    let lent = seat_lent turn.taken.takes.tree was in
     let seats = old.seats in
     let old_new : is_all_new was.tree ≡ true =
-    ap (λ (seat : Seat). is_all_new seat.tree)
-    (sym (get_or_from_slice_get seats place was was turn.taken.found))
-    ∙ all place was (slice_get_within seats place was turn.taken.found) in
-    let lent_new : is_all_new turn.taken.tree ≡ true =
-    is_all_new-lend turn.ticket.number turn.taken.tree
-    (ap is_all_new turn.taken.leaf ∙ old_new) in
+    ap (λ (seat : QuestionState). is_all_new seat.tree)
+    (sym (get_or_from_slice_get seats place was was turn.taken.takes.found))
+    ∙ all place was (slice_get_within seats place was turn.taken.takes.found) in
+    let lent_new : is_all_new turn.taken.takes.tree ≡ true =
+    is_all_new-lend turn.ticket.number turn.taken.takes.tree
+    (ap is_all_new turn.taken.takes.leaf ∙ old_new) in
     let between_all : AreAllNew turn.between =
-    let P : List Seat → Type 0 = λ xs. All IsNew xs in
-    subst P (sym (ap (λ pool. pool.seats) turn.taken.after))
+    let P : List QuestionState → Type 0 = λ xs. All IsNew xs in
+    subst P (sym (ap (λ pool. pool.seats) turn.taken.takes.after))
     (All-set IsNew seats place lent lent_new all) in
     let found = turn.kept.found in
     let held = turn.kept.seat in
     let held_new : is_all_new held.tree ≡ true =
-    ap (λ (seat : Seat). is_all_new seat.tree)
+    ap (λ (seat : QuestionState). is_all_new seat.tree)
     (sym (get_or_from_slice_get turn.between.seats place held held found))
     ∙ between_all place held (slice_get_within turn.between.seats place held found) in
     let given = seat_given turn.ticket.number turn.done held in
     let given_is_new : is_all_new given.tree ≡ true =
     is_all_new-put turn.ticket.number (leaf_given turn.done) held.tree (given_new turn.done)
     held_new in
-    let P : List Seat → Type 0 = λ xs. All IsNew xs in
+    let P : List QuestionState → Type 0 = λ xs. All IsNew xs in
     subst P (sym (ap (λ pool. pool.seats) turn.kept.after))
     (All-set IsNew turn.between.seats place given given_is_new between_all)
 
 -- so they are after any number of turns
-pub works_new : (old new : PoolState) → WorksTo old new → AreAllNew old → AreAllNew new
+pub works_new : (old new : PoolView) → WorksTo old new → AreAllNew old → AreAllNew new
 works_new old new (no_turn pool) all = all
 works_new old new (one_turn_more first between last before turn) all =
     turn_new between last turn (works_new first between before all)
@@ -155,7 +157,7 @@ works_new old new (one_turn_more first between last before turn) all =
 -- ---- pools
 
 -- a pool's season is one of its sheet
-pub pool_league : (pool : PoolState) → IsSoundPool pool → IsLeague pool.sheet pool.season
+pub pool_league : (pool : PoolView) → IsSoundPool pool → IsLeague pool.sheet pool.season
 pool_league pool sound =
     let P : Results → Type 0 = λ season. IsSeasonOf pool.sheet season in
     record {
@@ -164,48 +166,51 @@ pool_league pool sound =
     }
 
 -- with scores and deductions that may be
-pub pool_results : (pool : PoolState) → IsSoundPool pool → are_results pool.season ≡ true
+pub pool_results : (pool : PoolView) → IsSoundPool pool → are_results pool.season ≡ true
 pool_results pool sound =
     ap are_results sound.season ∙ season_after_results pool.sheet pool.log sound.events
 
 -- the question at a place
-pub question_at : (pool : PoolState) (place : ℕ) (seat : Seat) (question : Question) → IsSoundPool
+pub question_at : (pool : PoolView) (place : ℕ) (seat : QuestionState) (question : Question)
+    → IsSoundPool
     pool
     → slice_get pool.seats place ≡ Some seat → slice_get pool.questions place ≡ Some question
     → seat.question ≡ question
 question_at pool place seat question sound found asked =
     let inside = slice_get_within pool.seats place seat found in
-    sym (ap (λ (s : Seat). s.question) (get_or_from_slice_get pool.seats place seat seat found))
-    ∙ sym (get_or-map (λ (s : Seat). s.question) pool.seats place seat question inside)
+    sym (ap (λ (s : QuestionState). s.question)
+    (get_or_from_slice_get pool.seats place seat seat found))
+    ∙ sym (get_or-map (λ (s : QuestionState). s.question) pool.seats place seat question inside)
     ∙ ap (λ (qs : List Question). get_or qs place question) sound.asked
     ∙ get_or_from_slice_get pool.questions place question question asked
 
 -- what is true of all questions is true of that at a place
-pub seat_meets : (P : Seat → Type 0) (seats : List Seat) (place : ℕ) (seat : Seat) → All P seats
+pub seat_meets : (P : QuestionState → Type 0) (seats : List QuestionState) (place : ℕ)
+    (seat : QuestionState) → All P seats
     → slice_get seats place ≡ Some seat → P seat
 seat_meets P seats place seat all found =
     subst P (get_or_from_slice_get seats place seat seat found)
     (all place seat (slice_get_within seats place seat found))
 
 -- each question is about one of the clubs
-pub club_of_seat : (pool : PoolState) → IsSoundPool pool → (place : ℕ) (d : Seat)
+pub club_of_seat : (pool : PoolView) → IsSoundPool pool → (place : ℕ) (d : QuestionState)
     → place < length pool.seats
     → (get_or pool.seats place d).question.club < length pool.sheet.clubs
 club_of_seat pool good place d inside =
     let question = (get_or pool.seats place d).question in
     let asked : get_or pool.questions place question ≡ question =
     ap (λ (qs : List Question). get_or qs place question) (sym good.asked)
-    ∙ get_or-map (λ (s : Seat). s.question) pool.seats place d question inside in
+    ∙ get_or-map (λ (s : QuestionState). s.question) pool.seats place d question inside in
     let few : length pool.questions ≡ length pool.seats =
     ap (λ (qs : List Question). length qs) (sym good.asked)
-    ∙ length-map pool.seats (λ (s : Seat). s.question) in
+    ∙ length-map pool.seats (λ (s : QuestionState). s.question) in
     let P : Question → Type 0 = λ q. q.club < length pool.sheet.clubs in
     subst P asked (good.questions place question (omega (arith, few, inside))).club
 
 -- ---- the one question of a pool
 
 -- an example of it
-pub only_won : (pool : PoolState) (question : Question) (seat : Seat) (example : Example)
+pub only_won : (pool : PoolView) (question : Question) (seat : QuestionState) (example : Example)
     → IsOnlySeat pool question seat → seat.example ≡ Some example
     → IsExample pool.sheet pool.season question example.finish example.lots
 only_won pool question seat example only is =
@@ -216,7 +221,7 @@ only_won pool question seat example only is =
     subst Q only.asks (subst P is only.good.example)
 
 -- a tree that refutes it
-pub only_refuted : (pool : PoolState) (question : Question) (seat : Seat) → IsSoundPool pool
+pub only_refuted : (pool : PoolView) (question : Question) (seat : QuestionState) → IsSoundPool pool
     → IsOnlySeat pool question seat → is_refuted seat.tree ≡ true
     → IsRefutationTree pool.sheet pool.season question seat.tree × IsTrue (is_all_new seat.tree)
 only_refuted pool question seat sound only refuted =
@@ -227,7 +232,7 @@ only_refuted pool question seat sound only refuted =
     )
 
 -- a tree on which its budget was spent
-pub only_spent : (pool : PoolState) (question : Question) (seat : Seat) → IsSoundPool pool
+pub only_spent : (pool : PoolView) (question : Question) (seat : QuestionState) → IsSoundPool pool
     → IsOnlySeat pool question seat → seat.example ≡ None → is_refuted seat.tree ≡ false
     → IsFairSpentTree pool.sheet pool.season question pool.sheet.budget seat.tree
     × IsTrue (is_all_new seat.tree)
@@ -244,13 +249,13 @@ only_spent pool question seat sound only none refuted =
 -- ---- the end of the work
 
 -- what holds after some turns, when there is no work left and nothing is out
-pub record IsFinished (old new : PoolState) : Type 0 where
+pub record IsFinished (old new : PoolView) : Type 0 where
   pub home : out_count new.loans ≡ 0
   pub settled : AreSettled new
   pub enough : IsEnough new.sheet new.season → AreDecided new
 
 -- so it is when the turns come to an end
-pub turns_end : (old last new : PoolState) → WorksTo old last → new ≡ last
+pub turns_end : (old last new : PoolView) → WorksTo old last → new ≡ last
     → out_count old.loans ≡ 0 → has_work last ≡ false → IsSoundPool new → IsFinished old new
 turns_end old last new work same home idle sound =
     let out : out_count new.loans ≡ 0 =

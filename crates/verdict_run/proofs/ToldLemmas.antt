@@ -15,17 +15,17 @@ use Rattle.league_core.specs.declared.season.Score.{Score}
 use Rattle.league_core.specs.declared.season.Event.{Event}
 use Rattle.league_core.specs.declared.season.Event.TheVariants.{Set, Deduct}
 use Rattle.league_core.specs.declared.question.Question.{Question}
-use Rattle.league_core.specs.Results.{Results, are_results, is_score_or_none}
-use Rattle.league_core.specs.Seasons.{event_applied}
-use Rattle.tree_reuse.specs.Retargets.{retargeted}
-use Rattle.branch_pool.specs.declared.seat.Seat.{Seat}
-use Rattle.branch_pool.specs.States.{PoolState, new_seat}
-use Rattle.branch_pool.specs.Steps.{Changes, seat_changed}
+use Rattle.league_core.specs.game.Results.{Results, are_results, is_score_or_none}
+use Rattle.league_core.specs.game.Seasons.{event_applied}
+use Rattle.tree_reuse.specs.inside.Retargets.{retargeted}
+use Rattle.branch_pool.specs.declared.question_state.QuestionState.{QuestionState}
+use Rattle.branch_pool.specs.inside.States.{PoolView, new_seat}
+use Rattle.branch_pool.specs.inside.Steps.{Changes, seat_changed}
 use Rattle.verdict_run.specs.declared.fresh.Solved.{Solved}
 use Rattle.verdict_run.specs.NewTrees.{is_all_new}
-use Rattle.verdict_run.specs.Working.{AreAllNew}
-use Rattle.verdict_run.specs.Solving.{IsSolved}
-use Rattle.verdict_run.specs.Telling.{told, season_told, HasBeenTold, AsksTheSame}
+use Rattle.verdict_run.specs.inside.Working.{AreAllNew}
+use Rattle.verdict_run.specs.inside.Solving.{IsSolved}
+use Rattle.verdict_run.specs.inside.Telling.{told, season_told, HasBeenTold, AsksTheSame}
 
 -- nothing is told yet
 pub told-none : {A : Type 0} (none : A) (xs : List A)
@@ -89,7 +89,7 @@ seats_untold sheet season (question ∷ questions) =
 
 -- the pool after an event, where the event tells the next club or fixture
 change_told : (whole : Results) (clubs fixtures more_clubs more_fixtures : ℕ) (event : Event)
-    (old new : PoolState) → HasBeenTold whole clubs fixtures old → Changes old event new
+    (old new : PoolView) → HasBeenTold whole clubs fixtures old → Changes old event new
     → event_applied (season_told clubs fixtures whole) event
     ≡ season_told more_clubs more_fixtures whole
     → clubs + fixtures + 1 ≡ more_clubs + more_fixtures
@@ -112,7 +112,7 @@ change_told whole clubs fixtures more_clubs more_fixtures event old new so_far c
     }
 
 -- an event changes no question
-pub change_asks : (event : Event) (old new : PoolState) → Changes old event new
+pub change_asks : (event : Event) (old new : PoolView) → Changes old event new
     → AsksTheSame old new
 change_asks event old new changes = record {
   sheet = ap (λ pool. pool.sheet) changes.after;
@@ -120,7 +120,7 @@ change_asks event old new changes = record {
 }
 
 -- a deduction is told
-pub deduction_told : (whole : Results) (club points : ℕ) (old new : PoolState)
+pub deduction_told : (whole : Results) (club points : ℕ) (old new : PoolView)
     → club < length whole.deductions → points ≡ get_or whole.deductions club 0
     → HasBeenTold whole club 0 old → Changes old (Deduct club points) new
     → HasBeenTold whole (club + 1) 0 new
@@ -131,7 +131,7 @@ deduction_told whole club points old new inside is so_far changes =
     (omega arith)
 
 -- a club without one
-pub deduction_none : (whole : Results) (club : ℕ) (pool : PoolState)
+pub deduction_none : (whole : Results) (club : ℕ) (pool : PoolView)
     → club < length whole.deductions → get_or whole.deductions club 0 ≡ 0
     → HasBeenTold whole club 0 pool → HasBeenTold whole (club + 1) 0 pool
 deduction_none whole club pool inside none so_far = record {
@@ -144,7 +144,7 @@ deduction_none whole club pool inside none so_far = record {
 }
 
 -- a score is told
-pub score_told : (whole : Results) (clubs fixture : ℕ) (score : Score) (old new : PoolState)
+pub score_told : (whole : Results) (clubs fixture : ℕ) (score : Score) (old new : PoolView)
     → fixture < length whole.scores → get_or whole.scores fixture None ≡ Some score
     → HasBeenTold whole clubs fixture old → Changes old (Set fixture score) new
     → HasBeenTold whole clubs (fixture + 1) new
@@ -156,7 +156,7 @@ score_told whole clubs fixture score old new inside is so_far changes =
     (omega arith)
 
 -- a fixture without one
-pub score_none : (whole : Results) (clubs fixture : ℕ) (pool : PoolState)
+pub score_none : (whole : Results) (clubs fixture : ℕ) (pool : PoolView)
     → fixture < length whole.scores → get_or whole.scores fixture None ≡ None
     → HasBeenTold whole clubs fixture pool → HasBeenTold whole clubs (fixture + 1) pool
 score_none whole clubs fixture pool inside none so_far = record {
@@ -179,12 +179,12 @@ whole_told whole =
     ∙ ap (λ ds. record { scores = whole.scores; deductions = ds }) (told-all 0 whole.deductions)
 
 -- a season that is told has as many fixtures and clubs as the whole one
-pub told_scores : (whole : Results) (clubs fixtures : ℕ) (pool : PoolState)
+pub told_scores : (whole : Results) (clubs fixtures : ℕ) (pool : PoolView)
     → HasBeenTold whole clubs fixtures pool → length pool.season.scores ≡ length whole.scores
 told_scores whole clubs fixtures pool so_far =
     ap (λ season. length season.scores) so_far.season ∙ length-told fixtures None whole.scores
 
-pub told_deductions : (whole : Results) (clubs fixtures : ℕ) (pool : PoolState)
+pub told_deductions : (whole : Results) (clubs fixtures : ℕ) (pool : PoolView)
     → HasBeenTold whole clubs fixtures pool → length pool.season.deductions ≡ length
     whole.deductions
 told_deductions whole clubs fixtures pool so_far =
@@ -208,18 +208,18 @@ deduction_within whole club may inside =
         (and_parts (nat_le p 99) (list_all (λ q. nat_le q 99) points) all).1
 
 -- a pool that was only told a season has nothing but open leaves
-pub untold_new : (whole : Results) (clubs fixtures : ℕ) (pool : PoolState)
+pub untold_new : (whole : Results) (clubs fixtures : ℕ) (pool : PoolView)
     → HasBeenTold whole clubs fixtures pool → AreAllNew pool
 untold_new whole clubs fixtures pool so_far =
-    let New : Seat → Type 0 = λ seat. is_all_new seat.tree ≡ true in
-    let P : List Seat → Type 0 = λ seats. All New seats in
+    let New : QuestionState → Type 0 = λ seat. is_all_new seat.tree ≡ true in
+    let P : List QuestionState → Type 0 = λ seats. All New seats in
     subst P (sym so_far.seats) (all pool.questions)
   where
     all : (questions : List Question)
-        → All (λ (seat : Seat). is_all_new seat.tree ≡ true) (map new_seat questions)
-    all [] = All-nil (λ (seat : Seat). is_all_new seat.tree ≡ true)
+        → All (λ (seat : QuestionState). is_all_new seat.tree ≡ true) (map new_seat questions)
+    all [] = All-nil (λ (seat : QuestionState). is_all_new seat.tree ≡ true)
     all (question ∷ questions) =
-        All-cons (λ (seat : Seat). is_all_new seat.tree ≡ true) (new_seat question)
+        All-cons (λ (seat : QuestionState). is_all_new seat.tree ≡ true) (new_seat question)
         (map new_seat questions) refl (all questions)
 
 -- what is found of a question is found of an equal one, of an equal season and sheet

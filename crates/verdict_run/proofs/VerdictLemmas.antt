@@ -7,35 +7,42 @@ use Rattle.std.specs.Prelude.{All, pos}
 use Rattle.std.specs.List.{slice_get, list_all, flat_map, range_with_len}
 use Rattle.std.proofs.lemmas.Bool.{and_from, and_parts}
 use Rattle.std.proofs.lemmas.Option.{slice_get-get_or, get_or_from_slice_get, slice_get_within}
-use Rattle.std.proofs.lemmas.List.{take_more, take_all, map-append}
+use Rattle.std.proofs.lemmas.List.{take_more, take_all, map-append, length-map, length-take-le}
 use Rattle.std.proofs.lemmas.List.Folds.{list_all-append}
 use Rattle.std.proofs.lemmas.List.Elements.{All-nil, All-cons, All-append}
 use Rattle.league_core.specs.declared.sheet.Sheet.{Sheet}
 use Rattle.league_core.specs.declared.question.Claim.TheVariants.{Inside, Outside}
 use Rattle.league_core.specs.declared.question.Question.{Question}
-use Rattle.league_core.specs.Results.{Results}
-use Rattle.league_core.specs.Questions.{full_question, IsQuestionOf}
-use Rattle.league_core.specs.Verdicts.{IsClinched, IsLost}
+use Rattle.league_core.specs.game.Results.{Results}
+use Rattle.league_core.specs.game.Questions.{full_question, IsQuestionOf}
+use Rattle.league_core.specs.game.Verdicts.{IsClinched, IsLost}
 use Rattle.cert_text.specs.declared.proof_line.ProofLine.{ProofLine}
+use Rattle.league_core.proofs.OneVerdictLemmas.{clinched_or_lost}
 use Rattle.cert_text.specs.Ranges.{is_in_range}
-use Rattle.branch_pool.specs.States.{PoolState}
-use Rattle.branch_pool.specs.Goodness.{IsSoundPool}
+use Rattle.cert_text.specs.TreeLines.{IsRefutationTree}
+use Rattle.branch_pool.specs.declared.question_state.QuestionState.{QuestionState}
+use Rattle.branch_pool.specs.declared.ticket.Answer.TheVariants as answer
+use Rattle.branch_pool.specs.inside.States.{PoolView}
+use Rattle.branch_pool.specs.inside.Calls.{answer_of}
+use Rattle.branch_pool.specs.inside.Goodness.{IsSoundPool, IsGoodSeat}
 use Rattle.verdict_run.specs.declared.part.Known.{Known}
 use Rattle.verdict_run.specs.declared.part.Known.TheVariants.{Won, Refuted, Spent}
 use Rattle.verdict_run.specs.declared.part.Part.{Part}
 use Rattle.verdict_run.specs.declared.word.Word.{Word}
 use Rattle.verdict_run.specs.declared.word.Word.TheVariants.{Clinched, Lost, Possible, Unsettled}
 use Rattle.verdict_run.specs.declared.word.Verdict.{Verdict}
-use Rattle.verdict_run.specs.AskedQuestions.{both_questions, questions_of_line, questions_of}
-use Rattle.verdict_run.specs.Working.{IsEnough}
+use Rattle.verdict_run.specs.inside.AskedQuestions.{both_questions, questions_of_line, questions_of}
+use Rattle.verdict_run.specs.inside.Working.{IsEnough}
 use Rattle.verdict_run.specs.Items.{AnswerRow, answer_rows, answer_rows_of, IsItemShown}
-use Rattle.verdict_run.specs.Items.{RefutesIfAsked}
-use Rattle.verdict_run.specs.Items.{answer_row, IsShownVerdict, AreVerdictsOf}
-use Rattle.verdict_run.specs.Items.{IsInRange, AreInRange, lines_shown}
-use Rattle.verdict_run.specs.Verdicts.{AreKnownIfEnough}
-use Rattle.verdict_run.specs.Parts.{IsPart, IsAnswerPart, IsRefutedPart, AsksBoth, IsAnswered}
-use Rattle.verdict_run.specs.Parts.{word_by, proof_by}
-use Rattle.verdict_run.proofs.ShownLemmas.{refutation_is_true}
+use Rattle.verdict_run.specs.Items.{RefutesIfAsked, answer_row, IsShownVerdict, AreVerdictsOf}
+use Rattle.verdict_run.specs.inside.ItemRanges.{IsInRange, AreInRange, lines_shown}
+use Rattle.verdict_run.specs.inside.Verdicts.{AreKnownIfEnough}
+use Rattle.verdict_run.specs.inside.Parts.{IsPart, IsAnswerPart, IsRefutedPart, AsksBoth}
+use Rattle.verdict_run.specs.inside.Parts.{IsAnswered, word_by, proof_by}
+use Rattle.verdict_run.specs.inside.Kept.{IsOfPool, AreOfPool}
+use Rattle.verdict_run.proofs.ShownLemmas.{refutation_is_true, refutes_seat, seat_meets}
+use Rattle.verdict_run.proofs.ShownLemmas.{pool_league, pool_results, question_at}
+use Rattle.verdict_run.proofs.KeptLemmas.{none_of_pool, pushed_of_pool, refuted_is}
 
 -- ---- rows
 
@@ -76,7 +83,7 @@ length-both : (rows : List AnswerRow) → length (flat_map both_of rows) ≡ 2 *
 length-both [] = omega arith
 length-both (row ∷ rows) = omega (arith, length-both rows)
 
--- a row's questions stand at twice its place and behind
+-- a row's questions stand at twice its place and after
 both_at : (rows : List AnswerRow) (i : ℕ) (row : AnswerRow) → slice_get rows i ≡ Some row
     → (slice_get (flat_map both_of rows) (2 * i) ≡ Some (full_question row.club row.line Inside))
     × (slice_get (flat_map both_of rows) (2 * i + 1)
@@ -102,7 +109,7 @@ two_a_row sheet =
     ∙ length-both (answer_rows sheet)
 
 -- both questions of each row stand where they are looked for
-pub asks_both : (pool : PoolState) (i : ℕ) (d : AnswerRow)
+pub asks_both : (pool : PoolView) (i : ℕ) (d : AnswerRow)
     → pool.questions ≡ questions_of pool.sheet → i < length (answer_rows pool.sheet)
     → AsksBoth pool (2 * i) (get_or (answer_rows pool.sheet) i d)
 asks_both pool i d asked inside =
@@ -204,7 +211,7 @@ in_range_of sheet question row word proof is club_in all =
     }
 
 -- the verdict of a row whose questions have these parts
-pub answered_by : (pool : PoolState) (row : AnswerRow) (question : Question) (inside outside : Part)
+pub answered_by : (pool : PoolView) (row : AnswerRow) (question : Question) (inside outside : Part)
     (proof : Vec ProofLine Global) → question ≡ full_question row.club row.line Inside
     → row.club < length pool.sheet.clubs
     → IsAnswerPart pool.sheet pool.season (full_question row.club row.line Inside) inside
@@ -238,7 +245,7 @@ answered_by pool row question inside outside proof is club_in one two few_one fe
     }
 
 -- the verdict of a row whose `Inside` is refuted
-pub answered_lost : (pool : PoolState) (row : AnswerRow) (question : Question) (inside : Part)
+pub answered_lost : (pool : PoolView) (row : AnswerRow) (question : Question) (inside : Part)
     → question ≡ full_question row.club row.line Inside → row.club < length pool.sheet.clubs
     → IsAnswerPart pool.sheet pool.season (full_question row.club row.line Inside) inside
     → inside.known ≡ Refuted
@@ -265,7 +272,7 @@ answered_lost pool row question inside is club_in one known =
     }
 
 -- the verdict of a row whose `Outside` is refuted
-pub answered_clinched : (pool : PoolState) (row : AnswerRow) (question : Question) (outside : Part)
+pub answered_clinched : (pool : PoolView) (row : AnswerRow) (question : Question) (outside : Part)
     → question ≡ full_question row.club row.line Inside → row.club < length pool.sheet.clubs
     → IsRefutedPart pool.sheet pool.season (full_question row.club row.line Outside) outside
     → IsAnswered pool row (record {
@@ -301,7 +308,7 @@ asked_at questions place =
     (record { club = 0; line = 0; claim = Inside; low = pos 0; high = pos 0 })
 
 -- at the place of a row it is the question of `Inside`
-pub asks_inside : (pool : PoolState) (place : ℕ) (row : AnswerRow) (questions : List Question)
+pub asks_inside : (pool : PoolView) (place : ℕ) (row : AnswerRow) (questions : List Question)
     → questions ≡ pool.questions → AsksBoth pool place row
     → asked_at questions place ≡ full_question row.club row.line Inside
 asks_inside pool place row questions same asks =
@@ -310,7 +317,7 @@ asks_inside pool place row questions same asks =
     asks.inside
 
 -- a row is about one of the clubs
-pub row_club : (pool : PoolState) (place : ℕ) (row : AnswerRow) → IsSoundPool pool
+pub row_club : (pool : PoolView) (place : ℕ) (row : AnswerRow) → IsSoundPool pool
     → AsksBoth pool place row → row.club < length pool.sheet.clubs
 row_club pool place row sound asks =
     let question = full_question row.club row.line Inside in
@@ -319,32 +326,61 @@ row_club pool place row sound asks =
     (sound.questions place question
     (slice_get_within pool.questions place question asks.inside))).club
 
+-- where the second question of a row is refuted, the first one is not
+pub not_refuted_too : (pool : PoolView) (place : ℕ) (row : AnswerRow) (outside : Part)
+    (seat : QuestionState) → IsSoundPool pool → AsksBoth pool place row
+    → IsRefutedPart pool.sheet pool.season (full_question row.club row.line Outside) outside
+    → slice_get pool.seats place ≡ Some seat → answer_of pool.sheet seat ≡ answer.Refuted → ⊥
+not_refuted_too pool place row outside seat sound asks two there answered =
+    let club_in = row_club pool place row sound asks in
+    let league = pool_league pool sound in
+    let results = pool_results pool sound in
+    let question = full_question row.club row.line Inside in
+    let R : Known → Type 0 = λ k. IsPart pool.sheet pool.season
+    (full_question row.club row.line Outside) k outside.lines.items in
+    let Q : Question → Type 0 = λ q. IsRefutationTree pool.sheet pool.season q seat.tree in
+    clinched_or_lost pool.sheet pool.season row.club row.line sound.limits results club_in
+    (clinched_shown pool.sheet pool.season row.line row.club outside.lines.items club_in
+    (subst R two.known two.part_of.shows))
+    (refutation_is_true pool.sheet pool.season question seat.tree club_in
+    (subst Q (question_at pool place seat question sound there asks.inside)
+    (refutes_seat pool.sheet pool.season seat league results
+    (seat_meets (IsGoodSeat pool.sheet pool.season) pool.seats place seat sound.seats there)
+    (refuted_is pool.sheet seat answered).1)))
+
 -- ---- row by row
 
 -- the verdicts of the first rows
-pub record AreAnswered (pool : PoolState) (count : ℕ) (verdicts : List Verdict) : Type 0 where
+pub record AreAnswered (pool : PoolView) (count : ℕ) (verdicts : List Verdict) : Type 0 where
   pub rows : map answer_row verdicts ≡ take count (answer_rows pool.sheet)
   pub each : All (IsShownVerdict pool.sheet pool.season) verdicts
   pub in_range : AreInRange pool.sheet verdicts
   pub enough : AreKnownIfEnough pool.sheet pool.season verdicts
+  pub of_pool : AreOfPool pool verdicts
 
 -- none yet
-pub none_answered : (pool : PoolState) → AreAnswered pool 0 []
+pub none_answered : (pool : PoolView) → AreAnswered pool 0 []
 none_answered pool = record {
   rows = refl;
   each = All-nil (IsShownVerdict pool.sheet pool.season);
   in_range = All-nil (IsInRange pool.sheet);
   enough = λ great. All-nil (λ (v : Verdict). v.word ≢ Unsettled);
+  of_pool = none_of_pool pool;
 }
 
 -- one more
-pub one_answered : (pool : PoolState) (count : ℕ) (verdicts after : List Verdict)
+pub one_answered : (pool : PoolView) (count : ℕ) (verdicts after : List Verdict)
     (verdict : Verdict) (d : AnswerRow) → count < length (answer_rows pool.sheet)
     → AreAnswered pool count verdicts
     → IsAnswered pool (get_or (answer_rows pool.sheet) count d) verdict
+    → IsOfPool pool (2 * count) verdict
     → after ≡ verdicts ++ verdict ∷ [] → AreAnswered pool (count + 1) after
-one_answered pool count verdicts after verdict d inside so_far one are =
+one_answered pool count verdicts after verdict d inside so_far one of_pool are =
     let rows = answer_rows pool.sheet in
+    let many : length verdicts ≡ count =
+    sym (length-map verdicts answer_row)
+    ∙ ap (λ (rs : List AnswerRow). length rs) so_far.rows
+    ∙ length-take-le count rows (omega arith) in
     let P : List Verdict → Type 0 = λ vs. AreAnswered pool (count + 1) vs in
     subst P (sym are) (record {
       rows = map-append answer_row verdicts (verdict ∷ [])
@@ -362,10 +398,11 @@ one_answered pool count verdicts after verdict d inside so_far one are =
           let K : Verdict → Type 0 = λ v. v.word ≢ Unsettled in
           All-append K verdicts (verdict ∷ []) (so_far.enough great)
           (All-cons K verdict [] (one.enough great) (All-nil K));
+      of_pool = pushed_of_pool pool count verdicts verdict many so_far.of_pool of_pool;
     })
 
 -- all rows are there
-pub all_answered : (pool : PoolState) (count : ℕ) (verdicts : List Verdict)
+pub all_answered : (pool : PoolView) (count : ℕ) (verdicts : List Verdict)
     → AreAnswered pool count verdicts → length (answer_rows pool.sheet) ≤ count
     → AreVerdictsOf pool.sheet pool.season verdicts
 all_answered pool count verdicts so_far all = record {

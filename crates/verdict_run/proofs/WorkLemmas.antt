@@ -11,30 +11,33 @@ use Rattle.std.proofs.lemmas.List.Sums.{sum_by-set, sum_by-cons}
 use Rattle.league_core.specs.declared.sheet.Sheet.{Sheet}
 use Rattle.reason_core.specs.declared.done.Done.{Done}
 use Rattle.reason_core.specs.declared.done.Done.TheVariants.{Refuted, Split, Won, Undone}
-use Rattle.branch_pool.specs.declared.seat.Example.{Example}
-use Rattle.branch_pool.specs.declared.seat.Seat.{Seat}
-use Rattle.branch_pool.specs.declared.seat.Loan.{Loan}
-use Rattle.branch_pool.specs.States.{PoolState, is_workable, free_number, with_loan, out_count}
-use Rattle.branch_pool.specs.Steps.{seat_lent, seat_given, units_given, example_given, loan_of}
+use Rattle.branch_pool.specs.declared.question_state.Example.{Example}
+use Rattle.branch_pool.specs.declared.question_state.QuestionState.{QuestionState}
+use Rattle.branch_pool.specs.declared.question_state.Loan.{Loan}
+use Rattle.branch_pool.specs.inside.States.{PoolView, is_workable, free_number, with_loan}
+use Rattle.branch_pool.specs.inside.States.{out_count}
+use Rattle.branch_pool.specs.inside.Steps.{seat_lent, seat_given, units_given, example_given}
+use Rattle.branch_pool.specs.inside.Steps.{loan_of}
 use Rattle.branch_pool.proofs.SlotLemmas.{slice_get-set_same}
-use Rattle.branch_pool.specs.Runs.{WorksNext, IsWorked}
-use Rattle.verdict_run.specs.Working.{WorksTo, no_turn, one_turn_more, IsSameLeague}
+use Rattle.branch_pool.specs.inside.Runs.{WorksNext, IsWorked}
+use Rattle.verdict_run.specs.inside.Working.{WorksTo, no_turn, one_turn_more, IsSameLeague}
 
 -- ---- what stays
 
 -- a turn changes what is known of a question, and nothing else
-pub turn_same : (old new : PoolState) → WorksNext old new → IsSameLeague old new
-turn_same old new turn = record {
-  sheet = ap (λ pool. pool.sheet) turn.kept.after ∙ ap (λ pool. pool.sheet) turn.taken.after;
-  questions =
-      ap (λ pool. pool.questions) turn.kept.after ∙ ap (λ pool. pool.questions) turn.taken.after;
-  season = ap (λ pool. pool.season) turn.kept.after ∙ ap (λ pool. pool.season) turn.taken.after;
-  log = ap (λ pool. pool.log) turn.kept.after ∙ ap (λ pool. pool.log) turn.taken.after;
-  is_open = ap (λ pool. pool.is_open) turn.kept.after ∙ ap (λ pool. pool.is_open) turn.taken.after;
-}
+pub turn_same : (old new : PoolView) → WorksNext old new → IsSameLeague old new
+turn_same old new turn =
+    let taken = turn.taken.takes.after in
+    record {
+      sheet = ap (λ pool. pool.sheet) turn.kept.after ∙ ap (λ pool. pool.sheet) taken;
+      questions = ap (λ pool. pool.questions) turn.kept.after ∙ ap (λ pool. pool.questions) taken;
+      season = ap (λ pool. pool.season) turn.kept.after ∙ ap (λ pool. pool.season) taken;
+      log = ap (λ pool. pool.log) turn.kept.after ∙ ap (λ pool. pool.log) taken;
+      is_open = ap (λ pool. pool.is_open) turn.kept.after ∙ ap (λ pool. pool.is_open) taken;
+    }
 
 -- so do any number of them
-pub works_same : (old new : PoolState) → WorksTo old new → IsSameLeague old new
+pub works_same : (old new : PoolView) → WorksTo old new → IsSameLeague old new
 works_same old new (no_turn pool) =
     record { sheet = refl; questions = refl; season = refl; log = refl; is_open = refl }
 works_same old new (one_turn_more first between last before turn) =
@@ -64,7 +67,7 @@ out_count-home (Some out ∷ loans) loan =
     ∙ sym (sum_by-cons (λ x. cond (p x) 1 0) (Some out) loans)
 
 -- after a turn as many numbers are out as before
-pub turn_home : (old new : PoolState) → WorksNext old new → out_count new.loans ≡ out_count
+pub turn_home : (old new : PoolView) → WorksNext old new → out_count new.loans ≡ out_count
     old.loans
 turn_home old new turn =
     let number = turn.ticket.number in
@@ -72,11 +75,11 @@ turn_home old new turn =
     let P : ℕ → Type 0 = λ n. out_count (set (with_loan old.loans n loan) n None)
     ≡ out_count old.loans in
     ap (λ pool. out_count pool.loans) turn.kept.after
-    ∙ ap (λ pool. out_count (set pool.loans number None)) turn.taken.after
-    ∙ subst P (sym turn.taken.number) (out_count-home old.loans loan)
+    ∙ ap (λ pool. out_count (set pool.loans number None)) turn.taken.takes.after
+    ∙ subst P (sym turn.taken.takes.number) (out_count-home old.loans loan)
 
 -- so it is after any number of them
-pub works_home : (old new : PoolState) → WorksTo old new
+pub works_home : (old new : PoolView) → WorksTo old new
     → out_count new.loans ≡ out_count old.loans
 works_home old new (no_turn pool) = refl
 works_home old new (one_turn_more first between last before turn) =
@@ -91,15 +94,15 @@ left_if budget units None = suc (budget - units)
 left_if budget units (Some example) = 0
 
 -- how much is left to do for a question at most
-abbrev pub left_of : ℕ → Seat → ℕ
+abbrev pub left_of : ℕ → QuestionState → ℕ
 left_of budget seat = left_if budget seat.units seat.example
 
 -- how much is left to do at most
-unfoldable pub turns_left : PoolState → ℕ
+unfoldable pub turns_left : PoolView → ℕ
 turns_left pool = sum_by (left_of pool.sheet.budget) pool.seats
 
 -- a sum with another item in the place of one
-sum-set : (budget : ℕ) (seats : List Seat) (place : ℕ) (was is : Seat)
+sum-set : (budget : ℕ) (seats : List QuestionState) (place : ℕ) (was is : QuestionState)
     → slice_get seats place ≡ Some was
     → sum_by (left_of budget) (set seats place is) + left_of budget was
     ≡ sum_by (left_of budget) seats + left_of budget is
@@ -110,7 +113,7 @@ sum-set budget seats place was is found =
     ∙ sum_by-set f seats place is was (slice_get_within seats place was found)
 
 -- a question with work has no example, and units to use
-workable_left : (sheet : Sheet) (seat : Seat) → is_workable sheet seat ≡ true
+workable_left : (sheet : Sheet) (seat : QuestionState) → is_workable sheet seat ≡ true
     → (seat.example ≡ None) × (seat.units < sheet.budget)
 workable_left sheet seat workable =
     let parts = and_parts _ _ workable in
@@ -137,20 +140,20 @@ less_sum : (last middle first lent given was left : ℕ) → last + lent ≡ mid
 less_sum last middle first lent given was left two one fewer same is = omega arith
 
 -- so does a turn
-pub turn_less : (old new : PoolState) → WorksNext old new → turns_left new < turns_left old
+pub turn_less : (old new : PoolView) → WorksNext old new → turns_left new < turns_left old
 unfolding turns_left
 turn_less old new turn =
     let budget = old.sheet.budget in
     let place = turn.ticket.place in
-    let was = turn.taken.seat in
-    let lent = seat_lent turn.taken.tree was in
+    let was = turn.taken.takes.seat in
+    let lent = seat_lent turn.taken.takes.tree was in
     let given = seat_given turn.ticket.number turn.done lent in
     let seats = set old.seats place lent in
     let last = set seats place given in
-    let workable = workable_left old.sheet was turn.taken.workable in
+    let workable = workable_left old.sheet was turn.taken.takes.workable in
     let found : slice_get seats place ≡ Some lent =
-    slice_get-set_same old.seats place was lent turn.taken.found in
-    let there : turn.between.seats ≡ seats = ap (λ pool. pool.seats) turn.taken.after in
+    slice_get-set_same old.seats place was lent turn.taken.takes.found in
+    let there : turn.between.seats ≡ seats = ap (λ pool. pool.seats) turn.taken.takes.after in
     let seen : slice_get turn.between.seats place ≡ Some turn.kept.seat = turn.kept.found in
     let is : turn.kept.seat ≡ lent = cc (ap (λ xs. slice_get xs place) there) in
     let ends : new ≡ record turn.between {
@@ -165,7 +168,7 @@ turn_less old new turn =
     let sum_is : turns_left new ≡ sum_by (left_of budget) last =
     ap (λ sheet. sum_by (left_of sheet.budget) new.seats) sheet_is
     ∙ ap (sum_by (left_of budget)) seats_are in
-    let one = sum-set budget old.seats place was lent turn.taken.found in
+    let one = sum-set budget old.seats place was lent turn.taken.takes.found in
     let two = sum-set budget seats place lent given found in
     let none : was.example ≡ None = workable.0 in
     let less : left_if budget (was.units + units_given turn.done)

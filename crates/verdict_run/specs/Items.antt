@@ -1,20 +1,17 @@
 -- What an answer says of a line and a club: a word, and the proof lines that show it. A club that
--- is
--- neither clinched nor lost is possible where both sides are shown by an example, and unsettled
--- where
--- the budget was spent on one of its two questions or on both.
-use Rattle.std.specs.Prelude.{◌≡◌, ◌<◌, ℕ, Bool, true, false, ◌||◌, IsTrue, List, [], ◌++◌}
+-- is neither clinched nor lost is possible where both sides are shown by an example, and unsettled
+-- where the budget was spent on one of its two questions or on both.
+use Rattle.std.specs.Prelude.{◌≡◌, ℕ, Bool, true, false, ◌||◌, IsTrue, List, [], ◌++◌}
 use Rattle.std.specs.Prelude.{map, All, length}
 use Rattle.std.specs.List.{flat_map, range_with_len}
 use Rattle.league_core.specs.declared.sheet.Sheet.{Sheet}
 use Rattle.league_core.specs.declared.question.Claim.TheVariants.{Inside, Outside}
 use Rattle.league_core.specs.declared.question.Question.{Question}
-use Rattle.league_core.specs.Results.{Results}
-use Rattle.league_core.specs.Questions.{full_question}
-use Rattle.league_core.specs.Verdicts.{IsClinched, IsLost}
-use Rattle.league_core.specs.Trees.{Tree}
+use Rattle.league_core.specs.game.Results.{Results}
+use Rattle.league_core.specs.game.Questions.{full_question}
+use Rattle.league_core.specs.game.Verdicts.{IsClinched, IsLost}
+use Rattle.league_core.specs.search.Trees.{Tree}
 use Rattle.cert_text.specs.declared.proof_line.ProofLine.{ProofLine}
-use Rattle.cert_text.specs.Ranges.{is_in_range}
 use Rattle.cert_text.specs.TreeLines.{ShowsRefuted, IsFairSpentTree, marked_lines}
 use Rattle.cert_text.specs.TreeLines.{with_tree_head, with_spent_head}
 use Rattle.cert_text.specs.ExampleLines.{IsExampleInLines}
@@ -60,7 +57,7 @@ RefutesIfAsked true sheet season question lines =
     × (lines ≡ with_tree_head question.claim tree)
 RefutesIfAsked false sheet season question lines = lines ≡ []
 
--- the item of a line and a club, with proofs or without: the word is right, and the lines behind it
+-- the item of a line and a club, with proofs or without: the word is right, and the lines after it
 -- show what they have to show
 abbrev pub IsItemShown : Bool → Sheet → Results → ℕ → ℕ → Word → List ProofLine → Type 0
 IsItemShown proofs sheet season line club Clinched lines =
@@ -73,14 +70,6 @@ IsItemShown proofs sheet season line club Possible lines =
     ShowsPossible sheet season line club lines
 IsItemShown proofs sheet season line club Unsettled lines =
     ShowsUnsettled sheet season line club lines
-
--- the lines behind a word, where proofs are asked for or not, out of all that there are
-abbrev pub lines_shown : Bool → Word → List ProofLine → List ProofLine
-lines_shown true word proof = proof
-lines_shown false Clinched proof = []
-lines_shown false Lost proof = []
-lines_shown false Possible proof = proof
-lines_shown false Unsettled proof = proof
 
 -- a verdict is right, and its lines show it with proofs
 abbrev pub IsShownVerdict : Sheet → Results → Verdict → Type 0
@@ -109,12 +98,3 @@ answer_rows sheet = flat_map (answer_rows_of (length sheet.clubs)) sheet.lines
 pub record AreVerdictsOf (sheet : Sheet) (season : Results) (verdicts : List Verdict) : Type 0 where
   pub rows : map answer_row verdicts ≡ answer_rows sheet
   pub each : All (IsShownVerdict sheet season) verdicts
-
--- a verdict is about one of the clubs, and its lines are in the ranges of their forms
-pub record IsInRange (sheet : Sheet) (verdict : Verdict) : Type 0 where
-  pub club : verdict.club < length sheet.clubs
-  pub lines : All (λ line. IsTrue (is_in_range line)) verdict.proof.items
-
--- so is each verdict
-abbrev pub AreInRange : Sheet → List Verdict → Type 0
-AreInRange sheet verdicts = All (IsInRange sheet) verdicts

@@ -2,7 +2,7 @@
 use Rattle.std.specs.Prelude.{Bool, true, ◌&&◌}
 use Rattle.league_core.specs.declared.tree.TreeNode.{TreeNode}
 use Rattle.league_core.specs.declared.tree.TreeNode.TheVariants.{Split, Open, Lent, Refuted}
-use Rattle.league_core.specs.Trees.{Tree, open_leaf, lent_leaf, refuted_leaf, branch}
+use Rattle.league_core.specs.search.Trees.{Tree, open_leaf, lent_leaf, refuted_leaf, branch}
 
 -- each split and each refuted leaf of the tree is marked new, so that all of it was made in the
 -- present epoch

@@ -2,11 +2,13 @@
 
 ghost use Rattle.std.specs.Prelude.{◌≡◌, ◌+◌, ◌<◌, ◌++◌, IfOk, length};
 ghost use Rattle.verdict_run.specs.declared.word.Verdict.{Verdict};
-ghost use Rattle.verdict_run.specs.AskedQuestions.{questions_of};
-ghost use Rattle.verdict_run.specs.Working.{AreSettled};
-ghost use Rattle.verdict_run.specs.Items.{AnswerRow, AreVerdictsOf, AreInRange};
-ghost use Rattle.verdict_run.specs.Parts.{AsksBoth, IsAnswered, word_by, proof_by};
-ghost use Rattle.verdict_run.specs.Verdicts.{AreKnownIfEnough};
+ghost use Rattle.verdict_run.specs.inside.AskedQuestions.{questions_of};
+ghost use Rattle.verdict_run.specs.inside.Working.{AreSettled};
+ghost use Rattle.verdict_run.specs.Items.{AnswerRow, AreVerdictsOf};
+ghost use Rattle.verdict_run.specs.inside.ItemRanges.{AreInRange};
+ghost use Rattle.verdict_run.specs.inside.Parts.{AsksBoth, IsAnswered, word_by, proof_by};
+ghost use Rattle.verdict_run.specs.inside.Kept.{IsOfPool, AreOfPool};
+ghost use Rattle.verdict_run.specs.inside.Verdicts.{AreKnownIfEnough};
 
 use crate::part::{Known, Part, part_of, refuted_at};
 use crate::word::{Verdict, Word};
@@ -16,7 +18,8 @@ use league_core::OutOfMemory;
 use std::alloc::Global;
 
 /// The verdict of each line and club, in the order of the questions. Where the budget was spent on
-/// a tree that is not all of this epoch, the question is worked on once more from its root.
+/// a tree that is not all of this epoch, the question is worked on once more from its root; else
+/// each verdict is what the pool keeps.
 pub fn verdicts(alloc: Global, pool: &Pool) -> Result<Vec<Verdict>, OutOfMemory>
     requires asked { pool.now.questions ≡ questions_of pool.now.sheet }
     requires settled { AreSettled pool.now }
@@ -25,9 +28,10 @@ pub fn verdicts(alloc: Global, pool: &Pool) -> Result<Vec<Verdict>, OutOfMemory>
     ensures in_range { IfOk result (λ found. AreInRange pool.now.sheet found.items) }
     ensures enough { IfOk result (λ found.
         AreKnownIfEnough pool.now.sheet pool.now.season found.items) }
+    ensures of_pool { IfOk result (λ found. AreOfPool pool.now found.items) }
 {
     let mut found = Vec::new(alloc);
-    pool.is_sound();
+    pool.recall_invariant();
     for row in 0..(pool.questions().len() / 2) as u16 {
         found.push(verdict_at(alloc, pool, 2 * row)?)?;
     }
@@ -38,10 +42,12 @@ pub fn verdicts(alloc: Global, pool: &Pool) -> Result<Vec<Verdict>, OutOfMemory>
 fn verdict_at(alloc: Global, pool: &Pool, place: u16) -> Result<Verdict, OutOfMemory>
     requires in_range { place + 1 < length pool.now.questions }
     requires settled { AreSettled pool.now }
-    ensures { IfOk result (λ verdict. (row : AnswerRow) → AsksBoth pool.now place row
+    ensures answered { IfOk result (λ verdict. (row : AnswerRow) → AsksBoth pool.now place row
         → IsAnswered pool.now row verdict) }
+    ensures of_pool { IfOk result (λ verdict. (row : AnswerRow) → AsksBoth pool.now place row
+        → IsOfPool pool.now place verdict) }
 {
-    pool.is_sound();
+    pool.recall_invariant();
     let question = pool.questions()[place as usize];
     let (line, club) = (question.line, question.club);
     if let Some(outside) = refuted_at(alloc, pool, place + 1)? {
@@ -86,7 +92,7 @@ fn word_of(inside: Known, outside: Known) -> Word
     }
 }
 
-// The lines behind the word.
+// The lines after the word.
 fn joined(word: Word, inside: Part, outside: Part) -> Result<Vec<ProofLine>, OutOfMemory>
     ensures { IfOk result (λ lines. lines.items
         ≡ proof_by word inside.lines.items outside.lines.items) }

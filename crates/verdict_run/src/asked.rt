@@ -1,11 +1,11 @@
 //! What is asked of a season.
 
 ghost use Rattle.std.specs.Prelude.{◌≡◌, ◌≤◌, ◌++◌, All, IfOk, OnOk, length};
-ghost use Rattle.league_core.specs.Limits.{most_clubs, least_points, most_points};
-ghost use Rattle.league_core.specs.Sheets.{IsWithinLimits};
-ghost use Rattle.league_core.specs.Questions.{IsQuestionOf, full_question};
-ghost use Rattle.verdict_run.specs.AskedQuestions.{both_questions, questions_of};
-ghost use Rattle.verdict_run.specs.AskedQuestions.{questions_of_line};
+ghost use Rattle.league_core.specs.game.Limits.{most_clubs, least_points, most_points};
+ghost use Rattle.league_core.specs.game.Sheets.{IsWithinLimits};
+ghost use Rattle.league_core.specs.game.Questions.{IsQuestionOf, full_question};
+ghost use Rattle.verdict_run.specs.inside.AskedQuestions.{both_questions, questions_of};
+ghost use Rattle.verdict_run.specs.inside.AskedQuestions.{questions_of_line};
 
 use league_core::limits::{MOST_DEDUCTION, MOST_POINTS};
 use league_core::{Claim, OutOfMemory, Question, Sheet};

@@ -2,14 +2,14 @@
 
 ghost use Rattle.std.specs.Prelude.{◌≡◌, [], ◌∷◌, IfOk, length};
 ghost use Rattle.league_core.specs.declared.question.Question.{Question};
-ghost use Rattle.league_core.specs.Seasons.{IsLeague};
-ghost use Rattle.league_core.specs.Questions.{IsQuestionOf};
-ghost use Rattle.verdict_run.specs.Working.{AreSettled, AreAllNew};
-ghost use Rattle.verdict_run.specs.Solving.{IsSolved};
+ghost use Rattle.league_core.specs.game.Seasons.{IsLeague};
+ghost use Rattle.league_core.specs.game.Questions.{IsQuestionOf};
+ghost use Rattle.verdict_run.specs.inside.Working.{AreSettled, AreAllNew};
+ghost use Rattle.verdict_run.specs.inside.Solving.{IsSolved};
 
 use crate::telling::tell_season;
 use crate::turns::finish;
-use branch_pool::{Example, Pool, Seat};
+use branch_pool::{Example, Pool, QuestionState};
 use league_core::{Finish, Lots, OutOfMemory, Question, Season, Sheet};
 use std::alloc::Global;
 use tree_reuse::Tree;
@@ -53,12 +53,12 @@ fn kept_of(pool: Pool) -> Solved
     ensures { (question : Question) → pool.questions ≡ question ∷ []
         → IsSolved pool.sheet pool.season question result }
 {
-    pool.is_sound();
+    pool.recall_invariant();
     let mut seats = pool.into_seats();
     let Some(seat) = seats.pop() else {
         unreachable!()
     };
-    let Seat { tree, example, .. } = seat;
+    let QuestionState { tree, example, .. } = seat;
     match example {
         Some(Example { finish, lots }) => Solved::Won(finish, lots),
         None if tree.is_refuted() => Solved::Refuted(tree),

@@ -1,7 +1,7 @@
 //! The verdicts of a season, by the work of one thread on a pool.
 //!
-//! `questions` has what is asked. Read `specs/AskedQuestions.antt` first. `make_sample` has a
-//! league that a number gives, for those who want one of full size.
+//! `questions` has what is asked. Read `specs/inside/AskedQuestions.antt` first. `make_sample` has
+//! a league that a number gives, for those who want one of full size.
 #![tactic(auto)]
 
 mod answer;

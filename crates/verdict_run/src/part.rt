@@ -2,18 +2,22 @@
 
 ghost use Rattle.std.specs.Prelude.{◌≡◌, ◌≢◌, ◌<◌, IfOk, IfSome, IsTrue, length};
 ghost use Rattle.std.specs.List.{list_all};
-ghost use Rattle.league_core.specs.Results.{are_results};
-ghost use Rattle.league_core.specs.Seasons.{IsLeague};
-ghost use Rattle.league_core.specs.Questions.{IsExample, IsQuestionOf};
+ghost use Rattle.league_core.specs.game.Results.{are_results};
+ghost use Rattle.league_core.specs.game.Seasons.{IsLeague};
+ghost use Rattle.league_core.specs.game.Questions.{IsExample, IsQuestionOf};
 ghost use Rattle.cert_text.specs.TreeLines.{IsFairSpentTree, IsRefutationTree};
+ghost use Rattle.cert_text.specs.TreeLines.{plain_lines, marked_lines};
+ghost use Rattle.cert_text.specs.TreeLines.{with_tree_head, with_spent_head};
+ghost use Rattle.cert_text.specs.ExampleLines as shown;
 ghost use Rattle.verdict_run.specs.NewTrees.{is_all_new, is_not_old};
-ghost use Rattle.verdict_run.specs.Working.{AreSettled, IsEnough};
-ghost use Rattle.verdict_run.specs.Parts.{IsAnswerPart, IsPartAt};
-ghost use Rattle.verdict_run.specs.Parts.{IsDoneSeat, IsRefutedPart, IsRefutedAt};
+ghost use Rattle.verdict_run.specs.inside.Working.{AreSettled, IsEnough};
+ghost use Rattle.verdict_run.specs.inside.Parts.{IsAnswerPart, IsPartAt, IsDoneSeat, IsRefutedPart};
+ghost use Rattle.verdict_run.specs.inside.Parts.{IsRefutedAt};
+ghost use Rattle.verdict_run.specs.inside.Kept.{IsOfSeat, IsOfPlace, IsFoundIfRefuted, IsFoundAt};
 
 use crate::fresh::{Solved, solve_fresh};
 use crate::lines::{example_lines, refutation_lines, spent_lines};
-use branch_pool::{Pool, Seat};
+use branch_pool::{Pool, QuestionState};
 use cert_text::ProofLine;
 use league_core::{Finish, Lots, OutOfMemory, Question, Season, Sheet, TreeNode};
 use std::alloc::Global;
@@ -42,8 +46,9 @@ pub(crate) fn part_of(alloc: Global, pool: &Pool, place: u16) -> Result<Part, Ou
     ensures part { IfOk result (IsPartAt pool.now place) }
     ensures enough { IfOk result (λ part. IsEnough pool.now.sheet pool.now.season
         → part.known ≢ Known.Spent) }
+    ensures of_pool { IfOk result (IsOfPlace pool.now place) }
 {
-    pool.is_sound();
+    pool.recall_invariant();
     part_of_seat(alloc, pool.sheet(), pool.season(), pool.seat(place))
 }
 
@@ -55,9 +60,10 @@ pub(crate) fn refuted_at(
 ) -> Result<Option<Part>, OutOfMemory>
     requires in_range { place < length pool.now.questions }
     requires settled { AreSettled pool.now }
-    ensures { IfOk result (λ found. IfSome found (IsRefutedAt pool.now place)) }
+    ensures part { IfOk result (λ found. IfSome found (IsRefutedAt pool.now place)) }
+    ensures of_pool { IfOk result (IsFoundAt pool.now place) }
 {
-    pool.is_sound();
+    pool.recall_invariant();
     refuted_seat(alloc, pool.sheet(), pool.season(), pool.seat(place))
 }
 
@@ -65,12 +71,13 @@ fn part_of_seat(
     alloc: Global,
     sheet: &Sheet,
     season: &Season,
-    seat: &Seat,
+    seat: &QuestionState,
 ) -> Result<Part, OutOfMemory>
     requires { IsDoneSeat sheet.now season.now seat.now }
     ensures part { IfOk result (IsAnswerPart sheet.now season.now seat.now.question) }
     ensures enough { IfOk result (λ part. IsEnough sheet.now season.now
         → part.known ≢ Known.Spent) }
+    ensures of_seat { IfOk result (IsOfSeat sheet.now season.now seat.now) }
 {
     match &seat.example {
         Some(example) => won(
@@ -90,11 +97,12 @@ fn refuted_seat(
     alloc: Global,
     sheet: &Sheet,
     season: &Season,
-    seat: &Seat,
+    seat: &QuestionState,
 ) -> Result<Option<Part>, OutOfMemory>
     requires { IsDoneSeat sheet.now season.now seat.now }
-    ensures { IfOk result (λ found.
+    ensures part { IfOk result (λ found.
         IfSome found (IsRefutedPart sheet.now season.now seat.now.question)) }
+    ensures of_seat { IfOk result (IsFoundIfRefuted seat.now) }
 {
     if seat.tree.is_refuted() {
         let part = refuted(alloc, sheet, season, &seat.question, &seat.tree)?;
@@ -117,6 +125,8 @@ fn won(
     requires example { IsExample sheet.now season.now question.now finish.now lots.now }
     ensures part { IfOk result (IsAnswerPart sheet.now season.now question.now) }
     ensures known { IfOk result (λ part. part.known ≡ Known.Won) }
+    ensures lines { IfOk result (λ part. part.lines.items
+        ≡ shown.example_lines question.now.claim season.now finish.now lots.now) }
 {
     let lines = example_lines(alloc, season, question.claim, finish, lots)?;
     let known = Known::Won;
@@ -133,6 +143,8 @@ fn refuted(
     requires { IsRefutationTree sheet.now season.now question.now tree.now }
     ensures part { IfOk result (IsAnswerPart sheet.now season.now question.now) }
     ensures known { IfOk result (λ part. part.known ≡ Known.Refuted) }
+    ensures lines { IfOk result (λ part. part.lines.items
+        ≡ with_tree_head question.now.claim (plain_lines tree.now)) }
 {
     let lines = refutation_lines(alloc, question.claim, tree)?;
     let known = Known::Refuted;
@@ -148,7 +160,9 @@ fn spent(
 ) -> Result<Part, OutOfMemory>
     requires spent { IsFairSpentTree sheet.now season.now question.now sheet.now.budget tree.now }
     requires all_new { IsTrue (is_all_new tree.now) }
-    ensures { IfOk result (IsAnswerPart sheet.now season.now question.now) }
+    ensures part { IfOk result (IsAnswerPart sheet.now season.now question.now) }
+    ensures lines { IfOk result (λ part. part.lines.items
+        ≡ with_spent_head question.now.claim (marked_lines tree.now)) }
 {
     let nodes = tree.nodes()?;
     let lines = spent_lines(alloc, question.claim, nodes.as_slice())?;
@@ -167,7 +181,9 @@ fn spent_or_fresh(
     requires results { IsTrue (are_results season.now) }
     requires of_sheet { IsQuestionOf sheet.now question.now }
     requires spent { IsFairSpentTree sheet.now season.now question.now sheet.now.budget tree.now }
-    ensures { IfOk result (IsAnswerPart sheet.now season.now question.now) }
+    ensures part { IfOk result (IsAnswerPart sheet.now season.now question.now) }
+    ensures lines { IfOk result (λ part. IsTrue (is_all_new tree.now) → part.lines.items
+        ≡ with_spent_head question.now.claim (marked_lines tree.now)) }
 {
     if all_new(tree)? {
         return spent(alloc, sheet, season, question, tree);

@@ -2,8 +2,8 @@
 
 ghost use Rattle.std.specs.Prelude.{◌≡◌, ◌<◌, ℕ, IfOk, length, map};
 ghost use Rattle.std.specs.List.{range_with_len};
-ghost use Rattle.league_core.specs.Sheets.{IsWithinLimits};
-ghost use Rattle.league_core.specs.Seasons.{AreEventsOf};
+ghost use Rattle.league_core.specs.game.Sheets.{IsWithinLimits};
+ghost use Rattle.league_core.specs.game.Seasons.{AreEventsOf};
 ghost use Rattle.verdict_run.specs.Samples.{sample_club, sample_fixture, sample_sheet};
 ghost use Rattle.verdict_run.specs.Samples.{sample_name, first_of, second_of, is_first_at_home};
 ghost use Rattle.verdict_run.specs.Samples.{sample_events, digit};

@@ -1,9 +1,9 @@
 //! How a new pool is told a season.
 
 ghost use Rattle.std.specs.Prelude.{◌<◌, ◌≤◌, ◌+◌, OnOk, length};
-ghost use Rattle.league_core.specs.Limits.{most_clubs};
-ghost use Rattle.league_core.specs.Seasons.{IsLeague};
-ghost use Rattle.verdict_run.specs.Telling.{HasBeenTold, AsksTheSame};
+ghost use Rattle.league_core.specs.game.Limits.{most_clubs};
+ghost use Rattle.league_core.specs.game.Seasons.{IsLeague};
+ghost use Rattle.verdict_run.specs.inside.Telling.{HasBeenTold, AsksTheSame};
 
 use branch_pool::Pool;
 use league_core::{Event, OutOfMemory, Season};
@@ -43,7 +43,7 @@ fn tell_deduction(pool: &mut Pool, season: &Season, club: u8) -> Result<(), OutO
     if points == 0 {
         return Ok(());
     }
-    pool.tell(Event::Deduct { club, points })
+    pool.change_with_room(Event::Deduct { club, points })
 }
 
 fn tell_scores(pool: &mut Pool, season: &Season) -> Result<(), OutOfMemory>
@@ -70,6 +70,6 @@ fn tell_score(pool: &mut Pool, season: &Season, fixture: u16) -> Result<(), OutO
 {
     match season.score(fixture) {
         None => Ok(()),
-        Some(score) => pool.tell(Event::Set { fixture, score }),
+        Some(score) => pool.change_with_room(Event::Set { fixture, score }),
     }
 }

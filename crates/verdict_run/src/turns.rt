@@ -1,20 +1,20 @@
 //! The work of one thread on a pool, to its end.
 
 ghost use Rattle.std.specs.Prelude.{◌≡◌, IfOk, OnOk};
-ghost use Rattle.league_core.specs.Seasons.{IsLeague};
-ghost use Rattle.branch_pool.specs.States.{out_count};
-ghost use Rattle.verdict_run.specs.Working.{WorksTo, IsSameLeague, AreSettled, AreDecided};
-ghost use Rattle.verdict_run.specs.Working.{IsEnough, FinishesWork};
+ghost use Rattle.league_core.specs.game.Seasons.{IsLeague};
+ghost use Rattle.branch_pool.specs.inside.States.{out_count};
+ghost use Rattle.verdict_run.specs.inside.Working.{WorksTo, IsSameLeague, AreSettled, AreDecided};
+ghost use Rattle.verdict_run.specs.inside.Working.{IsEnough, FinishesWork};
 
 use branch_pool::{Pool, Turn};
-use branch_rules::Worker;
+use branch_rules::ZoneSolver;
 use league_core::{OutOfMemory, Season, Sheet};
 use reason_core::Solver;
 use score_box::Played;
 use std::alloc::Global;
 
 /// Works on each question of the pool in their order, until it is known or its budget is spent. No
-/// number is out before, and none is afterwards. On want of memory the pool is gone.
+/// number is out before, and none is afterwards. If memory runs out, the pool is gone.
 pub fn finish(alloc: Global, pool: Pool) -> Result<Pool, OutOfMemory>
     requires home { out_count pool.loans ≡ 0 }
     ensures work { IfOk result (λ new. WorksTo pool new) }
@@ -62,7 +62,7 @@ fn finish_over(alloc: Global, played: &Played, pool: &mut Pool) -> Result<(), Ou
     requires home { out_count pool.old.loans ≡ 0 }
     ensures { OnOk result (FinishesWork pool.old pool.new) }
 {
-    let mut worker = Worker::new(alloc, played)?;
+    let mut worker = ZoneSolver::new(alloc, played)?;
     finish_by(pool, &mut worker)
 }
 
@@ -77,7 +77,7 @@ fn finish_by<W: Solver>(pool: &mut Pool, worker: &mut W) -> Result<(), OutOfMemo
         match pool.work_next(worker) {
             Turn::Worked => {}
             Turn::Nothing => {
-                pool.is_sound();
+                pool.recall_invariant();
                 return Ok(());
             }
             Turn::OutOfMemory => return Err(OutOfMemory),

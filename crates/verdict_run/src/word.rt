@@ -1,6 +1,6 @@
 //! What is known of a club and a line.
 
-ghost use Rattle.verdict_run.specs.Verdicts.{ItemsWithoutProofs};
+ghost use Rattle.verdict_run.specs.inside.Verdicts.{ItemsWithoutProofs};
 
 use cert_text::ProofLine;
 
@@ -30,8 +30,8 @@ pub struct Verdict {
     pub proof: Vec<ProofLine>,
 }
 
-/// Where proofs are not asked for, the lines behind `Clinched` and `Lost` are left out; what is
-/// left shows what it has to show then. The statement is in `specs/Verdicts.antt`.
+/// Where proofs are not asked for, the lines after `Clinched` and `Lost` are left out; what is
+/// left shows what it has to show then. The statement is in `specs/inside/Verdicts.antt`.
 pub fn items_need_no_proofs()
     ensures { ItemsWithoutProofs }
 {}

@@ -3,26 +3,26 @@ use Rattle.std.proofs.Common.{◌≡◌, ℕ, Bool, List, ◌++◌, Option, Resu
 use Rattle.std.proofs.Common.{subst}
 use Rattle.league_core.specs.declared.sheet.Sheet.{Sheet}
 use Rattle.league_core.specs.declared.season.Event.{Event}
-use Rattle.port_core.specs.declared.answers.ReadStop.TheVariants.{ReadFault, LineTooLong}
-use Rattle.port_core.specs.declared.answers.ReadStop.TheVariants.{InputTooLong}
+use Rattle.port_core.specs.declared.line.ReadStop.TheVariants.{ReadFault, LineTooLong}
+use Rattle.port_core.specs.declared.line.ReadStop.TheVariants.{InputTooLong}
 use Rattle.port_core.specs.Contents.{Contents}
-use Rattle.port_core.specs.Readers.{Reader, contents_to_come}
+use Rattle.port_core.specs.Readers.{LineReaderView, contents_to_come}
 use Rattle.fixture_sheet.specs.LastReads.{ReadsOnWay}
 use Rattle.fixture_sheet.proofs.LastReadLemmas.{passed-to-come, way-more}
 use Rattle.result_log.specs.declared.entry.Entry.{Entry}
 use Rattle.result_log.specs.declared.fault.FeedStop.{FeedStop}
 use Rattle.result_log.specs.declared.fault.FeedStop.TheVariants.{Fault, Read, OutOfMemory}
-use Rattle.result_log.specs.Calls.{LineEntry}
-use Rattle.result_log.specs.LastReads.{GivesBlank, StopsAtEntry}
+use Rattle.result_log.specs.inside.Calls.{LineEntry}
+use Rattle.result_log.specs.inside.LastReads.{GivesBlank, StopsAtEntry}
 use Rattle.result_log.proofs.CallLemmas.{with_lines-append}
-use Rattle.worker_gate.specs.Rounds.{IsUnderWay, live_entry}
-use Rattle.worker_gate.specs.LastReads.{GivesEvents, StopsAtClose}
+use Rattle.worker_gate.specs.inside.Rounds.{IsUnderWay, live_entry}
+use Rattle.worker_gate.specs.inside.LastReads.{GivesEvents, StopsAtClose}
 use Rattle.worker_gate.proofs.RoundLemmas.{tells-append, tells-blank}
 
 -- ---- a source round a source
 
 module _ {S T : Type 0} (within : T → S) (left : S → Option (List ℕ))
-    (reads : S → List ℕ → S → Type 0) (old new : Reader) (before after : T) where
+    (reads : S → List ℕ → S → Type 0) (old new : LineReaderView) (before after : T) where
   -- what it reads, the source within it reads
   way-within : (IsOnWay : Option Contents → Option Contents → Type 0)
       → ReadsOnWay (λ (t : T). left (within t))
@@ -61,7 +61,7 @@ module _ {S T : Type 0} (within : T → S) (left : S → Option (List ℕ))
 
 module _ {S : Type 0} (left : S → Option (List ℕ)) (reads : S → List ℕ → S → Type 0) where
   -- the same of the same entries
-  pub entry-stops-as : (found same : LineEntry) (old new : Reader) (before after : S)
+  pub entry-stops-as : (found same : LineEntry) (old new : LineReaderView) (before after : S)
       (result : Result Entry FeedStop) → found ≡ same
       → StopsAtEntry left reads found old new before after result
       → StopsAtEntry left reads same old new before after result
@@ -70,13 +70,13 @@ module _ {S : Type 0} (left : S → Option (List ℕ)) (reads : S → List ℕ �
       λ entry. StopsAtEntry left reads entry old new before after result in
       subst P is stops
 
-  module _ (sheet : Sheet) (log mid : List Event) (a b c : Reader) (first second third : S)
+  module _ (sheet : Sheet) (log mid : List Event) (a b c : LineReaderView) (first second third : S)
       (x y : Bool) (m n : ℕ)
       (under : IsUnderWay sheet log mid
       (record { reader = a; left = left first; ended = x; faults = m })
       (record { reader = b; left = left second; ended = y; faults = n }))
       (one : ReadsOnWay left reads (GivesEvents sheet log) a b first second) where
-    -- one event more, or what ends the round, behind lines without a record
+    -- one event more, or what ends the round, after lines without a record
     pub round-further : ReadsOnWay left reads (GivesBlank (live_entry sheet mid)) b c second third
         → ReadsOnWay left reads (GivesEvents sheet log) a c first third
     round-further two =

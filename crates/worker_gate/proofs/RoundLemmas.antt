@@ -6,60 +6,60 @@ use Rattle.std.specs.Prelude.{All, OnOk, false}
 use Rattle.std.specs.Result.{is_err}
 use Rattle.league_core.specs.declared.sheet.Sheet.{Sheet}
 use Rattle.league_core.specs.declared.season.Event.{Event}
-use Rattle.league_core.specs.Results.{Results}
-use Rattle.league_core.specs.Seasons.{IsSeasonOf, season_after}
+use Rattle.league_core.specs.game.Results.{Results}
+use Rattle.league_core.specs.game.Seasons.{IsSeasonOf, season_after}
 use Rattle.league_core.proofs.LogLemmas.{season_after_of}
-use Rattle.port_core.specs.Readers.{given_by}
+use Rattle.port_core.specs.inside.ReaderCalls.{given_by}
 use Rattle.port_core.proofs.PassingLemmas.{passes-none, passes-more}
 use Rattle.port_core.proofs.TakingLemmas.{TakesInput-more, TakesInput-none}
 use Rattle.result_log.specs.declared.entry.Entry.{Entry}
 use Rattle.result_log.specs.declared.entry.Entry.TheVariants.{Change, Ask, Proofs, End}
 use Rattle.result_log.specs.declared.fault.FeedFault.{FeedFault}
 use Rattle.result_log.specs.declared.fault.FeedStop.{FeedStop}
-use Rattle.result_log.specs.Calls.{CountsEntry, LineEntry, entry_answer_behind}
+use Rattle.result_log.specs.inside.Calls.{CountsEntry, LineEntry, entry_answer_after}
 use Rattle.result_log.proofs.CallLemmas.{MovesToEntry-from}
-use Rattle.worker_gate.specs.Rounds.{Crosses, EndsRound, IsUnderWay, IsNextEntry, Spot, TellsEvents}
-use Rattle.worker_gate.specs.Rounds.{live_entry, told_on}
-use Rattle.worker_gate.specs.Feeding.{IsSeasonTold}
+use Rattle.worker_gate.specs.inside.Rounds.{Crosses, EndsRound, IsUnderWay, IsNextEntry, Spot}
+use Rattle.worker_gate.specs.inside.Rounds.{ReadsEvents, live_entry, read_on}
+use Rattle.worker_gate.specs.inside.Feeding.{IsSeasonReported}
 use Rattle.result_log.specs.Feeds.{entry_in}
 
 -- ---- what lines tell
 
-told_on-more : (found : Result (Option Entry) FeedFault) (onward behind : List Event → Type 0)
+read_on-more : (found : Result (Option Entry) FeedFault) (onward behind : List Event → Type 0)
     (log : List Event) → ((next : List Event) → onward next → behind next)
-    → told_on found onward log → told_on found behind log
-told_on-more (Ok None) onward behind log each told = each log told
-told_on-more (Ok (Some (Change event))) onward behind log each told =
+    → read_on found onward log → read_on found behind log
+read_on-more (Ok None) onward behind log each told = each log told
+read_on-more (Ok (Some (Change event))) onward behind log each told =
     each (log ++ event ∷ []) told
-told_on-more (Ok (Some Ask)) onward behind log each told = told
-told_on-more (Ok (Some Proofs)) onward behind log each told = told
-told_on-more (Ok (Some End)) onward behind log each told = told
-told_on-more (Err fault) onward behind log each told = told
+read_on-more (Ok (Some Ask)) onward behind log each told = told
+read_on-more (Ok (Some Proofs)) onward behind log each told = told
+read_on-more (Ok (Some End)) onward behind log each told = told
+read_on-more (Err fault) onward behind log each told = told
 
-told_on-as : (found is : Result (Option Entry) FeedFault) (onward : List Event → Type 0)
-    (log : List Event) → found ≡ is → told_on is onward log → told_on found onward log
-told_on-as found is onward log same told =
-    let P : Result (Option Entry) FeedFault → Type 0 = λ f. told_on f onward log in
+read_on-as : (found is : Result (Option Entry) FeedFault) (onward : List Event → Type 0)
+    (log : List Event) → found ≡ is → read_on is onward log → read_on found onward log
+read_on-as found is onward log same told =
+    let P : Result (Option Entry) FeedFault → Type 0 = λ f. read_on f onward log in
     subst P (sym same) told
 
 -- some lines and then others tell the events of both
 pub tells-append : (sheet : Sheet) (log mid last : List Event) (first second : List (ℕ × List ℕ))
-    → TellsEvents sheet log first mid → TellsEvents sheet mid second last
-    → TellsEvents sheet log (first ++ second) last
+    → ReadsEvents sheet log first mid → ReadsEvents sheet mid second last
+    → ReadsEvents sheet log (first ++ second) last
 tells-append sheet log mid last [] second one two =
-    let P : List Event → Type 0 = λ all. TellsEvents sheet all second last in subst P one two
+    let P : List Event → Type 0 = λ all. ReadsEvents sheet all second last in subst P one two
 tells-append sheet log mid last (line ∷ lines) second one two =
-    told_on-more (live_entry sheet log line.1) (λ next. TellsEvents sheet next lines mid)
-    (λ next. TellsEvents sheet next (lines ++ second) last) log
+    read_on-more (live_entry sheet log line.1) (λ next. ReadsEvents sheet next lines mid)
+    (λ next. ReadsEvents sheet next (lines ++ second) last) log
     (λ next told. tells-append sheet next mid last lines second told two) one
 
 -- lines without a record tell none
 pub tells-blank : (sheet : Sheet) (log : List Event) (lines : List (ℕ × List ℕ))
-    → All (λ line. live_entry sheet log line.1 ≡ Ok None) lines → TellsEvents sheet log lines log
+    → All (λ line. live_entry sheet log line.1 ≡ Ok None) lines → ReadsEvents sheet log lines log
 tells-blank sheet log [] none = refl
 tells-blank sheet log (line ∷ lines) none =
-    told_on-as (live_entry sheet log line.1) (Ok None)
-    (λ next. TellsEvents sheet next lines log) log
+    read_on-as (live_entry sheet log line.1) (Ok None)
+    (λ next. ReadsEvents sheet next lines log) log
     (All-head (λ (l : ℕ × List ℕ). live_entry sheet log l.1 ≡ Ok None) line lines none)
     (tells-blank sheet log lines
     (All-tail (λ (l : ℕ × List ℕ). live_entry sheet log l.1 ≡ Ok None) line lines none))
@@ -67,9 +67,9 @@ tells-blank sheet log (line ∷ lines) none =
 -- a line that is an event tells it
 tells-one : (sheet : Sheet) (log : List Event) (number : ℕ) (text : List ℕ) (event : Event)
     → live_entry sheet log text ≡ Ok (Some (Change event))
-    → TellsEvents sheet log ((number, text) ∷ []) (log ++ event ∷ [])
+    → ReadsEvents sheet log ((number, text) ∷ []) (log ++ event ∷ [])
 tells-one sheet log number text event is =
-    told_on-as (live_entry sheet log text) (Ok (Some (Change event)))
+    read_on-as (live_entry sheet log text) (Ok (Some (Change event)))
     (λ next. (log ++ event ∷ []) ≡ next) log is refl
 
 -- ---- a round goes on, and ends
@@ -86,7 +86,7 @@ goes-nowhere sheet log old = record {
   counts = refl;
 }
 
--- one event more, behind lines without a record
+-- one event more, after lines without a record
 pub goes-further : (sheet : Sheet) (log mid : List Event) (event : Event) (first old new : Spot)
     → IsUnderWay sheet log mid first old
     → IsNextEntry (live_entry sheet mid) old new (Ok (Change event))
@@ -122,14 +122,14 @@ counts-from : (first old new : ℕ) (close : Result Entry FeedStop) → old ≡ 
 counts-from first old new close same counts =
     let P : ℕ → Type 0 = λ n. CountsEntry n new close in subst P same counts
 
--- what ends the round, behind lines without a record
+-- what ends the round, after lines without a record
 pub round-ends : (sheet : Sheet) (log mid : List Event) (close : Result Entry FeedStop)
     (first old new : Spot) → IsUnderWay sheet log mid first old
     → IsNextEntry (live_entry sheet mid) old new close
     → EndsRound sheet log mid first new close
 round-ends sheet log mid close first old new front next =
     let last : List (ℕ × List ℕ) =
-    given_by (entry_answer_behind new.reader close) new.reader.text in
+    given_by (entry_answer_after new.reader close) new.reader.text in
     let behind = next.passes in
     record {
       lines = front.lines ++ behind.blank;
@@ -165,7 +165,7 @@ ok-holds (Err stop) P is holds = cc
 
 -- a line in the season of these events
 pub live-as : (own sheet : Sheet) (log : List Event) (season : Results) (events : ℕ)
-    → own ≡ sheet → IsSeasonTold sheet log season events
+    → own ≡ sheet → IsSeasonReported sheet log season events
     → entry_in own season events false ≡ live_entry sheet log
 live-as own sheet log season events same told =
     ap (λ (s : Sheet). entry_in s season events false) same
@@ -174,7 +174,7 @@ live-as own sheet log season events same told =
 
 -- it is one of the sheet
 pub told-of-sheet : (own sheet : Sheet) (log : List Event) (season : Results) (events : ℕ)
-    → own ≡ sheet → IsSeasonTold sheet log season events → IsSeasonOf own season
+    → own ≡ sheet → IsSeasonReported sheet log season events → IsSeasonOf own season
 told-of-sheet own sheet log season events same told =
     let P : Sheet → Type 0 = λ s. IsSeasonOf s season in
     let Q : Results → Type 0 = λ r. IsSeasonOf sheet r in

@@ -1,18 +1,18 @@
 -- Where the reading of an entry stops for good, nothing is to come but that stop.
 use Rattle.std.proofs.Common.{◌≡◌, ℕ, List, [], ◌∷◌, Option, None, Some, IfSome, Result, Ok, Err}
 use Rattle.std.proofs.Common.{sym, ap, ◌∙◌}
-use Rattle.port_core.specs.declared.answers.ReadStop.{ReadStop}
-use Rattle.port_core.specs.declared.answers.ReadStop.TheVariants.{ReadFault, LineTooLong}
-use Rattle.port_core.specs.declared.answers.ReadStop.TheVariants.{InputTooLong}
+use Rattle.port_core.specs.declared.line.ReadStop.{ReadStop}
+use Rattle.port_core.specs.declared.line.ReadStop.TheVariants.{ReadFault, LineTooLong}
+use Rattle.port_core.specs.declared.line.ReadStop.TheVariants.{InputTooLong}
 use Rattle.port_core.specs.Contents.{Contents, ended}
 use Rattle.result_log.specs.declared.entry.Entry.{Entry}
 use Rattle.result_log.specs.declared.fault.FeedFault.{FeedFault}
 use Rattle.result_log.specs.declared.fault.FeedStop.{FeedStop}
 use Rattle.result_log.specs.declared.fault.FeedStop.TheVariants.{Fault, Read, OutOfMemory}
-use Rattle.result_log.specs.Feeds.{EntryReading, entry_reading_by, entry_reading_from}
-use Rattle.result_log.specs.Feeds.{entry_reading_of}
-use Rattle.result_log.specs.Calls.{LineEntry, ReadsEntry, ReadsEntryAs}
-use Rattle.worker_gate.specs.Rounds.{StopsThere}
+use Rattle.result_log.specs.inside.FeedParts.{EntryReading, entry_reading_by, entry_reading_from}
+use Rattle.result_log.specs.inside.FeedParts.{entry_reading_of}
+use Rattle.result_log.specs.inside.Calls.{LineEntry, ReadsEntry, ReadsEntryAs}
+use Rattle.worker_gate.specs.inside.Rounds.{StopsThere}
 
 stops-by : (number : ℕ) (rest : Contents) (onward : EntryReading) (stop : ReadStop)
     (found : Result (Option Entry) FeedFault)

@@ -1,17 +1,17 @@
 //! The feeder: reads entries while the workers work, and reports the events to the lock.
 
 ghost use Rattle.std.specs.Prelude.{◌≡◌, IfOk, false, true};
-ghost use Rattle.league_core.specs.Seasons.{IsSeasonOf};
-ghost use Rattle.league_core.specs.Sheets.{IsWithinLimits};
+ghost use Rattle.league_core.specs.game.Seasons.{IsSeasonOf};
+ghost use Rattle.league_core.specs.game.Sheets.{IsWithinLimits};
 ghost use Rattle.result_log.specs.Feeds.{entry_in};
-ghost use Rattle.result_log.specs.LastReads.{StopsAtEntry};
+ghost use Rattle.result_log.specs.inside.LastReads.{StopsAtEntry};
 ghost use Rattle.result_log.specs.Records.{IsEntryAt};
-ghost use Rattle.worker_gate.specs.Feeding.{FeedsRound, IsSeasonTold};
-ghost use Rattle.worker_gate.specs.LastReads.{StopsFeeding};
-ghost use Rattle.worker_gate.specs.Rounds.{IsNextEntry};
+ghost use Rattle.worker_gate.specs.inside.Feeding.{FeedsRound, IsSeasonReported};
+ghost use Rattle.worker_gate.specs.inside.LastReads.{StopsFeeding};
+ghost use Rattle.worker_gate.specs.inside.Rounds.{IsNextEntry};
 
-use crate::desk::Desk;
-use crate::resting::await_next;
+use crate::feeder_state::FeederState;
+use crate::idle_source::await_next;
 use crate::round::RoundEnd;
 use league_core::{OutOfMemory, Season, Sheet};
 use pool_lock::{Job, PoolLock};
@@ -27,13 +27,13 @@ pub fn feed<J: Job, R: Wait, S: Source>(
     alloc: Global,
     sheet: &Sheet,
     lock: &PoolLock<J>,
-    desk: &mut Desk<J>,
+    desk: &mut FeederState<J>,
     reader: &mut LineReader,
     source: &mut S,
 ) -> Result<RoundEnd, OutOfMemory>
     requires of_job { sheet.now ≡ J.sheet }
     requires limits { IsWithinLimits sheet.now }
-    requires told { IsSeasonTold J.sheet desk.old.front desk.old.season desk.old.events }
+    requires told { IsSeasonReported J.sheet desk.old.front desk.old.season desk.old.events }
     ensures feeds { FeedsRound J.sheet desk.old.front desk.new.front
         (record {
           reader = reader.old;
@@ -61,13 +61,13 @@ fn feed_open<J: Job, R: Wait, S: Source>(
     alloc: Global,
     sheet: &Sheet,
     lock: &PoolLock<J>,
-    desk: &mut Desk<J>,
+    desk: &mut FeederState<J>,
     reader: &mut LineReader,
     source: &mut S,
 ) -> Result<RoundEnd, OutOfMemory>
     requires of_job { sheet.now ≡ J.sheet }
     requires limits { IsWithinLimits sheet.now }
-    requires told { IsSeasonTold J.sheet desk.old.front desk.old.season desk.old.events }
+    requires told { IsSeasonReported J.sheet desk.old.front desk.old.season desk.old.events }
     ensures feeds { FeedsRound J.sheet desk.old.front desk.new.front
         (record {
           reader = reader.old;
@@ -99,8 +99,8 @@ fn feed_open<J: Job, R: Wait, S: Source>(
     }
 }
 
-/// The next entry behind so many events, in the season after them.
-pub fn next_told<S: Source>(
+/// The next entry after so many events, in the season after them.
+pub fn next_reported<S: Source>(
     alloc: Global,
     sheet: &Sheet,
     season: &Season,

@@ -2,21 +2,21 @@
 //!
 //!     source  ── entries ──>  pool  ── ask, end or stop ──>  the pool and how the round ended
 //!
-//! What a round passes and tells stands in `specs/Rounds.antt`; read it first.
+//! What a round passes and tells stands in `specs/inside/Rounds.antt`; read it first.
 #![tactic(auto)]
 
-mod alone;
-mod desk;
 mod feeder;
+mod feeder_state;
 mod gate;
+mod idle_source;
 mod laws;
 mod next;
 mod piece;
 mod plain;
-mod post;
-mod resting;
 mod round;
-mod together;
+mod slots;
+mod sole_worker;
+mod threads;
 mod worker;
 
 pub use gate::{Gate, OpenGate, Point};

@@ -2,8 +2,8 @@
 
 ghost use Rattle.std.specs.Prelude.{◌≡◌};
 ghost use mathlib.Core.List.{IsPrefix};
-ghost use Rattle.reason_core.specs.Dones.{IsTrueOf};
-ghost use Rattle.worker_gate.specs.Workers.{IsNextAfter};
+ghost use Rattle.reason_core.specs.inside.Dones.{IsTrueOf};
+ghost use Rattle.worker_gate.specs.inside.Workers.{IsNextFor};
 
 use crate::gate::{Gate, Point};
 use crate::piece::give_undone;
@@ -15,9 +15,9 @@ use std::sync::Wait;
 
 /// Which worker it is, from 0, and whether it has no company.
 #[derive(Clone, Copy)]
-pub struct Role {
+pub struct WorkerId {
     pub number: u8,
-    pub is_alone: bool,
+    pub is_sole: bool,
 }
 
 /// What a worker goes on with.
@@ -32,10 +32,10 @@ pub fn take_next<J: Job, R: Wait, G: Gate>(
     rt: &R,
     lock: &PoolLock<J>,
     badge: &mut WorkBadge<J>,
-    role: Role,
+    role: WorkerId,
     gate: &G,
 ) -> Next
-    ensures next { IsNextAfter J.sheet badge.new.list result }
+    ensures next { IsNextFor J.sheet badge.new result }
     ensures begins { IsPrefix badge.old.list badge.new.list }
 {
     match lock.lend(rt, badge) {
@@ -54,13 +54,13 @@ pub fn hand_over<J: Job, R: Wait, G: Gate>(
     rt: &R,
     lock: &PoolLock<J>,
     badge: &mut WorkBadge<J>,
-    role: Role,
+    role: WorkerId,
     gate: &G,
     ticket: Ticket,
     found: Finding,
 ) -> Next
     requires sound { IsTrueOf J.sheet ticket.piece found }
-    ensures next { IsNextAfter J.sheet badge.new.list result }
+    ensures next { IsNextFor J.sheet badge.new result }
     ensures begins { IsPrefix badge.old.list badge.new.list }
 {
     let (_, took) = lock.swap(rt, badge, ticket, found);
@@ -81,23 +81,23 @@ pub fn pass_on<J: Job, R: Wait, G: Gate>(
     rt: &R,
     lock: &PoolLock<J>,
     badge: &mut WorkBadge<J>,
-    role: Role,
+    role: WorkerId,
     gate: &G,
     ticket: Ticket,
 ) -> Next
-    ensures next { IsNextAfter J.sheet badge.new.list result }
+    ensures next { IsNextFor J.sheet badge.new result }
     ensures begins { IsPrefix badge.old.list badge.new.list }
 {
     give_undone(rt, lock, badge, role.number, gate, ticket);
     take_next(rt, lock, badge, role, gate)
 }
 
-/// Gives back undone what the worker has in hand, for want of memory.
+/// Gives back undone what the worker has in hand, since memory ran out.
 pub fn give_up<J: Job, R: Wait, G: Gate>(
     rt: &R,
     lock: &PoolLock<J>,
     badge: &mut WorkBadge<J>,
-    role: Role,
+    role: WorkerId,
     gate: &G,
     in_hand: Ticket,
 ) -> Next

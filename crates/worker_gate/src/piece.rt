@@ -2,8 +2,8 @@
 
 ghost use Rattle.std.specs.Prelude.{◌≡◌, IfOk, IfSome};
 ghost use mathlib.Core.List.{IsPrefix};
-ghost use Rattle.reason_core.specs.Dones.{IsTrueOf};
-ghost use Rattle.pool_lock.specs.Lends.{IsWorkAfter};
+ghost use Rattle.reason_core.specs.inside.Dones.{IsTrueOf};
+ghost use Rattle.pool_lock.specs.inside.Lends.{IsWorkAfter};
 
 use crate::gate::{Gate, Point};
 use branch_pool::Ticket;

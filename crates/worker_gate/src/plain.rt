@@ -1,15 +1,16 @@
 //! A round on one thread, without workers.
 
 ghost use Rattle.std.specs.Prelude.{◌≡◌, IfOk, OnErr, ◌<◌, false, length};
-ghost use Rattle.league_core.specs.Seasons.{season_after};
+ghost use Rattle.league_core.specs.game.Seasons.{season_after};
 ghost use Rattle.result_log.specs.Records.{IsEntryAt};
-ghost use Rattle.branch_pool.specs.States.{out_count};
+ghost use Rattle.branch_pool.specs.inside.States.{out_count};
 ghost use Rattle.fixture_sheet.specs.LastReads.{ReadsOnWay};
-ghost use Rattle.result_log.specs.LastReads.{StopsAtEntry};
-ghost use Rattle.worker_gate.specs.LastReads.{GivesEvents, StopsAtClose};
-ghost use Rattle.worker_gate.specs.Rounds.{BreaksOff, EndsRound, IsNextEntry, close_of, live_entry};
+ghost use Rattle.result_log.specs.inside.LastReads.{StopsAtEntry};
+ghost use Rattle.worker_gate.specs.inside.LastReads.{GivesEvents, StopsAtClose};
+ghost use Rattle.worker_gate.specs.inside.Rounds.{BreaksOff, EndsRound, IsNextEntry, close_of};
+ghost use Rattle.worker_gate.specs.inside.Rounds.{live_entry};
 
-use crate::feeder::next_told;
+use crate::feeder::next_reported;
 use crate::round::{Round, RoundEnd};
 use branch_pool::Pool;
 use league_core::OutOfMemory;
@@ -20,7 +21,7 @@ use std::alloc::Global;
 /// Reads the feed on to the next ask, its end or a stop, and tells the pool each event as it comes.
 /// Nothing is worked on.
 ///
-/// The events are read behind those of the pool's log. Where there is no memory to tell an event,
+/// The events are read after those of the pool's log. Where there is no memory to tell an event,
 /// the pool is gone.
 pub fn read_round<S: Source>(
     alloc: Global,
@@ -118,7 +119,7 @@ fn feed_pool<S: Source>(
     'entries: loop {
         match next_of(alloc, pool, reader, source) {
             Ok(Entry::Change(event)) => {
-                if pool.tell(event).is_err() {
+                if pool.change_with_room(event).is_err() {
                     return Err(OutOfMemory);
                 }
             }
@@ -130,7 +131,7 @@ fn feed_pool<S: Source>(
     }
 }
 
-// The next entry behind the events of the pool.
+// The next entry after the events of the pool.
 fn next_of<S: Source>(
     alloc: Global,
     pool: &Pool,
@@ -156,5 +157,5 @@ fn next_of<S: Source>(
         reader.old reader.new source.old source.new result }
 {
     let events = pool.log().len() as u64;
-    next_told(alloc, pool.sheet(), pool.season(), events, reader, source)
+    next_reported(alloc, pool.sheet(), pool.season(), events, reader, source)
 }

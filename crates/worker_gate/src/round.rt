@@ -1,14 +1,14 @@
 //! A round: the feed up to the next ask, its end or a stop, told to a pool.
 
 ghost use Rattle.std.specs.Prelude.{◌≡◌, ◌<◌, ◌≤◌, IfOk, OnErr};
-ghost use Rattle.league_core.specs.Seasons.{season_after};
-ghost use Rattle.branch_pool.specs.States.{out_count};
+ghost use Rattle.league_core.specs.game.Seasons.{season_after};
+ghost use Rattle.branch_pool.specs.inside.States.{out_count};
 ghost use Rattle.fixture_sheet.specs.LastReads.{ReadsOnWay};
-ghost use Rattle.worker_gate.specs.LastReads.{GivesEvents, StopsAtClose};
-ghost use Rattle.worker_gate.specs.Rounds.{BreaksOff, EndsRound, close_of};
+ghost use Rattle.worker_gate.specs.inside.LastReads.{GivesEvents, StopsAtClose};
+ghost use Rattle.worker_gate.specs.inside.Rounds.{BreaksOff, EndsRound, close_of};
 
 use crate::gate::Gate;
-use crate::together::{Seated, round_as};
+use crate::threads::{Seated, run_round_in};
 use branch_pool::Pool;
 use epoch_cancel::EpochWord;
 use league_core::{OutOfMemory, Sheet};
@@ -40,7 +40,7 @@ pub enum RoundEnd {
 
 /// Reads the feed on to the next ask, its end or a stop, and tells the pool each event as it comes.
 ///
-/// The sheet is the pool's. The events are read behind those of the pool's log. Where there is no
+/// The sheet is the pool's. The events are read after those of the pool's log. Where there is no
 /// memory to tell an event, or to begin, the pool is gone.
 pub fn run_round<R: Threads + Wait + Sync, S: Source + Send, G: Gate + Sync>(
     rt: &R,
@@ -104,5 +104,5 @@ pub fn run_round<R: Threads + Wait + Sync, S: Source + Send, G: Gate + Sync>(
         eyes,
     };
     let blank = Blank::new(1);
-    round_as::<Brand, _, _, _>(rt, alloc, sheet, blank, seated, pool, reader, source, gate)
+    run_round_in::<Brand, _, _, _>(rt, alloc, sheet, blank, seated, pool, reader, source, gate)
 }

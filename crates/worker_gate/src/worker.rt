@@ -2,17 +2,17 @@
 
 ghost use Rattle.std.specs.Prelude.{◌≡◌, IfErr, IfOk};
 ghost use mathlib.Core.List.{IsPrefix};
-ghost use Rattle.league_core.specs.Sheets.{IsWithinLimits};
-ghost use Rattle.league_core.specs.Seasons.{IsLeague};
-ghost use Rattle.pool_lock.specs.Lends.{IsWorkAfter};
-ghost use Rattle.worker_gate.specs.Workers.{IsNextAfter};
+ghost use Rattle.league_core.specs.game.Sheets.{IsWithinLimits};
+ghost use Rattle.league_core.specs.game.Seasons.{IsLeague};
+ghost use Rattle.pool_lock.specs.inside.Lends.{IsWorkAfter};
+ghost use Rattle.worker_gate.specs.inside.Workers.{IsEndFor, IsNextFor};
 
-use crate::alone::go_on;
 use crate::gate::Gate;
-use crate::next::{Next, Role, give_up, pass_on, take_next};
+use crate::next::{Next, WorkerId, give_up, pass_on, take_next};
 use crate::piece::find_at;
+use crate::sole_worker::go_on;
 use branch_pool::Ticket;
-use branch_rules::Worker;
+use branch_rules::ZoneSolver;
 use league_core::{OutOfMemory, Season, Sheet};
 use pool_lock::{Job, PoolLock, WorkBadge};
 use reason_core::Solver;
@@ -23,9 +23,10 @@ use std::sync::Wait;
 /// How a worker ended.
 #[derive(Clone, Copy, Debug, PartialEq, Eq)]
 pub enum WorkerEnd {
-    /// The lock has nothing more to lend: nothing is out, and no event will come.
+    /// The lock's last answer to a taking was that nothing is left to work on, nothing is out, and
+    /// no event will come.
     Over,
-    /// Memory was wanting. What the worker had in hand is given back undone.
+    /// Memory ran out. What the worker had in hand is given back undone.
     Memory,
 }
 
@@ -33,7 +34,9 @@ pub enum WorkerEnd {
 /// after each loan, after each piece of work, after each return; `worker` is its number, from 0.
 ///
 /// A ticket goes back undone where an event has come since it was lent: the worker looks for that
-/// before it works, and again before it gives back.
+/// before it works, and again before it gives back. A worker with the lock's only badge works in
+/// the pool itself once no event will come: then there are no tickets, and the gate hears of its
+/// work only.
 pub fn run_worker<J: Job, R: Wait, G: Gate>(
     rt: &R,
     alloc: Global,
@@ -45,30 +48,13 @@ pub fn run_worker<J: Job, R: Wait, G: Gate>(
 ) -> WorkerEnd
     requires of_job { sheet.now ≡ J.sheet }
     requires limits { IsWithinLimits sheet.now }
-    ensures { IsPrefix badge.old.list badge.new.list }
+    ensures end { IsEndFor badge.new result }
+    ensures begins { IsPrefix badge.old.list badge.new.list }
 {
-    let role = Role {
+    let role = WorkerId {
         number: worker,
-        is_alone: false,
+        is_sole: badge.is_alone(),
     };
-    run_as(rt, alloc, sheet, lock, badge, role, gate)
-}
-
-/// As `run_worker`, in a role. A worker that is alone works in the pool itself once no event will
-/// come: then there are no tickets, and the gate hears of its work only.
-pub fn run_as<J: Job, R: Wait, G: Gate>(
-    rt: &R,
-    alloc: Global,
-    sheet: &Sheet,
-    lock: &PoolLock<J>,
-    badge: &mut WorkBadge<J>,
-    role: Role,
-    gate: &G,
-) -> WorkerEnd
-    requires of_job { sheet.now ≡ J.sheet }
-    requires limits { IsWithinLimits sheet.now }
-    ensures { IsPrefix badge.old.list badge.new.list }
-{
     let mut next = take_next(rt, lock, badge, role, gate);
     for _ in rt.forever() {
         match next {
@@ -89,14 +75,14 @@ fn work_epoch<J: Job, R: Wait, G: Gate>(
     sheet: &Sheet,
     lock: &PoolLock<J>,
     badge: &mut WorkBadge<J>,
-    role: Role,
+    role: WorkerId,
     gate: &G,
     ticket: Ticket,
 ) -> Next
     requires of_job { sheet.now ≡ J.sheet }
     requires limits { IsWithinLimits sheet.now }
     requires work { IsWorkAfter J.sheet badge.old.list ticket }
-    ensures next { IsNextAfter J.sheet badge.new.list result }
+    ensures next { IsNextFor J.sheet badge.new result }
     ensures begins { IsPrefix badge.old.list badge.new.list }
 {
     match ticket.piece.season.copy(alloc) {
@@ -112,7 +98,7 @@ fn work_season<J: Job, R: Wait, G: Gate>(
     season: &Season,
     lock: &PoolLock<J>,
     badge: &mut WorkBadge<J>,
-    role: Role,
+    role: WorkerId,
     gate: &G,
     ticket: Ticket,
 ) -> Next
@@ -120,7 +106,7 @@ fn work_season<J: Job, R: Wait, G: Gate>(
     requires limits { IsWithinLimits sheet.now }
     requires season { season.now ≡ ticket.piece.season }
     requires work { IsWorkAfter J.sheet badge.old.list ticket }
-    ensures next { IsNextAfter J.sheet badge.new.list result }
+    ensures next { IsNextFor J.sheet badge.new result }
     ensures begins { IsPrefix badge.old.list badge.new.list }
 {
     match Played::of(alloc, sheet, season) {
@@ -136,17 +122,17 @@ fn work_over<J: Job, R: Wait, G: Gate>(
     played: &Played,
     lock: &PoolLock<J>,
     badge: &mut WorkBadge<J>,
-    role: Role,
+    role: WorkerId,
     gate: &G,
     ticket: Ticket,
 ) -> Next
     requires of_job { played.now.sheet ≡ J.sheet }
     requires season { played.now.season ≡ ticket.piece.season }
     requires work { IsWorkAfter J.sheet badge.old.list ticket }
-    ensures next { IsNextAfter J.sheet badge.new.list result }
+    ensures next { IsNextFor J.sheet badge.new result }
     ensures begins { IsPrefix badge.old.list badge.new.list }
 {
-    match Worker::new(alloc, played) {
+    match ZoneSolver::new(alloc, played) {
         Ok(mut solver) => work_on(rt, lock, badge, role, gate, &mut solver, ticket),
         Err(OutOfMemory) => give_up(rt, lock, badge, role, gate, ticket),
     }
@@ -157,7 +143,7 @@ fn work_on<J: Job, R: Wait, G: Gate, W: Solver>(
     rt: &R,
     lock: &PoolLock<J>,
     badge: &mut WorkBadge<J>,
-    role: Role,
+    role: WorkerId,
     gate: &G,
     solver: &mut W,
     ticket: Ticket,
@@ -165,7 +151,7 @@ fn work_on<J: Job, R: Wait, G: Gate, W: Solver>(
     requires sheet { W.sheet solver.old ≡ J.sheet }
     requires season { W.season solver.old ≡ ticket.piece.season }
     requires work { IsWorkAfter J.sheet badge.old.list ticket }
-    ensures next { IsNextAfter J.sheet badge.new.list result }
+    ensures next { IsNextFor J.sheet badge.new result }
     ensures begins { IsPrefix badge.old.list badge.new.list }
 {
     let epoch = ticket.epoch;
@@ -199,7 +185,7 @@ fn take_turn<J: Job, R: Wait, G: Gate, W: Solver>(
     rt: &R,
     lock: &PoolLock<J>,
     badge: &mut WorkBadge<J>,
-    role: Role,
+    role: WorkerId,
     gate: &G,
     solver: &mut W,
     ticket: Ticket,
@@ -207,7 +193,7 @@ fn take_turn<J: Job, R: Wait, G: Gate, W: Solver>(
     requires sheet { W.sheet solver.old ≡ J.sheet }
     requires season { W.season solver.old ≡ ticket.piece.season }
     requires work { IsWorkAfter J.sheet badge.old.list ticket }
-    ensures next { IsNextAfter J.sheet badge.new.list result }
+    ensures next { IsNextFor J.sheet badge.new result }
     ensures begins { IsPrefix badge.old.list badge.new.list }
     ensures same_sheet { W.sheet solver.new ≡ W.sheet solver.old }
     ensures same_season { W.season solver.new ≡ W.season solver.old }

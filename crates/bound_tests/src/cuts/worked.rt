@@ -1,17 +1,14 @@
 //! Leagues that can be added up on paper.
 
 use crate::cuts::league::{Cuts, cuts_of};
+use flow_bound::FlowKeep;
 use league_core::{Claim, ClubSet, Literal, Question, Test};
 use std::alloc::Global;
 use std::process::Abort;
 use std::test::Fail;
 
-const BEFORE_B: Literal = Literal {
-    test: Test::Rival { club: 1 },
-    yes: true,
-};
-
-fn first_place(claim: Claim) -> Question {
+/// Whether A is inside the first place, or outside, with any points.
+pub fn first_place(claim: Claim) -> Question {
     Question {
         club: 0,
         line: 1,
@@ -21,7 +18,16 @@ fn first_place(claim: Claim) -> Question {
     }
 }
 
-fn after(club: u8) -> Literal {
+/// The rival is to rank before A.
+pub fn before(club: u8) -> Literal {
+    Literal {
+        test: Test::Rival { club },
+        yes: true,
+    }
+}
+
+/// The rival is not to.
+pub fn after(club: u8) -> Literal {
     Literal {
         test: Test::Rival { club },
         yes: false,
@@ -35,7 +41,7 @@ fn found(
     literals: &[Literal],
     ask: &Question,
 ) -> Result<Cuts, Fail> {
-    Ok(cuts_of(rt, alloc, matches, literals, ask)?.ok_or("no finish")?)
+    Ok(cuts_of(rt, alloc, matches, literals, ask, &mut FlowKeep::new())?.ok_or("no finish")?)
 }
 
 // Asserts the floor cut alone.
@@ -67,11 +73,11 @@ fn check(
     Ok(())
 }
 
-const ALREADY_LEVEL: &[u8] = b"match,B,D\nmatch,C,D\nmatch,A,D\nmatch,B,C\nline,1\nseason\n\
+/// B and C have 3 points each and still play each other, A can have 3.
+pub const ALREADY_LEVEL: &[u8] = b"match,B,D\nmatch,C,D\nmatch,A,D\nmatch,B,C\nline,1\nseason\n\
     result,1,1,0\nresult,2,1,0\n";
 
-// B and C have 3 points each and still play each other, A can have 3. Either of B and C may stay
-// at 3; together they have at least 8, and twice 3 is 6.
+// Either of B and C may stay at 3; together they have at least 8, and twice 3 is 6.
 #[test]
 fn two_rivals_that_play_each_other_have_too_many(rt: HostRuntime) -> Result<(), Fail> {
     let alloc = rt.alloc();
@@ -113,5 +119,5 @@ const WON_TWICE: &[u8] = b"match,A,B\nmatch,A,B\nmatch,A,B\nmatch,C,D\nmatch,E,F
 fn a_rival_alone_that_cannot_come_up(rt: HostRuntime) -> Result<(), Fail> {
     let ask = first_place(Claim::Outside);
     let alone = Some(ClubSet { bits: 2 });
-    check(&rt, rt.alloc(), WON_TWICE, &[BEFORE_B], &ask, None, alone)
+    check(&rt, rt.alloc(), WON_TWICE, &[before(1)], &ask, None, alone)
 }

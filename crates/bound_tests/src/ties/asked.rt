@@ -3,7 +3,7 @@
 //! 1:1 by the goals of the group.
 
 ghost use Rattle.std.specs.Prelude.{◌<◌};
-ghost use Rattle.league_core.specs.Seasons.{IsLeague};
+ghost use Rattle.league_core.specs.game.Seasons.{IsLeague};
 
 use super::leagues::{Game, league_of};
 use super::zones::zone_of;

@@ -1,7 +1,7 @@
 //! Drawn zones in which each match has one outcome: what is sure, and whether the criteria refute a
 //! question, beside the plain program.
 
-ghost use Rattle.league_core.specs.Seasons.{IsLeague};
+ghost use Rattle.league_core.specs.game.Seasons.{IsLeague};
 
 use super::plain::Left;
 use crate::drawn::drawn_sample;

@@ -1,7 +1,7 @@
 //! Leagues of four clubs, A to D, as text.
 
 ghost use Rattle.std.specs.Prelude.{IfOk};
-ghost use Rattle.league_core.specs.Seasons.{IsLeague};
+ghost use Rattle.league_core.specs.game.Seasons.{IsLeague};
 
 use crate::drawn::league_in;
 use league_core::Order;

@@ -1,7 +1,7 @@
 //! Zones in which the two orders of the criteria differ.
 
 ghost use Rattle.std.specs.Prelude.{◌<◌};
-ghost use Rattle.league_core.specs.Seasons.{IsLeague};
+ghost use Rattle.league_core.specs.game.Seasons.{IsLeague};
 
 use super::leagues::{Game, league_of};
 use super::zones::zone_of;

@@ -3,9 +3,9 @@
 
 ghost use Rattle.std.specs.Prelude.{◌≡◌};
 ghost use Rattle.league_core.specs.declared.season.Score.{Score};
-ghost use Rattle.league_core.specs.Finishes.{same_score};
-ghost use Rattle.score_box.specs.Cells.{allows, IsExactCell};
-ghost use Rattle.score_box.specs.Points.{AreOutcomesLeft};
+ghost use Rattle.league_core.specs.game.Finishes.{same_score};
+ghost use Rattle.score_box.specs.inside.Cells.{allows, IsExactCell};
+ghost use Rattle.score_box.specs.inside.Points.{AreOutcomesLeft};
 
 use super::Cell;
 use crate::points::OutcomesLeft;

@@ -2,8 +2,8 @@
 
 ghost use Rattle.std.specs.Prelude.{◌≡◌, ◌||◌, not};
 ghost use Rattle.score_box.specs.declared.cell.Cell.{Cell};
-ghost use Rattle.score_box.specs.Cells.{at_most_one};
-ghost use Rattle.score_box.specs.Points.{AreOutcomesLeft, IsPointsOf};
+ghost use Rattle.score_box.specs.inside.Cells.{at_most_one};
+ghost use Rattle.score_box.specs.inside.Points.{AreOutcomesLeft, IsPointsOf};
 
 use super::outcomes::{MatchPoints, least_of, most_of};
 use crate::cell::{Cell, at_most_one};

@@ -2,9 +2,9 @@
 //! its cell has left.
 
 ghost use Rattle.std.specs.Prelude.{◌≡◌, ◌≤◌, if◌then◌else◌};
-ghost use Rattle.league_core.specs.PointRanges.{won_points, drawn_points, lost_points};
-ghost use Rattle.score_box.specs.Cells.{IsEmptyCell};
-ghost use Rattle.score_box.specs.Points.{least_of_three, most_of_three, IsPointsOf};
+ghost use Rattle.league_core.specs.search.PointRanges.{won_points, drawn_points, lost_points};
+ghost use Rattle.score_box.specs.inside.Cells.{IsEmptyCell};
+ghost use Rattle.score_box.specs.inside.Points.{least_of_three, most_of_three, IsPointsOf};
 
 use crate::cell::Cell;
 

@@ -5,12 +5,12 @@ ghost use Rattle.std.specs.Prelude.{MatchOption, List, [], length, Option, Some,
 ghost use Rattle.std.specs.List.{All};
 ghost use Rattle.league_core.specs.declared.season.Score.{Score};
 ghost use Rattle.league_core.specs.declared.zone.Literal.{Literal};
-ghost use Rattle.league_core.specs.Limits.{set_width};
-ghost use Rattle.league_core.specs.Finishes.{may_end};
-ghost use Rattle.league_core.specs.Zones.{is_on, is_of_score};
-ghost use Rattle.league_core.specs.Options.{options_from};
-ghost use Rattle.score_box.specs.Cells.{allows, IsExactCell};
-ghost use Rattle.score_box.specs.Boxes.{AreCellsOf, IsTestBelow};
+ghost use Rattle.league_core.specs.game.Limits.{set_width};
+ghost use Rattle.league_core.specs.game.Finishes.{may_end};
+ghost use Rattle.league_core.specs.search.Zones.{is_on, is_of_score};
+ghost use Rattle.league_core.specs.search.Options.{options_from};
+ghost use Rattle.score_box.specs.inside.Cells.{allows, IsExactCell};
+ghost use Rattle.score_box.specs.inside.Boxes.{AreCellsOf, IsTestBelow};
 
 use crate::cell::Cell;
 use league_core::{OutOfMemory, Score, Test};

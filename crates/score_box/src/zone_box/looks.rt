@@ -2,19 +2,19 @@
 
 ghost use Rattle.std.specs.Prelude.{◌≡◌, ◌<◌, ◌≤ℤ◌, ℕ, neg_ℤ, true, [], ◌∷◌, length};
 ghost use Rattle.std.specs.Prelude.{slice_index_or};
-ghost use Rattle.league_core.specs.Limits.{most_points};
-ghost use Rattle.league_core.specs.Options.{options_in};
-ghost use Rattle.league_core.specs.PointRanges.{least_points_of, most_points_of};
-ghost use Rattle.league_core.specs.ClubSets.{clubs_in};
-ghost use Rattle.league_core.specs.Sums.{has_club, sum_among, sum_of, points_of};
-ghost use Rattle.league_core.specs.PairSums.{sum_against};
-ghost use Rattle.score_box.specs.Totals.{AreTotals, AreTotalsNear};
-ghost use Rattle.score_box.specs.Boxes.{open_outcomes_in};
-ghost use Rattle.score_box.specs.Points.{most_taken_off, AreOutcomesAmong, AreOutcomesLeft};
+ghost use Rattle.league_core.specs.game.Limits.{most_points};
+ghost use Rattle.league_core.specs.search.Options.{options_in};
+ghost use Rattle.league_core.specs.search.PointRanges.{least_points_of, most_points_of};
+ghost use Rattle.league_core.specs.game.ClubSets.{clubs_in};
+ghost use Rattle.league_core.specs.game.Sums.{has_club, sum_among, sum_of, points_of};
+ghost use Rattle.league_core.specs.inside.PairSums.{sum_against};
+ghost use Rattle.score_box.specs.inside.Totals.{AreTotals, AreTotalsNear};
+ghost use Rattle.score_box.specs.inside.Boxes.{open_outcomes_in};
+ghost use Rattle.score_box.specs.inside.Points.{most_taken_off, AreOutcomesAmong, AreOutcomesLeft};
 ghost use Rattle.score_box.specs.declared.cell.Cell.{Cell};
-ghost use Rattle.score_box.specs.Cells.{IsCellOf};
-ghost use Rattle.score_box.specs.Settings.{HasFinish};
-ghost use Rattle.score_box.specs.Unplayed.{unplayed_in};
+ghost use Rattle.score_box.specs.inside.Cells.{IsCellOf};
+ghost use Rattle.score_box.specs.inside.Settings.{HasFinish};
+ghost use Rattle.score_box.specs.inside.Unplayed.{unplayed_in};
 
 use super::ZoneBox;
 use crate::points::OutcomesLeft;

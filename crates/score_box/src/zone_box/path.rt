@@ -4,12 +4,12 @@
 ghost use Rattle.std.specs.Prelude.{◌≡◌, ◌≢◌, ◌≤◌, ◌++◌, ℕ, true, IsTrue, OnOk, OnErr, [], ◌∷◌};
 ghost use Rattle.std.specs.Prelude.{length};
 ghost use Rattle.std.specs.List.{All};
-ghost use Rattle.league_core.specs.Limits.{most_fixtures, set_width};
-ghost use Rattle.league_core.specs.Zones.{is_on, is_test_of, is_zone_of};
-ghost use Rattle.score_box.specs.Cells.{IsExactCell};
-ghost use Rattle.score_box.specs.Boxes.{IsTestBelow};
-ghost use Rattle.score_box.specs.Ends.{HasEndsOfCells, IsMatch};
-ghost use Rattle.score_box.specs.Stages.{TakesOneMore, TakesOneLess};
+ghost use Rattle.league_core.specs.game.Limits.{most_fixtures, set_width};
+ghost use Rattle.league_core.specs.search.Zones.{is_on, is_test_of, is_zone_of};
+ghost use Rattle.score_box.specs.inside.Cells.{IsExactCell};
+ghost use Rattle.score_box.specs.inside.Boxes.{IsTestBelow};
+ghost use Rattle.score_box.specs.inside.Ends.{HasEndsOfCells, IsMatch};
+ghost use Rattle.score_box.specs.inside.PlayedViews.{TakesOneMore, TakesOneLess};
 
 use super::ZoneBox;
 use super::build::fixture_of;

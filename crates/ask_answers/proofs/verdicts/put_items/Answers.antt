@@ -1,5 +1,5 @@
 use Rattle.std.proofs.Common.{◌∙◌, arith}
-use Rattle.ask_answers.specs.Verdicts.{text_of_items}
+use Rattle.ask_answers.specs.inside.Verdicts.{text_of_items}
 use Rattle.output_rows.proofs.OutputLemmas.{due-more, due-front}
 use Rattle.ask_answers.proofs.VerdictLemmas.{items-next}
 use Rattle.ask_answers.proofs.verdicts.put_items.Goals as goal

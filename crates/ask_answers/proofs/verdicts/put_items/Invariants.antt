@@ -1,5 +1,5 @@
 use Rattle.std.proofs.Common.{◌≡◌, drop}
-use Rattle.ask_answers.specs.Verdicts.{text_of_items}
+use Rattle.ask_answers.specs.inside.Verdicts.{text_of_items}
 use Rattle.output_rows.proofs.OutputLemmas.{IsDue}
 use Rattle.ask_answers.proofs.verdicts.put_items.Given as goal
 

@@ -1,4 +1,4 @@
-use Rattle.league_core.specs.Options.{is_home_win, is_draw, is_away_win}
+use Rattle.league_core.specs.search.Options.{is_home_win, is_draw, is_away_win}
 use Rattle.branch_rules.proofs.GoalTestLemmas.{parts_this}
 use Rattle.branch_rules.proofs.goals.goal_split.Goals as goal
 

@@ -2,9 +2,9 @@
 -- have
 -- one outcome.
 use Rattle.std.proofs.Common.{◌≡◌, ◌<◌, ℕ, IsTrue, IfSome, None, get_or}
-use Rattle.league_core.specs.Options.{has_one_outcome, has_one_score}
+use Rattle.league_core.specs.search.Options.{has_one_outcome, has_one_score}
 use Rattle.branch_rules.specs.declared.rated.Rated.{Rated}
-use Rattle.branch_rules.specs.Choices.{IsGoalSplit, options_at_fixture}
+use Rattle.branch_rules.specs.inside.Choices.{IsGoalSplit, options_at_fixture}
 use Rattle.branch_rules.proofs.goals.goal_test.Given as goal
 
 abbrev pub invariant-loop-i : goal.invariant-loop-i

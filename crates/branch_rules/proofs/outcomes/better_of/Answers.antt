@@ -1,6 +1,6 @@
 -- A fixture that neither test divides has one outcome.
 use Rattle.std.proofs.Common.{sym, ◌∙◌}
-use Rattle.branch_rules.specs.Choices.{options_at_fixture}
+use Rattle.branch_rules.specs.inside.Choices.{options_at_fixture}
 use Rattle.branch_rules.proofs.OutcomeTestLemmas.{one_is_left}
 use Rattle.branch_rules.proofs.outcomes.better_of.Goals as goal
 

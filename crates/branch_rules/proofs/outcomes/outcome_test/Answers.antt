@@ -1,7 +1,7 @@
 use Rattle.std.proofs.Common.{◌<◌, IsTrue, List, ℕ, length, get_or, subst, sym, ap, arith}
-use Rattle.league_core.specs.Options.{has_one_outcome}
-use Rattle.league_core.specs.Splits.{are_outcomes_fixed}
-use Rattle.branch_rules.specs.Choices.{options_at_fixture}
+use Rattle.league_core.specs.search.Options.{has_one_outcome}
+use Rattle.league_core.specs.search.Splits.{are_outcomes_fixed}
+use Rattle.branch_rules.specs.inside.Choices.{options_at_fixture}
 use Rattle.branch_rules.proofs.RatedLemmas.{test_of_none, none_with_this}
 use Rattle.branch_rules.proofs.OutcomeTestLemmas.{outcomes_fixed}
 use Rattle.branch_rules.proofs.outcomes.outcome_test.Goals as goal

@@ -1,8 +1,8 @@
 -- The best so far splits; where there is none, the fixtures so far have one outcome each.
 use Rattle.std.proofs.Common.{◌≡◌, ◌<◌, ℕ, IsTrue, IfSome, None, get_or}
-use Rattle.league_core.specs.Options.{has_one_outcome}
+use Rattle.league_core.specs.search.Options.{has_one_outcome}
 use Rattle.branch_rules.specs.declared.rated.Rated.{Rated}
-use Rattle.branch_rules.specs.Choices.{IsOutcomeSplit, options_at_fixture}
+use Rattle.branch_rules.specs.inside.Choices.{IsOutcomeSplit, options_at_fixture}
 use Rattle.branch_rules.proofs.outcomes.outcome_test.Given as goal
 
 abbrev pub invariant-loop-i : goal.invariant-loop-i

@@ -1,6 +1,6 @@
 use Rattle.std.proofs.Common.{◌≡◌, IsTrue, false, ◌&&◌, ◌||◌}
-use Rattle.league_core.specs.Options.{has_one_outcome}
-use Rattle.branch_rules.specs.Choices.{options_at_fixture}
+use Rattle.league_core.specs.search.Options.{has_one_outcome}
+use Rattle.branch_rules.specs.inside.Choices.{options_at_fixture}
 use Rattle.branch_rules.proofs.RatedLemmas.{none_of_both}
 use Rattle.branch_rules.proofs.OutcomeTestLemmas.{one_is_left}
 use Rattle.branch_rules.proofs.outcomes.rated_outcome.Goals as goal

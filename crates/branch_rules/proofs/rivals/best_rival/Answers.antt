@@ -1,8 +1,9 @@
 use Rattle.std.proofs.Common.{◌≡◌, ◌⊎◌, inl, inr, ℕ, true, not, ◌&&◌, List, sym, ap, ◌∙◌}
-use Rattle.std.proofs.lemmas.Bool.{false≢true, and_parts}
-use Rattle.league_core.specs.Sums.{has_club}
-use Rattle.league_core.specs.ClubSets.{clubs_in}
+use Rattle.std.proofs.lemmas.Bool.{and_parts}
+use Rattle.league_core.specs.game.Sums.{has_club}
+use Rattle.league_core.specs.game.ClubSets.{clubs_in}
 use Rattle.league_core.proofs.ClubCountLemmas.{member_below}
+use Rattle.league_core.proofs.WalkLemmas.{comes_to}
 use Rattle.branch_rules.specs.declared.rivals.Ranked.{Ranked}
 use Rattle.branch_rules.proofs.rivals.best_rival.Goals as goal
 
@@ -30,35 +31,27 @@ pub single-requires : goal.single-requires
 single-requires c =
     member_below c.args.rivals c.first_club-first.result c.first_club-first.ensures.member
 
-pub loop-step-init : goal.loop-step-init
-loop-step-init c = record {
-  best_is = ap (has_club (clubs_in c.args.rivals)) c.ranked-best.ensures
-      ∙ c.first_club-first.ensures.member;
-  left_are = in_whole (clubs_in c.args.rivals) (clubs_in c.single.result)
-      (clubs_in c.without-left.result) c.without-left.ensures;
-}
-
-pub first_club-rival-requires : goal.first_club-rival-requires
-first_club-rival-requires c = λ none.
-    false≢true (sym c.if-is_empty.false ∙ c.is_empty.ensures.1 none)
+pub loop-rival-init : goal.loop-rival-init
+loop-rival-init c =
+    ap (has_club (clubs_in c.args.rivals)) c.ranked-best.ensures
+    ∙ c.first_club-first.ensures.member
 
 pub ranked-requires-clause-in_range : goal.ranked-requires-clause-in_range
 ranked-requires-clause-in_range c =
-    c.requires.in_range c.first_club-rival.result
-    (c.loop-step.invariant.left_are c.first_club-rival.result c.first_club-rival.ensures.member)
+    let met = comes_to c.without.result c.loop-rival.yielded c.in-Some.rival
+    (c.into_iter-rival-iterator.ensures.into_iter_gives ∙ c.clubs-rival-items.ensures.all)
+    c.loop-rival.yielded_by c.in-Some.ensures.steps in
+    c.requires.in_range c.in-Some.rival
+    (in_whole (clubs_in c.args.rivals) (clubs_in c.single.result) (clubs_in c.without.result)
+    c.without.ensures c.in-Some.rival met.among)
 
-pub single-requires-in-loop-step : goal.single-requires-in-loop-step
-single-requires-in-loop-step c =
-    member_below c.loop-step.left c.first_club-rival.result c.first_club-rival.ensures.member
-
-pub loop-step-preserved : goal.loop-step-preserved
-loop-step-preserved c = record {
-  best_is = one_of (clubs_in c.args.rivals) c.loop-step.best c.ranked.result
-      c.higher-best.result c.higher-best.ensures c.loop-step.invariant.best_is
-      (ap (has_club (clubs_in c.args.rivals)) c.ranked.ensures
-      ∙ c.loop-step.invariant.left_are c.first_club-rival.result
-      c.first_club-rival.ensures.member);
-  left_are = λ x has. c.loop-step.invariant.left_are x
-      (in_whole (clubs_in c.loop-step.left) (clubs_in c.single-in-loop-step.result)
-      (clubs_in c.without-left-in-loop-step.result) c.without-left-in-loop-step.ensures x has);
-}
+pub loop-rival-preserved : goal.loop-rival-preserved
+loop-rival-preserved c =
+    let met = comes_to c.without.result c.loop-rival.yielded c.in-Some.rival
+    (c.into_iter-rival-iterator.ensures.into_iter_gives ∙ c.clubs-rival-items.ensures.all)
+    c.loop-rival.yielded_by c.in-Some.ensures.steps in
+    one_of (clubs_in c.args.rivals) c.loop-rival.best c.ranked.result
+    c.higher-best.result c.higher-best.ensures c.loop-rival.invariant
+    (ap (has_club (clubs_in c.args.rivals)) c.ranked.ensures
+    ∙ in_whole (clubs_in c.args.rivals) (clubs_in c.single.result) (clubs_in c.without.result)
+    c.without.ensures c.in-Some.rival met.among)

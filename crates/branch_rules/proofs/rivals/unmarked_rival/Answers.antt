@@ -1,8 +1,8 @@
 use Rattle.std.proofs.Common.{not, ◌&&◌, ◌==◌, nat_lt, length, sym, ◌∙◌}
 use Rattle.std.proofs.lemmas.Bool.{and_parts, ltb-true}
-use Rattle.league_core.specs.Zones.{is_marked}
+use Rattle.league_core.specs.search.Zones.{is_marked}
 use Rattle.branch_rules.proofs.RivalLemmas.{all_are_marked}
-use Rattle.league_core.specs.ClubSets.{clubs_in}
+use Rattle.league_core.specs.game.ClubSets.{clubs_in}
 use Rattle.branch_rules.proofs.rivals.unmarked_rival.Goals as goal
 
 pub returns-then-is_empty-clause-none : goal.returns-then-is_empty-clause-none

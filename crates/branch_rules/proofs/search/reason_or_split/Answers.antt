@@ -1,5 +1,5 @@
 use Rattle.std.proofs.Common.{subst}
-use Rattle.league_core.specs.Seasons.{IsSeasonOf}
+use Rattle.league_core.specs.game.Seasons.{IsSeasonOf}
 use Rattle.branch_rules.proofs.FoundLemmas.{has_several}
 use Rattle.branch_rules.proofs.search.reason_or_split.Goals as goal
 

@@ -1,7 +1,7 @@
 use Rattle.std.proofs.Common.{◌<◌, ℕ, length, sym, ap, ◌∙◌, subst}
 use Rattle.league_core.specs.declared.sheet.Sheet.{Sheet}
-use Rattle.league_core.specs.Seasons.{IsSeasonOf}
-use Rattle.league_core.specs.LotsFor.{lots_for_claim}
+use Rattle.league_core.specs.game.Seasons.{IsSeasonOf}
+use Rattle.league_core.specs.inside.LotsFor.{lots_for_claim}
 use Rattle.branch_rules.proofs.FoundLemmas.{proposed_example}
 use Rattle.branch_rules.proofs.search.won.Goals as goal
 

@@ -1,7 +1,7 @@
 use Rattle.std.proofs.Common.{◌∙◌, ap, sym, not, ◌&&◌}
 use Rattle.std.specs.List.{list_all}
 use Rattle.cert_text.specs.Ranges.{is_club_number}
-use Rattle.league_core.specs.ClubSets.{clubs_in}
+use Rattle.league_core.specs.game.ClubSets.{clubs_in}
 use Rattle.league_core.proofs.ClubLemmas.{has_member-not_empty}
 use Rattle.cert_text.proofs.RangeLemmas.{list_all-rest}
 use Rattle.cert_text.proofs.range.is_cut_within.Goals as goal

@@ -1,7 +1,6 @@
 use Rattle.std.proofs.Common.{◌≡◌}
-use Rattle.league_core.specs.ClubSets.{clubs_below}
 use Rattle.cert_text.proofs.values.listed.Given as goal
 
--- the list has the clubs of the set below this one
+-- the list has the clubs so far
 abbrev pub invariant-loop-club : goal.invariant-loop-club
-invariant-loop-club l = l.clubs.items ≡ clubs_below l.club l.set.bits
+invariant-loop-club l = l.clubs.items ≡ l.yielded

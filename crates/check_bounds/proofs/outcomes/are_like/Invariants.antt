@@ -1,6 +1,6 @@
 use Rattle.std.proofs.Common.{◌≡◌, drop}
 use Rattle.std.specs.List.{list_all}
-use Rattle.league_core.specs.Options.{same_outcome}
+use Rattle.league_core.specs.search.Options.{same_outcome}
 use Rattle.check_bounds.proofs.outcomes.are_like.Given as goal
 
 -- all are like the first where those that are left are

@@ -1,5 +1,5 @@
 -- Where the match counts each table takes it, and none where it does not.
-use Rattle.league_core.specs.Sums.{worth_to, goal_difference, goals, match_points}
+use Rattle.league_core.specs.game.Sums.{worth_to, goal_difference, goals, match_points}
 use Rattle.check_bounds.proofs.TableLemmas.{adds_when, adds_unless}
 use Rattle.check_bounds.proofs.records.add_record.Goals as goal
 

@@ -1,6 +1,6 @@
 use Rattle.std.proofs.Common.{[], ◌∙◌, arith}
 use Rattle.std.proofs.lemmas.List.{get_or_default}
-use Rattle.league_core.specs.ClubSets.{clubs_in}
+use Rattle.league_core.specs.game.ClubSets.{clubs_in}
 use Rattle.check_bounds.proofs.WalkLemmas.{records_none, records_more, records_all, records_near}
 use Rattle.check_bounds.proofs.records.records_of.Goals as goal
 

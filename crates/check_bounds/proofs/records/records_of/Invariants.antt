@@ -1,4 +1,4 @@
-use Rattle.league_core.specs.ClubSets.{clubs_in}
+use Rattle.league_core.specs.game.ClubSets.{clubs_in}
 use Rattle.check_bounds.proofs.WalkLemmas.{AreRecordsSoFar}
 use Rattle.check_bounds.proofs.records.records_of.Given as goal
 

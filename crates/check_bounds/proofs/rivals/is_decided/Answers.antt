@@ -1,10 +1,10 @@
 use Rattle.std.proofs.Common.{◌&&◌, ◌||◌, nat_lt, length, ap, sym, ◌∙◌}
 use Rattle.std.specs.List.{list_any}
-use Rattle.league_core.specs.Sums.{has_club}
-use Rattle.league_core.specs.ClubSets.{clubs_in}
-use Rattle.league_core.specs.Zones.{rivals_of}
-use Rattle.league_core.specs.SureOrder.{is_above, is_below}
-use Rattle.check_bounds.specs.Steps.{sure_at}
+use Rattle.league_core.specs.game.Sums.{has_club}
+use Rattle.league_core.specs.game.ClubSets.{clubs_in}
+use Rattle.league_core.specs.search.Zones.{rivals_of}
+use Rattle.league_core.specs.search.SureOrder.{is_above, is_below}
+use Rattle.check_bounds.specs.inside.Steps.{sure_at}
 use Rattle.check_bounds.proofs.RivalLemmas.{decided_by_sets, wrong_by_sets}
 use Rattle.check_bounds.proofs.rivals.is_decided.Goals as goal
 

@@ -1,8 +1,8 @@
 use Rattle.std.proofs.Common.{◌≡◌, ℕ, ◌&&◌, nat_lt}
-use Rattle.league_core.specs.Sums.{has_club}
-use Rattle.league_core.specs.ClubSets.{clubs_in}
-use Rattle.league_core.specs.SureOrder.{is_above}
-use Rattle.check_bounds.specs.Steps.{sure_at}
+use Rattle.league_core.specs.game.Sums.{has_club}
+use Rattle.league_core.specs.game.ClubSets.{clubs_in}
+use Rattle.league_core.specs.search.SureOrder.{is_above}
+use Rattle.check_bounds.specs.inside.Steps.{sure_at}
 use Rattle.check_bounds.proofs.rivals.those_above.Given as goal
 
 -- the clubs passed that are surely before

@@ -1,6 +1,6 @@
 use Rattle.std.proofs.Common.{◌≡◌, ◌&&◌, nat_lt, ap, ◌∙◌, arith}
-use Rattle.league_core.specs.SureOrder.{is_below}
-use Rattle.check_bounds.specs.Steps.{sure_at}
+use Rattle.league_core.specs.search.SureOrder.{is_below}
+use Rattle.check_bounds.specs.inside.Steps.{sure_at}
 use Rattle.check_bounds.proofs.rivals.those_below.Goals as goal
 
 pub returns : goal.returns

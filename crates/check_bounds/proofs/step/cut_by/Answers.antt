@@ -1,11 +1,11 @@
 -- A literal cuts the scope of its fixture, or none; what the scope was puts it back.
 use Rattle.std.proofs.Common.{◌<◌, ◌&&◌, List, length, set, subst, sym, ap, ◌∙◌, arith}
 use Rattle.std.proofs.lemmas.List.{length-set, set-set, set-get_or}
-use Rattle.league_core.specs.Zones.{is_as_said, passes}
-use Rattle.check_bounds.specs.declared.scope.Scope.{Scope}
-use Rattle.check_bounds.specs.Scopes.{is_left}
-use Rattle.check_bounds.specs.Zones.{CutsBy}
-use Rattle.check_bounds.proofs.ScopeLemmas.{takes_cut, takes_mark}
+use Rattle.league_core.specs.search.Zones.{is_as_said, passes}
+use Rattle.check_bounds.specs.declared.score_domain.ScoreDomain.{ScoreDomain}
+use Rattle.check_bounds.specs.inside.ScoreDomains.{is_left}
+use Rattle.check_bounds.specs.inside.Zones.{CutsBy}
+use Rattle.check_bounds.proofs.ScoreDomainLemmas.{takes_cut, takes_mark}
 use Rattle.check_bounds.proofs.step.cut_by.Goals as goal
 
 pub scope-kept-requires : goal.scope-kept-requires
@@ -20,7 +20,7 @@ returns-in-Some-clause-cut c =
     let literal = c.args.literal.now in
     let within : c.in-Some.fixture < length scopes = c.in-Some.ensures.some.2
     (length scopes) c.requires in
-    let Cuts : List Scope → Type 0 = λ new. CutsBy scopes new literal in
+    let Cuts : List ScoreDomain → Type 0 = λ new. CutsBy scopes new literal in
     subst Cuts (sym c.put.ensures.scopes)
     (takes_cut scopes c.in-Some.fixture c.cut.new.self literal within c.in-Some.ensures.some.1
     (λ d score.

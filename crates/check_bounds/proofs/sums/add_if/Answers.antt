@@ -1,6 +1,6 @@
 -- Where the match counts the table takes it, and not where it does not.
-use Rattle.league_core.specs.Sums.{worth_to}
-use Rattle.check_bounds.specs.Looks.{worth_by}
+use Rattle.league_core.specs.game.Sums.{worth_to}
+use Rattle.check_bounds.specs.inside.Terms.{worth_by}
 use Rattle.check_bounds.proofs.TableLemmas.{adds_when, adds_unless}
 use Rattle.check_bounds.proofs.sums.add_if.Goals as goal
 

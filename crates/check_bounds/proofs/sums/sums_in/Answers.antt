@@ -1,9 +1,9 @@
 use Rattle.std.proofs.Common.{get_or, [], ◌∙◌, arith}
 use Rattle.std.proofs.lemmas.List.{get_or_default}
-use Rattle.league_core.specs.ClubSets.{clubs_in}
-use Rattle.check_bounds.specs.Looks.{worth_by}
-use Rattle.check_bounds.specs.Tables.{worth_if}
-use Rattle.check_bounds.specs.Walks.{worth_near}
+use Rattle.league_core.specs.game.ClubSets.{clubs_in}
+use Rattle.check_bounds.specs.inside.Terms.{worth_by}
+use Rattle.check_bounds.specs.inside.Tables.{worth_if}
+use Rattle.check_bounds.specs.inside.Walks.{worth_near}
 use Rattle.check_bounds.proofs.TableLemmas.{table_none, adds_more}
 use Rattle.check_bounds.proofs.sums.sums_in.Goals as goal
 

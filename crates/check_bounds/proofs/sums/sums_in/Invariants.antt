@@ -1,6 +1,6 @@
-use Rattle.league_core.specs.ClubSets.{clubs_in}
-use Rattle.check_bounds.specs.Looks.{worth_by}
-use Rattle.check_bounds.specs.Walks.{worth_near}
+use Rattle.league_core.specs.game.ClubSets.{clubs_in}
+use Rattle.check_bounds.specs.inside.Terms.{worth_by}
+use Rattle.check_bounds.specs.inside.Walks.{worth_near}
 use Rattle.check_bounds.proofs.TableLemmas.{IsTableSoFar}
 use Rattle.check_bounds.proofs.sums.sums_in.Given as goal
 

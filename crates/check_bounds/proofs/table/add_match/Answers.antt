@@ -1,7 +1,7 @@
 use Rattle.std.proofs.Common.{ap, ◌∙◌, false, true}
-use Rattle.league_core.specs.PointRanges.{range_of}
+use Rattle.league_core.specs.search.PointRanges.{range_of}
 use Rattle.league_core.proofs.FixtureLemmas.{clubs_apart}
-use Rattle.check_bounds.specs.Looks.{side_worth}
+use Rattle.check_bounds.specs.inside.Terms.{side_worth}
 use Rattle.check_bounds.proofs.TableLemmas.{match_adds, match_near}
 use Rattle.check_bounds.proofs.table.add_match.Goals as goal
 

@@ -1,7 +1,7 @@
 use Rattle.std.proofs.Common.{[], refl, true, ◌∙◌, arith}
 use Rattle.std.proofs.lemmas.List.{get_or_default}
-use Rattle.league_core.specs.Sums.{worth_to}
-use Rattle.check_bounds.specs.Looks.{worth_by}
+use Rattle.league_core.specs.game.Sums.{worth_to}
+use Rattle.check_bounds.specs.inside.Terms.{worth_by}
 use Rattle.check_bounds.proofs.TableLemmas.{table_none, adds_more}
 use Rattle.check_bounds.proofs.table.sums_of.Goals as goal
 

@@ -1,5 +1,5 @@
-use Rattle.league_core.specs.Sums.{worth_to}
-use Rattle.check_bounds.specs.Looks.{worth_by}
+use Rattle.league_core.specs.game.Sums.{worth_to}
+use Rattle.check_bounds.specs.inside.Terms.{worth_by}
 use Rattle.check_bounds.proofs.TableLemmas.{IsTableSoFar}
 use Rattle.check_bounds.proofs.table.sums_of.Given as goal
 

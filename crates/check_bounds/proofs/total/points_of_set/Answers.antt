@@ -1,8 +1,8 @@
 use Rattle.std.proofs.Common.{◌≡◌, pos, ◌-ℤ◌, slice_index, to_z, of_z, w64, ap, ◌∙◌, arith}
 use Rattle.std.proofs.lemmas.Int.{ints}
-use Rattle.league_core.specs.ClubSets.{clubs_in}
-use Rattle.league_core.specs.PointRanges.{one_value, added, total_of}
-use Rattle.check_bounds.specs.Spans.{range_of_span}
+use Rattle.league_core.specs.game.ClubSets.{clubs_in}
+use Rattle.league_core.specs.search.PointRanges.{one_value, added, total_of}
+use Rattle.check_bounds.specs.inside.IntRanges.{range_of_span}
 use Rattle.check_bounds.proofs.total.points_of_set.Goals as goal
 
 pub returns-clause-points : goal.returns-clause-points

@@ -1,7 +1,7 @@
 use Rattle.std.proofs.Common.{◌≡◌, [], ◌∷◌, ◌∙◌, arith}
 use Rattle.std.proofs.lemmas.List.{length-set}
-use Rattle.league_core.specs.PointRanges.{points_range}
-use Rattle.check_bounds.specs.Spans.{range_of_span}
+use Rattle.league_core.specs.search.PointRanges.{points_range}
+use Rattle.check_bounds.specs.inside.IntRanges.{range_of_span}
 use Rattle.check_bounds.proofs.TableLemmas.{each_more}
 use Rattle.check_bounds.proofs.total.points_table.Goals as goal
 

@@ -1,6 +1,6 @@
 use Rattle.std.proofs.Common.{◌≡◌, ◌<◌, ℕ, [], ◌∷◌, length}
-use Rattle.league_core.specs.PointRanges.{points_range}
-use Rattle.check_bounds.specs.Spans.{range_of_span, span_at}
+use Rattle.league_core.specs.search.PointRanges.{points_range}
+use Rattle.check_bounds.specs.inside.IntRanges.{range_of_span, span_at}
 use Rattle.check_bounds.proofs.total.points_table.Given as goal
 
 -- the clubs passed have their points

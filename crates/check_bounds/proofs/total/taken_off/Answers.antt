@@ -4,9 +4,9 @@ use mir.Syntax.{w64}
 use mir.Val.{to_z, of_z}
 use Rattle.std.proofs.lemmas.Int.{ints}
 use Rattle.std.proofs.lemmas.List.{get_or_past}
-use Rattle.league_core.specs.Sums.{has_club}
-use Rattle.league_core.specs.ClubSets.{clubs_below}
-use Rattle.league_core.specs.PointRanges.{total_of}
+use Rattle.league_core.specs.game.Sums.{has_club}
+use Rattle.league_core.specs.game.ClubSets.{clubs_below}
+use Rattle.league_core.specs.search.PointRanges.{total_of}
 use Rattle.league_core.proofs.PointRangeLemmas.{total_of-next, total_of-past}
 use Rattle.check_bounds.proofs.total.taken_off.Goals as goal
 

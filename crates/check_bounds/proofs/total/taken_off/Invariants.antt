@@ -1,6 +1,6 @@
 use Rattle.std.proofs.Common.{◌≡◌, ◌*◌, pos, ◌≤ℤ◌, slice_index}
-use Rattle.league_core.specs.ClubSets.{clubs_below}
-use Rattle.league_core.specs.PointRanges.{total_of}
+use Rattle.league_core.specs.game.ClubSets.{clubs_below}
+use Rattle.league_core.specs.search.PointRanges.{total_of}
 use Rattle.check_bounds.proofs.total.taken_off.Given as goal
 
 -- what is taken off the clubs of the set so far

@@ -1,7 +1,7 @@
 use Rattle.std.proofs.Common.{◌≡◌, ◌*◌, drop}
-use Rattle.league_core.specs.ClubSets.{clubs_in}
-use Rattle.league_core.specs.PointRanges.{added, range_from, points_together}
-use Rattle.check_bounds.specs.Spans.{range_of_span, IsSpanWithin}
+use Rattle.league_core.specs.game.ClubSets.{clubs_in}
+use Rattle.league_core.specs.search.PointRanges.{added, range_from, points_together}
+use Rattle.check_bounds.specs.inside.IntRanges.{range_of_span, IsSpanWithin}
 use Rattle.check_bounds.proofs.total.won_by.Given as goal
 
 -- the points so far, and those of the matches that are left, make the whole

@@ -2,16 +2,16 @@ use Rattle.std.proofs.Common.{length, refl, sym, ap, subst, ◌∙◌, Option, [
 use Rattle.port_core.specs.Contents.{Contents}
 use Rattle.port_core.specs.Readers.{contents_to_come}
 use Rattle.port_core.proofs.TakingLemmas.{TakesInput-more, TakesInput-none}
-use Rattle.check_run.specs.Calls.{EndsFeed, FeedState, IsStateOf, LeadsFeed}
+use Rattle.check_run.specs.inside.Calls.{EndsFeed, FeedSoFarView, IsStateOf, LeadsFeed}
 use Rattle.check_run.proofs.FeedLemmas.{state-start, leads-start}
 use Rattle.check_run.proofs.feed.read_feed.Goals as goal
 
 pub entries-init : goal.entries-init
 entries-init g c =
-    let none = ap (λ (s : FeedState). length s.entries) c.requires.start in
+    let none = ap (λ (s : FeedSoFarView). length s.entries) c.requires.start in
     record {
       leads = λ contents is.
-          let P : FeedState → Type 0 = λ s. LeadsFeed c.args.sheet.now contents
+          let P : FeedSoFarView → Type 0 = λ s. LeadsFeed c.args.sheet.now contents
           (contents_to_come c.args.reader.now (g.S.Source.left c.args.source.now)) s.entries in
           let Q : Option Contents → Type 0 =
           λ known. LeadsFeed c.args.sheet.now contents known [] in
@@ -41,7 +41,7 @@ entries-preserved g c =
 pub returns-in-Ok-Some-clause-reads : goal.returns-in-Ok-Some-clause-reads
 returns-in-Ok-Some-clause-reads g c = λ contents is.
     let reads = rw c.in-Ok-Some.field-0-is at c.in-Ok-Some.ensures.reads in
-    let P : FeedState → Type 0 = λ s. EndsFeed c.args.sheet.now contents
+    let P : FeedSoFarView → Type 0 = λ s. EndsFeed c.args.sheet.now contents
     (contents_to_come c.take_entry.new.reader (g.S.Source.left c.take_entry.new.source)) s.entries
     c.in-Ok-Some.proofs in
     subst P (sym c.feed.view_is) (reads contents (c.entries.invariant.leads contents is))
@@ -49,7 +49,7 @@ returns-in-Ok-Some-clause-reads g c = λ contents is.
 pub returns-in-Ok-Some-clause-few : goal.returns-in-Ok-Some-clause-few
 returns-in-Ok-Some-clause-few g c =
     let kept = rw c.in-Ok-Some.field-0-is at c.in-Ok-Some.ensures.kept in
-    let same = ap (λ (s : FeedState). length s.entries) (c.feed.view_is ∙ kept) in
+    let same = ap (λ (s : FeedSoFarView). length s.entries) (c.feed.view_is ∙ kept) in
     omega (arith, same, c.entries.invariant.within)
 
 pub returns-in-Ok-Some-clause-takes : goal.returns-in-Ok-Some-clause-takes

@@ -1,13 +1,13 @@
 use Rattle.std.proofs.Common.{◌≡◌, ◌≤◌, ◌-◌, length}
 use Rattle.port_core.specs.Contents.{input_limit}
 use Rattle.port_core.specs.Readers.{TakesInput, contents_to_come}
-use Rattle.check_run.specs.Calls.{IsStateOf, LeadsFeed, WhereTold}
+use Rattle.check_run.specs.inside.Calls.{IsStateOf, LeadsFeed, IfRead}
 use Rattle.check_run.proofs.feed.read_feed.Given as goal
 
 -- the lines so far led here, an entry needs a byte at least, and the count of faults stayed
 abbrev pub invariant-entries : goal.invariant-entries
 invariant-entries g l = record {
-  leads : WhereTold (contents_to_come l.fn.reader (g.S.Source.left l.fn.source)) (λ contents.
+  leads : IfRead (contents_to_come l.fn.reader (g.S.Source.left l.fn.source)) (λ contents.
       LeadsFeed l.sheet contents (contents_to_come l.reader (g.S.Source.left l.source))
       l.feed.entries);
   state : IsStateOf l.sheet l.feed;

@@ -2,7 +2,7 @@ use Rattle.std.proofs.Common.{Bool, List, subst}
 use Rattle.port_core.specs.Readers.{contents_to_come}
 use Rattle.port_core.proofs.TakingLemmas.{TakesInput-more}
 use Rattle.result_log.specs.declared.entry.Entry.{Entry}
-use Rattle.check_run.specs.Calls.{ChecksBy, EndsFeed, WhereTold, outcome_behind_feed}
+use Rattle.check_run.specs.inside.Calls.{ChecksBy, EndsFeed, IfRead, outcome_after_feed}
 use Rattle.check_run.proofs.InputLemmas.{feed-proofs, feed-fault, feed-stop}
 use Rattle.check_run.proofs.InputLemmas.{stop-leaves, feed-stop-counts}
 use Rattle.check_run.proofs.input.check_feed.Goals as goal
@@ -46,8 +46,8 @@ returns-then-feed-clause-outcome g c =
     let mid = contents_to_come c.read_feed.new.reader (g.S.Source.left c.read_feed.new.source) in
     let after =
     contents_to_come c.check_report.new.reader (g.S.Source.left c.check_report.new.source) in
-    let P : List Entry → Type 0 = λ entries. WhereTold mid (λ rest.
-    ChecksBy (outcome_behind_feed c.args.sheet.now entries) rest after c.check_report.result) in
+    let P : List Entry → Type 0 = λ entries. IfRead mid (λ rest.
+    ChecksBy (outcome_after_feed c.args.sheet.now entries) rest after c.check_report.result) in
     feed-proofs c.args.sheet.now
     (contents_to_come c.args.reader.now (g.S.Source.left c.args.source.now)) after mid
     c.in-Ok.feed.entries.items c.check_report.result

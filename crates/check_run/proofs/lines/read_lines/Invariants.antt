@@ -1,14 +1,14 @@
 use Rattle.std.proofs.Common.{◌≡◌, ◌-◌}
 use Rattle.port_core.specs.Contents.{input_limit}
 use Rattle.port_core.specs.Readers.{TakesInput, contents_to_come}
-use Rattle.check_run.specs.Calls.{WhereTold}
+use Rattle.check_run.specs.inside.Calls.{IfRead}
 use Rattle.check_run.proofs.InputLemmas.{LinesKept}
 use Rattle.check_run.proofs.lines.read_lines.Given as goal
 
 -- the lines so far were kept, and the count of faults stayed
 abbrev pub invariant-lines : goal.invariant-lines
 invariant-lines g l = record {
-  kept : WhereTold (contents_to_come l.fn.reader (g.S.Source.left l.fn.source)) (λ contents.
+  kept : IfRead (contents_to_come l.fn.reader (g.S.Source.left l.fn.source)) (λ contents.
       LinesKept contents (contents_to_come l.reader (g.S.Source.left l.source)) l.lines);
   takes : TakesInput l.fn.reader l.reader (g.S.Source.left l.fn.source) (g.S.Source.left l.source);
   counts : g.S.Source.faults l.source ≡ g.S.Source.faults l.fn.source;

@@ -3,8 +3,8 @@ use Rattle.std.proofs.lemmas.Grind.{common_steps}
 use Rattle.league_core.specs.declared.season.Event.TheVariants.{Set}
 use Rattle.result_log.specs.declared.entry.Entry.{Entry}
 use Rattle.result_log.specs.declared.entry.Entry.TheVariants.{Change}
-use Rattle.check_run.specs.Outcomes.{first_standing}
-use Rattle.check_run.specs.Calls.{report_told}
+use Rattle.check_run.specs.Outcomes.{first_progress}
+use Rattle.check_run.specs.inside.Calls.{report_read}
 use Rattle.check_run.proofs.ReportLemmas.{entries-more}
 use Rattle.check_run.proofs.report.report_outcome.Goals as goal
 
@@ -14,8 +14,8 @@ loop-entry-preserved c =
     let other : Entry = Change (Set 0 (record { home = 0; away = 0 })) in
     let counts = c.go_over.ensures.counts in
     record {
-      same = entries-more (report_told c.args.sheet.now c.args.told.now) c.args.entries.now
-          c.loop-entry.entry-index other (first_standing c.args.sheet.now) c.loop-entry.reached
+      same = entries-more (report_read c.args.sheet.now c.args.told.now) c.args.entries.now
+          c.loop-entry.entry-index other (first_progress c.args.sheet.now) c.loop-entry.reached
           c.go_over.new.self c.loop-entry-test.true c.loop-entry.invariant.same goes;
       league = c.go_over.ensures.league;
       room = c.go_over.ensures.room;

@@ -1,14 +1,14 @@
 use Rattle.std.proofs.Common.{◌≡◌, ◌≤◌, ◌*◌, ◌^◌, length, drop}
-use Rattle.league_core.specs.Seasons.{IsLeague}
-use Rattle.check_run.specs.Outcomes.{outcome_from, first_standing}
-use Rattle.check_run.specs.Calls.{report_told}
+use Rattle.league_core.specs.game.Seasons.{IsLeague}
+use Rattle.check_run.specs.Outcomes.{outcome_from, first_progress}
+use Rattle.check_run.specs.inside.Calls.{report_read}
 use Rattle.check_run.proofs.report.report_outcome.Given as goal
 
 -- what the report comes to is what it comes to from here on
 abbrev pub invariant-loop-entry : goal.invariant-loop-entry
 invariant-loop-entry l = record {
-  same : outcome_from (report_told l.sheet l.told) l.entries (first_standing l.sheet)
-      ≡ outcome_from (report_told l.sheet l.told) (drop l.entry-index l.entries) l.reached;
+  same : outcome_from (report_read l.sheet l.told) l.entries (first_progress l.sheet)
+      ≡ outcome_from (report_read l.sheet l.told) (drop l.entry-index l.entries) l.reached;
   league : IsLeague l.sheet l.reached.season;
   room : l.reached.at ≤ length l.told.lines;
   epoch : l.reached.epoch ≤ l.entry-index;

@@ -1,6 +1,6 @@
 use Rattle.std.proofs.Common.{rules, arith, refl, ◌≡◌, ap, ◌∙◌, subst}
 use mathlib.Core.List.{IsPrefix}
-use Rattle.epoch_cancel.specs.Views.{view_noted, view_longer, view_beside}
+use Rattle.epoch_cancel.specs.inside.Views.{view_noted, view_longer, view_beside}
 use Rattle.epoch_cancel.proofs.ViewLemmas.{longer_of-begins}
 use Rattle.epoch_cancel.proofs.MoveLemmas.{remembers, copies, takes_longer, compares}
 use Rattle.epoch_cancel.proofs.telling.seen.Goals as goal

@@ -1,7 +1,7 @@
 use Rattle.std.proofs.Common.{rules, arith, refl, ◌≡◌, sym, ap, ◌∙◌, subst, ◌+◌, ◌≤◌, length}
 use Rattle.std.proofs.Common.{[], ◌∷◌, ◌++◌, length-append}
 use mathlib.Core.List.{IsPrefix}
-use Rattle.epoch_cancel.specs.Views.{view_told, view_noted, view_longer}
+use Rattle.epoch_cancel.specs.inside.Views.{view_told, view_noted, view_longer}
 use Rattle.epoch_cancel.proofs.PrefixLemmas.{prefix_alike}
 use Rattle.epoch_cancel.proofs.PackLemmas.{is_pack}
 use Rattle.epoch_cancel.proofs.ViewLemmas.{longer_of-longer}

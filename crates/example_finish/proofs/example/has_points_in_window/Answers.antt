@@ -1,10 +1,10 @@
 use Rattle.std.proofs.Common.{ap, ◌∙◌, arith, w32}
 use Rattle.std.proofs.lemmas.Int.{ints, to_z-of_z}
 use Rattle.league_core.specs.declared.question.Question.{Question}
-use Rattle.league_core.specs.Sums.{points_of}
-use Rattle.league_core.specs.Questions.{is_in_window}
-use Rattle.score_box.specs.Ends.{end_at}
-use Rattle.example_finish.specs.ProposalViews.{sheet_asked, finish_asked}
+use Rattle.league_core.specs.game.Sums.{points_of}
+use Rattle.league_core.specs.game.Questions.{is_in_window}
+use Rattle.score_box.specs.inside.Ends.{end_at}
+use Rattle.example_finish.specs.inside.ProposalViews.{sheet_asked, finish_asked}
 use Rattle.example_finish.proofs.example.has_points_in_window.Goals as goal
 
 pub returns : goal.returns

@@ -3,14 +3,14 @@ use Rattle.std.proofs.Common.{◌∙◌, subst, arith}
 use Rattle.std.proofs.lemmas.Bool.{le-leb}
 use Rattle.league_core.specs.declared.question.Question.{Question}
 use Rattle.league_core.specs.declared.club_set.ClubSet.{ClubSet}
-use Rattle.league_core.specs.Sheets.{IsWithinLimits, clubs_of}
-use Rattle.league_core.specs.Sums.{has_club}
-use Rattle.league_core.specs.ClubSets.{clubs_in}
-use Rattle.league_core.specs.Ranking.{is_inside, place_of}
-use Rattle.league_core.specs.LotsFor.{lots_for_claim, order_without_lots}
+use Rattle.league_core.specs.game.Sheets.{IsWithinLimits, clubs_of}
+use Rattle.league_core.specs.game.Sums.{has_club}
+use Rattle.league_core.specs.game.ClubSets.{clubs_in}
+use Rattle.league_core.specs.game.Ranking.{is_inside, place_of}
+use Rattle.league_core.specs.inside.LotsFor.{lots_for_claim, order_without_lots}
 use Rattle.final_rank.proofs.TierLemmas.{below_clubs}
-use Rattle.example_finish.specs.ProposalViews.{sheet_asked, finish_asked}
-use Rattle.example_finish.specs.GroupStandings.{IsStandingOf, by_points_in}
+use Rattle.example_finish.specs.inside.ProposalViews.{sheet_asked, finish_asked}
+use Rattle.example_finish.specs.inside.GroupStandings.{IsStandingOf, by_points_in}
 use Rattle.example_finish.proofs.GroupStandingLemmas.{standing_without_lots, itself_by_points}
 use Rattle.example_finish.proofs.GroupStandingLemmas.{level_in_group}
 use Rattle.example_finish.proofs.PlaceLemmas.{behind_by_points, before_by_points, no_le}

@@ -1,9 +1,9 @@
 use Rattle.std.proofs.Common.{ℕ, IsTrue, length, subst, sym, ap, ◌∙◌}
 use Rattle.std.proofs.lemmas.Bool.{false≢true}
-use Rattle.league_core.specs.Results.{Results}
-use Rattle.league_core.specs.Ranking.{are_lots}
-use Rattle.league_core.specs.LotsFor.{lots_for_claim}
-use Rattle.league_core.specs.Questions.{holds_at}
+use Rattle.league_core.specs.game.Results.{Results}
+use Rattle.league_core.specs.game.Ranking.{are_lots}
+use Rattle.league_core.specs.inside.LotsFor.{lots_for_claim}
+use Rattle.league_core.specs.game.Questions.{holds_at}
 use Rattle.league_core.proofs.LotsLemmas.{lots_for_claim-are_lots, lots_for_claim-favoured}
 use Rattle.league_core.proofs.LotsLemmas.{holds_at-favoured}
 use Rattle.example_finish.proofs.example.try_example.Goals as goal

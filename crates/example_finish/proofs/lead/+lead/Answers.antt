@@ -1,10 +1,10 @@
 use Rattle.std.proofs.Common.{sym, subst, arith}
 use Rattle.league_core.specs.declared.club_set.ClubSet.{ClubSet}
-use Rattle.league_core.specs.ClubSets.{clubs_in}
-use Rattle.league_core.specs.HeadToHead.{by_head_to_head}
-use Rattle.league_core.specs.Ahead.{lead_in}
-use Rattle.example_finish.specs.ProposalViews.{sheet_asked, finish_asked}
-use Rattle.example_finish.specs.GroupStandings.{IsStandingOf}
+use Rattle.league_core.specs.game.ClubSets.{clubs_in}
+use Rattle.league_core.specs.game.HeadToHead.{by_head_to_head}
+use Rattle.league_core.specs.game.Ahead.{lead_in}
+use Rattle.example_finish.specs.inside.ProposalViews.{sheet_asked, finish_asked}
+use Rattle.example_finish.specs.inside.GroupStandings.{IsStandingOf}
 use Rattle.example_finish.proofs.GroupStandingLemmas.{standing_in_lead, itself_by_record}
 use Rattle.example_finish.proofs.GroupStandingLemmas.{level_in_group, alone_in_lead}
 use Rattle.example_finish.proofs.GroupStandingLemmas.{few_by_record}

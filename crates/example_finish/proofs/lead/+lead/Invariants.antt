@@ -1,5 +1,5 @@
 use Rattle.std.proofs.Common.{◌+◌, ◌*◌, length}
-use Rattle.league_core.specs.ClubSets.{clubs_in}
+use Rattle.league_core.specs.game.ClubSets.{clubs_in}
 use Rattle.example_finish.proofs.lead.+lead.Given as goal
 
 abbrev pub decreases-lead : goal.decreases-lead

@@ -1,7 +1,7 @@
-use Rattle.league_core.specs.Ahead.{by_overall}
-use Rattle.league_core.specs.ClubSets.{clubs_in}
-use Rattle.example_finish.specs.ProposalViews.{sheet_asked, finish_asked}
-use Rattle.example_finish.specs.ProposedTotals.{by_criterion}
+use Rattle.league_core.specs.game.Ahead.{by_overall}
+use Rattle.league_core.specs.game.ClubSets.{clubs_in}
+use Rattle.example_finish.specs.inside.ProposalViews.{sheet_asked, finish_asked}
+use Rattle.example_finish.specs.inside.ProposedTotals.{by_criterion}
 use Rattle.example_finish.specs.declared.criterion.Criterion.TheVariants.{Overall}
 use Rattle.example_finish.proofs.CriterionLemmas.{by_overall_is}
 use Rattle.example_finish.proofs.GroupStandingLemmas.{standing_agrees}

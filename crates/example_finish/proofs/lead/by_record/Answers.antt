@@ -1,7 +1,7 @@
-use Rattle.league_core.specs.HeadToHead.{by_head_to_head}
-use Rattle.league_core.specs.ClubSets.{clubs_in}
-use Rattle.example_finish.specs.ProposalViews.{sheet_asked, finish_asked}
-use Rattle.example_finish.specs.ProposedTotals.{by_criterion}
+use Rattle.league_core.specs.game.HeadToHead.{by_head_to_head}
+use Rattle.league_core.specs.game.ClubSets.{clubs_in}
+use Rattle.example_finish.specs.inside.ProposalViews.{sheet_asked, finish_asked}
+use Rattle.example_finish.specs.inside.ProposedTotals.{by_criterion}
 use Rattle.example_finish.specs.declared.criterion.Criterion.TheVariants.{Record}
 use Rattle.example_finish.proofs.CriterionLemmas.{by_record_is}
 use Rattle.example_finish.proofs.GroupStandingLemmas.{standing_agrees}

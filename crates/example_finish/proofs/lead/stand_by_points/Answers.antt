@@ -1,11 +1,11 @@
 use Rattle.std.proofs.Common.{◌≡◌, ◌<◌, ℕ, List, length, ap, ◌∙◌, subst}
 use Rattle.std.specs.List.{range_with_len}
 use Rattle.league_core.specs.declared.sheet.Sheet.{Sheet}
-use Rattle.league_core.specs.Sheets.{clubs_of}
+use Rattle.league_core.specs.game.Sheets.{clubs_of}
 use Rattle.final_rank.proofs.TierLemmas.{below_clubs}
-use Rattle.league_core.specs.HeadToHead.{greater_first}
-use Rattle.example_finish.specs.ProposalViews.{sheet_asked, finish_asked}
-use Rattle.example_finish.specs.GroupStandings.{IsStandingOf, by_points_in, by_number_in}
+use Rattle.league_core.specs.game.HeadToHead.{greater_first}
+use Rattle.example_finish.specs.inside.ProposalViews.{sheet_asked, finish_asked}
+use Rattle.example_finish.specs.inside.GroupStandings.{IsStandingOf, by_points_in, by_number_in}
 use Rattle.example_finish.proofs.GroupStandingLemmas.{standing_agrees}
 use Rattle.example_finish.proofs.lead.stand_by_points.Goals as goal
 

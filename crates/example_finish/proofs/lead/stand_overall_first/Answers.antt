@@ -1,10 +1,10 @@
 use Rattle.std.proofs.Common.{sym, subst}
 use Rattle.league_core.specs.declared.club_set.ClubSet.{ClubSet}
 use Rattle.league_core.specs.declared.sheet.Order.TheVariants.{OverallFirst}
-use Rattle.league_core.specs.ClubSets.{clubs_in}
-use Rattle.league_core.specs.Ahead.{standing_by}
-use Rattle.example_finish.specs.ProposalViews.{sheet_asked, finish_asked}
-use Rattle.example_finish.specs.GroupStandings.{IsStandingOf}
+use Rattle.league_core.specs.game.ClubSets.{clubs_in}
+use Rattle.league_core.specs.game.Ahead.{standing_by}
+use Rattle.example_finish.specs.inside.ProposalViews.{sheet_asked, finish_asked}
+use Rattle.example_finish.specs.inside.GroupStandings.{IsStandingOf}
 use Rattle.example_finish.proofs.GroupStandingLemmas.{standing_overall_first}
 use Rattle.example_finish.proofs.lead.stand_overall_first.Goals as goal
 

@@ -1,7 +1,7 @@
 use Rattle.std.proofs.Common.{true, false}
 use Rattle.std.proofs.Common.{refl}
-use Rattle.league_core.specs.Options.{is_away_win}
-use Rattle.example_finish.specs.Firsts.{is_any, is_no_away_win}
+use Rattle.league_core.specs.search.Options.{is_away_win}
+use Rattle.example_finish.specs.inside.Firsts.{is_any, is_no_away_win}
 use Rattle.example_finish.proofs.FirstLemmas.{first_stays, others_first, away_win_or_other_is_any}
 use Rattle.example_finish.proofs.FirstLemmas.{others_after_away_wins}
 use Rattle.example_finish.proofs.option.away_win_or_other.Goals as goal

@@ -1,7 +1,7 @@
 use Rattle.std.proofs.Common.{true, false}
 use Rattle.std.proofs.lemmas.Bool.{or_left, or_right, or_cases}
-use Rattle.league_core.specs.Options.{is_draw, is_away_win}
-use Rattle.example_finish.specs.Firsts.{is_no_home_win}
+use Rattle.league_core.specs.search.Options.{is_draw, is_away_win}
+use Rattle.example_finish.specs.inside.Firsts.{is_no_home_win}
 use Rattle.example_finish.proofs.FirstLemmas.{first_stays, others_first, away_wins_after_draws}
 use Rattle.example_finish.proofs.option.draw_or_away_win.Goals as goal
 

@@ -1,7 +1,7 @@
 use Rattle.std.proofs.Common.{true, false}
 use Rattle.std.proofs.Common.{refl}
-use Rattle.league_core.specs.Options.{is_home_win}
-use Rattle.example_finish.specs.Firsts.{is_any, is_no_home_win}
+use Rattle.league_core.specs.search.Options.{is_home_win}
+use Rattle.example_finish.specs.inside.Firsts.{is_any, is_no_home_win}
 use Rattle.example_finish.proofs.FirstLemmas.{first_stays, others_first, home_win_or_other_is_any}
 use Rattle.example_finish.proofs.FirstLemmas.{others_after_home_wins}
 use Rattle.example_finish.proofs.option.home_win_or_other.Goals as goal

@@ -1,7 +1,7 @@
 use Rattle.std.proofs.Common.{true}
 use Rattle.std.proofs.Common.{refl}
-use Rattle.league_core.specs.Options.{is_draw}
-use Rattle.example_finish.specs.Firsts.{is_any, is_win}
+use Rattle.league_core.specs.search.Options.{is_draw}
+use Rattle.example_finish.specs.inside.Firsts.{is_any, is_win}
 use Rattle.example_finish.proofs.FirstLemmas.{first_stays, others_first, win_or_draw_is_any}
 use Rattle.example_finish.proofs.FirstLemmas.{draws_after_wins}
 use Rattle.example_finish.proofs.option.win_or_draw.Goals as goal

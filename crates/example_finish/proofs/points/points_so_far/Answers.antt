@@ -2,8 +2,8 @@ use Rattle.std.proofs.Common.{◌≡◌, ◌<◌, IsTrue, length, subst, ◌∙�
 use Rattle.std.proofs.Common.{to_z, of_z}
 use Rattle.std.proofs.lemmas.Int.{ints, to_z-of_z}
 use Rattle.std.proofs.lemmas.List.{length-set}
-use Rattle.league_core.specs.Results.{Results, are_results}
-use Rattle.league_core.specs.Sheets.{IsWithinLimits}
+use Rattle.league_core.specs.game.Results.{Results, are_results}
+use Rattle.league_core.specs.game.Sheets.{IsWithinLimits}
 use Rattle.final_rank.proofs.PointsLemmas.{points_are_few}
 use Rattle.example_finish.proofs.ProposedPointLemmas.{put_points, put_near, no_points_near}
 use Rattle.example_finish.proofs.points.points_so_far.Goals as goal

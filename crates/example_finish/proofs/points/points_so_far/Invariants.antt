@@ -1,8 +1,8 @@
 -- The clubs before this one have their points.
 use Rattle.std.proofs.Common.{◌≡◌, length, ℕ, ◌<◌}
-use Rattle.league_core.specs.Sums.{points_of}
-use Rattle.score_box.specs.Ends.{end_at}
-use Rattle.example_finish.specs.ProposedPoints.{ArePointsNear}
+use Rattle.league_core.specs.game.Sums.{points_of}
+use Rattle.score_box.specs.inside.Ends.{end_at}
+use Rattle.example_finish.specs.inside.ProposedPoints.{ArePointsNear}
 use Rattle.example_finish.proofs.points.points_so_far.Given as goal
 
 abbrev pub invariant-loop-club : goal.invariant-loop-club

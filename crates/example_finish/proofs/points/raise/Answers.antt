@@ -3,7 +3,7 @@ use mir.Syntax.{w32}
 use mir.Val.{to_z, of_z}
 use Rattle.std.proofs.Common.{◌≡◌, ◌+ℤ◌, arith}
 use Rattle.std.proofs.lemmas.Int.{ints}
-use Rattle.score_box.specs.Ends.{end_at}
+use Rattle.score_box.specs.inside.Ends.{end_at}
 use Rattle.score_box.proofs.EndLemmas.{one_moved}
 use Rattle.example_finish.proofs.points.raise.Goals as goal
 

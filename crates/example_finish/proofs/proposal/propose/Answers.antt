@@ -1,9 +1,9 @@
 use Rattle.std.proofs.Common.{subst, sym}
-use Rattle.league_core.specs.Results.{Results}
-use Rattle.league_core.specs.Seasons.{IsSeasonOf}
-use Rattle.league_core.specs.Finishes.{is_played}
+use Rattle.league_core.specs.game.Results.{Results}
+use Rattle.league_core.specs.game.Seasons.{IsSeasonOf}
+use Rattle.league_core.specs.game.Finishes.{is_played}
 use Rattle.std.proofs.Common.{IsTrue}
-use Rattle.league_core.specs.Proposals.{proposed_finish}
+use Rattle.league_core.specs.search.Proposals.{proposed_finish}
 use Rattle.league_core.proofs.FinishLemmas.{finish_is_played}
 use Rattle.league_core.proofs.ProposalLemmas.{proposed_is_finish}
 use Rattle.example_finish.proofs.proposal.propose.Goals as goal

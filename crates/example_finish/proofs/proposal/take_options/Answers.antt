@@ -2,10 +2,10 @@ use Rattle.std.proofs.Common.{◌≡◌, ◌<◌, ◌+◌, ℕ, IsTrue, List, le
 use Rattle.std.proofs.Common.{sym, ◌∙◌, arith}
 use Rattle.league_core.specs.declared.sheet.Sheet.{Sheet}
 use Rattle.league_core.specs.declared.sheet.Fixture.{Fixture}
-use Rattle.league_core.specs.Results.{Results, are_results}
-use Rattle.league_core.specs.Seasons.{IsSeasonOf}
-use Rattle.league_core.specs.Sheets.{IsWithinLimits}
-use Rattle.score_box.specs.Unplayed.{unplayed_in}
+use Rattle.league_core.specs.game.Results.{Results, are_results}
+use Rattle.league_core.specs.game.Seasons.{IsSeasonOf}
+use Rattle.league_core.specs.game.Sheets.{IsWithinLimits}
+use Rattle.score_box.specs.inside.Unplayed.{unplayed_in}
 use Rattle.score_box.proofs.SplitLemmas.{unplayed_in_range}
 use Rattle.example_finish.proofs.ProposedLemmas.{option_is_score, all_have_taken, HaveTaken}
 use Rattle.example_finish.proofs.ProposedLemmas.{have_taken-next, played_is_taken, no_sides}

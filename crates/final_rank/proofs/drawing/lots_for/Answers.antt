@@ -1,8 +1,8 @@
 use Rattle.std.proofs.Common.{◌≡◌, ◌==◌, length, ap, ◌∙◌, ℕ, true}
 use Rattle.std.specs.List.{list_all, range_with_len}
 use Rattle.std.proofs.lemmas.Bool.{and_parts, eqb-true}
-use Rattle.league_core.specs.Ranking.{are_lots}
-use Rattle.league_core.specs.Sums.{has_club}
+use Rattle.league_core.specs.game.Ranking.{are_lots}
+use Rattle.league_core.specs.game.Sums.{has_club}
 use Rattle.league_core.proofs.LotsLemmas.{lots_for_claim-are_lots}
 use Rattle.final_rank.proofs.drawing.lots_for.Goals as goal
 

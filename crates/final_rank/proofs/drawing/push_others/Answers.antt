@@ -1,7 +1,7 @@
 use Rattle.std.proofs.Common.{not, cond, [], ◌∷◌, ◌++◌, is_ok, sym, ap, ◌∙◌}
 use Rattle.std.proofs.lemmas.Bool.{ne_eqb, eq-eqb}
 use Rattle.std.proofs.lemmas.List.{append_assoc, append-nil}
-use Rattle.league_core.specs.LotsFor.{others_of}
+use Rattle.league_core.specs.search.Zones.{others_of}
 use Rattle.final_rank.proofs.TableLemmas.{others_of-suc}
 use Rattle.final_rank.proofs.drawing.push_others.Goals as goal
 use Rattle.final_rank.proofs.drawing.push_others.Goals.{then-other-club+in_ok-push, else-other-club}

@@ -1,5 +1,5 @@
 use Rattle.std.proofs.Common.{◌≡◌, ◌++◌}
-use Rattle.league_core.specs.LotsFor.{others_of}
+use Rattle.league_core.specs.search.Zones.{others_of}
 use Rattle.final_rank.proofs.drawing.push_others.Given as goal
 
 -- of the clubs that were passed all but the one are added

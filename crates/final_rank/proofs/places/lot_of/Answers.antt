@@ -1,5 +1,5 @@
 use Rattle.std.proofs.Common.{◌==◌, length, unwrap_or, ap, ◌∙◌}
-use Rattle.league_core.specs.Ranking.{lot_of}
+use Rattle.league_core.specs.game.Ranking.{lot_of}
 use Rattle.final_rank.proofs.TableLemmas.{unwrap_or-position}
 use Rattle.final_rank.proofs.places.lot_of.Goals as goal
 

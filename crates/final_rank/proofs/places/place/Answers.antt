@@ -1,7 +1,7 @@
 use Rattle.std.proofs.Common.{◌≡◌, ◌+◌, ◌≤◌, ◌&&◌, ◌||◌, ℕ, Bool, cond, nat_lt, sym, ap, ◌∙◌, arith}
-use Rattle.league_core.specs.Sums.{has_club}
-use Rattle.league_core.specs.ClubSets.{clubs_in}
-use Rattle.league_core.specs.Ranking.{ranks_before, lot_of}
+use Rattle.league_core.specs.game.Sums.{has_club}
+use Rattle.league_core.specs.game.ClubSets.{clubs_in}
+use Rattle.league_core.specs.game.Ranking.{ranks_before, lot_of}
 use Rattle.league_core.proofs.PlainLemmas.{one_if-most}
 use Rattle.league_core.proofs.ClubCountLemmas.{count_by-range_suc}
 use Rattle.final_rank.proofs.TableLemmas.{bool_byte-is}

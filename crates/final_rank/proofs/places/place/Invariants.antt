@@ -1,6 +1,6 @@
 use Rattle.std.proofs.Common.{◌≡◌, ◌≤◌, count_by}
 use Rattle.std.specs.List.{range_with_len}
-use Rattle.league_core.specs.Ranking.{ranks_before}
+use Rattle.league_core.specs.game.Ranking.{ranks_before}
 use Rattle.final_rank.proofs.places.place.Given as goal
 
 -- of the clubs that were passed, those that rank before the club

@@ -1,10 +1,10 @@
 use Rattle.std.proofs.Common.{List, map, sym, subst, arith}
 use Rattle.league_core.specs.declared.club_set.ClubSet.{ClubSet}
-use Rattle.league_core.specs.Sheets.{clubs_of}
-use Rattle.league_core.specs.LotsFor.{order_without_lots}
-use Rattle.league_core.specs.ClubSets.{clubs_in}
+use Rattle.league_core.specs.game.Sheets.{clubs_of}
+use Rattle.league_core.specs.inside.LotsFor.{order_without_lots}
+use Rattle.league_core.specs.game.ClubSets.{clubs_in}
 use Rattle.league_core.proofs.RankingLemmas.{order_without_lots_total}
-use Rattle.tie_criteria.specs.Blocks.{AreBlocks}
+use Rattle.tie_criteria.specs.inside.Blocks.{AreBlocks}
 use Rattle.final_rank.proofs.TierLemmas.{is_of_sheet}
 use Rattle.final_rank.proofs.SpanLemmas.{spans-more}
 use Rattle.final_rank.proofs.span.spans.Goals as goal

@@ -1,6 +1,6 @@
 use Rattle.std.proofs.Common.{◌∙◌, ap, sym, position, bytes_eq, option_and_then}
 use Rattle.league_core.specs.declared.sheet.Club.{Club}
-use Rattle.fixture_sheet.specs.Drafts.{names_of}
+use Rattle.fixture_sheet.specs.Records.{names_of}
 use Rattle.fixture_sheet.proofs.NameLemmas.{position-map}
 use Rattle.fixture_sheet.proofs.club_number.club_named.Goals as goal
 

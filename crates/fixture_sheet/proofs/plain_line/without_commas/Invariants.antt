@@ -1,5 +1,5 @@
 use Rattle.std.proofs.Common.{◌≡◌, ◌≤◌, take}
-use Rattle.fixture_sheet.specs.PlainLines.{without_commas}
+use Rattle.fixture_sheet.specs.inside.PlainLines.{without_commas}
 use Rattle.fixture_sheet.proofs.plain_line.without_commas.Given as goal
 
 -- the front so far without the commas at its end

@@ -1,7 +1,7 @@
 use Rattle.std.proofs.Common.{Ok, sym, ap, ◌∙◌}
-use Rattle.port_core.specs.declared.answers.Line.TheVariants.{Text, End}
+use Rattle.port_core.specs.declared.line.Line.TheVariants.{Text, End}
 use Rattle.fixture_sheet.specs.Records.{content_taken}
-use Rattle.fixture_sheet.specs.Calls.{refused_before}
+use Rattle.fixture_sheet.specs.inside.Calls.{refused_before}
 use Rattle.fixture_sheet.proofs.LastReadLemmas.{line-stops}
 use Rattle.fixture_sheet.proofs.PassedLemmas.{leaves-as, passes-as, refused-end, refused-line}
 use Rattle.fixture_sheet.proofs.ReadingLemmas.{line-taken, line-steps, line-refused, stop-reads}

@@ -2,7 +2,7 @@ use Rattle.std.proofs.Common.{Ok, Err, inl, refl, ◌∙◌}
 use Rattle.port_core.specs.Readers.{contents_to_come}
 use Rattle.port_core.proofs.TakingLemmas.{TakesInput-more, TakesInput-none}
 use Rattle.fixture_sheet.specs.declared.record.Progress.{Progress}
-use Rattle.fixture_sheet.specs.Calls.{sheet_answer_behind}
+use Rattle.fixture_sheet.specs.inside.Calls.{sheet_answer_after}
 use Rattle.fixture_sheet.proofs.LastReadLemmas.{sheet-further, sheet-stops}
 use Rattle.fixture_sheet.proofs.ReadingLemmas.{leads-nothing}
 use Rattle.fixture_sheet.proofs.PassedLemmas.{PassesLines-more, PassesLines-none, PassesUpTo-behind}
@@ -41,7 +41,7 @@ returns-in-Ok-Whole-clause-reads g c =
 pub returns-in-Ok-Whole-clause-passes : goal.returns-in-Ok-Whole-clause-passes
 returns-in-Ok-Whole-clause-passes g c =
     PassesUpTo-behind c.args.reader.now c.records.reader c.next_record.new.reader _ _ _ _ _ _
-    (sheet_answer_behind c.next_record.new.reader (Ok c.in-Ok-Whole.sheet))
+    (sheet_answer_after c.next_record.new.reader (Ok c.in-Ok-Whole.sheet))
     c.records.invariant.passes c.in-Ok-Whole.ensures.passes
 
 pub returns-in-Ok-Whole-clause-takes : goal.returns-in-Ok-Whole-clause-takes
@@ -55,7 +55,7 @@ returns-in-Err-clause-reads g c = c.in-Err.ensures.reads _ c.records.invariant.l
 pub returns-in-Err-clause-passes : goal.returns-in-Err-clause-passes
 returns-in-Err-clause-passes g c =
     PassesUpTo-behind c.args.reader.now c.records.reader c.next_record.new.reader _ _ _ _ _ _
-    (sheet_answer_behind {A = Progress} c.next_record.new.reader (Err c.in-Err.stop))
+    (sheet_answer_after {A = Progress} c.next_record.new.reader (Err c.in-Err.stop))
     c.records.invariant.passes c.in-Err.ensures.passes
 
 pub returns-in-Err-clause-takes : goal.returns-in-Err-clause-takes

@@ -1,8 +1,9 @@
 use Rattle.std.proofs.Common.{◌≡◌, ◌-◌}
 use Rattle.port_core.specs.Contents.{input_limit}
 use Rattle.port_core.specs.Readers.{TakesInput, contents_to_come}
-use Rattle.fixture_sheet.specs.Calls.{Leads, PassesLines}
-use Rattle.fixture_sheet.specs.LastReads.{LeadsToDraft, ReadsOnWay}
+use Rattle.fixture_sheet.specs.inside.Calls.{Leads, PassesLines}
+use Rattle.fixture_sheet.specs.LastReads.{ReadsOnWay}
+use Rattle.fixture_sheet.specs.inside.SheetReads.{LeadsToDraft}
 use Rattle.fixture_sheet.proofs.reader.read_sheet.Given as goal
 
 -- the lines so far led to this draft, they were passed whole, the last read came on the way to it,

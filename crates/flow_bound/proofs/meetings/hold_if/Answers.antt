@@ -1,7 +1,7 @@
--- The number stands behind the others, or its match adds nothing.
+-- The number comes after the others, or its match adds nothing.
 use Rattle.std.proofs.Common.{arith}
-use Rattle.flow_bound.specs.Parts.{side_of}
-use Rattle.flow_bound.specs.Fixtures.{pair_at}
+use Rattle.flow_bound.specs.inside.Parts.{side_of}
+use Rattle.flow_bound.specs.inside.Fixtures.{pair_at}
 use Rattle.flow_bound.proofs.MeetingLemmas.{held_more, none_counts, sum_held}
 use Rattle.flow_bound.proofs.meetings.hold_if.Goals as goal
 

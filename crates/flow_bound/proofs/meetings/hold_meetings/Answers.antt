@@ -3,10 +3,10 @@ use Rattle.std.proofs.Common.{◌+◌, ℕ, List, get_or, length, refl, sym}
 use Rattle.std.proofs.Common.{ap, ◌∙◌, arith}
 use Rattle.std.proofs.lemmas.List.{take_all}
 use Rattle.std.proofs.lemmas.List.Sums.{sum_by_more}
-use Rattle.league_core.specs.Results.{Results}
+use Rattle.league_core.specs.game.Results.{Results}
 use Rattle.league_core.specs.declared.sheet.Sheet.{Sheet}
 use Rattle.score_box.proofs.SplitLemmas.{unplayed_few, open_fixture}
-use Rattle.flow_bound.specs.Fixtures.{sum_at}
+use Rattle.flow_bound.specs.inside.Fixtures.{sum_at}
 use Rattle.flow_bound.proofs.MeetingLemmas.{counted_at, sum_of_open}
 use Rattle.flow_bound.proofs.meetings.hold_meetings.Goals as goal
 

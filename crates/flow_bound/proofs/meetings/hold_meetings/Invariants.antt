@@ -1,8 +1,8 @@
 use Rattle.std.proofs.Common.{◌≡◌, ◌≤◌, Bool, length, take}
 use Rattle.flow_bound.specs.declared.tally.Pair.{Pair}
-use Rattle.flow_bound.specs.Fixtures.{sum_at}
-use Rattle.flow_bound.specs.Meetings.{AreHeld, IsTestOfSide}
-use Rattle.flow_bound.specs.Parts.{side_of}
+use Rattle.flow_bound.specs.inside.Fixtures.{sum_at}
+use Rattle.flow_bound.specs.inside.Meetings.{AreHeld, IsTestOfSide}
+use Rattle.flow_bound.specs.inside.Parts.{side_of}
 use Rattle.flow_bound.proofs.meetings.hold_meetings.Given as goal
 
 -- the numbers of the matches so far that are these

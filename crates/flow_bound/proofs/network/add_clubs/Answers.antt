@@ -5,9 +5,9 @@ use Rattle.std.proofs.Common.{◌≡◌, ℕ, pos, ◌+ℤ◌, Bool, cond, List,
 use Rattle.std.proofs.Common.{◌∙◌, arith}
 use Rattle.std.proofs.lemmas.Int.{ints}
 use Rattle.flow_net.specs.declared.arcs.Arc.{Arc}
-use Rattle.flow_net.specs.Cut.{capacity_of}
-use Rattle.flow_bound.specs.Network.{through}
-use Rattle.flow_bound.specs.Parts.{entry, in_both, side_of, sum_below}
+use Rattle.flow_net.specs.inside.Cut.{capacity_of}
+use Rattle.flow_bound.specs.inside.Network.{through}
+use Rattle.flow_bound.specs.inside.Parts.{entry, in_both, side_of, sum_below}
 use Rattle.flow_bound.proofs.PartLemmas.{sum_below-next}
 use Rattle.flow_bound.proofs.network.add_clubs.Goals as goal
 

@@ -1,7 +1,7 @@
 use Rattle.std.proofs.Common.{◌≡◌, ℕ, ◌+◌, ◌*◌, ◌≤◌, pos, ◌+ℤ◌, Bool, cond, length}
-use Rattle.flow_net.specs.Cut.{IsCut, capacity_of}
-use Rattle.flow_bound.specs.Network.{through}
-use Rattle.flow_bound.specs.Parts.{entry, in_both, side_of, sum_below}
+use Rattle.flow_net.specs.inside.Cut.{IsCut, capacity_of}
+use Rattle.flow_bound.specs.inside.Network.{through}
+use Rattle.flow_bound.specs.inside.Parts.{entry, in_both, side_of, sum_below}
 use Rattle.flow_bound.proofs.network.add_clubs.Given as goal
 
 -- the clubs so far have their arcs

@@ -1,7 +1,7 @@
 use Rattle.std.proofs.Common.{◌≡◌, ℕ, ◌+◌, ◌≤◌, Bool, length, take}
-use Rattle.flow_net.specs.Cut.{capacity_of}
-use Rattle.flow_bound.specs.Parts.{side_of, sum_of_pairs}
-use Rattle.flow_bound.specs.Network.{parts_pair_in, through}
+use Rattle.flow_net.specs.inside.Cut.{capacity_of}
+use Rattle.flow_bound.specs.inside.Parts.{side_of, sum_of_pairs}
+use Rattle.flow_bound.specs.inside.Network.{parts_pair_in, through}
 use Rattle.flow_bound.proofs.network.add_pairs.Given as goal
 
 -- the pairs so far have their arcs

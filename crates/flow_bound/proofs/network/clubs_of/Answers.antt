@@ -1,6 +1,6 @@
 -- All numbers below 32 were looked at, and the node of a club of the set is one of the network.
-use Rattle.flow_net.specs.Cut.{marked}
-use Rattle.flow_bound.specs.Network.{through}
+use Rattle.flow_net.specs.inside.Cut.{marked}
+use Rattle.flow_bound.specs.inside.Network.{through}
 use Rattle.flow_bound.proofs.SetLemmas.{found_all}
 use Rattle.flow_bound.proofs.network.clubs_of.Goals as goal
 

@@ -1,7 +1,7 @@
 use Rattle.std.proofs.Common.{◌≡◌, ℕ, ◌&&◌, nat_lt}
-use Rattle.flow_net.specs.Cut.{marked}
-use Rattle.flow_bound.specs.Network.{through}
-use Rattle.flow_bound.specs.Parts.{in_both, side_of}
+use Rattle.flow_net.specs.inside.Cut.{marked}
+use Rattle.flow_bound.specs.inside.Network.{through}
+use Rattle.flow_bound.specs.inside.Parts.{in_both, side_of}
 use Rattle.flow_bound.proofs.network.clubs_of.Given as goal
 
 -- the clubs so far that are in the set with a marked node

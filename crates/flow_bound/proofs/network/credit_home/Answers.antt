@@ -3,7 +3,7 @@ use mir.Syntax.{w64}
 use mir.Val.{to_z, of_z}
 use Rattle.std.proofs.Common.{◌≡◌, true, sym, ◌∙◌, arith}
 use Rattle.std.proofs.lemmas.Int.{ints}
-use Rattle.flow_bound.specs.Parts.{side_of}
+use Rattle.flow_bound.specs.inside.Parts.{side_of}
 use Rattle.flow_bound.proofs.PartLemmas.{home_credited, IsClubTable-surplus}
 use Rattle.flow_bound.proofs.SetLemmas.{side_of-lt}
 use Rattle.flow_bound.proofs.network.credit_home.Goals as goal

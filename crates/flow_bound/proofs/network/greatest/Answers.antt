@@ -1,10 +1,10 @@
 -- What a cut takes is the excess of its source side.
 use Rattle.std.proofs.Common.{◌≡◌, ℕ, ◌+◌, pos, ◌+ℤ◌, Bool, List, length, subst, ◌∙◌, arith}
-use Rattle.league_core.specs.ClubSets.{clubs_in}
+use Rattle.league_core.specs.game.ClubSets.{clubs_in}
 use Rattle.league_core.proofs.ClubCountLemmas.{few_below}
-use Rattle.flow_net.specs.Cut.{IsCut, IsLeastCut, capacity_of, marked}
-use Rattle.flow_bound.specs.Parts.{in_both, side_of, sum_of_side}
-use Rattle.flow_bound.specs.Network.{through}
+use Rattle.flow_net.specs.inside.Cut.{IsCut, IsLeastCut, capacity_of, marked}
+use Rattle.flow_bound.specs.inside.Parts.{in_both, side_of, sum_of_side}
+use Rattle.flow_bound.specs.inside.Network.{through}
 use Rattle.flow_bound.proofs.NetworkLemmas.{best_at_cut, network_is, no_excess_at_cut}
 use Rattle.flow_bound.proofs.network.greatest.Goals as goal
 

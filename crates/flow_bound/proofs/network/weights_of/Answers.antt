@@ -3,8 +3,8 @@ use Rattle.std.proofs.Common.{◌≡◌, ℕ, ◌+◌, ◌<◌, cond, subst, len
 use Rattle.std.proofs.lemmas.Int.{ints}
 use Rattle.std.proofs.lemmas.List.Sums.{sum_by_more}
 use Rattle.flow_bound.specs.declared.tally.Pair.{Pair}
-use Rattle.flow_bound.specs.Parts.{IsClubTable, side_of}
-use Rattle.flow_bound.specs.Network.{has_home_in}
+use Rattle.flow_bound.specs.inside.Parts.{IsClubTable, side_of}
+use Rattle.flow_bound.specs.inside.Network.{has_home_in}
 use Rattle.flow_bound.proofs.network.weights_of.Goals as goal
 
 pub loop-pair-preserved : goal.loop-pair-preserved

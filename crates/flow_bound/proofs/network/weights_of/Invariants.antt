@@ -1,6 +1,6 @@
 use Rattle.std.proofs.Common.{◌≡◌, ℕ, ◌+◌, pos, ◌+ℤ◌, Bool, take}
-use Rattle.flow_bound.specs.Parts.{IsClubTable, side_of, sum_of_pairs, sum_of_side}
-use Rattle.flow_bound.specs.Network.{has_home_in}
+use Rattle.flow_bound.specs.inside.Parts.{IsClubTable, side_of, sum_of_pairs, sum_of_side}
+use Rattle.flow_bound.specs.inside.Network.{has_home_in}
 use Rattle.flow_bound.proofs.network.weights_of.Given as goal
 
 -- the pairs so far have been added to their home clubs

@@ -5,8 +5,8 @@ use Rattle.std.proofs.Common.{◌≡◌, ◌+◌, ℕ, cond, ap, subst, arith}
 use Rattle.std.proofs.lemmas.Bool.{and_parts}
 use Rattle.std.proofs.lemmas.Int.{ints}
 use Rattle.flow_bound.specs.declared.tally.Pair.{Pair}
-use Rattle.flow_bound.specs.Network.{has_away_in, has_home_in}
-use Rattle.flow_bound.specs.Parts.{IsClubTable, side_of}
+use Rattle.flow_bound.specs.inside.Network.{has_away_in, has_home_in}
+use Rattle.flow_bound.specs.inside.Parts.{IsClubTable, side_of}
 use Rattle.flow_bound.proofs.PartLemmas.{home_credited, away_credited, IsClubTable-surplus}
 use Rattle.flow_bound.proofs.SetLemmas.{side_of-lt}
 use Rattle.flow_bound.proofs.peel.credit_match.Goals as goal

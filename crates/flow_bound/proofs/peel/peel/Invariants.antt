@@ -1,7 +1,7 @@
 use Rattle.std.proofs.Common.{◌+◌, ◌≤◌, length}
-use Rattle.league_core.specs.ClubSets.{clubs_in}
-use Rattle.flow_bound.specs.Parts.{KeepsExcess, side_of}
-use Rattle.flow_bound.specs.Fixtures.{pairs_in}
+use Rattle.league_core.specs.game.ClubSets.{clubs_in}
+use Rattle.flow_bound.specs.inside.Parts.{KeepsExcess, side_of}
+use Rattle.flow_bound.specs.inside.Fixtures.{pairs_in}
 use Rattle.flow_bound.proofs.peel.peel.Given as goal
 
 -- what was dropped so far is no loss, and each round dropped a club

@@ -1,80 +1,29 @@
--- The next club is the first of those that are left.
-use Rattle.std.proofs.Common.{◌≡◌, ℕ, pos, Bool, true, false, not, ◌&&◌, ◌||◌, eqb, List, [], ◌∷◌}
-use Rattle.std.proofs.Common.{refl, sym, ap, ◌∙◌, arith}
+use Rattle.std.proofs.Common.{ℕ, List, ap, ◌∙◌, pos}
 use Rattle.std.specs.Prelude.{int_lt}
-use Rattle.std.proofs.lemmas.Bool.{false≢true}
-use Rattle.league_core.specs.Sums.{has_club}
-use Rattle.league_core.specs.ClubSets.{clubs_in}
-use Rattle.league_core.proofs.ClubCountLemmas.{few_below}
-use Rattle.flow_bound.specs.Parts.{entry, side_of}
-use Rattle.flow_bound.proofs.SetLemmas.{found_next, no_club_left, no_club_of_none, rest_is_less}
-use Rattle.flow_bound.proofs.SetLemmas.{rest_is_part, side_of-lt}
+use Rattle.league_core.specs.game.Sums.{has_club}
+use Rattle.league_core.specs.game.ClubSets.{clubs_in}
+use Rattle.league_core.proofs.WalkLemmas.{comes_to}
+use Rattle.league_core.proofs.SeenLemmas.{kept_next}
+use Rattle.flow_bound.specs.inside.Parts.{entry}
 use Rattle.flow_bound.proofs.peel.positive.Goals as goal
 
-none_yet : (b c : Bool) → false ≡ (b && (not b && c))
-none_yet true c = refl
-none_yet false c = refl
-
-pub loop-step-init : goal.loop-step-init
-loop-step-init c = record {
-  part = λ club among. among;
-  seen = λ club. ap (λ (cs : List ℕ). has_club cs club) c.empty-found.ensures
-      ∙ none_yet (side_of c.args.set club) (int_lt (pos 0) (entry c.args.table.now club));
-  few = omega (arith, few_below 32 c.args.set.bits (omega arith));
-}
-
-pub first_club-club-requires : goal.first_club-club-requires
-first_club-club-requires c = λ none.
-    false≢true (sym c.if-is_empty.false ∙ c.is_empty.ensures.1 none)
+pub loop-club-init : goal.loop-club-init
+loop-club-init c club = ap (λ (clubs : List ℕ). has_club clubs club) c.empty-found.ensures
 
 pub is_over-requires : goal.is_over-requires
-is_over-requires c = side_of-lt c.loop-step.left c.first_club-club.result
-    c.first_club-club.ensures.member
+is_over-requires c =
+    (comes_to c.args.set c.loop-club.yielded c.in-Some.club
+    (c.into_iter-club-iterator.ensures.into_iter_gives ∙ c.clubs-club-items.ensures.all)
+    c.loop-club.yielded_by c.in-Some.ensures.steps).low
 
-pub with_if-more-requires : goal.with_if-more-requires
-with_if-more-requires c = side_of-lt c.loop-step.left c.first_club-club.result
-    c.first_club-club.ensures.member
+pub with_if-found-requires : goal.with_if-found-requires
+with_if-found-requires c =
+    (comes_to c.args.set c.loop-club.yielded c.in-Some.club
+    (c.into_iter-club-iterator.ensures.into_iter_gives ∙ c.clubs-club-items.ensures.all)
+    c.loop-club.yielded_by c.in-Some.ensures.steps).low
 
-pub single-requires : goal.single-requires
-single-requires c = side_of-lt c.loop-step.left c.first_club-club.result
-    c.first_club-club.ensures.member
-
-pub loop-step-preserved : goal.loop-step-preserved
-loop-step-preserved c =
-    let left = c.loop-step.left in
-    let rest = c.without-others.result in
-    let at = c.first_club-club.result in
-    let over = λ (club : ℕ). int_lt (pos 0) (entry c.args.table.now club) in
-    let is : (club : ℕ) → side_of rest club
-    ≡ (side_of left club && not (has_club (at ∷ []) club)) =
-    λ club. c.without-others.ensures club
-    ∙ ap (λ (cs : List ℕ). side_of left club && not (has_club cs club)) c.single.ensures in
-    record {
-      part = λ club has. c.loop-step.invariant.part club (rest_is_part left rest at is club has);
-      seen = found_next c.args.set left rest c.loop-step.found c.with_if-more.result over at
-          c.first_club-club.ensures.member
-          (c.loop-step.invariant.part at c.first_club-club.ensures.member) is
-          c.loop-step.invariant.seen
-          (λ club. c.with_if-more.ensures club
-          ∙ ap (λ b. side_of c.loop-step.found club || (b && eqb at club)) c.is_over.ensures);
-      few = omega (
-        arith,
-        rest_is_less left rest at c.first_club-club.ensures.member is,
-        c.loop-step.invariant.few,
-      );
-    }
-
-pub returns-then-is_empty : goal.returns-then-is_empty
-returns-then-is_empty c club =
-    c.loop-step.invariant.seen club
-    ∙ ap (λ b. side_of c.args.set club
-    && (not b && int_lt (pos 0) (entry c.args.table.now club)))
-    (no_club_left c.loop-step.left (c.is_empty.ensures.0 c.if-is_empty.true) club)
-
-pub returns : goal.returns
-returns c club =
-    c.loop-step.invariant.seen club
-    ∙ ap (λ b. side_of c.args.set club
-    && (not b && int_lt (pos 0) (entry c.args.table.now club)))
-    (no_club_of_none (clubs_in c.loop-step.left)
-    (omega (arith, c.loop-step.invariant.few, c.loop-step-test.false)) club)
+pub loop-club-preserved : goal.loop-club-preserved
+loop-club-preserved c =
+    kept_next (λ club. int_lt (pos 0) (entry c.args.table.now club)) c.loop-club.yielded
+    (clubs_in c.loop-club.found) (clubs_in c.with_if-found.result) c.in-Some.club
+    c.is_over.result c.is_over.ensures c.with_if-found.ensures c.loop-club.invariant

@@ -4,7 +4,7 @@ use Rattle.std.proofs.Common.{arith}
 use Rattle.std.proofs.lemmas.Bool.{cases_eq}
 use Rattle.std.proofs.lemmas.Bool.Decides.{nat_tests}
 use Rattle.std.proofs.lemmas.List.{get_or-set_other, get_or-set_same, length-set}
-use Rattle.league_core.specs.ClubSets.{clubs_below, clubs_in}
+use Rattle.league_core.specs.game.ClubSets.{clubs_below, clubs_in}
 use Rattle.league_core.proofs.ClubSetLemmas.{clubs_below-none, length-clubs_below-suc}
 use Rattle.flow_bound.proofs.PlaceLemmas.{place_back, place_within}
 use Rattle.flow_bound.proofs.SetLemmas.{side_of-lt}

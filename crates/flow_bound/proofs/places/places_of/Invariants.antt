@@ -1,5 +1,5 @@
 use Rattle.std.proofs.Common.{◌≡◌, ℕ, ◌<◌, ◌≤◌, length, slice_index}
-use Rattle.league_core.specs.ClubSets.{clubs_below}
+use Rattle.league_core.specs.game.ClubSets.{clubs_below}
 use Rattle.flow_bound.proofs.places.places_of.Given as goal
 
 -- the clubs so far have their places, and so many of the set are among them

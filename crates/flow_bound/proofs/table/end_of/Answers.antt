@@ -2,9 +2,9 @@ use mir.Syntax.{w64}
 use mir.Val.{to_z, of_z}
 use Rattle.std.proofs.Common.{◌≡◌, pos, ◌-ℤ◌, sym, ap, ◌∙◌, arith}
 use Rattle.std.proofs.lemmas.Int.{ints}
-use Rattle.league_core.specs.PointRanges.{least_points_of, most_points_of}
+use Rattle.league_core.specs.search.PointRanges.{least_points_of, most_points_of}
 use Rattle.flow_bound.specs.declared.cut.Cut.{Cut}
-use Rattle.flow_bound.specs.Fixtures.{own_end}
+use Rattle.flow_bound.specs.inside.Fixtures.{own_end}
 use Rattle.flow_bound.proofs.table.end_of.Goals as goal
 
 pub returns-in-Floor-clause-value : goal.returns-in-Floor-clause-value

@@ -3,20 +3,20 @@ use Rattle.std.proofs.Common.{◌≡◌, ◌≢◌, ◌<◌, ℕ, inr, List, [],
 use Rattle.std.proofs.Common.{arith}
 use Rattle.league_core.specs.declared.sheet.Sheet.{Sheet}
 use Rattle.league_core.specs.declared.sheet.Fixture.{Fixture}
-use Rattle.league_core.specs.Results.{Results}
-use Rattle.league_core.specs.Options.{options_in}
+use Rattle.league_core.specs.game.Results.{Results}
+use Rattle.league_core.specs.search.Options.{options_in}
 use Rattle.league_core.proofs.OptionLemmas.{length-options_from}
 use Rattle.league_core.proofs.LiteralLemmas.{option_at}
 use Rattle.league_core.proofs.FixtureLemmas.{fixture_of_sheet}
 use Rattle.score_box.specs.declared.cell.Cell.{Cell}
 use Rattle.score_box.specs.declared.points.left.OutcomesLeft.{OutcomesLeft}
-use Rattle.score_box.specs.Cells.{IsCellOf}
-use Rattle.score_box.specs.Points.{AreOutcomesLeft}
-use Rattle.score_box.specs.Settings.{HasFinish, Setting}
+use Rattle.score_box.specs.inside.Cells.{IsCellOf}
+use Rattle.score_box.specs.inside.Points.{AreOutcomesLeft}
+use Rattle.score_box.specs.inside.Settings.{HasFinish, ZoneBoxView}
 use Rattle.score_box.proofs.SplitLemmas.{no_match}
 use Rattle.score_box.proofs.BoxLemmas.{cell_of_option}
 use Rattle.flow_bound.specs.declared.cut.Cut.{Cut}
-use Rattle.flow_bound.specs.Fixtures.{pair_at, surplus_left}
+use Rattle.flow_bound.specs.inside.Fixtures.{pair_at, surplus_left}
 use Rattle.flow_bound.proofs.PairsLemmas.{pair_is}
 use Rattle.flow_bound.proofs.SurplusLemmas.{left_surplus}
 use Rattle.flow_bound.proofs.tally.pair_within.Goals as goal
@@ -33,7 +33,7 @@ bounds-as_slice-number c =
     )
 
 -- the surplus that was looked up is that of the pair
-surplus_at : (cut : Cut) (box : Setting) (number : ℕ) (cell : Cell) (left : OutcomesLeft)
+surplus_at : (cut : Cut) (box : ZoneBoxView) (number : ℕ) (cell : Cell) (left : OutcomesLeft)
     → HasFinish box → number < length box.season.scores
     → IsCellOf cell (get_or (options_in box.sheet box.season box.zone) number [])
     → AreOutcomesLeft cell left

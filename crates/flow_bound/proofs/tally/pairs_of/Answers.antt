@@ -3,12 +3,12 @@ use Rattle.std.proofs.Common.{◌≡◌, ℕ, ◌<◌, ◌≤◌, cond, List, ge
 use Rattle.std.proofs.Common.{◌∙◌, arith}
 use Rattle.std.proofs.lemmas.List.{take_all}
 use Rattle.std.proofs.lemmas.List.Sums.{sum_by_more}
-use Rattle.league_core.specs.Results.{Results}
+use Rattle.league_core.specs.game.Results.{Results}
 use Rattle.league_core.specs.declared.sheet.Sheet.{Sheet}
 use Rattle.score_box.proofs.SplitLemmas.{unplayed_few, open_fixture}
 use Rattle.flow_bound.specs.declared.tally.Pair.{Pair}
-use Rattle.flow_bound.specs.Fixtures.{pair_at, pairs_in}
-use Rattle.flow_bound.specs.Parts.{has_both, sum_of_pairs}
+use Rattle.flow_bound.specs.inside.Fixtures.{pair_at, pairs_in}
+use Rattle.flow_bound.specs.inside.Parts.{has_both, sum_of_pairs}
 use Rattle.flow_bound.proofs.PairsLemmas.{length-pairs_in, pairs_in-at}
 use Rattle.flow_bound.proofs.PartLemmas.{ArePairs-more}
 use Rattle.flow_bound.proofs.tally.pairs_of.Goals as goal

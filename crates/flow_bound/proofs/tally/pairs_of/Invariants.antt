@@ -1,6 +1,6 @@
 use Rattle.std.proofs.Common.{◌≡◌, ℕ, Bool, take}
-use Rattle.flow_bound.specs.Fixtures.{pairs_in}
-use Rattle.flow_bound.specs.Parts.{ArePairs, IsPartOf, has_both, side_of, sum_of_pairs}
+use Rattle.flow_bound.specs.inside.Fixtures.{pairs_in}
+use Rattle.flow_bound.specs.inside.Parts.{ArePairs, IsPartOf, has_both, side_of, sum_of_pairs}
 use Rattle.flow_bound.proofs.tally.pairs_of.Given as goal
 
 -- the pairs of the matches so far

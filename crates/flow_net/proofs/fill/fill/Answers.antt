@@ -1,6 +1,6 @@
 use Rattle.std.proofs.Common.{◌==◌, refl, arith}
 use Rattle.std.proofs.lemmas.Bool.{eq-eqb, ne_eqb}
-use Rattle.flow_net.specs.Cut.{IsCut}
+use Rattle.flow_net.specs.inside.Cut.{IsCut}
 use Rattle.flow_net.proofs.DualityLemmas.{leaves-le_cut}
 use Rattle.flow_net.proofs.FillLemmas.{IsMoved-between, IsWholeFlow-moved, sent_more}
 use Rattle.flow_net.proofs.fill.fill.Goals as goal

@@ -1,7 +1,7 @@
 use Rattle.std.proofs.Common.{◌≡◌, ◌+◌, ◌-◌, ◌≤◌, ◌==◌}
-use Rattle.flow_net.specs.Flow.{IsWholeFlow, carried, enters, leaves}
-use Rattle.flow_net.specs.Cut.{capacity_of}
-use Rattle.flow_net.specs.Search.{IsSized}
+use Rattle.flow_net.specs.inside.Flow.{IsWholeFlow, carried, enters, leaves}
+use Rattle.flow_net.specs.inside.Cut.{capacity_of}
+use Rattle.flow_net.specs.inside.Search.{IsSized}
 use Rattle.flow_net.proofs.fill.fill.Given as goal
 
 -- the flow stays whole, and more of it leaves the source unless it is still the first

@@ -1,5 +1,5 @@
 use Rattle.std.proofs.Common.{◌-◌, ◌∙◌, ℕ, List, sym, subst, arith}
-use Rattle.flow_net.specs.Flow.{IsFlow, IsWholeFlow}
+use Rattle.flow_net.specs.inside.Flow.{IsFlow, IsWholeFlow}
 use Rattle.flow_net.proofs.DualityLemmas.{IsFlow-from_whole, IsLeastCut-from_search, sent_closed}
 use Rattle.flow_net.proofs.FillLemmas.{IsWholeFlow-start_of}
 use Rattle.flow_net.proofs.fill.greatest.Goals as goal

@@ -1,4 +1,4 @@
-use Rattle.ask_answers.specs.Verdicts.{text_of_verdicts}
+use Rattle.ask_answers.specs.inside.Verdicts.{text_of_verdicts}
 use Rattle.futmax_main.specs.declared.session.Answering.TheVariants.{Verdicts}
 use Rattle.futmax_main.proofs.AnswerLemmas.{puts-answer, verdicts-answer}
 use Rattle.futmax_main.proofs.answer.put_found.Goals as goal

@@ -1,7 +1,8 @@
 use Rattle.std.proofs.Common.{Some, subst, sym}
 use Rattle.futmax_main.specs.declared.session.Service.{Service}
 use Rattle.futmax_main.specs.LastReads.{StopsAs}
-use Rattle.futmax_main.specs.Services.{MayEndAs, ServesAs}
+use Rattle.futmax_main.specs.Services.{ServesAs}
+use Rattle.futmax_main.specs.inside.Turns.{MayEndAs}
 use Rattle.futmax_main.proofs.service.run_service.Goals as goal
 
 pub returns-in-Answers-clause-serves : goal.returns-in-Answers-clause-serves

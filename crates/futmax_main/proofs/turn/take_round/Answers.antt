@@ -1,4 +1,4 @@
-use Rattle.worker_gate.specs.Rounds.{Spot}
+use Rattle.worker_gate.specs.inside.Rounds.{Spot}
 use Rattle.futmax_main.specs.declared.status.Status.TheVariants.{OutOfMemory}
 use Rattle.futmax_main.proofs.LastReadLemmas.{round-stops}
 use Rattle.futmax_main.proofs.RoundLemmas.{turn-starved}

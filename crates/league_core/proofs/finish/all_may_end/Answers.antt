@@ -1,7 +1,7 @@
 use Rattle.std.proofs.Common.{◌≡◌, ◌<◌, length, true, false, get_or, None, refl, sym, ◌∙◌, arith}
 use Rattle.std.proofs.lemmas.Bool.{false≢true}
 use borrow.Author.Count.{below_more}
-use Rattle.league_core.specs.Finishes.{may_end}
+use Rattle.league_core.specs.game.Finishes.{may_end}
 use Rattle.league_core.proofs.FinishLemmas.{may_all_end-each, may_all_end-length, may_end-at}
 use Rattle.league_core.proofs.finish.all_may_end.Goals as goal
 

@@ -1,5 +1,5 @@
 use Rattle.std.proofs.Common.{◌≡◌, ℕ, ◌<◌, true, get_or, None}
-use Rattle.league_core.specs.Finishes.{may_end}
+use Rattle.league_core.specs.game.Finishes.{may_end}
 use Rattle.league_core.proofs.finish.all_may_end.Given as goal
 
 -- the fixtures so far end as they may

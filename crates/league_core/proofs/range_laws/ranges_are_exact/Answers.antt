@@ -1,7 +1,7 @@
 use Rattle.std.proofs.Common.{refl}
-use Rattle.league_core.specs.Options.{has_score}
+use Rattle.league_core.specs.search.Options.{has_score}
 use Rattle.league_core.proofs.ExtentLemmas.{extent-is, extent_at, range_of-extent}
-use Rattle.league_core.specs.PointRanges.{range_of}
+use Rattle.league_core.specs.search.PointRanges.{range_of}
 use Rattle.league_core.proofs.range_laws.ranges_are_exact.Goals as goal
 
 pub returns : goal.returns

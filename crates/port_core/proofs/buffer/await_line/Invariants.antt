@@ -2,7 +2,7 @@ use Rattle.std.proofs.Common.{◌≡◌, ◌-◌, ◌≤◌, false, length, take
 use Rattle.std.specs.Prelude.{◌⊎◌}
 use Rattle.std.specs.Io.KnownBytes.{prepend_known}
 use Rattle.port_core.specs.Lines.{HasNoLineFeed}
-use Rattle.port_core.specs.Buffers.{IsReady, LastFill, Takes}
+use Rattle.port_core.specs.inside.Buffers.{IsReady, LastFill, Takes}
 use Rattle.port_core.specs.declared.buffer.TheConstants.{ROOM}
 use Rattle.port_core.proofs.buffer.await_line.Given as goal
 

@@ -1,6 +1,6 @@
 use Rattle.std.proofs.Common.{◌∙◌}
 use Rattle.std.proofs.lemmas.List.{take_rest}
-use Rattle.port_core.proofs.RowLemmas.{Writes-more, AppendsFront-take}
+use Rattle.port_core.proofs.RowLemmas.{Writes-more, AppendsPrefix-take}
 use Rattle.port_core.proofs.writing.put_line.Goals as goal
 
 pub offers-preserved : goal.offers-preserved
@@ -12,5 +12,5 @@ offers-preserved g c =
 
 pub returns-in-Failed-clause-err : goal.returns-in-Failed-clause-err
 returns-in-Failed-clause-err g c =
-    AppendsFront-take _ _ _ c.args.line.now c.offers.done c.offers.invariant.1
+    AppendsPrefix-take _ _ _ c.args.line.now c.offers.done c.offers.invariant.1
     c.in-Failed.ensures.bytes

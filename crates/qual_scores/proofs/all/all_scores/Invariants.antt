@@ -1,5 +1,5 @@
 use Rattle.std.proofs.Common.{take}
-use Rattle.qual_scores.specs.AllScores.{AreScoresOfLines}
+use Rattle.qual_scores.specs.inside.AddedScores.{AreScoresOfLines}
 use Rattle.qual_scores.proofs.all.all_scores.Given as goal
 
 -- the numbers about the lines so far

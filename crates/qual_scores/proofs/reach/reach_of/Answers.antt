@@ -1,10 +1,10 @@
 use Rattle.std.proofs.Common.{◌≡◌, ◌≤ℤ◌, negsuc, [], ◌∷◌, ap, ◌∙◌, arith}
 use Rattle.std.proofs.lemmas.Int.{ints}
-use Rattle.score_box.specs.Settings.{Setting}
-use Rattle.score_box.specs.Stages.{Stage}
-use Rattle.league_core.specs.ClubSets.{clubs_in}
-use Rattle.league_core.specs.Options.{has_finish}
-use Rattle.league_core.specs.PointRanges.{least_points_of}
+use Rattle.score_box.specs.inside.Settings.{ZoneBoxView}
+use Rattle.score_box.specs.inside.PlayedViews.{PlayedView}
+use Rattle.league_core.specs.game.ClubSets.{clubs_in}
+use Rattle.league_core.specs.search.Options.{has_finish}
+use Rattle.league_core.specs.search.PointRanges.{least_points_of}
 use Rattle.league_core.proofs.HalfLemmas.{root_has_finish}
 use Rattle.qual_scores.proofs.SpanLemmas.{kept}
 use Rattle.qual_scores.proofs.LeastLemmas.{least_reach}
@@ -12,7 +12,7 @@ use Rattle.qual_scores.proofs.reach.reach_of.Goals as goal
 
 pub points-range-requires : goal.points-range-requires
 points-range-requires c =
-    ap (λ (b : Setting). has_finish b.sheet b.season b.zone) c.in_ok-whole.ensures
+    ap (λ (b : ZoneBoxView). has_finish b.sheet b.season b.zone) c.in_ok-whole.ensures
     ∙ root_has_finish _ _
 
 pub returns-clause-least : goal.returns-clause-least
@@ -23,8 +23,8 @@ returns-clause-least c =
     let is : c.points-range.result.least
     ≡ least_points_of sheet season [] (c.args.club ∷ []) =
     c.points-range.ensures.least
-    ∙ ap (λ (b : Setting). least_points_of b.sheet b.season b.zone clubs) c.in_ok-whole.ensures
-    ∙ ap (λ (p : Stage). least_points_of p.sheet p.season [] clubs) c.in_ok-played.ensures
+    ∙ ap (λ (b : ZoneBoxView). least_points_of b.sheet b.season b.zone clubs) c.in_ok-whole.ensures
+    ∙ ap (λ (p : PlayedView). least_points_of p.sheet p.season [] clubs) c.in_ok-played.ensures
     ∙ ap (least_points_of sheet season []) c.single.ensures in
     let least = least_reach sheet season c.args.club c.deductions-results.ensures.within in
     let order = c.points-range.ensures.in_order in

@@ -1,7 +1,7 @@
 use Rattle.std.proofs.Common.{◌≡◌, ◌∙◌, ℤ, pos, ◌+ℤ◌, ap, sym, subst, arith, w32, to_z, of_z}
 use Rattle.std.proofs.lemmas.Int.{ints}
 use Rattle.qual_scores.specs.Scores.{IsLeastOf}
-use Rattle.qual_scores.specs.Searching.{HoldsOf, IsSaid}
+use Rattle.qual_scores.specs.inside.Searching.{HoldsOf, IsWindowAnswer}
 use Rattle.qual_scores.proofs.SpanLemmas.{kept, middle_within, lower_is_less, upper_is_less}
 use Rattle.qual_scores.proofs.SpanLemmas.{read_less, read_not_less}
 use Rattle.qual_scores.proofs.WindowLemmas.{least_full}
@@ -33,7 +33,7 @@ loop-span-preserved-in-NotAbove c =
     (kept span.low (omega (arith, ints)) (omega (arith, ints)))
     (kept span.high (omega (arith, ints)) (omega (arith, ints))) c.loop-span-test.true in
     let within = middle_within span middle several c.middle-middle.ensures in
-    let says = subst (λ (z : ℤ). IsSaid c.args.sheet.now c.args.season.now c.args.sought z
+    let says = subst (λ (z : ℤ). IsWindowAnswer c.args.sheet.now c.args.season.now c.args.sought z
     c.in_ok-ask_window.field-0) (kept middle (omega (arith, ints)) (omega (arith, ints)))
     c.in_ok-ask_window.ensures in
     lower_from c.args.sheet.now c.args.season.now c.args.sought span middle
@@ -74,7 +74,7 @@ loop-span-preserved c =
     ap (λ (z : ℤ). to_z w32 (of_z w32 (z +ℤ pos 1)))
     (kept middle (omega (arith, ints)) (omega (arith, ints)))
     ∙ kept (middle +ℤ pos 1) (omega (arith, ints)) (omega (arith, ints)) in
-    let says = subst (λ (z : ℤ). IsSaid c.args.sheet.now c.args.season.now c.args.sought z
+    let says = subst (λ (z : ℤ). IsWindowAnswer c.args.sheet.now c.args.season.now c.args.sought z
     c.in_ok-ask_window.field-0) (kept middle (omega (arith, ints)) (omega (arith, ints)))
     c.in_ok-ask_window.ensures in
     upper_from c.args.sheet.now c.args.season.now c.args.sought span middle
@@ -92,7 +92,7 @@ returns-in-Spent c =
     (kept span.high (omega (arith, ints)) (omega (arith, ints))) c.loop-span-test.true in
     let middle = c.middle-middle.result in
     let within = middle_within span middle several c.middle-middle.ensures in
-    let says = subst (λ (z : ℤ). IsSaid c.args.sheet.now c.args.season.now c.args.sought z
+    let says = subst (λ (z : ℤ). IsWindowAnswer c.args.sheet.now c.args.season.now c.args.sought z
     c.in_ok-ask_window.field-0) (kept middle (omega (arith, ints)) (omega (arith, ints)))
     c.in_ok-ask_window.ensures in
     spent_halfway c.args.sheet.now c.args.season.now c.args.sought c.loop-span.span

@@ -1,4 +1,4 @@
-use Rattle.qual_scores.specs.Searching.{IsNarrowed}
+use Rattle.qual_scores.specs.inside.Searching.{IsNarrowed}
 use Rattle.qual_scores.proofs.SpanLemmas.{numbers_in}
 use Rattle.qual_scores.proofs.search.halved.Given as goal
 

@@ -1,7 +1,7 @@
 use Rattle.std.proofs.Common.{ℤ, subst, arith}
 use Rattle.std.proofs.lemmas.Int.{ints}
 use Rattle.league_core.specs.declared.question.Claim.TheVariants.{Inside}
-use Rattle.qual_scores.specs.Searching.{IsSaid}
+use Rattle.qual_scores.specs.inside.Searching.{IsWindowAnswer}
 use Rattle.qual_scores.proofs.SpanLemmas.{kept}
 use Rattle.qual_scores.proofs.SearchLemmas.{reach_narrowed, reach_none, spent_first}
 use Rattle.qual_scores.proofs.search.possible_score.Goals as goal
@@ -18,7 +18,7 @@ halved-requires-clause-narrowed c =
     let least = c.requires.reach.least in
     let order = c.requires.reach.in_order in
     let most = c.requires.reach.most in
-    let says = subst (λ (z : ℤ). IsSaid c.args.sheet.now c.args.season.now
+    let says = subst (λ (z : ℤ). IsWindowAnswer c.args.sheet.now c.args.season.now
     (record { club = c.args.club; line = c.args.line; claim = Inside }) z
     c.in_ok-ask_window.field-0)
     (kept c.args.reach.high (omega (arith, ints)) (omega (arith, ints)))
@@ -31,7 +31,7 @@ returns-in-Above c =
     let least = c.requires.reach.least in
     let order = c.requires.reach.in_order in
     let most = c.requires.reach.most in
-    let says = subst (λ (z : ℤ). IsSaid c.args.sheet.now c.args.season.now
+    let says = subst (λ (z : ℤ). IsWindowAnswer c.args.sheet.now c.args.season.now
     (record { club = c.args.club; line = c.args.line; claim = Inside }) z
     c.in_ok-ask_window.field-0)
     (kept c.args.reach.high (omega (arith, ints)) (omega (arith, ints)))
@@ -44,7 +44,7 @@ returns-in-Spent c =
     let least = c.requires.reach.least in
     let order = c.requires.reach.in_order in
     let most = c.requires.reach.most in
-    let says = subst (λ (z : ℤ). IsSaid c.args.sheet.now c.args.season.now
+    let says = subst (λ (z : ℤ). IsWindowAnswer c.args.sheet.now c.args.season.now
     (record { club = c.args.club; line = c.args.line; claim = Inside }) z
     c.in_ok-ask_window.field-0)
     (kept c.args.reach.high (omega (arith, ints)) (omega (arith, ints)))

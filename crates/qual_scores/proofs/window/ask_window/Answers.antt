@@ -1,6 +1,6 @@
 use Rattle.std.proofs.Common.{ap, ◌∙◌, arith}
 use Rattle.std.proofs.lemmas.Int.{ints}
-use Rattle.qual_scores.specs.Searching.{question_sought}
+use Rattle.qual_scores.specs.inside.Searching.{question_sought}
 use Rattle.qual_scores.proofs.SpanLemmas.{kept}
 use Rattle.qual_scores.proofs.WindowLemmas.{won_says, refuted_says, spent_says, least_full}
 use Rattle.qual_scores.proofs.window.ask_window.Goals as goal
@@ -12,7 +12,7 @@ returns-in-Won c =
     won_says c.args.sheet.now c.args.season.now c.args.sought c.args.points _ _ _ _ _
     (c.question_sought-question.ensures
     ∙ ap (question_sought c.args.sought) (kept c.args.points least (omega (arith, ints))))
-    c.in_ok-solve_fresh.ensures c.in-Won.is c.said_by.ensures
+    c.in_ok-solve_fresh.ensures c.in-Won.is c.window_answer.ensures
 
 pub returns-in-Refuted : goal.returns-in-Refuted
 returns-in-Refuted c =
@@ -22,7 +22,7 @@ returns-in-Refuted c =
     c.requires.league c.deductions-results.ensures.within c.requires.in_window
     c.requires.of_sheet.club (c.question_sought-question.ensures
     ∙ ap (question_sought c.args.sought) (kept c.args.points least (omega (arith, ints))))
-    c.in_ok-solve_fresh.ensures c.in-Refuted.is c.said_by-in-Refuted.ensures
+    c.in_ok-solve_fresh.ensures c.in-Refuted.is c.window_answer-in-Refuted.ensures
 
 pub returns : goal.returns
 returns c =

@@ -1,5 +1,5 @@
 use Rattle.std.proofs.Common.{refl}
-use Rattle.league_core.specs.ClubSets as sets
+use Rattle.league_core.specs.game.ClubSets as sets
 use Rattle.report_tests.proofs.lines.leaves_name_their_reason.Goals as goal
 
 pub writes-requires-4 : goal.writes-requires-4

@@ -1,4 +1,4 @@
--- A line more held no record, or the answer came behind those that held none.
+-- A line more held no record, or the answer came after those that held none.
 use Rattle.std.proofs.Common.{arith, inl, refl, ◌∙◌}
 use Rattle.port_core.specs.Readers.{contents_to_come}
 use Rattle.port_core.proofs.TakingLemmas.{TakesInput-more, TakesInput-none}

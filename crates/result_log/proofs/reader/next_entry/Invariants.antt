@@ -1,10 +1,10 @@
 use Rattle.std.proofs.Common.{◌≡◌, ◌-◌, ◌≤◌}
 use Rattle.port_core.specs.Contents.{input_limit}
 use Rattle.port_core.specs.Readers.{TakesInput, contents_to_come}
-use Rattle.result_log.specs.Calls.{PassesBareLines, PassesBlank}
+use Rattle.result_log.specs.inside.Calls.{PassesBareLines, PassesBlank}
 use Rattle.fixture_sheet.specs.LastReads.{ReadsOnWay}
 use Rattle.result_log.specs.Feeds.{entry_in}
-use Rattle.result_log.specs.LastReads.{GivesBlank}
+use Rattle.result_log.specs.inside.LastReads.{GivesBlank}
 use Rattle.result_log.proofs.reader.next_entry.Given as goal
 
 -- the lines so far held no record, they were passed whole, and the last read came on the way

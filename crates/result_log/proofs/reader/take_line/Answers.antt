@@ -1,9 +1,9 @@
 -- What the content of the line is, said of the contents still to come.
 use Rattle.std.proofs.Common.{refl, subst, ℕ, List, Ok}
-use Rattle.port_core.specs.declared.answers.Line.TheVariants as line
+use Rattle.port_core.specs.declared.line.Line.TheVariants as line
 use Rattle.port_core.specs.Readers.{contents_to_come}
 use Rattle.fixture_sheet.proofs.PassedLemmas.{leaves-as, passes-as}
-use Rattle.result_log.specs.Calls.{AnswersLine, answer_there}
+use Rattle.result_log.specs.inside.Calls.{AnswersLine, answer_there}
 use Rattle.result_log.specs.Feeds.{entry_in}
 use Rattle.result_log.proofs.CallLemmas.{Text-reads, comes-of}
 use Rattle.result_log.proofs.LastReadLemmas.{stop-stops, text-stops}

@@ -1,5 +1,5 @@
 use Rattle.std.proofs.Common.{take}
-use Rattle.sample_counts.specs.SampleCounts.{HasHeard}
+use Rattle.sample_counts.specs.inside.SamplePools.{HasHeard}
 use Rattle.sample_counts.proofs.sample_pool.tell_all.Given as goal
 
 -- the events so far are heard

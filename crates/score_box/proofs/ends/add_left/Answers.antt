@@ -2,9 +2,9 @@
 use Rattle.std.proofs.Common.{ℕ, ◌<◌, List, [], ◌∷◌, ◌+ℤ◌, length, get_or, ap, ◌∙◌, arith}
 use Rattle.std.proofs.lemmas.Int.{ints}
 use Rattle.std.proofs.lemmas.List.{take_all}
-use Rattle.league_core.specs.PointRanges.{total_of}
-use Rattle.score_box.specs.Ends.{end_at}
-use Rattle.score_box.specs.Points.{left_to}
+use Rattle.league_core.specs.search.PointRanges.{total_of}
+use Rattle.score_box.specs.inside.Ends.{end_at}
+use Rattle.score_box.specs.inside.Points.{left_to}
 use Rattle.score_box.proofs.EndLemmas.{one_small}
 use Rattle.score_box.proofs.SplitLemmas.{no_match, total_take}
 use Rattle.score_box.proofs.ends.add_left.Goals as goal

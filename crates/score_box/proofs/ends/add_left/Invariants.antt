@@ -1,9 +1,9 @@
 use Rattle.std.proofs.Common.{◌≡◌, ℕ, ◌+◌, ◌*◌, ◌≤ℤ◌, ◌+ℤ◌, ◌-ℤ◌, pos, List, [], ◌∷◌, take}
 use Rattle.league_core.specs.declared.season.Score.{Score}
-use Rattle.league_core.specs.PointRanges.{total_of}
-use Rattle.score_box.specs.Boxes.{AreCellsOf}
-use Rattle.score_box.specs.Ends.{end_at}
-use Rattle.score_box.specs.Points.{left_to}
+use Rattle.league_core.specs.search.PointRanges.{total_of}
+use Rattle.score_box.specs.inside.Boxes.{AreCellsOf}
+use Rattle.score_box.specs.inside.Ends.{end_at}
+use Rattle.score_box.specs.inside.Points.{left_to}
 use Rattle.score_box.proofs.ends.add_left.Given as goal
 
 -- what the fixtures of the numbers so far leave, and numbers that fit

@@ -3,11 +3,11 @@ use Rattle.std.proofs.Common.{◌≡◌, ℕ, ◌<◌, Bool, not, ◌||◌, cond
 use Rattle.std.proofs.Common.{◌∙◌, arith}
 use Rattle.std.proofs.lemmas.Int.{ints}
 use Rattle.league_core.specs.declared.season.Score.{Score}
-use Rattle.league_core.specs.Options.{has_option, has_one_outcome}
+use Rattle.league_core.specs.search.Options.{has_option, has_one_outcome}
 use Rattle.score_box.specs.declared.cell.Cell.{Cell}
 use Rattle.score_box.specs.declared.points.left.OutcomesLeft.{OutcomesLeft}
-use Rattle.score_box.specs.Cells.{IsCellOf, at_most_one}
-use Rattle.score_box.specs.Points.{AreOutcomesLeft}
+use Rattle.score_box.specs.inside.Cells.{IsCellOf, at_most_one}
+use Rattle.score_box.specs.inside.Points.{AreOutcomesLeft}
 use Rattle.score_box.proofs.LeftLemmas.{none_left, left_none, one_left, left_one}
 use Rattle.score_box.proofs.EndLemmas.{spans_small, spans_moved, empty_set, several_set}
 use Rattle.score_box.proofs.EndLemmas.{empty_counts, several_counts, empty_is, outcome_is}

@@ -1,7 +1,7 @@
 -- Each club's numbers move by what the two cells leave its side.
 use Rattle.std.proofs.Common.{◌≡◌, pos, ◌+ℤ◌, true, eqb, sym, ap, ◌∙◌}
 use Rattle.std.proofs.lemmas.Bool.{eqb-true}
-use Rattle.score_box.specs.Ends.{end_at}
+use Rattle.score_box.specs.inside.Ends.{end_at}
 use Rattle.score_box.proofs.EndLemmas.{alone_is, two_moved}
 use Rattle.score_box.proofs.ends.move_spans.Goals as goal
 

@@ -6,8 +6,8 @@ use Rattle.std.proofs.lemmas.Int.{ints}
 use Rattle.std.proofs.lemmas.Bool.{cases_eq}
 use Rattle.std.proofs.lemmas.List.{get_or-set_same, get_or-set_other, length-set}
 use Rattle.score_box.specs.declared.totals.Totals.{Totals}
-use Rattle.score_box.specs.Ends.{end_at}
-use Rattle.score_box.specs.Totals.{totals_at, points_column}
+use Rattle.score_box.specs.inside.Ends.{end_at}
+use Rattle.score_box.specs.inside.Totals.{totals_at, points_column}
 use Rattle.score_box.proofs.ends.points_won.Goals as goal
 
 pub loop-club-preserved : goal.loop-club-preserved

@@ -1,6 +1,6 @@
 use Rattle.std.proofs.Common.{◌≡◌, ℕ, ◌<◌, length}
-use Rattle.score_box.specs.Ends.{end_at}
-use Rattle.score_box.specs.Totals.{totals_at}
+use Rattle.score_box.specs.inside.Ends.{end_at}
+use Rattle.score_box.specs.inside.Totals.{totals_at}
 use Rattle.score_box.proofs.ends.points_won.Given as goal
 
 -- the points of the clubs so far

@@ -2,7 +2,7 @@
 use Rattle.std.proofs.Common.{◌≡◌, ◌<◌, not, cond, [], length, get_or, List}
 use Rattle.std.proofs.Common.{sym, ap, ◌∙◌, arith}
 use Rattle.league_core.specs.declared.season.Score.{Score}
-use Rattle.league_core.specs.Options.{has_one_outcome}
+use Rattle.league_core.specs.search.Options.{has_one_outcome}
 use Rattle.league_core.proofs.PlainLemmas.{one_if-most}
 use Rattle.score_box.proofs.EndLemmas.{count_more, outcome_is}
 use Rattle.score_box.proofs.LeftLemmas.{one_left, left_one}

@@ -1,6 +1,6 @@
 use Rattle.std.proofs.Common.{◌≡◌, ◌≤◌, List, take}
 use Rattle.league_core.specs.declared.season.Score.{Score}
-use Rattle.score_box.specs.Boxes.{AreCellsOf, open_outcomes_in}
+use Rattle.score_box.specs.inside.Boxes.{AreCellsOf, open_outcomes_in}
 use Rattle.score_box.proofs.ends.several_outcomes.Given as goal
 
 -- how many of the fixtures so far count

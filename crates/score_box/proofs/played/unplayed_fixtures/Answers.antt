@@ -1,7 +1,7 @@
 -- The next fixture is kept where it has no score.
 use Rattle.std.proofs.Common.{◌≡◌, ◌++◌, [], ◌∷◌, cond, get_or, None, sym, ap, ◌∙◌}
 use Rattle.std.proofs.lemmas.List.{get_or_default}
-use Rattle.score_box.specs.Unplayed.{is_unplayed, unplayed_below}
+use Rattle.score_box.specs.inside.Unplayed.{is_unplayed, unplayed_below}
 use Rattle.score_box.proofs.PathLemmas.{unplayed_below-zero, unplayed_below-suc}
 use Rattle.score_box.proofs.played.unplayed_fixtures.Goals as goal
 

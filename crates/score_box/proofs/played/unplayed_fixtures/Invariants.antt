@@ -1,5 +1,5 @@
 use Rattle.std.proofs.Common.{◌≡◌}
-use Rattle.score_box.specs.Unplayed.{unplayed_below}
+use Rattle.score_box.specs.inside.Unplayed.{unplayed_below}
 use Rattle.score_box.proofs.played.unplayed_fixtures.Given as goal
 
 -- those of the fixtures so far

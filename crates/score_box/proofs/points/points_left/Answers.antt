@@ -2,10 +2,10 @@
 use Rattle.std.proofs.Common.{ℕ, ◌<◌, Bool, false, List, length, get_or, subst, refl, arith}
 use Rattle.std.proofs.lemmas.Int.{ints}
 use Rattle.std.proofs.lemmas.List.{take_all}
-use Rattle.league_core.specs.Sums.{has_club}
-use Rattle.league_core.specs.ClubSets.{clubs_below}
+use Rattle.league_core.specs.game.Sums.{has_club}
+use Rattle.league_core.specs.game.ClubSets.{clubs_below}
 use Rattle.score_box.specs.declared.cell.Cell.{Cell}
-use Rattle.score_box.specs.Points.{IsPointsOf, IsRangeOver}
+use Rattle.score_box.specs.inside.Points.{IsPointsOf, IsRangeOver}
 use Rattle.score_box.proofs.SplitLemmas.{no_match}
 use Rattle.score_box.proofs.SetLemmas.{left_more}
 use Rattle.score_box.proofs.points.points_left.Goals as goal

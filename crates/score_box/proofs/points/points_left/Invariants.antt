@@ -1,6 +1,6 @@
 use Rattle.std.proofs.Common.{◌*◌, pos, ◌≤ℤ◌, take}
-use Rattle.league_core.specs.ClubSets.{clubs_in}
-use Rattle.score_box.specs.Points.{IsRangeOver}
+use Rattle.league_core.specs.game.ClubSets.{clubs_in}
+use Rattle.score_box.specs.inside.Points.{IsRangeOver}
 use Rattle.score_box.proofs.points.points_left.Given as goal
 
 -- what the fixtures of the numbers so far leave

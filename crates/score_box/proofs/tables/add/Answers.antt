@@ -1,8 +1,8 @@
 use Rattle.std.proofs.Common.{◌≡◌, ◌≢◌, ℕ, true, false, List, set, sym, subst, arith}
 use Rattle.std.proofs.lemmas.List.{get_or-set_other}
 use Rattle.score_box.specs.declared.totals.Totals.{Totals}
-use Rattle.league_core.specs.Sums.{Worth}
-use Rattle.score_box.specs.Totals.{totals_at, no_totals, AreTotalsNear, AreTogether}
+use Rattle.league_core.specs.game.Sums.{Worth}
+use Rattle.score_box.specs.inside.Totals.{totals_at, no_totals, AreTotalsNear, AreTogether}
 use Rattle.score_box.proofs.TotalLemmas.{near_wider, grown_by, rows_grow}
 use Rattle.score_box.proofs.tables.add.Goals as goal
 

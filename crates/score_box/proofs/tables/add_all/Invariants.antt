@@ -1,6 +1,6 @@
 use Rattle.std.proofs.Common.{ℕ, ◌<◌, [], ◌∷◌}
-use Rattle.league_core.specs.Sums.{worth_to, worth_among}
-use Rattle.score_box.specs.Totals.{totals_at, pair_place}
+use Rattle.league_core.specs.game.Sums.{worth_to, worth_among}
+use Rattle.score_box.specs.inside.Totals.{totals_at, pair_place}
 use Rattle.score_box.proofs.TotalLemmas.{AreTotalsSoFar}
 use Rattle.score_box.proofs.tables.add_all.Given as goal
 

@@ -1,6 +1,6 @@
 -- The row of the match alone is what it is worth to a side.
 use Rattle.std.proofs.Common.{arith}
-use Rattle.score_box.specs.Totals.{no_totals, totals_at, pair_place}
+use Rattle.score_box.specs.inside.Totals.{no_totals, totals_at, pair_place}
 use Rattle.score_box.proofs.TotalLemmas.{near_none, near_wider, pair_grows}
 use Rattle.score_box.proofs.tables.add_match.Goals as goal
 

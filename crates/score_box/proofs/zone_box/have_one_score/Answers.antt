@@ -1,6 +1,6 @@
 use Rattle.std.proofs.Common.{rules, tests}
 use Rattle.std.proofs.lemmas.Iterator.{cases_from_all, YieldsList-from_slice}
-use Rattle.score_box.specs.Cells.{HasOneScore}
+use Rattle.score_box.specs.inside.Cells.{HasOneScore}
 use Rattle.score_box.proofs.BoxLemmas.{all_decided}
 use Rattle.score_box.proofs.zone_box.have_one_score.Goals as goal
 

@@ -1,5 +1,5 @@
 use Rattle.std.proofs.Common.{◌≡◌, length}
-use Rattle.league_core.specs.Seasons.{season_after}
+use Rattle.league_core.specs.game.Seasons.{season_after}
 use Rattle.shared_tests.proofs.alone.turns_by.Given as goal
 
 -- the solver is one for the season after what was seen, which is so many events

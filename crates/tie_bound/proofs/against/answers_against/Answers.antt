@@ -1,8 +1,8 @@
 use Rattle.std.proofs.Common.{◌≡◌, ◌≤◌, ◌&&◌, nat_lt, length, ap, ◌∙◌, arith}
 use Rattle.league_core.specs.declared.sheet.Sheet.{Sheet}
-use Rattle.league_core.specs.ClubSets.{clubs_in}
-use Rattle.league_core.specs.SureOrder.{is_level}
-use Rattle.tie_bound.specs.Answers.{answer_at, AreLevelIn}
+use Rattle.league_core.specs.game.ClubSets.{clubs_in}
+use Rattle.league_core.specs.search.SureOrder.{is_level}
+use Rattle.tie_bound.specs.inside.Answers.{answer_at, AreLevelIn}
 use Rattle.tie_bound.proofs.TakenLemmas.{sure_order-is}
 use Rattle.tie_bound.proofs.against.answers_against.Goals as goal
 

@@ -1,13 +1,13 @@
 use Rattle.std.proofs.Common.{◌≡◌, ◌≤◌, ◌&&◌, nat_lt, true, length, sym, ap, ◌∙◌, arith}
 use Rattle.league_core.specs.declared.sure.Sure.TheVariants.{Unknown}
 use Rattle.tie_bound.specs.declared.parts.Parts.TheVariants.{FirstSums}
-use Rattle.tie_bound.specs.Answers.{by_table}
+use Rattle.tie_bound.specs.inside.Answers.{by_table}
 use Rattle.tie_bound.proofs.AnswerLemmas.{others_decided, others_stay, step_decides}
 use Rattle.league_core.specs.declared.sheet.Sheet.{Sheet}
-use Rattle.league_core.specs.ClubSets.{clubs_in}
-use Rattle.league_core.specs.SureOrder.{are_all_sure_overall, by_first_sum_ranges, is_level}
-use Rattle.tie_bound.specs.Boxes.{options_in_box}
-use Rattle.tie_bound.specs.Answers.{answer_at, AreLevelIn}
+use Rattle.league_core.specs.game.ClubSets.{clubs_in}
+use Rattle.league_core.specs.search.SureOrder.{are_all_sure_overall, by_first_sum_ranges, is_level}
+use Rattle.tie_bound.specs.inside.Boxes.{options_in_box}
+use Rattle.tie_bound.specs.inside.Answers.{answer_at, AreLevelIn}
 use Rattle.tie_bound.proofs.RoundLemmas.{level_is}
 use Rattle.tie_bound.proofs.TakenLemmas.{taken_first_sums, all_sure-first_sums}
 use Rattle.tie_bound.proofs.TakenLemmas.{overall_first_open, overall_first_sure}

@@ -1,10 +1,10 @@
 use Rattle.std.proofs.Common.{◌≡◌, [], ◌∷◌, length, nat_lt, cond, ap, ◌∙◌, arith}
 use Rattle.league_core.specs.declared.sheet.Sheet.{Sheet}
 use Rattle.league_core.specs.declared.sure.Sure.TheVariants.{Unknown}
-use Rattle.league_core.specs.PointRanges.{Range, points_range}
-use Rattle.league_core.specs.SureOrder.{sure_by_points, sure_by_range}
-use Rattle.tie_bound.specs.Spans.{as_range}
-use Rattle.tie_bound.specs.Boxes.{options_in_box}
+use Rattle.league_core.specs.search.PointRanges.{Range, points_range}
+use Rattle.league_core.specs.search.SureOrder.{sure_by_points, sure_by_range}
+use Rattle.tie_bound.specs.inside.Spans.{as_range}
+use Rattle.tie_bound.specs.inside.Boxes.{options_in_box}
 use Rattle.tie_bound.proofs.AnswerLemmas.{none_below, next_open, answers_more}
 use Rattle.tie_bound.proofs.answers.by_ends.Goals as goal
 

@@ -1,5 +1,5 @@
-use Rattle.league_core.specs.SureOrder.{sure_by_points}
-use Rattle.tie_bound.specs.Boxes.{options_in_box}
+use Rattle.league_core.specs.search.SureOrder.{sure_by_points}
+use Rattle.tie_bound.specs.inside.Boxes.{options_in_box}
 use Rattle.tie_bound.proofs.AnswerLemmas.{AreAnswersBelow}
 use Rattle.tie_bound.proofs.answers.by_ends.Given as goal
 

@@ -1,11 +1,11 @@
 use Rattle.std.proofs.Common.{◌≡◌, length, nat_lt, cond, subst, sym, ap, ◌∙◌, arith}
 use Rattle.league_core.specs.declared.sheet.Sheet.{Sheet}
 use Rattle.league_core.specs.declared.sure.Sure.TheVariants.{Unknown}
-use Rattle.league_core.specs.SureOrder.{sure_by_points}
+use Rattle.league_core.specs.search.SureOrder.{sure_by_points}
 use Rattle.tie_criteria.specs.declared.measure.Measure.TheVariants.{Points}
 use Rattle.tie_bound.specs.declared.sums.Sums.{Sums}
-use Rattle.tie_bound.specs.Spans.{as_range, IsSpanNear}
-use Rattle.tie_bound.specs.Boxes.{options_in_box}
+use Rattle.tie_bound.specs.inside.Spans.{as_range, IsSpanNear}
+use Rattle.tie_bound.specs.inside.Boxes.{options_in_box}
 use Rattle.tie_bound.proofs.AnswerLemmas.{none_below, next_open, answers_more}
 use Rattle.tie_bound.proofs.AnswerLemmas.{by_points-read, points-read}
 use Rattle.tie_bound.proofs.answers.by_points.Goals as goal

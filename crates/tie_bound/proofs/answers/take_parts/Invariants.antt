@@ -1,8 +1,6 @@
-use Rattle.tie_bound.specs.Answers.{by_table}
-use Rattle.tie_bound.proofs.AnswerLemmas.{IsOnTheWay}
+use Rattle.tie_bound.specs.inside.Answers.{by_table, IsStepIn}
 use Rattle.tie_bound.proofs.answers.take_parts.Given as goal
 
--- the clubs that are not left have gone on, the others are as they were
-abbrev pub invariant-loop-step : goal.invariant-loop-step
-invariant-loop-step l = IsOnTheWay (by_table l.parts l.table l.club) l.fn.group l.left l._step
-    l.fn.answers l.now
+-- the clubs so far have gone on, the others are as they were
+abbrev pub invariant-loop-rival : goal.invariant-loop-rival
+invariant-loop-rival l = IsStepIn l.yielded (by_table l.parts l.table l.club) l.fn.answers l.now

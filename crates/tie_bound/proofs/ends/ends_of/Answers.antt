@@ -3,8 +3,9 @@ use mir.Syntax.{w32}
 use mir.Val.{to_z, of_z}
 use Rattle.std.proofs.Common.{◌≡◌, ℤ, [], ◌∷◌, ap, ◌∙◌, arith}
 use Rattle.std.proofs.lemmas.Int.{ints}
-use Rattle.league_core.specs.PointRanges.{Range, points_range, least_points_of, most_points_of}
-use Rattle.tie_bound.specs.Boxes.{options_in_box}
+use Rattle.league_core.specs.search.PointRanges.{Range, points_range, least_points_of}
+use Rattle.league_core.specs.search.PointRanges.{most_points_of}
+use Rattle.tie_bound.specs.inside.Boxes.{options_in_box}
 use Rattle.tie_bound.proofs.ends.ends_of.Goals as goal
 
 -- a range is its two ends

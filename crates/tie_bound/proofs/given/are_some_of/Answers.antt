@@ -1,7 +1,7 @@
 -- The set is not empty, and nothing of it is left without the marked ones.
 use Rattle.std.proofs.Common.{◌&&◌, sym, ap, ◌∙◌}
 use Rattle.std.specs.List.{list_all}
-use Rattle.league_core.specs.ClubSets.{clubs_in}
+use Rattle.league_core.specs.game.ClubSets.{clubs_in}
 use Rattle.tie_bound.proofs.GivenLemmas.{none_left, some_member}
 use Rattle.tie_bound.proofs.given.are_some_of.Goals as goal
 

@@ -1,10 +1,10 @@
 -- The rivals that are marked are those of a set.
 use Rattle.std.proofs.Common.{◌≡◌, ◌-◌, ◌&&◌, nat_le, length, sym, ap, ◌∙◌}
 use Rattle.league_core.specs.declared.sheet.Sheet.{Sheet}
-use Rattle.league_core.specs.Sums.{has_club}
-use Rattle.league_core.specs.ClubSets.{clubs_in}
-use Rattle.league_core.specs.Zones.{rivals_of, marked_before, marked_after}
-use Rattle.league_core.specs.Reasons.{has_reason, too_many, refutes_by_count}
+use Rattle.league_core.specs.game.Sums.{has_club}
+use Rattle.league_core.specs.game.ClubSets.{clubs_in}
+use Rattle.league_core.specs.search.Zones.{rivals_of, marked_before, marked_after}
+use Rattle.league_core.specs.search.Reasons.{has_reason, too_many, refutes_by_count}
 use Rattle.tie_bound.proofs.RivalLemmas.{common-is, count-is}
 use Rattle.tie_bound.proofs.given.count_reason.Goals as goal
 

@@ -1,6 +1,6 @@
 -- Without a finish no reason holds.
 use Rattle.std.proofs.Common.{◌&&◌, sym, ap, ◌∙◌}
-use Rattle.league_core.specs.Reasons.{has_reason, refutes}
+use Rattle.league_core.specs.search.Reasons.{has_reason, refutes}
 use Rattle.tie_bound.proofs.given.holds.Goals as goal
 
 pub returns-else-has_finish : goal.returns-else-has_finish

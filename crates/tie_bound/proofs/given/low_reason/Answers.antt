@@ -5,11 +5,11 @@ use lib.Signed.{lt_z}
 use Rattle.std.proofs.Common.{◌≡◌, ◌&&◌, sym, ap, ◌∙◌, arith}
 use Rattle.std.specs.List.{list_all}
 use Rattle.std.proofs.lemmas.Int.{ints}
-use Rattle.league_core.specs.ClubSets.{clubs_in}
-use Rattle.league_core.specs.Zones.{marked_after}
-use Rattle.league_core.specs.Options.{has_finish}
-use Rattle.league_core.specs.PointRanges.{least_points_of, own_most}
-use Rattle.league_core.specs.Reasons.{has_reason, has_member, times}
+use Rattle.league_core.specs.game.ClubSets.{clubs_in}
+use Rattle.league_core.specs.search.Zones.{marked_after}
+use Rattle.league_core.specs.search.Options.{has_finish}
+use Rattle.league_core.specs.search.PointRanges.{least_points_of, own_most}
+use Rattle.league_core.specs.search.Reasons.{has_reason, has_member, times}
 use Rattle.tie_bound.proofs.GivenLemmas.{said_of, unsaid_of}
 use Rattle.tie_bound.proofs.given.low_reason.Goals as goal
 

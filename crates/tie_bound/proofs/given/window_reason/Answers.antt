@@ -4,9 +4,9 @@ use mir.Val.{to_z, of_z}
 use lib.Signed.{lt_z}
 use Rattle.std.proofs.Common.{◌≡◌, [], ◌∷◌, sym, ap, ◌∙◌, arith}
 use Rattle.std.proofs.lemmas.Int.{ints}
-use Rattle.league_core.specs.Options.{has_finish}
-use Rattle.league_core.specs.PointRanges.{least_points_of, most_points_of}
-use Rattle.league_core.specs.Reasons.{has_reason}
+use Rattle.league_core.specs.search.Options.{has_finish}
+use Rattle.league_core.specs.search.PointRanges.{least_points_of, most_points_of}
+use Rattle.league_core.specs.search.Reasons.{has_reason}
 use Rattle.tie_bound.proofs.GivenLemmas.{said_first, said_second}
 use Rattle.tie_bound.proofs.given.window_reason.Goals as goal
 

@@ -1,7 +1,7 @@
 -- No fixture has several outcomes exactly where each has one.
 use Rattle.std.proofs.Common.{◌==◌, ap, ◌∙◌}
-use Rattle.league_core.specs.Options.{has_one_outcome}
-use Rattle.tie_bound.specs.Boxes.{options_in_box}
+use Rattle.league_core.specs.search.Options.{has_one_outcome}
+use Rattle.tie_bound.specs.inside.Boxes.{options_in_box}
 use Rattle.score_box.proofs.EndLemmas.{all_counted}
 use Rattle.tie_bound.proofs.outcomes.has_one_outcome.Goals as goal
 

@@ -2,7 +2,7 @@
 use Rattle.std.proofs.Common.{◌≡◌, ℕ, ◌≤◌, ◌&&◌, ◌||◌, ◌==◌, false, not, nat_lt}
 use Rattle.std.proofs.Common.{length, sym, ap, ◌∙◌, inl, inr, arith, List}
 use Rattle.std.proofs.lemmas.Bool.{cases_eq, cases_lt, eq-eqb, ne_eqb, lt-ltb, le-ltb}
-use Rattle.league_core.specs.Sums.{has_club}
+use Rattle.league_core.specs.game.Sums.{has_club}
 use Rattle.league_core.proofs.ClubSetLemmas.{clubs_below-filter_range, has_club-range}
 use Rattle.tie_bound.proofs.rivals.rivals_of.Goals as goal
 

@@ -1,6 +1,6 @@
 use Rattle.std.proofs.Common.{arith}
-use Rattle.league_core.specs.Sums.{worth_among}
-use Rattle.league_core.specs.ClubSets.{clubs_in}
+use Rattle.league_core.specs.game.Sums.{worth_among}
+use Rattle.league_core.specs.game.ClubSets.{clubs_in}
 use Rattle.tie_bound.proofs.RowLemmas.{row_of_totals}
 use Rattle.tie_bound.proofs.rows.row_among.Goals as goal
 

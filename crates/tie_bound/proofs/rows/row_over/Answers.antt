@@ -1,5 +1,5 @@
 use Rattle.std.proofs.Common.{arith}
-use Rattle.league_core.specs.Sums.{worth_to}
+use Rattle.league_core.specs.game.Sums.{worth_to}
 use Rattle.tie_bound.proofs.RowLemmas.{row_of_totals}
 use Rattle.tie_bound.proofs.rows.row_over.Goals as goal
 

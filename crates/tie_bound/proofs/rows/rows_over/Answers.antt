@@ -1,14 +1,14 @@
--- The next club's row is written; those behind it have none, as a number that is no club's has.
+-- The next club's row is written; those after it have none, as a number that is no club's has.
 use Rattle.std.proofs.Common.{◌≡◌, ◌<◌, true, length, refl, inl, inr, sym, ap, subst, ◌∙◌, arith}
 use Rattle.std.specs.List.{list_all}
 use Rattle.std.proofs.lemmas.Bool.{cases_lt}
 use Rattle.std.proofs.lemmas.List.{get_or-set_other, length-set}
 use Rattle.league_core.specs.declared.sheet.Sheet.{Sheet}
-use Rattle.league_core.specs.Sheets.{is_fixture}
-use Rattle.league_core.specs.Sums.{worth_to}
+use Rattle.league_core.specs.game.Sheets.{is_fixture}
+use Rattle.league_core.specs.game.Sums.{worth_to}
 use Rattle.tie_bound.specs.declared.sums.Sums.{Sums}
-use Rattle.tie_bound.specs.Sums.{no_sums, sums_at}
-use Rattle.tie_bound.specs.Rows.{IsRow}
+use Rattle.tie_bound.specs.inside.Sums.{no_sums, sums_at}
+use Rattle.tie_bound.specs.inside.Rows.{IsRow}
 use Rattle.tie_bound.proofs.RowLemmas.{rows_more, past_over, none_at}
 use Rattle.tie_bound.proofs.rows.rows_over.Goals as goal
 

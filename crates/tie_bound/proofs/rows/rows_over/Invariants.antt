@@ -1,7 +1,7 @@
 use Rattle.std.proofs.Common.{◌≡◌, ℕ, ◌<◌, ◌≤◌, length}
-use Rattle.league_core.specs.Sums.{worth_to}
-use Rattle.tie_bound.specs.Sums.{no_sums, sums_at}
-use Rattle.tie_bound.specs.Rows.{IsRow}
+use Rattle.league_core.specs.game.Sums.{worth_to}
+use Rattle.tie_bound.specs.inside.Sums.{no_sums, sums_at}
+use Rattle.tie_bound.specs.inside.Rows.{IsRow}
 use Rattle.tie_bound.proofs.rows.rows_over.Given as goal
 
 -- the clubs so far have their rows, and the others none yet

@@ -1,5 +1,5 @@
 use Rattle.std.proofs.Common.{cond, ap, ◌∙◌, pos, arith}
-use Rattle.league_core.specs.PointRanges.{Range, one_value}
+use Rattle.league_core.specs.search.PointRanges.{Range, one_value}
 use Rattle.tie_bound.specs.declared.sums.Sums.{Sums}
 use Rattle.tie_bound.proofs.SideLemmas.{drawn_match, drawn_sums}
 use Rattle.tie_bound.proofs.sides.drawn.Goals as goal

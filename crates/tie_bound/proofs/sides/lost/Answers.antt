@@ -1,7 +1,7 @@
 use Rattle.std.proofs.Common.{cond, ap, ◌∙◌, pos, arith}
-use Rattle.league_core.specs.PointRanges.{Range, one_value}
+use Rattle.league_core.specs.search.PointRanges.{Range, one_value}
 use Rattle.tie_bound.specs.declared.sums.Sums.{Sums}
-use Rattle.tie_bound.specs.Spans.{as_range}
+use Rattle.tie_bound.specs.inside.Spans.{as_range}
 use Rattle.tie_bound.proofs.SideLemmas.{lost_sums}
 use Rattle.tie_bound.proofs.sides.lost.Goals as goal
 

@@ -1,5 +1,5 @@
 use Rattle.std.proofs.Common.{true, false, arith}
-use Rattle.tie_bound.specs.Sums.{sums_at}
+use Rattle.tie_bound.specs.inside.Sums.{sums_at}
 use Rattle.tie_bound.proofs.TableLemmas.{wider, side_grows, table_grows}
 use Rattle.tie_bound.proofs.table.add.Goals as goal
 

@@ -1,13 +1,13 @@
 use Rattle.std.proofs.Common.{◌<◌, ◌≤◌, ◌*◌, [], length, get_or, subst, sym, ap, ◌∙◌, arith}
-use Rattle.league_core.specs.Sums.{worth_among}
-use Rattle.league_core.specs.ClubSets.{clubs_in}
-use Rattle.league_core.specs.Options.{has_one_outcome}
-use Rattle.league_core.specs.PointRanges.{range_from}
+use Rattle.league_core.specs.game.Sums.{worth_among}
+use Rattle.league_core.specs.game.ClubSets.{clubs_in}
+use Rattle.league_core.specs.search.Options.{has_one_outcome}
+use Rattle.league_core.specs.search.PointRanges.{range_from}
 use Rattle.league_core.proofs.PlainLemmas.{list_all-at}
-use Rattle.tie_criteria.specs.Measures.{worth_of}
+use Rattle.tie_criteria.specs.inside.Measures.{worth_of}
 use Rattle.tie_bound.specs.declared.sums.Sums.{Sums}
-use Rattle.tie_bound.specs.Sums.{sums_at}
-use Rattle.tie_bound.specs.Boxes.{options_in_box}
+use Rattle.tie_bound.specs.inside.Sums.{sums_at}
+use Rattle.tie_bound.specs.inside.Boxes.{options_in_box}
 use Rattle.tie_bound.proofs.BoxLemmas.{length-options}
 use Rattle.score_box.proofs.OutcomeLemmas.{one_outcome_of}
 use Rattle.tie_bound.proofs.TableLemmas.{wider}

@@ -2,11 +2,11 @@
 use Rattle.std.proofs.Common.{◌≡◌, true, length, subst, ◌∙◌}
 use Rattle.std.specs.List.{list_all}
 use Rattle.league_core.specs.declared.sheet.Sheet.{Sheet}
-use Rattle.league_core.specs.Sheets.{is_fixture}
-use Rattle.league_core.specs.ClubSets.{clubs_in}
+use Rattle.league_core.specs.game.Sheets.{is_fixture}
+use Rattle.league_core.specs.game.ClubSets.{clubs_in}
 use Rattle.league_core.proofs.RangeLemmas.{range_from-among_all}
-use Rattle.tie_criteria.specs.Measures.{worth_of}
-use Rattle.tie_bound.specs.Boxes.{options_in_box}
+use Rattle.tie_criteria.specs.inside.Measures.{worth_of}
+use Rattle.tie_bound.specs.inside.Boxes.{options_in_box}
 use Rattle.tie_bound.proofs.RowLemmas.{rows_of_all}
 use Rattle.tie_bound.proofs.table.add_all_open.Goals as goal
 

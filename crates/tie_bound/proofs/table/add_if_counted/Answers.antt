@@ -1,6 +1,6 @@
 use Rattle.std.proofs.Common.{sym, ◌∙◌}
-use Rattle.league_core.specs.ClubSets.{clubs_in}
-use Rattle.tie_bound.specs.Sums.{sums_at}
+use Rattle.league_core.specs.game.ClubSets.{clubs_in}
+use Rattle.tie_bound.specs.inside.Sums.{sums_at}
 use Rattle.tie_bound.proofs.TableLemmas.{counted_grows, uncounted_grows}
 use Rattle.tie_bound.proofs.table.add_if_counted.Goals as goal
 

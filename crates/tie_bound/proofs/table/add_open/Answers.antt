@@ -2,18 +2,18 @@
 use Rattle.std.proofs.Common.{◌≢◌, ◌<◌, ◌+◌, ◌*◌, List, [], length, get_or, subst, sym}
 use Rattle.std.proofs.Common.{ap, ◌∙◌, arith}
 use Rattle.league_core.specs.declared.sheet.Fixture.{Fixture}
-use Rattle.league_core.specs.Sums.{worth_among}
-use Rattle.league_core.specs.ClubSets.{clubs_in}
-use Rattle.league_core.specs.Options.{has_one_outcome}
-use Rattle.league_core.specs.PointRanges.{range_from}
+use Rattle.league_core.specs.game.Sums.{worth_among}
+use Rattle.league_core.specs.game.ClubSets.{clubs_in}
+use Rattle.league_core.specs.search.Options.{has_one_outcome}
+use Rattle.league_core.specs.search.PointRanges.{range_from}
 use Rattle.league_core.proofs.PlainLemmas.{list_all-at}
 use Rattle.league_core.proofs.FixtureLemmas.{fixture_of_sheet}
-use Rattle.tie_criteria.specs.Measures.{worth_of}
+use Rattle.tie_criteria.specs.inside.Measures.{worth_of}
 use Rattle.score_box.proofs.OutcomeLemmas.{one_outcome_of}
 use Rattle.score_box.proofs.SplitLemmas.{keeps_played, no_match, open_fixture}
-use Rattle.tie_bound.specs.Sums.{sums_at}
-use Rattle.tie_bound.specs.Rows.{AreRows}
-use Rattle.tie_bound.specs.Boxes.{options_in_box}
+use Rattle.tie_bound.specs.inside.Sums.{sums_at}
+use Rattle.tie_bound.specs.inside.Rows.{AreRows}
+use Rattle.tie_bound.specs.inside.Boxes.{options_in_box}
 use Rattle.tie_bound.proofs.BoxLemmas.{length-options}
 use Rattle.tie_bound.proofs.TableLemmas.{wider}
 use Rattle.tie_bound.proofs.RowLemmas.{open_none, open_more, open_all, open_few}

@@ -1,8 +1,8 @@
 use Rattle.std.proofs.Common.{ℕ}
-use Rattle.league_core.specs.Sums.{worth_among}
-use Rattle.league_core.specs.ClubSets.{clubs_in}
-use Rattle.tie_bound.specs.Sums.{sums_at}
-use Rattle.tie_bound.specs.Boxes.{options_in_box}
+use Rattle.league_core.specs.game.Sums.{worth_among}
+use Rattle.league_core.specs.game.ClubSets.{clubs_in}
+use Rattle.tie_bound.specs.inside.Sums.{sums_at}
+use Rattle.tie_bound.specs.inside.Boxes.{options_in_box}
 use Rattle.tie_bound.proofs.RowLemmas.{IsOpenSoFar}
 use Rattle.tie_bound.proofs.table.add_open.Given as goal
 

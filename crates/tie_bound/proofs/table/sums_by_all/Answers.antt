@@ -2,7 +2,7 @@ use Rattle.std.proofs.Common.{◌≡◌, ℕ, replicate, inl, inr, arith}
 use Rattle.std.proofs.lemmas.Bool.{cases_lt}
 use Rattle.std.proofs.lemmas.List.{get_or-replicate, get_or_past, length-replicate}
 use Rattle.tie_bound.specs.declared.sums.Sums.{Sums}
-use Rattle.tie_bound.specs.Sums.{no_sums, sums_at}
+use Rattle.tie_bound.specs.inside.Sums.{no_sums, sums_at}
 use Rattle.tie_bound.proofs.table.sums_by_all.Goals as goal
 
 none_at : (clubs club : ℕ) → sums_at (replicate clubs no_sums) club ≡ no_sums

@@ -2,13 +2,13 @@ use Rattle.std.proofs.Common.{◌≡◌, ◌<◌, ℕ, true, length, subst, ap, 
 use Rattle.std.specs.List.{list_all, range_with_len}
 use Rattle.std.proofs.lemmas.Bool.{lt-ltb}
 use Rattle.league_core.specs.declared.sheet.Sheet.{Sheet}
-use Rattle.league_core.specs.Sheets.{is_fixture}
-use Rattle.league_core.specs.Sums.{has_club}
-use Rattle.league_core.specs.ClubSets.{clubs_in}
+use Rattle.league_core.specs.game.Sheets.{is_fixture}
+use Rattle.league_core.specs.game.Sums.{has_club}
+use Rattle.league_core.specs.game.ClubSets.{clubs_in}
 use Rattle.league_core.proofs.ClubSetLemmas.{has_club-range}
 use Rattle.league_core.proofs.RangeLemmas.{range_from-among_all}
-use Rattle.tie_criteria.specs.Measures.{worth_of}
-use Rattle.tie_bound.specs.Boxes.{options_in_box}
+use Rattle.tie_criteria.specs.inside.Measures.{worth_of}
+use Rattle.tie_bound.specs.inside.Boxes.{options_in_box}
 use Rattle.tie_bound.proofs.table.sums_over.Goals as goal
 
 pub returns-else-has_finish : goal.returns-else-has_finish

@@ -1,9 +1,9 @@
 use Rattle.std.proofs.Common.{◌≡◌, ℕ, ◌-◌, ◌||◌, nat_le, length, sym, ap, ◌∙◌}
 use Rattle.league_core.specs.declared.sheet.Sheet.{Sheet}
-use Rattle.league_core.specs.Sums.{has_club}
-use Rattle.league_core.specs.ClubSets.{clubs_in}
-use Rattle.league_core.specs.Zones.{marked_before, marked_after}
-use Rattle.league_core.specs.Reasons.{too_many}
+use Rattle.league_core.specs.game.Sums.{has_club}
+use Rattle.league_core.specs.game.ClubSets.{clubs_in}
+use Rattle.league_core.specs.search.Zones.{marked_before, marked_after}
+use Rattle.league_core.specs.search.Reasons.{too_many}
 use Rattle.tie_bound.proofs.RivalLemmas.{common-is, count-is}
 use Rattle.tie_bound.proofs.tie.are_too_many.Goals as goal
 

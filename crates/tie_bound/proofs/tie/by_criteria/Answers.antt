@@ -1,9 +1,9 @@
 -- The sets are those of the sure order, as far as the rivals.
 use Rattle.std.proofs.Common.{List, ℕ, ap, ◌∙◌}
-use Rattle.league_core.specs.Sums.{has_club}
-use Rattle.league_core.specs.ClubSets.{clubs_in}
-use Rattle.league_core.specs.Reasons.{is_surely_above, is_surely_below}
-use Rattle.league_core.specs.SureOrder.{is_above, is_below}
+use Rattle.league_core.specs.game.Sums.{has_club}
+use Rattle.league_core.specs.game.ClubSets.{clubs_in}
+use Rattle.league_core.specs.search.Reasons.{is_surely_above, is_surely_below}
+use Rattle.league_core.specs.search.SureOrder.{is_above, is_below}
 use Rattle.tie_bound.proofs.RivalLemmas.{rival_below}
 use Rattle.tie_bound.proofs.RefuteLemmas.{refutes_same}
 use Rattle.tie_bound.proofs.tie.by_criteria.Goals as goal

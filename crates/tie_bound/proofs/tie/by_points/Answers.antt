@@ -1,8 +1,8 @@
 -- Points decide, or they leave it open.
 use Rattle.std.proofs.Common.{◌≡◌, ◌&&◌, not, nat_lt, length, sym, ap, ◌∙◌}
 use Rattle.league_core.specs.declared.sheet.Sheet.{Sheet}
-use Rattle.league_core.specs.Sums.{has_club}
-use Rattle.league_core.specs.ClubSets.{clubs_in}
+use Rattle.league_core.specs.game.Sums.{has_club}
+use Rattle.league_core.specs.game.ClubSets.{clubs_in}
 use Rattle.tie_bound.proofs.RefuteLemmas.{refuted_by_points, open_by_points}
 use Rattle.tie_bound.proofs.RefuteLemmas.{above_by_points, below_by_points}
 use Rattle.tie_bound.proofs.tie.by_points.Goals as goal

@@ -2,9 +2,9 @@
 -- outcome is open.
 use Rattle.std.proofs.Common.{◌&&◌, ◌||◌, sym, ap, ◌∙◌}
 use Rattle.std.specs.List.{list_any}
-use Rattle.league_core.specs.Zones.{rivals_of}
-use Rattle.league_core.specs.Reasons.{has_reason, refutes_by_tie, are_too_many_sure}
-use Rattle.league_core.specs.Reasons.{is_surely_wrong}
+use Rattle.league_core.specs.search.Zones.{rivals_of}
+use Rattle.league_core.specs.search.Reasons.{has_reason, refutes_by_tie, are_too_many_sure}
+use Rattle.league_core.specs.search.Reasons.{is_surely_wrong}
 use Rattle.tie_bound.proofs.tie.tie_reason.Goals as goal
 
 pub returns-then-has_one_outcome : goal.returns-then-has_one_outcome

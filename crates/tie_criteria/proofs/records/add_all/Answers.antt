@@ -1,7 +1,7 @@
 use Rattle.std.proofs.Common.{ap, length, subst, sym, ◌∙◌, arith}
-use Rattle.league_core.specs.ClubSets.{clubs_in}
+use Rattle.league_core.specs.game.ClubSets.{clubs_in}
 use Rattle.tie_criteria.specs.declared.triple.Triple.{Triple}
-use Rattle.tie_criteria.specs.Records.{record_at}
+use Rattle.tie_criteria.specs.inside.Records.{record_at}
 use Rattle.tie_criteria.proofs.RecordLemmas.{IsSoFar, so_far_none, so_far_more, so_far_read}
 use Rattle.tie_criteria.proofs.RecordLemmas.{room_for_more}
 use Rattle.tie_criteria.proofs.records.add_all.Goals as goal

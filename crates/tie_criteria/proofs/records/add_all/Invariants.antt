@@ -1,6 +1,6 @@
 use Rattle.std.proofs.Common.{ℕ, ◌<◌, length}
-use Rattle.league_core.specs.ClubSets.{clubs_in}
-use Rattle.tie_criteria.specs.Records.{record_at}
+use Rattle.league_core.specs.game.ClubSets.{clubs_in}
+use Rattle.tie_criteria.specs.inside.Records.{record_at}
 use Rattle.tie_criteria.proofs.RecordLemmas.{IsSoFar}
 use Rattle.tie_criteria.proofs.records.add_all.Given as goal
 

@@ -1,7 +1,7 @@
 use Rattle.std.proofs.Common.{ap, arith, length, None, ◌*◌, ◌+◌}
 use Rattle.std.proofs.lemmas.Int.{ints}
-use Rattle.tie_criteria.specs.Measures.{worth_of, value_in}
-use Rattle.tie_criteria.specs.Sums.{sum_by}
+use Rattle.tie_criteria.specs.inside.Measures.{worth_of, value_in}
+use Rattle.tie_criteria.specs.inside.Sums.{sum_by}
 use Rattle.tie_criteria.proofs.SumLemmas.{sum_over-drop, near_wider}
 use Rattle.tie_criteria.proofs.sums.sums_of.Goals as goal
 

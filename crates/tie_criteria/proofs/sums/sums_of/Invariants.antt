@@ -1,8 +1,8 @@
 use Rattle.std.proofs.Common.{◌≡◌, ◌*◌, ◌+ℤ◌, drop}
-use Rattle.league_core.specs.Sums.{sum_over}
+use Rattle.league_core.specs.game.Sums.{sum_over}
 use Rattle.tie_criteria.specs.declared.measure.Measure.{Measure}
-use Rattle.tie_criteria.specs.Measures.{worth_of, value_in}
-use Rattle.tie_criteria.specs.Sums.{sum_by, IsNear}
+use Rattle.tie_criteria.specs.inside.Measures.{worth_of, value_in}
+use Rattle.tie_criteria.specs.inside.Sums.{sum_by, IsNear}
 use Rattle.tie_criteria.proofs.sums.sums_of.Given as goal
 
 -- the totals so far and what is left make the whole sums; each match adds at most 255 either way

@@ -2,7 +2,7 @@ use Rattle.std.proofs.Common.{pos, neg_ℤ, ◌≡◌, [], ◌∷◌, ◌∙◌,
 use Rattle.tie_criteria.specs.declared.measure.Measure.{Measure}
 use Rattle.tie_criteria.specs.declared.measure.Measure.TheVariants.{Difference, Goals, AwayGoals}
 use Rattle.tie_criteria.specs.declared.measure.Measure.TheVariants.{Wins, AwayWins}
-use Rattle.tie_criteria.specs.Sums.{sum_by}
+use Rattle.tie_criteria.specs.inside.Sums.{sum_by}
 use Rattle.tie_criteria.proofs.SumLemmas.{near_is, rank_of-read}
 use Rattle.tie_criteria.proofs.tail.tail_of.Goals as goal
 

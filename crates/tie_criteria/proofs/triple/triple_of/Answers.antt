@@ -1,7 +1,7 @@
 use Rattle.std.proofs.Common.{◌≡◌, [], ◌∷◌, ◌∙◌, arith, to_z, of_z, w32}
 use Rattle.tie_criteria.specs.declared.measure.Measure.{Measure}
 use Rattle.tie_criteria.specs.declared.measure.Measure.TheVariants.{Points, Difference, Goals}
-use Rattle.tie_criteria.specs.Sums.{sum_by}
+use Rattle.tie_criteria.specs.inside.Sums.{sum_by}
 use Rattle.tie_criteria.proofs.SumLemmas.{near_is}
 use Rattle.tie_criteria.proofs.triple.triple_of.Goals as goal
 

@@ -1,6 +1,6 @@
 use Rattle.std.proofs.Common.{◌≡◌, ℕ, ◌<◌, ◌≤◌, length, get_or}
 use Rattle.tree_reuse.specs.declared.node.Node.{Node}
-use Rattle.tree_reuse.specs.Arena.{number_mark}
+use Rattle.tree_reuse.specs.inside.Arena.{number_mark}
 use Rattle.tree_reuse.proofs.arena.find.Given as goal
 
 abbrev pub invariant-loop-place : goal.invariant-loop-place

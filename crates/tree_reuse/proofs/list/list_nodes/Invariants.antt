@@ -1,6 +1,6 @@
 use Rattle.std.proofs.Common.{reverse}
-use Rattle.league_core.specs.Trees.{preorder}
-use Rattle.tree_reuse.specs.Arena.{tree_below, pending_count}
+use Rattle.league_core.specs.search.Trees.{preorder}
+use Rattle.tree_reuse.specs.inside.Arena.{tree_below, pending_count}
 use Rattle.tree_reuse.proofs.VisitLemmas.{ListsNodes}
 use Rattle.tree_reuse.proofs.list.list_nodes.Given as goal
 

@@ -1,7 +1,7 @@
 use Rattle.std.proofs.Common.{◌+◌, drop, get_or, refl, false, arith}
 use Rattle.league_core.specs.declared.tree.TreeNode.TheVariants.{Split}
 use Rattle.league_core.specs.declared.zone.Test.TheVariants.{Home}
-use Rattle.tree_reuse.specs.Calls.{literals_of}
+use Rattle.tree_reuse.specs.inside.Calls.{literals_of}
 use Rattle.tree_reuse.proofs.BuildLemmas.{from_item}
 use Rattle.tree_reuse.proofs.ZoneLemmas.{zones_some, zones_on}
 use Rattle.tree_reuse.proofs.zones.list_zones.Goals as goal
@@ -11,7 +11,7 @@ unreachable-requires c =
     let list = c.args.list.now in
     let index = c.loop-node.node-index in
     let node = get_or list index (Split (Home 0) false) in
-    let some = zones_some c.loop-node.way (drop index list) (drop (index + 1) list) node
+    let some = zones_some c.loop-node.zone_box (drop index list) (drop (index + 1) list) node
     c.loop-node.steps.items (literals_of c.loop-node.found.items) _ c.loop-node.invariant
     (from_item list index node (Split (Home 0) false) c.loop-node-test.true refl) in
     let none = c.in_default.ensures.cases.0 in
@@ -23,7 +23,8 @@ loop-node-preserved c =
     let list = c.args.list.now in
     let index = c.loop-node.node-index in
     let node = get_or list index (Split (Home 0) false) in
-    zones_on c.loop-node.way c.go_to.new.way (drop index list) (drop (index + 1) list) node
+    zones_on c.loop-node.zone_box c.go_to.new.zone_box (drop index list) (drop (index + 1) list)
+    node
     c.loop-node.steps.items c.pop.new.self.items c.take_node.new.steps.items c.in-Some.step
     (literals_of c.loop-node.found.items) (literals_of c.take_node.new.found.items) _
     c.loop-node.invariant

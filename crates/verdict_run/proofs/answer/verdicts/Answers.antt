@@ -23,7 +23,9 @@ loop-row-preserved c =
     let inside : row < length (answer_rows pool.sheet) = omega (arith, two) in
     one_answered pool row c.loop-row.found.items c.push.new.self.items
     c.in_ok-verdict_at.field-0 d inside c.loop-row.invariant
-    (c.in_ok-verdict_at.ensures (get_or (answer_rows pool.sheet) row d)
+    (c.in_ok-verdict_at.ensures.answered (get_or (answer_rows pool.sheet) row d)
+    (asks_both pool row d c.requires.asked inside))
+    (c.in_ok-verdict_at.ensures.of_pool (get_or (answer_rows pool.sheet) row d)
     (asks_both pool row d c.requires.asked inside))
     c.in_ok-push.ensures.items
 
@@ -38,4 +40,5 @@ returns c =
       answer = all_answered pool c.loop-row.row c.loop-row.found.items c.loop-row.invariant all;
       in_range = c.loop-row.invariant.in_range;
       enough = c.loop-row.invariant.enough;
+      of_pool = c.loop-row.invariant.of_pool;
     }

@@ -1,5 +1,5 @@
 use Rattle.std.proofs.Common.{sym, append-nil}
-use Rattle.verdict_run.specs.AskedQuestions.{questions_of_line}
+use Rattle.verdict_run.specs.inside.AskedQuestions.{questions_of_line}
 use Rattle.verdict_run.proofs.AskedLemmas.{pair-push}
 use Rattle.verdict_run.proofs.asked.push_line.Goals as goal
 

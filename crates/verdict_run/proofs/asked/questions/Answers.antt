@@ -2,8 +2,8 @@ use Rattle.std.proofs.Common.{◌≡◌, ◌≤◌, List, length, sym, subst, ar
 use Rattle.std.proofs.lemmas.Grind.{common_steps}
 use Rattle.std.specs.Prelude.{All}
 use Rattle.league_core.specs.declared.question.Question.{Question}
-use Rattle.league_core.specs.Questions.{IsQuestionOf}
-use Rattle.verdict_run.specs.AskedQuestions.{questions_of}
+use Rattle.league_core.specs.game.Questions.{IsQuestionOf}
+use Rattle.verdict_run.specs.inside.AskedQuestions.{questions_of}
 use Rattle.verdict_run.proofs.AskedLemmas.{all_are_asked, all_are_few}
 use Rattle.verdict_run.proofs.asked.questions.Goals as goal
 

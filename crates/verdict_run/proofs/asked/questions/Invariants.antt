@@ -1,6 +1,6 @@
 use Rattle.std.proofs.Common.{◌≡◌, take, length}
 use Rattle.std.specs.List.{flat_map}
-use Rattle.verdict_run.specs.AskedQuestions.{questions_of_line}
+use Rattle.verdict_run.specs.inside.AskedQuestions.{questions_of_line}
 use Rattle.verdict_run.proofs.asked.questions.Given as goal
 
 -- the questions about the lines so far

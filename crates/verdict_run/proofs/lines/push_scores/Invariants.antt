@@ -2,7 +2,7 @@ use Rattle.std.proofs.Common.{◌≡◌, ◌++◌, take}
 use Rattle.cert_text.specs.ExampleLines.{score_lines}
 use Rattle.verdict_run.proofs.lines.push_scores.Given as goal
 
--- the lines of the fixtures so far stand behind those before
+-- the lines of the fixtures so far come after those before
 abbrev pub invariant-loop-fixture : goal.invariant-loop-fixture
 invariant-loop-fixture l = l.lines.items
     ≡ l.fn.lines.items

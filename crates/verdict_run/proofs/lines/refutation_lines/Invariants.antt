@@ -1,5 +1,5 @@
 use Rattle.std.proofs.Common.{◌≡◌, map, take}
-use Rattle.league_core.specs.Trees.{preorder}
+use Rattle.league_core.specs.search.Trees.{preorder}
 use Rattle.cert_text.specs.TreeLines.{plain_line, with_tree_head}
 use Rattle.verdict_run.proofs.lines.refutation_lines.Given as goal
 

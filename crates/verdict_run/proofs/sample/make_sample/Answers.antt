@@ -1,8 +1,8 @@
 use Rattle.std.proofs.Common.{List, sym, subst}
 use Rattle.league_core.specs.declared.sheet.Sheet.{Sheet}
 use Rattle.league_core.specs.declared.season.Event.{Event}
-use Rattle.league_core.specs.Sheets.{IsWithinLimits}
-use Rattle.league_core.specs.Seasons.{AreEventsOf}
+use Rattle.league_core.specs.game.Sheets.{IsWithinLimits}
+use Rattle.league_core.specs.game.Seasons.{AreEventsOf}
 use Rattle.verdict_run.specs.Samples.{sample_sheet}
 use Rattle.verdict_run.proofs.SampleLemmas.{sample_within, sample_told}
 use Rattle.verdict_run.proofs.sample.make_sample.Goals as goal

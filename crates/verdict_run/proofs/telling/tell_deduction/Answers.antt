@@ -10,8 +10,8 @@ returns-then-points-eq0-clause-told c =
     (ap (λ points. get_or points c.args.club 0) (sym c.deductions.ensures.deductions)
     ∙ c.if-points-eq0.true) c.requires.told
 
-pub tell-requires-clause-may_be : goal.tell-requires-clause-may_be
-tell-requires-clause-may_be c =
+pub change_with_room-requires-clause-may_be : goal.change_with_room-requires-clause-may_be
+change_with_room-requires-clause-may_be c =
     let whole = c.args.season.now in
     let same = told_deductions whole c.args.club 0 c.args.pool.now c.requires.told in
     let inside = c.requires.in_range in
@@ -24,7 +24,7 @@ tell-requires-clause-may_be c =
 
 pub returns-clause-told : goal.returns-clause-told
 returns-clause-told c =
-    on_ok_weaker c.tell.result
+    on_ok_weaker c.change_with_room.result
     (deduction_told c.args.season.now c.args.club _ c.args.pool.now _ c.requires.in_range
     (ap (λ points. get_or points c.args.club 0) c.deductions.ensures.deductions) c.requires.told)
-    c.tell.ensures.ok
+    c.change_with_room.ensures.ok

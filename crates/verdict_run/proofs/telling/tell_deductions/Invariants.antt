@@ -1,4 +1,4 @@
-use Rattle.verdict_run.specs.Telling.{HasBeenTold, AsksTheSame}
+use Rattle.verdict_run.specs.inside.Telling.{HasBeenTold, AsksTheSame}
 use Rattle.verdict_run.proofs.telling.tell_deductions.Given as goal
 
 -- the deductions of the clubs so far are told

@@ -1,5 +1,5 @@
 use Rattle.std.proofs.Common.{length}
-use Rattle.verdict_run.specs.Telling.{HasBeenTold, AsksTheSame}
+use Rattle.verdict_run.specs.inside.Telling.{HasBeenTold, AsksTheSame}
 use Rattle.verdict_run.proofs.telling.tell_scores.Given as goal
 
 -- the scores of the fixtures so far are told

@@ -1,6 +1,6 @@
 use Rattle.std.proofs.Common.{sym, ◌∙◌, subst}
-use Rattle.branch_pool.specs.States.{PoolState}
-use Rattle.verdict_run.specs.Working.{WorksTo, no_turn, one_turn_more}
+use Rattle.branch_pool.specs.inside.States.{PoolView}
+use Rattle.verdict_run.specs.inside.Working.{WorksTo, no_turn, one_turn_more}
 use Rattle.verdict_run.proofs.WorkLemmas.{turn_less, turn_same, works_same}
 use Rattle.verdict_run.proofs.ShownLemmas.{turns_end}
 use Rattle.verdict_run.proofs.turns.finish_by.Goals as goal
@@ -31,8 +31,8 @@ returns-in-Nothing g c =
     let work = c.loop-pool.invariant.work in
     let step = c.in-Nothing.ensures.turn in
     let end = turns_end c.args.pool.now c.loop-pool.pool c.work_next.new.self work step.1
-    c.requires.home step.0 c.is_sound.ensures.sound in
-    let P : PoolState → Type 0 = λ pool. WorksTo c.args.pool.now pool in
+    c.requires.home step.0 c.recall_invariant.ensures.sound in
+    let P : PoolView → Type 0 = λ pool. WorksTo c.args.pool.now pool in
     let whole = subst P (sym step.1) work in
     record {
       work = whole;

@@ -1,5 +1,5 @@
 use Rattle.std.proofs.Common.{◌≡◌}
-use Rattle.verdict_run.specs.Working.{WorksTo}
+use Rattle.verdict_run.specs.inside.Working.{WorksTo}
 use Rattle.verdict_run.proofs.WorkLemmas.{turns_left}
 use Rattle.verdict_run.proofs.turns.finish_by.Given as goal
 

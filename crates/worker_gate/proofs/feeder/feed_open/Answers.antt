@@ -1,7 +1,7 @@
 -- One event more was reported, or the round is over.
 use Rattle.std.proofs.Common.{inl, refl, sym, ◌∙◌, ◌++◌, ◌∷◌, [], ◌≡◌, Ok, Err}
 use Rattle.result_log.specs.declared.entry.Entry.TheVariants.{Change, Ask, End}
-use Rattle.worker_gate.specs.Feeding.{IsSeasonTold}
+use Rattle.worker_gate.specs.inside.Feeding.{IsSeasonReported}
 use Rattle.worker_gate.proofs.RoundLemmas.{goes-further, goes-further-to, goes-nowhere, live-as}
 use Rattle.worker_gate.proofs.RoundLemmas.{next-as, ok-holds, round-ends, told-of-sheet}
 use Rattle.worker_gate.proofs.LastReadLemmas.{entry-stops-as, round-further, round-stops}
@@ -28,7 +28,7 @@ entries-preserved g c =
     (c.report.new.self.front ≡ c.entries.desk.front ++ c.in-Ok-Change.event ∷ [])
     fine c.report.ensures.front in
     record {
-      told = ok-holds c.report.result (IsSeasonTold g.J.Job.sheet c.report.new.self.front
+      told = ok-holds c.report.result (IsSeasonReported g.J.Job.sheet c.report.new.self.front
           c.report.new.self.season c.report.new.self.events) fine c.report.ensures.told;
       goes = goes-further-to g.J.Job.sheet c.args.desk.now.front c.entries.desk.front
           c.report.new.self.front c.in-Ok-Change.event _ _ _ log before.goes

@@ -1,16 +1,16 @@
 use Rattle.std.proofs.Common.{◌-◌}
 use Rattle.port_core.specs.Contents.{input_limit}
-use Rattle.worker_gate.specs.Feeding.{IsSeasonTold}
+use Rattle.worker_gate.specs.inside.Feeding.{IsSeasonReported}
 use Rattle.fixture_sheet.specs.LastReads.{ReadsOnWay}
-use Rattle.worker_gate.specs.LastReads.{GivesEvents}
-use Rattle.worker_gate.specs.Rounds.{IsUnderWay}
+use Rattle.worker_gate.specs.inside.LastReads.{GivesEvents}
+use Rattle.worker_gate.specs.inside.Rounds.{IsUnderWay}
 use Rattle.worker_gate.proofs.feeder.feed_open.Given as goal
 
 -- the lines so far told the events that the front has more than before, and the last read came on
 -- the way over them
 abbrev pub invariant-entries : goal.invariant-entries
 invariant-entries g l = record {
-  told : IsSeasonTold g.J.Job.sheet l.desk.front l.desk.season l.desk.events;
+  told : IsSeasonReported g.J.Job.sheet l.desk.front l.desk.season l.desk.events;
   goes : IsUnderWay g.J.Job.sheet l.fn.desk.front l.desk.front
       (record {
         reader = l.fn.reader;

@@ -1,8 +1,8 @@
 -- One event more was told, or the round is over.
 use Rattle.std.proofs.Common.{ap, inl, refl, sym, ◌∙◌, ◌++◌, ◌∷◌, [], ◌≡◌, Ok, Err}
 use Rattle.result_log.specs.declared.entry.Entry.TheVariants.{Change, Ask, End}
-use Rattle.branch_pool.specs.States.{out_count}
-use Rattle.worker_gate.specs.Rounds.{live_entry}
+use Rattle.branch_pool.specs.inside.States.{out_count}
+use Rattle.worker_gate.specs.inside.Rounds.{live_entry}
 use Rattle.worker_gate.proofs.RoundLemmas.{goes-further, goes-further-to, goes-nowhere, next-as}
 use Rattle.worker_gate.proofs.RoundLemmas.{ok-holds, round-ends}
 use Rattle.worker_gate.proofs.LastReadLemmas.{entry-stops-as, round-further, round-stops}
@@ -21,15 +21,15 @@ pub entries-preserved : goal.entries-preserved
 entries-preserved g c =
     let before = c.entries.invariant in
     let next = rw c.in-Ok-Change.field-0-is at c.in-Ok-Change.ensures.next in
-    let log = ok-holds c.tell.result
-    (c.tell.new.self.log ≡ c.entries.pool.log ++ c.in-Ok-Change.event ∷ [])
-    (sym c.is_err.ensures.value ∙ c.if-is_err.false) c.tell.ensures.log in
+    let log = ok-holds c.change_with_room.result
+    (c.change_with_room.new.self.log ≡ c.entries.pool.log ++ c.in-Ok-Change.event ∷ [])
+    (sym c.is_err.ensures.value ∙ c.if-is_err.false) c.change_with_room.ensures.log in
     record {
-      sheet = c.tell.ensures.sheet ∙ before.sheet;
-      questions = c.tell.ensures.questions ∙ before.questions;
-      home = ap out_count c.tell.ensures.home ∙ before.home;
+      sheet = c.change_with_room.ensures.sheet ∙ before.sheet;
+      questions = c.change_with_room.ensures.questions ∙ before.questions;
+      home = ap out_count c.change_with_room.ensures.home ∙ before.home;
       goes = goes-further-to c.args.pool.now.sheet c.args.pool.now.log c.entries.pool.log
-          c.tell.new.self.log c.in-Ok-Change.event _ _ _ log before.goes
+          c.change_with_room.new.self.log c.in-Ok-Change.event _ _ _ log before.goes
           (next-as _ _ _ _ (Ok (Change c.in-Ok-Change.event))
           (ap (λ sheet. live_entry sheet c.entries.pool.log) before.sheet) next);
       last = round-further g.S.Source.left g.S.Source.reads c.args.pool.now.sheet

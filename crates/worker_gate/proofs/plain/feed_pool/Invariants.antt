@@ -1,9 +1,9 @@
 use Rattle.std.proofs.Common.{◌≡◌, ◌-◌}
 use Rattle.port_core.specs.Contents.{input_limit}
-use Rattle.branch_pool.specs.States.{out_count}
+use Rattle.branch_pool.specs.inside.States.{out_count}
 use Rattle.fixture_sheet.specs.LastReads.{ReadsOnWay}
-use Rattle.worker_gate.specs.LastReads.{GivesEvents}
-use Rattle.worker_gate.specs.Rounds.{IsUnderWay}
+use Rattle.worker_gate.specs.inside.LastReads.{GivesEvents}
+use Rattle.worker_gate.specs.inside.Rounds.{IsUnderWay}
 use Rattle.worker_gate.proofs.plain.feed_pool.Given as goal
 
 -- the lines so far told the events that the log has more than before, and the last read came on

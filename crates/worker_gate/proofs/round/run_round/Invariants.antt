@@ -1,12 +1,12 @@
 use Rattle.worker_gate.proofs.round.run_round.Given as goal
 
 -- the round's ledger is that of its blank
-abbrev pub ghosts-round_as-J-Ledger : goal.ghosts-round_as-J-Ledger
-ghosts-round_as-J-Ledger g a = record { name = a.blank.name; parts = a.blank.parts }
+abbrev pub ghosts-run_round_in-J-Ledger : goal.ghosts-run_round_in-J-Ledger
+ghosts-run_round_in-J-Ledger g a = record { name = a.blank.name; parts = a.blank.parts }
 
 -- its word, sheet and questions are those at hand
-abbrev pub ghosts-round_as-J-Job : goal.ghosts-round_as-J-Job
-ghosts-round_as-J-Job g a = record {
+abbrev pub ghosts-run_round_in-J-Job : goal.ghosts-run_round_in-J-Job
+ghosts-run_round_in-J-Job g a = record {
   table = a.seated.word;
   sheet = a.pool.sheet;
   questions = a.pool.questions;

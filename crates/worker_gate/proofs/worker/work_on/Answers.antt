@@ -1,12 +1,12 @@
 -- The next ticket of the same epoch is of the same season.
 use Rattle.std.proofs.Common.{◌≡◌, List, sym, ◌∙◌, subst, arith}
 use Rattle.league_core.specs.declared.season.Event.{Event}
-use Rattle.league_core.specs.Seasons.{season_after}
+use Rattle.league_core.specs.game.Seasons.{season_after}
 use Rattle.epoch_cancel.proofs.PrefixLemmas.{prefix_whole}
-use Rattle.pool_lock.specs.Lends.{IsWorkAfter}
+use Rattle.pool_lock.specs.inside.Lends.{IsWorkAfter}
 use Rattle.pool_lock.proofs.PrefixLemmas.{prefix_onward}
 use Rattle.worker_gate.specs.declared.next.Next.{Next}
-use Rattle.worker_gate.specs.Workers.{IsNextAfter}
+use Rattle.worker_gate.specs.inside.Workers.{IsNextFor}
 use Rattle.worker_gate.proofs.worker.work_on.Goals as goal
 
 pub loop-preserved : goal.loop-preserved
@@ -14,7 +14,7 @@ loop-preserved g c =
     let sheet = g.J.Job.sheet in
     let was = c.loop.invariant.4 in
     let seen = c.take_turn.new.badge.list in
-    let P : Next → Type 0 = λ next. IsNextAfter sheet seen next in
+    let P : Next → Type 0 = λ next. IsNextFor sheet c.take_turn.new.badge next in
     let work : IsWorkAfter sheet seen c.in-Ok.next =
     subst P c.in-Ok.ensures.ok c.take_turn.ensures.next in
     let same : c.loop.badge.list ≡ seen =

@@ -1,6 +1,6 @@
 use Rattle.std.proofs.Common.{◌≡◌}
 use mathlib.Core.List.{IsPrefix}
-use Rattle.pool_lock.specs.Lends.{IsWorkAfter}
+use Rattle.pool_lock.specs.inside.Lends.{IsWorkAfter}
 use Rattle.worker_gate.proofs.worker.work_on.Given as goal
 
 -- the solver is one for the ticket's season, and the ticket is work after what was seen

@@ -2,7 +2,7 @@ use Rattle.std.proofs.Common.{sym, ap, drop, ◌+◌, ◌∙◌}
 use Rattle.std.specs.Prelude.{position}
 use Rattle.std.specs.Option.{option_map}
 use Rattle.std.proofs.lemmas.List.{take_rest}
-use Rattle.branch_pool.specs.States.{is_workable}
+use Rattle.branch_pool.specs.inside.States.{is_workable}
 use Rattle.branch_pool.proofs.FromLemmas.{first_from}
 use Rattle.branch_pool.proofs.pool.Pool.first_workable.Goals as goal
 

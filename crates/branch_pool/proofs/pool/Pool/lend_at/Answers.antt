@@ -1,9 +1,9 @@
 use Rattle.std.proofs.Common.{◌≡◌, Some, length, refl, sym, ap, ◌∙◌, subst, arith}
 use Rattle.std.proofs.lemmas.Option.{same_Some}
 use Rattle.branch_pool.specs.declared.ticket.Ticket.{Ticket}
-use Rattle.branch_pool.specs.States.{PoolState, free_number, with_loan}
-use Rattle.branch_pool.specs.Calls.{next_place}
-use Rattle.branch_pool.specs.Views.{state_of}
+use Rattle.branch_pool.specs.inside.States.{PoolView, free_number, with_loan}
+use Rattle.branch_pool.specs.inside.Calls.{next_place}
+use Rattle.branch_pool.specs.inside.Views.{state_of}
 use Rattle.branch_pool.proofs.SlotLemmas.{free_number-le}
 use Rattle.branch_pool.proofs.FromLemmas.{work_from_set}
 use Rattle.branch_pool.proofs.CallLemmas.{found_at, lent_after, may_lend, next_within, same_after}
@@ -14,8 +14,8 @@ use Rattle.branch_pool.proofs.pool.Pool.lend_at.Goals as goal
 
 pub lend-requires-clause-open_leaf : goal.lend-requires-clause-open_leaf
 lend-requires-clause-open_leaf c =
-    let pool : PoolState = state_of c.self.inside in
-    let next = subst (λ (p : PoolState). next_place p ≡ Some c.args.place) (sym c.self.view_is)
+    let pool : PoolView = state_of c.self.inside in
+    let next = subst (λ (p : PoolView). next_place p ≡ Some c.args.place) (sym c.self.view_is)
     c.requires.next in
     let seat = c.index_mut-seat.result.now in
     let found = found_at pool.seats c.args.place seat (next_within pool c.args.place next)
@@ -24,8 +24,8 @@ lend-requires-clause-open_leaf c =
 
 pub lend-requires-clause-free : goal.lend-requires-clause-free
 lend-requires-clause-free c =
-    let pool : PoolState = state_of c.self.inside in
-    let next = subst (λ (p : PoolState). next_place p ≡ Some c.args.place) (sym c.self.view_is)
+    let pool : PoolView = state_of c.self.inside in
+    let next = subst (λ (p : PoolView). next_place p ≡ Some c.args.place) (sym c.self.view_is)
     c.requires.next in
     let seat = c.index_mut-seat.result.now in
     let found = found_at pool.seats c.args.place seat (next_within pool c.args.place next)
@@ -49,8 +49,8 @@ put_loan-requires-clause-in_range c =
 
 pub invariant_of-self-2 : goal.invariant_of-self-2
 invariant_of-self-2 c =
-    let pool : PoolState = state_of c.self.inside in
-    let next = subst (λ (p : PoolState). next_place p ≡ Some c.args.place) (sym c.self.view_is)
+    let pool : PoolView = state_of c.self.inside in
+    let next = subst (λ (p : PoolView). next_place p ≡ Some c.args.place) (sym c.self.view_is)
     c.requires.next in
     let seat = c.index_mut-seat.result.now in
     let found = found_at pool.seats c.args.place seat (next_within pool c.args.place next)
@@ -68,7 +68,7 @@ invariant_of-self-2 c =
     } in
     let season : c.in-Some.season ≡ pool.season = same_Some c.in-Some.season pool.season
     (c.in-Some.ensures.value ∙ c.requires.season
-    ∙ ap (λ (p : PoolState). Some p.season) (sym c.self.view_is)) in
+    ∙ ap (λ (p : PoolView). Some p.season) (sym c.self.view_is)) in
     let epoch : c.len-epoch.result ≡ length c.self.inside.log.items = omega arith in
     let lends = lent_after pool ticket seat c.lend.new.self c.put_loan.new.loans.items
     c.in_ok-zone.kept next found (c.free_number-number.ensures ∙ ap free_number c.as_slice.ensures)
@@ -84,8 +84,8 @@ invariant_of-self-2 c =
 
 pub returns-clause-ok : goal.returns-clause-ok
 returns-clause-ok c =
-    let pool : PoolState = state_of c.self.inside in
-    let next = subst (λ (p : PoolState). next_place p ≡ Some c.args.place) (sym c.self.view_is)
+    let pool : PoolView = state_of c.self.inside in
+    let next = subst (λ (p : PoolView). next_place p ≡ Some c.args.place) (sym c.self.view_is)
     c.requires.next in
     let seat = c.index_mut-seat.result.now in
     let found = found_at pool.seats c.args.place seat (next_within pool c.args.place next)
@@ -103,7 +103,7 @@ returns-clause-ok c =
     } in
     let season : c.in-Some.season ≡ pool.season = same_Some c.in-Some.season pool.season
     (c.in-Some.ensures.value ∙ c.requires.season
-    ∙ ap (λ (p : PoolState). Some p.season) (sym c.self.view_is)) in
+    ∙ ap (λ (p : PoolView). Some p.season) (sym c.self.view_is)) in
     let epoch : c.len-epoch.result ≡ length c.self.inside.log.items = omega arith in
     let lends = lent_after pool ticket seat c.lend.new.self c.put_loan.new.loans.items
     c.in_ok-zone.kept next found (c.free_number-number.ensures ∙ ap free_number c.as_slice.ensures)
@@ -115,8 +115,8 @@ returns-clause-ok c =
 
 pub returns-clause-fit : goal.returns-clause-fit
 returns-clause-fit c =
-    let pool : PoolState = state_of c.self.inside in
-    let next = subst (λ (p : PoolState). next_place p ≡ Some c.args.place) (sym c.self.view_is)
+    let pool : PoolView = state_of c.self.inside in
+    let next = subst (λ (p : PoolView). next_place p ≡ Some c.args.place) (sym c.self.view_is)
     c.requires.next in
     let seat = c.index_mut-seat.result.now in
     let found = found_at pool.seats c.args.place seat (next_within pool c.args.place next)
@@ -134,7 +134,7 @@ returns-clause-fit c =
     } in
     let season : c.in-Some.season ≡ pool.season = same_Some c.in-Some.season pool.season
     (c.in-Some.ensures.value ∙ c.requires.season
-    ∙ ap (λ (p : PoolState). Some p.season) (sym c.self.view_is)) in
+    ∙ ap (λ (p : PoolView). Some p.season) (sym c.self.view_is)) in
     let epoch : c.len-epoch.result ≡ length c.self.inside.log.items = omega arith in
     let lends = lent_after pool ticket seat c.lend.new.self c.put_loan.new.loans.items
     c.in_ok-zone.kept next found (c.free_number-number.ensures ∙ ap free_number c.as_slice.ensures)

@@ -2,9 +2,9 @@ use Rattle.std.proofs.Common.{◌≡◌, None, Some, sym, ap, arith, drop, lengt
 use Rattle.std.specs.Prelude.{position}
 use Rattle.std.specs.Option.{option_or, option_map}
 use Rattle.std.proofs.lemmas.List.{take_rest}
-use Rattle.branch_pool.specs.States.{PoolState, is_workable}
-use Rattle.branch_pool.specs.Calls.{is_untouched}
-use Rattle.branch_pool.specs.Views.{state_of}
+use Rattle.branch_pool.specs.inside.States.{PoolView, is_workable}
+use Rattle.branch_pool.specs.inside.Calls.{is_untouched}
+use Rattle.branch_pool.specs.inside.Views.{state_of}
 use Rattle.branch_pool.proofs.CallLemmas.{no_next}
 use Rattle.branch_pool.proofs.FromLemmas.{work_from_end, work_from_first}
 use Rattle.branch_pool.proofs.NextLemmas.{next_from, next_none}
@@ -13,17 +13,17 @@ use Rattle.branch_pool.proofs.pool.Pool.next_place.Goals as goal
 
 pub invariant_of-self : goal.invariant_of-self
 invariant_of-self c =
-    let pool : PoolState = state_of c.self.inside in
-    let none = subst (λ (p : PoolState). position (is_workable p.sheet) p.seats ≡ None)
+    let pool : PoolView = state_of c.self.inside in
+    let none = subst (λ (p : PoolView). position (is_workable p.sheet) p.seats ≡ None)
     (sym c.self.view_is) (sym c.in_default.ensures.place) in
     let long : c.len-self-inside.result ≡ length pool.seats = omega arith in
     (c.self.invariant.0, rw long (work_from_end pool.sheet pool.seats none))
 
 pub invariant_of-self-2 : goal.invariant_of-self-2
 invariant_of-self-2 c =
-    let pool : PoolState = state_of c.self.inside in
+    let pool : PoolView = state_of c.self.inside in
     let first = c.in-Some.first in
-    let at = subst (λ (p : PoolState). position (is_workable p.sheet) p.seats ≡ Some first)
+    let at = subst (λ (p : PoolView). position (is_workable p.sheet) p.seats ≡ Some first)
     (sym c.self.view_is) (sym c.in-Some.ensures.place) in
     (c.self.invariant.0, work_from_first pool.sheet pool.seats first at)
 
@@ -36,9 +36,9 @@ returns-in_default-clause-none c =
 
 pub returns-clause-next : goal.returns-clause-next
 returns-clause-next c =
-    let pool : PoolState = state_of c.self.inside in
+    let pool : PoolView = state_of c.self.inside in
     let first = c.in-Some.first in
-    let at = subst (λ (p : PoolState). position (is_workable p.sheet) p.seats ≡ Some first)
+    let at = subst (λ (p : PoolView). position (is_workable p.sheet) p.seats ≡ Some first)
     (sym c.self.view_is) (sym c.in-Some.ensures.place) in
     let seen = next_from pool first at in
     let looked = c.untouched_among.ensures.place

@@ -1,4 +1,4 @@
-use Rattle.branch_pool.specs.Views.{state_of}
+use Rattle.branch_pool.specs.inside.Views.{state_of}
 use Rattle.branch_pool.proofs.FromLemmas.{work_from_start}
 use Rattle.branch_pool.proofs.StepLemmas.{recalled_sound}
 use Rattle.branch_pool.proofs.pool.Pool.recall.Goals as goal

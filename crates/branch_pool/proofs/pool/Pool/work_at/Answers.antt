@@ -1,8 +1,8 @@
 use Rattle.std.proofs.Common.{◌≡◌, Some, refl, sym, ap, ◌∙◌, subst}
-use Rattle.branch_pool.specs.States.{PoolState, free_number, out_count}
-use Rattle.branch_pool.specs.Seats.{MayLend, WorksSeat, with_slot}
-use Rattle.branch_pool.specs.Calls.{next_place}
-use Rattle.branch_pool.specs.Views.{state_of}
+use Rattle.branch_pool.specs.inside.States.{PoolView, free_number, out_count}
+use Rattle.branch_pool.specs.inside.Seats.{MayLend, WorksSeat, with_slot}
+use Rattle.branch_pool.specs.inside.Calls.{next_place}
+use Rattle.branch_pool.specs.inside.Views.{state_of}
 use Rattle.branch_pool.proofs.FromLemmas.{work_from_set}
 use Rattle.branch_pool.proofs.CallLemmas.{found_at, may_lend, next_within}
 use Rattle.branch_pool.proofs.GoodLemmas.{seat_question}
@@ -12,8 +12,8 @@ use Rattle.branch_pool.proofs.pool.Pool.work_at.Goals as goal
 
 pub work-requires-clause-may_lend : goal.work-requires-clause-may_lend
 work-requires-clause-may_lend g c =
-    let pool : PoolState = state_of c.self.inside in
-    let next = subst (λ (p : PoolState). next_place p ≡ Some c.args.place) (sym c.self.view_is)
+    let pool : PoolView = state_of c.self.inside in
+    let next = subst (λ (p : PoolView). next_place p ≡ Some c.args.place) (sym c.self.view_is)
     c.requires.next in
     let seat = c.index_mut-seat.result.now in
     let found = found_at pool.seats c.args.place seat (next_within pool c.args.place next)
@@ -24,28 +24,28 @@ work-requires-clause-may_lend g c =
 
 pub work-requires-clause-question : goal.work-requires-clause-question
 work-requires-clause-question g c =
-    let pool : PoolState = state_of c.self.inside in
-    let next = subst (λ (p : PoolState). next_place p ≡ Some c.args.place) (sym c.self.view_is)
+    let pool : PoolView = state_of c.self.inside in
+    let next = subst (λ (p : PoolView). next_place p ≡ Some c.args.place) (sym c.self.view_is)
     c.requires.next in
     let seat = c.index_mut-seat.result.now in
     let found = found_at pool.seats c.args.place seat (next_within pool c.args.place next)
     c.index_mut-seat.ensures.value in
     let same_sheet : g.W.Solver.sheet c.args.worker.now ≡ pool.sheet
-    = c.requires.sheet ∙ ap (λ (p : PoolState). p.sheet) (sym c.self.view_is) in
+    = c.requires.sheet ∙ ap (λ (p : PoolView). p.sheet) (sym c.self.view_is) in
     rw same_sheet (seat_question pool c.args.place seat c.self.invariant.0 found)
 
 pub invariant_of-self-2 : goal.invariant_of-self-2
 invariant_of-self-2 g c =
-    let pool : PoolState = state_of c.self.inside in
-    let next = subst (λ (p : PoolState). next_place p ≡ Some c.args.place) (sym c.self.view_is)
+    let pool : PoolView = state_of c.self.inside in
+    let next = subst (λ (p : PoolView). next_place p ≡ Some c.args.place) (sym c.self.view_is)
     c.requires.next in
     let seat = c.index_mut-seat.result.now in
     let found = found_at pool.seats c.args.place seat (next_within pool c.args.place next)
     c.index_mut-seat.ensures.value in
     let same_sheet : g.W.Solver.sheet c.args.worker.now ≡ pool.sheet
-    = c.requires.sheet ∙ ap (λ (p : PoolState). p.sheet) (sym c.self.view_is) in
+    = c.requires.sheet ∙ ap (λ (p : PoolView). p.sheet) (sym c.self.view_is) in
     let same_season : g.W.Solver.season c.args.worker.now ≡ pool.season
-    = c.requires.season ∙ ap (λ (p : PoolState). p.season) (sym c.self.view_is) in
+    = c.requires.season ∙ ap (λ (p : PoolView). p.season) (sym c.self.view_is) in
     let number = c.free_number-number.ensures ∙ ap free_number c.as_slice.ensures in
     let worked : WorksSeat pool.sheet pool.season (free_number pool.loans) seat c.work.new.self =
     subst (λ n. WorksSeat pool.sheet pool.season n seat c.work.new.self) number
@@ -66,16 +66,16 @@ invariant_of-self-2 g c =
 
 pub returns-clause-ok : goal.returns-clause-ok
 returns-clause-ok g c =
-    let pool : PoolState = state_of c.self.inside in
-    let next = subst (λ (p : PoolState). next_place p ≡ Some c.args.place) (sym c.self.view_is)
+    let pool : PoolView = state_of c.self.inside in
+    let next = subst (λ (p : PoolView). next_place p ≡ Some c.args.place) (sym c.self.view_is)
     c.requires.next in
     let seat = c.index_mut-seat.result.now in
     let found = found_at pool.seats c.args.place seat (next_within pool c.args.place next)
     c.index_mut-seat.ensures.value in
     let same_sheet : g.W.Solver.sheet c.args.worker.now ≡ pool.sheet
-    = c.requires.sheet ∙ ap (λ (p : PoolState). p.sheet) (sym c.self.view_is) in
+    = c.requires.sheet ∙ ap (λ (p : PoolView). p.sheet) (sym c.self.view_is) in
     let same_season : g.W.Solver.season c.args.worker.now ≡ pool.season
-    = c.requires.season ∙ ap (λ (p : PoolState). p.season) (sym c.self.view_is) in
+    = c.requires.season ∙ ap (λ (p : PoolView). p.season) (sym c.self.view_is) in
     let number = c.free_number-number.ensures ∙ ap free_number c.as_slice.ensures in
     let worked : WorksSeat pool.sheet pool.season (free_number pool.loans) seat c.work.new.self =
     subst (λ n. WorksSeat pool.sheet pool.season n seat c.work.new.self) number
@@ -92,7 +92,7 @@ returns-clause-ok g c =
 
 pub returns-clause-rest : goal.returns-clause-rest
 returns-clause-rest g c =
-    let pool : PoolState = state_of c.self.inside in
+    let pool : PoolView = state_of c.self.inside in
     let number = c.free_number-number.ensures ∙ ap free_number c.as_slice.ensures in
     let loans = c.keep_slot.ensures
     ∙ ap (λ ls. with_slot ls c.free_number-number.result) c.in_ok-reserve.ensures.items

@@ -1,7 +1,7 @@
 use Rattle.std.proofs.Common.{◌≡◌, ◌≤◌, ◌∙◌, ℕ, List, ◌∷◌, length, ap, arith}
 use Rattle.std.proofs.lemmas.Result.{err_from_is_err_and}
-use Rattle.cert_check.specs.Dues.{Due, whole_example, lots}
-use Rattle.cert_check.specs.Calls.{ending_from, example_due}
+use Rattle.cert_check.specs.ExpectedItems.{Expected, whole_example, lots}
+use Rattle.cert_check.specs.inside.Calls.{ending_from, example_due}
 use Rattle.cert_check.proofs.ExampleLemmas.{halt_along, goes_along, example_due-end}
 use Rattle.cert_check.proofs.report.Report.example.Goals as goal
 
@@ -20,7 +20,7 @@ returns c =
     let scores = c.loop-fixture.finish.scores in
     let all : length scores ≤ c.loop-fixture.fixture = omega
     (arith, c.loop-fixture.invariant.1, c.fixtures-fixture-end.ensures.season) in
-    let way : (dues : List Due) (unsettled : ℕ) → ending_from c.args.self.now c.args.from
+    let way : (dues : List Expected) (unsettled : ℕ) → ending_from c.args.self.now c.args.from
     (whole_example c.args.self.now.basis c.args.question ∷ dues) unsettled
     ≡ ending_from c.args.self.now c.loop-fixture.at (lots c.args.question scores ∷ dues) unsettled =
     λ dues unsettled. c.loop-fixture.invariant.3 dues unsettled

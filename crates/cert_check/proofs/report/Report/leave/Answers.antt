@@ -1,7 +1,7 @@
 -- The tests of the way stay those of the question.
 use Rattle.std.proofs.Common.{◌≡◌, ◌∙◌, true, subst, sym}
 use Rattle.league_core.specs.declared.sheet.Sheet.{Sheet}
-use Rattle.league_core.specs.Zones.{is_zone_of}
+use Rattle.league_core.specs.search.Zones.{is_zone_of}
 use Rattle.cert_text.specs.TreeLines.{is_test_for}
 use Rattle.cert_check.proofs.CallLemmas.{zone_of_path}
 use Rattle.cert_check.proofs.report.Report.leave.Goals as goal

@@ -1,11 +1,11 @@
 use Rattle.std.proofs.Common.{◌<◌, ◌+◌, ℕ, List, [], ◌∷◌, length, drop, subst, sym, arith}
 use Rattle.std.proofs.lemmas.List.{drop_all}
 use Rattle.std.proofs.lemmas.List.FromFn.{length-range_with_len}
-use Rattle.league_core.specs.Sheets.{clubs_of}
+use Rattle.league_core.specs.game.Sheets.{clubs_of}
 use Rattle.std.proofs.lemmas.Result.{err_from_is_err_and}
-use Rattle.cert_check.specs.Dues.{verdict_row}
+use Rattle.cert_check.specs.ExpectedItems.{verdict_row}
 use Rattle.cert_check.specs.Machine.{rows_on_line}
-use Rattle.cert_check.specs.Calls.{Reaches}
+use Rattle.cert_check.specs.inside.Calls.{Reaches}
 use Rattle.cert_check.proofs.ReachLemmas.{reach_halt, reach_on, clubs_left}
 use Rattle.cert_check.proofs.report.Report.line.Goals as goal
 

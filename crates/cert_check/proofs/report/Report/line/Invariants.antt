@@ -1,7 +1,7 @@
 use Rattle.std.proofs.Common.{◌≤◌, drop, length}
-use Rattle.league_core.specs.Sheets.{clubs_of}
+use Rattle.league_core.specs.game.Sheets.{clubs_of}
 use Rattle.cert_check.specs.Machine.{rows_on_line}
-use Rattle.cert_check.specs.Calls.{Reaches}
+use Rattle.cert_check.specs.inside.Calls.{Reaches}
 use Rattle.cert_check.proofs.report.Report.line.Given as goal
 
 abbrev pub invariant-loop-club : goal.invariant-loop-club

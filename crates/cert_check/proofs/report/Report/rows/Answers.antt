@@ -2,10 +2,10 @@ use Rattle.std.proofs.Common.{◌≡◌, ◌<◌, ◌+◌, ◌∙◌, ℕ, List,
 use Rattle.std.proofs.Common.{subst, sym, ap, arith}
 use Rattle.std.specs.List.{flat_map}
 use Rattle.std.proofs.lemmas.List.{drop_more}
-use Rattle.league_core.specs.Sheets.{clubs_of}
+use Rattle.league_core.specs.game.Sheets.{clubs_of}
 use Rattle.std.proofs.lemmas.Result.{err_from_is_err_and}
 use Rattle.cert_check.specs.Machine.{rows_of, rows_on_line}
-use Rattle.cert_check.specs.Calls.{Judged, Reaches}
+use Rattle.cert_check.specs.inside.Calls.{ReportView, Reaches}
 use Rattle.cert_check.proofs.ReachLemmas.{reach_halt, reach_on}
 use Rattle.cert_check.proofs.report.Report.rows.Goals as goal
 
@@ -18,11 +18,11 @@ returns-in_err-line c =
     let found = c.loop-place.found in
     let number = get_or c.as_slice.result.now place 0 in
     let same : c.as_slice.result.now ≡ lines =
-    c.as_slice.ensures ∙ ap (λ (it : Judged). it.basis.sheet.lines) c.self.view_is in
+    c.as_slice.ensures ∙ ap (λ (it : ReportView). it.basis.sheet.lines) c.self.view_is in
     let within : place < length lines = omega (
       arith,
       c.len-place-end.ensures,
-      ap (λ (it : Judged). length it.basis.sheet.lines)
+      ap (λ (it : ReportView). length it.basis.sheet.lines)
           c.self.view_is,
     ) in
     let left : drop place lines ≡ number ∷ drop (place + 1) lines =
@@ -46,11 +46,11 @@ loop-place-preserved c =
     let item = c.in_ok-line.field-0 in
     let number = get_or c.as_slice.result.now place 0 in
     let same : c.as_slice.result.now ≡ lines =
-    c.as_slice.ensures ∙ ap (λ (it : Judged). it.basis.sheet.lines) c.self.view_is in
+    c.as_slice.ensures ∙ ap (λ (it : ReportView). it.basis.sheet.lines) c.self.view_is in
     let within : place < length lines = omega (
       arith,
       c.len-place-end.ensures,
-      ap (λ (it : Judged). length it.basis.sheet.lines)
+      ap (λ (it : ReportView). length it.basis.sheet.lines)
           c.self.view_is,
     ) in
     let left : drop place lines ≡ number ∷ drop (place + 1) lines =
@@ -73,7 +73,7 @@ loop-place-preserved c =
         c.and-found.ensures.unsettled,
         c.loop-place.invariant.1,
         c.self.invariant.league.limits.most_clubs,
-        ap (λ (it : Judged). length it.basis.sheet.clubs) c.self.view_is,
+        ap (λ (it : ReportView). length it.basis.sheet.clubs) c.self.view_is,
       ),
       subst B (sym c.and-found.ensures.unsettled) (subst A (sym c.and-found.ensures.next) on),
     )

@@ -1,8 +1,8 @@
 use Rattle.std.proofs.Common.{◌≤◌, ◌*◌, drop, length}
 use Rattle.std.specs.List.{flat_map}
-use Rattle.league_core.specs.Sheets.{clubs_of}
+use Rattle.league_core.specs.game.Sheets.{clubs_of}
 use Rattle.cert_check.specs.Machine.{rows_of, rows_on_line}
-use Rattle.cert_check.specs.Calls.{Reaches}
+use Rattle.cert_check.specs.inside.Calls.{Reaches}
 use Rattle.cert_check.proofs.report.Report.rows.Given as goal
 
 abbrev pub invariant-loop-place : goal.invariant-loop-place

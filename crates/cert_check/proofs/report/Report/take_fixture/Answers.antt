@@ -5,5 +5,5 @@ pub apply-requires : goal.apply-requires
 apply-requires c = (
   c.requires.in_range,
   ending_is_score c.args.self.now.basis.sheet c.in-Some.score
-      c.keeps_league.ensures.limits c.in-Some.ensures.within,
+      c.recall_invariant.ensures.limits c.in-Some.ensures.within,
 )

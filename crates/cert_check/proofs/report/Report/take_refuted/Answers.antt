@@ -1,7 +1,7 @@
 use Rattle.std.proofs.Common.{◌≡◌, true, false, sym, ◌∙◌, subst, refl}
-use Rattle.league_core.specs.Reasons.{has_reason}
-use Rattle.cert_check.specs.Dues.{is_reason_for}
-use Rattle.cert_check.specs.Calls.{Judged, pending_of}
+use Rattle.league_core.specs.search.Reasons.{has_reason}
+use Rattle.cert_check.specs.ExpectedItems.{is_reason_for}
+use Rattle.cert_check.specs.inside.Calls.{ReportView, pending_of}
 use Rattle.cert_check.proofs.CallLemmas.{reason_unproved}
 use Rattle.cert_check.proofs.report.Report.take_refuted.Goals as goal
 
@@ -10,7 +10,8 @@ returns-then-not-has_reason-clause-says c =
     let basis = c.args.self.now.basis in
     let question = c.args.wanted.question in
     let path = c.args.walk.now.path.zone in
-    let P : Judged → Type 0 = λ it. is_reason_for it.basis.sheet question c.args.reason ≡ true in
+    let P : ReportView
+    → Type 0 = λ it. is_reason_for it.basis.sheet question c.args.reason ≡ true in
     let fits = subst P c.self.view_is (sym c.is_reason_for.ensures ∙
     c.if-not-is_reason_for.false) in
     let said = c.has_reason.ensures in

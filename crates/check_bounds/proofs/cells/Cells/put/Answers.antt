@@ -3,13 +3,13 @@ use Rattle.std.proofs.Common.{◌≡◌, ◌<◌, List, length, get_or, [], subs
 use Rattle.std.proofs.lemmas.List.{get_or_default}
 use Rattle.league_core.specs.declared.sheet.Fixture.{Fixture}
 use Rattle.league_core.specs.declared.season.Score.{Score}
-use Rattle.league_core.specs.Sums.{match_points, worth_to}
-use Rattle.league_core.specs.PointRanges.{added, range_of}
-use Rattle.check_bounds.specs.Spans.{range_of_span, span_at}
-use Rattle.check_bounds.specs.Cells.{Kept}
+use Rattle.league_core.specs.game.Sums.{match_points, worth_to}
+use Rattle.league_core.specs.search.PointRanges.{added, range_of}
+use Rattle.check_bounds.specs.inside.IntRanges.{range_of_span, span_at}
+use Rattle.check_bounds.specs.inside.Cells.{CellsView}
 use Rattle.check_bounds.proofs.WonLemmas.{won_near, won_exchanged}
-use Rattle.check_bounds.specs.Loose.{AreExchanged, IsAmong}
-use Rattle.check_bounds.proofs.LooseLemmas.{is_among}
+use Rattle.check_bounds.specs.inside.OpenCounts.{AreExchanged, IsAmong}
+use Rattle.check_bounds.proofs.OpenCountLemmas.{is_among}
 use Rattle.check_bounds.proofs.CellLemmas.{cells_set}
 use Rattle.check_bounds.proofs.cells.Cells.put.Goals as goal
 
@@ -26,7 +26,7 @@ pub exchanged-self-inside-requires : goal.exchanged-self-inside-requires
 exchanged-self-inside-requires c =
     let cells = c.self.inside in
     let place = c.args.fixture in
-    let Inside : Kept → Type 0 = λ kept. place < length kept.scopes in
+    let Inside : CellsView → Type 0 = λ kept. place < length kept.scopes in
     let inside : place < length cells.scopes.items = subst Inside (sym c.self.view_is) c.requires in
     let there : place < length cells.corners.items =
     omega (arith, inside, c.self.invariant.fit.many) in
@@ -41,7 +41,7 @@ invariant_of-self c =
     let cells = c.self.inside in
     let sheet = cells.sheet.now in
     let place = c.args.fixture in
-    let Inside : Kept → Type 0 = λ kept. place < length kept.scopes in
+    let Inside : CellsView → Type 0 = λ kept. place < length kept.scopes in
     let inside : place < length cells.scopes.items = subst Inside (sym c.self.view_is) c.requires in
     let there : place < length cells.corners.items =
     omega (arith, inside, c.self.invariant.fit.many) in

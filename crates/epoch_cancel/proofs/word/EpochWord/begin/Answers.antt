@@ -1,7 +1,7 @@
 use Rattle.std.proofs.Common.{◌≡◌, sym, ap, ◌∙◌, subst, [], ◌∷◌}
 use Rattle.atomic_table.specs.Table.{opening}
-use Rattle.epoch_cancel.specs.Views.{owner_of}
-use Rattle.epoch_cancel.specs.Rule.{IsRuled}
+use Rattle.epoch_cancel.specs.inside.Views.{owner_of}
+use Rattle.epoch_cancel.specs.inside.Rule.{IsRuled}
 use Rattle.epoch_cancel.proofs.MoveLemmas.{begins_ruled}
 use Rattle.epoch_cancel.proofs.word.EpochWord.begin.Goals as goal
 

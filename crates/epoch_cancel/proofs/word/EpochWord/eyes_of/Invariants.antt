@@ -1,5 +1,5 @@
 use Rattle.std.proofs.Common.{◌≡◌, replicate}
-use Rattle.epoch_cancel.specs.Seats.{new_eye}
+use Rattle.epoch_cancel.specs.inside.Seats.{new_eye}
 use Rattle.epoch_cancel.proofs.word.EpochWord.eyes_of.Given as goal
 
 abbrev pub invariant-loop : goal.invariant-loop

@@ -1,6 +1,6 @@
 -- The points are those of what was played, and of the matches before this one.
-use Rattle.score_box.specs.Unplayed.{unplayed_in}
-use Rattle.example_finish.specs.ProposalViews.{season_asked}
+use Rattle.score_box.specs.inside.Unplayed.{unplayed_in}
+use Rattle.example_finish.specs.inside.ProposalViews.{season_asked}
 use Rattle.example_finish.proofs.ProposedPointLemmas.{ArePointsWith}
 use Rattle.example_finish.proofs.proposed.Proposed.add_points.Given as goal
 

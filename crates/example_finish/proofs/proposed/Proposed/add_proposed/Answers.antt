@@ -1,12 +1,12 @@
 use Rattle.std.proofs.Common.{◌≡◌, ◌<◌, ◌*◌, ◌+◌, ℕ, List, length, get_or, sym, ap, ◌∙◌}
 use Rattle.std.proofs.Common.{subst, arith}
-use Rattle.league_core.specs.Seasons.{IsSeasonOf}
-use Rattle.league_core.specs.Sheets.{IsWithinLimits}
-use Rattle.league_core.specs.ClubSets.{clubs_in}
-use Rattle.score_box.specs.Settings.{HasFinish}
-use Rattle.score_box.specs.Unplayed.{unplayed_in}
+use Rattle.league_core.specs.game.Seasons.{IsSeasonOf}
+use Rattle.league_core.specs.game.Sheets.{IsWithinLimits}
+use Rattle.league_core.specs.game.ClubSets.{clubs_in}
+use Rattle.score_box.specs.inside.Settings.{HasFinish}
+use Rattle.score_box.specs.inside.Unplayed.{unplayed_in}
 use Rattle.score_box.proofs.SplitLemmas.{unplayed_few, unplayed_in_range}
-use Rattle.example_finish.specs.ProposalViews.{Asked, sheet_asked, season_asked}
+use Rattle.example_finish.specs.inside.ProposalViews.{ProposedView, sheet_asked, season_asked}
 use Rattle.example_finish.proofs.ProposedTotalLemmas.{with_one_more, with_all, all_wider}
 use Rattle.example_finish.proofs.proposed.Proposed.add_proposed.Goals as goal
 
@@ -14,7 +14,8 @@ pub add_if_counted-requires-clause-in_range : goal.add_if_counted-requires-claus
 add_if_counted-requires-clause-in_range c =
     let scores = (season_asked c.args.self.now).scores in
     let all : c.unplayed-unplayed.result.now ≡ unplayed_in scores =
-    c.unplayed-unplayed.ensures ∙ ap (λ (asked : Asked). unplayed_in (season_asked asked).scores)
+    c.unplayed-unplayed.ensures
+    ∙ ap (λ (asked : ProposedView). unplayed_in (season_asked asked).scores)
     c.self.view_is in
     let within : c.loop-i.i < length (unplayed_in scores) = omega (
       arith,
@@ -28,7 +29,8 @@ pub add_if_counted-requires-clause-near : goal.add_if_counted-requires-clause-ne
 add_if_counted-requires-clause-near c =
     let scores = (season_asked c.args.self.now).scores in
     let all : c.unplayed-unplayed.result.now ≡ unplayed_in scores =
-    c.unplayed-unplayed.ensures ∙ ap (λ (asked : Asked). unplayed_in (season_asked asked).scores)
+    c.unplayed-unplayed.ensures
+    ∙ ap (λ (asked : ProposedView). unplayed_in (season_asked asked).scores)
     c.self.view_is in
     let of_sheet : IsSeasonOf (sheet_asked c.args.self.now) (season_asked c.args.self.now) =
     subst (IsSeasonOf (sheet_asked c.args.self.now)) c.season-season.ensures.season
@@ -49,7 +51,8 @@ pub loop-i-preserved : goal.loop-i-preserved
 loop-i-preserved c =
     let scores = (season_asked c.args.self.now).scores in
     let all : c.unplayed-unplayed.result.now ≡ unplayed_in scores =
-    c.unplayed-unplayed.ensures ∙ ap (λ (asked : Asked). unplayed_in (season_asked asked).scores)
+    c.unplayed-unplayed.ensures
+    ∙ ap (λ (asked : ProposedView). unplayed_in (season_asked asked).scores)
     c.self.view_is in
     with_one_more c.args.self.now (clubs_in c.args.group) (clubs_in c.args.rows)
     (unplayed_in scores) c.loop-i.i
@@ -62,11 +65,13 @@ pub returns : goal.returns
 returns c =
     let scores = (season_asked c.args.self.now).scores in
     let all : c.unplayed-unplayed.result.now ≡ unplayed_in scores =
-    c.unplayed-unplayed.ensures ∙ ap (λ (asked : Asked). unplayed_in (season_asked asked).scores)
+    c.unplayed-unplayed.ensures
+    ∙ ap (λ (asked : ProposedView). unplayed_in (season_asked asked).scores)
     c.self.view_is in
     with_all c.args.self.now (clubs_in c.args.group) (clubs_in c.args.rows) c.loop-i.i
     c.loop-i.table
     (subst (IsSeasonOf (sheet_asked c.args.self.now)) c.season-season.ensures.season
     c.season-season.ensures.of_sheet)
-    (subst (λ (asked : Asked). HasFinish asked.setting) c.self.view_is c.self.invariant.has_finish)
+    (subst (λ (asked : ProposedView). HasFinish asked.setting) c.self.view_is
+    c.self.invariant.has_finish)
     (omega (arith, ap (λ (ks : List ℕ). length ks) all)) c.loop-i.invariant

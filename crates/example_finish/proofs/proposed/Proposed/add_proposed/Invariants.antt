@@ -1,7 +1,7 @@
 -- The rows have what was played, and what the matches before this one add.
-use Rattle.league_core.specs.ClubSets.{clubs_in}
-use Rattle.score_box.specs.Unplayed.{unplayed_in}
-use Rattle.example_finish.specs.ProposalViews.{season_asked}
+use Rattle.league_core.specs.game.ClubSets.{clubs_in}
+use Rattle.score_box.specs.inside.Unplayed.{unplayed_in}
+use Rattle.example_finish.specs.inside.ProposalViews.{season_asked}
 use Rattle.example_finish.proofs.ProposedTotalLemmas.{AreTotalsWith}
 use Rattle.example_finish.proofs.proposed.Proposed.add_proposed.Given as goal
 

@@ -1,10 +1,11 @@
 use Rattle.std.proofs.Common.{◌<◌, None, [], length, get_or, ap, ap₂, Bool, sym, ◌∙◌, subst, arith}
 use Rattle.league_core.specs.declared.sheet.Fixture.{Fixture}
-use Rattle.league_core.specs.Options.{options_in}
-use Rattle.league_core.specs.Proposals.{first_option}
-use Rattle.league_core.specs.Seasons.{IsSeasonOf}
-use Rattle.example_finish.specs.ProposalViews.{Asked, sheet_asked, season_asked, finish_asked}
-use Rattle.example_finish.specs.FirstOutcomes.{HasOutcome}
+use Rattle.league_core.specs.search.Options.{options_in}
+use Rattle.league_core.specs.search.Proposals.{first_option}
+use Rattle.league_core.specs.game.Seasons.{IsSeasonOf}
+use Rattle.example_finish.specs.inside.ProposalViews.{ProposedView, sheet_asked, season_asked}
+use Rattle.example_finish.specs.inside.ProposalViews.{finish_asked}
+use Rattle.example_finish.specs.inside.FirstOutcomes.{HasOutcome}
 use Rattle.example_finish.proofs.ProposedLemmas.{outcome_in_finish, option_at}
 use Rattle.example_finish.proofs.proposed.Proposed.outcome.Goals as goal
 
@@ -12,7 +13,7 @@ pub returns : goal.returns
 returns c =
     let wishes = c.self.inside.wishes in
     let wished = c.self.invariant.wished_are in
-    let inside : Asked =
+    let inside : ProposedView =
     record { setting = c.self.inside.zone_box.now; question = c.self.inside.question.now } in
     let sheet = inside.setting.sheet in
     let season = inside.setting.season in
@@ -20,17 +21,18 @@ returns c =
     let fixture = c.args.fixture in
     let options = get_or (options_in sheet season zone) fixture [] in
     let of_sheet : IsSeasonOf sheet season =
-    subst (λ (asked : Asked). IsSeasonOf (sheet_asked asked) (season_asked asked)) (sym
+    subst (λ (asked : ProposedView). IsSeasonOf (sheet_asked asked) (season_asked asked)) (sym
     c.self.view_is)
     (subst (IsSeasonOf (sheet_asked c.args.self.now)) c.season-season.ensures.season
     c.season-season.ensures.of_sheet) in
     let within : fixture < length season.scores =
-    subst (λ (asked : Asked). fixture < length (season_asked asked).scores) (sym c.self.view_is)
+    subst (λ (asked : ProposedView). fixture < length (season_asked asked).scores)
+    (sym c.self.view_is)
     c.requires in
     let sides = c.sides-sides.ensures.sides
-    ∙ ap (λ (asked : Asked). get_or (sheet_asked asked).fixtures fixture
+    ∙ ap (λ (asked : ProposedView). get_or (sheet_asked asked).fixtures fixture
     (record { home = 0; away = 0 })) (sym c.self.view_is) in
-    subst (λ (asked : Asked). HasOutcome (get_or (finish_asked asked).scores fixture None)
+    subst (λ (asked : ProposedView). HasOutcome (get_or (finish_asked asked).scores fixture None)
     c.first_outcome.result) c.self.view_is
     (outcome_in_finish wishes sheet season zone inside.question fixture
     (record { home = 0; away = 0 }) c.first_outcome.result of_sheet

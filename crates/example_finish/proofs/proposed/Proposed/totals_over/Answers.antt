@@ -1,9 +1,9 @@
 use Rattle.std.proofs.Common.{ℕ, List, sym, subst}
-use Rattle.league_core.specs.Sheets.{IsWithinLimits}
-use Rattle.league_core.specs.ClubSets.{clubs_in}
-use Rattle.score_box.specs.Settings.{Setting}
-use Rattle.example_finish.specs.ProposalViews.{sheet_asked, season_asked, finish_asked}
-use Rattle.example_finish.specs.ProposedTotals.{AreTotalsFor, AreTotalsOver}
+use Rattle.league_core.specs.game.Sheets.{IsWithinLimits}
+use Rattle.league_core.specs.game.ClubSets.{clubs_in}
+use Rattle.score_box.specs.inside.Settings.{ZoneBoxView}
+use Rattle.example_finish.specs.inside.ProposalViews.{sheet_asked, season_asked, finish_asked}
+use Rattle.example_finish.specs.inside.ProposedTotals.{AreTotalsFor, AreTotalsOver}
 use Rattle.example_finish.proofs.ProposedTotalLemmas.{over_from_among, among_from_over}
 use Rattle.example_finish.proofs.ProposedTotalLemmas.{group_of_all}
 use Rattle.example_finish.proofs.ProposedTotalLemmas.{all_clubs}
@@ -26,7 +26,7 @@ add_proposed-requires-clause-played c =
     c.sheet.ensures.limits in
     let rows = clubs_in c.args.group in
     let over : AreTotalsOver sheet season rows c.played_over-table.result =
-    subst (λ (setting : Setting). AreTotalsOver setting.sheet setting.season rows
+    subst (λ (setting : ZoneBoxView). AreTotalsOver setting.sheet setting.season rows
     c.played_over-table.result) c.zone_box.ensures
     c.played_over-table.ensures.totals in
     subst (λ (group : List ℕ). AreTotalsFor sheet season group rows c.played_over-table.result)

@@ -1,7 +1,7 @@
 use Rattle.std.proofs.Common.{◌≡◌, ◌&&◌, nat_lt, sym, ap, ◌∙◌, arith}
 use Rattle.std.specs.Ordering.{is_eq, is_lt}
 use Rattle.league_core.proofs.ClubSetLemmas.{has_club-range}
-use Rattle.example_finish.specs.GroupStandings.{by_number_in}
+use Rattle.example_finish.specs.inside.GroupStandings.{by_number_in}
 use Rattle.example_finish.proofs.standing.Standing.by_points.Goals as goal
 
 pub returns : goal.returns

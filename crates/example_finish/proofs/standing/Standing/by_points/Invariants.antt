@@ -1,9 +1,9 @@
 -- The clubs found so far are those that were passed.
 use Rattle.std.proofs.Common.{◌≡◌, ◌&&◌, ℕ, nat_lt}
 use Rattle.std.specs.Ordering.{is_eq, is_lt}
-use Rattle.league_core.specs.Sums.{has_club}
-use Rattle.league_core.specs.ClubSets.{clubs_in}
-use Rattle.example_finish.specs.GroupStandings.{by_number_in}
+use Rattle.league_core.specs.game.Sums.{has_club}
+use Rattle.league_core.specs.game.ClubSets.{clubs_in}
+use Rattle.example_finish.specs.inside.GroupStandings.{by_number_in}
 use Rattle.example_finish.proofs.standing.Standing.by_points.Given as goal
 
 abbrev pub invariant-loop-other : goal.invariant-loop-other

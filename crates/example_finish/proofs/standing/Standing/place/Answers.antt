@@ -1,7 +1,7 @@
 use Rattle.std.proofs.Common.{◌+◌, ℕ, length, sym, ap, ◌∙◌, arith}
 use Rattle.league_core.specs.declared.question.Claim.{Claim}
-use Rattle.league_core.specs.Ranking.{place_of}
-use Rattle.league_core.specs.LotsFor.{lots_for_claim}
+use Rattle.league_core.specs.game.Ranking.{place_of}
+use Rattle.league_core.specs.inside.LotsFor.{lots_for_claim}
 use Rattle.league_core.proofs.ClubCountLemmas.{few_members}
 use Rattle.example_finish.proofs.PlaceLemmas.{place_inside, place_outside}
 use Rattle.example_finish.proofs.standing.Standing.place.Goals as goal

@@ -2,7 +2,7 @@ use Rattle.std.proofs.Common.{◌≡◌, ◌<◌, ◌+◌, ℕ, Bool, false, Lis
 use Rattle.std.proofs.Common.{refl, sym, ap, ◌∙◌, arith}
 use Rattle.std.proofs.lemmas.Bool.{cases_eq}
 use Rattle.std.proofs.lemmas.List.{get_or-set_same, get_or-set_other, length-set}
-use Rattle.example_finish.specs.Wished.{has_wish}
+use Rattle.example_finish.specs.inside.Wished.{has_wish}
 use Rattle.example_finish.proofs.wishes.Wishes.table.Goals as goal
 
 -- one club more

@@ -1,5 +1,5 @@
 use Rattle.std.proofs.Common.{◌≡◌, ◌<◌, ℕ, false, length, get_or}
-use Rattle.example_finish.specs.Wished.{has_wish}
+use Rattle.example_finish.specs.inside.Wished.{has_wish}
 use Rattle.example_finish.proofs.wishes.Wishes.table.Given as goal
 
 -- the clubs passed have their wishes

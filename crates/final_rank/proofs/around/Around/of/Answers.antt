@@ -2,8 +2,8 @@ use Rattle.std.proofs.Common.{[], ◌||◌, map, get_or, take, sym, ap, ◌∙�
 use Rattle.std.proofs.lemmas.Bool.{or_from}
 use Rattle.std.proofs.lemmas.List.{length-map, get_or-map}
 use Rattle.std.specs.List.{concat}
-use Rattle.league_core.specs.Sums.{has_club}
-use Rattle.league_core.specs.ClubSets.{clubs_in}
+use Rattle.league_core.specs.game.Sums.{has_club}
+use Rattle.league_core.specs.game.ClubSets.{clubs_in}
 use Rattle.final_rank.proofs.AroundLemmas.{around_found, has_club-taken_more}
 use Rattle.final_rank.proofs.around.Around.of.Goals as goal
 

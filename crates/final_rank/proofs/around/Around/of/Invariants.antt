@@ -1,7 +1,7 @@
 use Rattle.std.proofs.Common.{◌≡◌, ℕ, false, take, map}
 use Rattle.std.specs.List.{concat}
-use Rattle.league_core.specs.Sums.{has_club}
-use Rattle.league_core.specs.ClubSets.{clubs_in}
+use Rattle.league_core.specs.game.Sums.{has_club}
+use Rattle.league_core.specs.game.ClubSets.{clubs_in}
 use Rattle.final_rank.proofs.around.Around.of.Given as goal
 
 -- the clubs of the blocks that were passed are ahead, and the club is not of them

@@ -1,5 +1,5 @@
 use Rattle.std.proofs.Common.{◌≡◌, ◌+◌, ap, ◌∙◌, arith}
-use Rattle.league_core.specs.LotsFor.{best_place_of, worst_place_of}
+use Rattle.league_core.specs.inside.LotsFor.{best_place_of, worst_place_of}
 use Rattle.league_core.proofs.ClubCountLemmas.{few_members}
 use Rattle.final_rank.proofs.SpanLemmas.{best_place_of-around, worst_place_of-around}
 use Rattle.final_rank.proofs.around.Around.span.Goals as goal

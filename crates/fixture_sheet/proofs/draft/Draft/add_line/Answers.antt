@@ -2,8 +2,8 @@ use Rattle.std.proofs.Common.{sym, ap, ◌∙◌, ◌==◌, length, nat_le, fals
 use Rattle.std.proofs.lemmas.Bool.Decides.{nat_tests}
 use Rattle.std.specs.List.{list_any}
 use Rattle.league_core.specs.declared.sheet.Sheet.{Sheet}
-use Rattle.league_core.specs.Limits.{most_lines}
-use Rattle.league_core.specs.Sheets.{is_line}
+use Rattle.league_core.specs.game.Limits.{most_lines}
+use Rattle.league_core.specs.game.Sheets.{is_line}
 use Rattle.fixture_sheet.proofs.DraftLemmas.{line_added-ok}
 use Rattle.fixture_sheet.proofs.draft.Draft.add_line.Goals as goal
 

@@ -3,8 +3,8 @@ use Rattle.std.proofs.Common.{inl, inr, arith}
 use Rattle.std.proofs.lemmas.Bool.{cases_eq}
 use Rattle.std.proofs.lemmas.List.{length_push, length-set}
 use Rattle.flow_net.specs.declared.arcs.Arc.{Arc}
-use Rattle.flow_net.specs.declared.arcs.Way.TheVariants.{Along, Against}
-use Rattle.flow_net.specs.Graph.{HasEnds}
+use Rattle.flow_net.specs.declared.arcs.Direction.TheVariants.{Along, Against}
+use Rattle.flow_net.specs.inside.Graph.{HasEnds}
 use Rattle.flow_net.proofs.ArcLemmas.{arc_at-append, arc_at_push}
 use Rattle.flow_net.proofs.ListsLemmas.{AreLists-add}
 use Rattle.flow_net.proofs.graph.Graph.add.Goals as goal

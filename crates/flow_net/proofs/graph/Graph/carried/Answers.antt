@@ -1,8 +1,8 @@
 use Rattle.std.proofs.Common.{◌≡◌, ◌+◌, ◌-◌, ◌*◌, ◌≤◌, ◌<◌, ℕ, length, get_or, take, subst, arith}
 use Rattle.std.proofs.Math.Nat.{mul-le-mul_right}
-use Rattle.flow_net.specs.Flow.{carried}
-use Rattle.flow_net.specs.Lists.{IsNewest}
-use Rattle.flow_net.specs.Graph.{begins_at}
+use Rattle.flow_net.specs.inside.Flow.{carried}
+use Rattle.flow_net.specs.inside.Lists.{IsNewest}
+use Rattle.flow_net.specs.inside.Graph.{begins_at}
 use Rattle.flow_net.proofs.ListsLemmas.{IsNewest-up_to}
 use Rattle.flow_net.proofs.CarriedLemmas.{carried_le, carried_next, carried_newest}
 use Rattle.flow_net.proofs.CarriedLemmas.{le-carried_newest}

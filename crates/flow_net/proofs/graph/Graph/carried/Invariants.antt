@@ -1,7 +1,7 @@
 use Rattle.std.proofs.Common.{◌≡◌, ◌+◌, ◌≤◌, take, length}
-use Rattle.flow_net.specs.Flow.{carried}
-use Rattle.flow_net.specs.Lists.{IsNewest}
-use Rattle.flow_net.specs.Graph.{begins_at}
+use Rattle.flow_net.specs.inside.Flow.{carried}
+use Rattle.flow_net.specs.inside.Lists.{IsNewest}
+use Rattle.flow_net.specs.inside.Graph.{begins_at}
 use Rattle.flow_net.proofs.graph.Graph.carried.Given as goal
 
 -- what is added up, and what the arcs before the named one carry, make up the whole

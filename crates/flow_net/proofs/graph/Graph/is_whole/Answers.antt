@@ -1,6 +1,6 @@
 use Rattle.std.proofs.Common.{◌∙◌, sym, refl, inl, inr, arith}
 use Rattle.std.proofs.lemmas.Bool.{cases_lt}
-use Rattle.flow_net.specs.declared.arcs.Way.TheVariants.{Along, Against}
+use Rattle.flow_net.specs.declared.arcs.Direction.TheVariants.{Along, Against}
 use Rattle.flow_net.proofs.FillLemmas.{carried_past}
 use Rattle.flow_net.proofs.graph.Graph.is_whole.Goals as goal
 

@@ -1,5 +1,5 @@
 use Rattle.std.proofs.Common.{◌≡◌, ◌≢◌, ℕ, ◌<◌}
-use Rattle.flow_net.specs.Flow.{carried, enters, leaves}
+use Rattle.flow_net.specs.inside.Flow.{carried, enters, leaves}
 use Rattle.flow_net.proofs.graph.Graph.is_whole.Given as goal
 
 abbrev pub invariant-loop-node : goal.invariant-loop-node

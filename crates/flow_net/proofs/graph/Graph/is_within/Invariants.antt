@@ -1,5 +1,5 @@
 use Rattle.std.proofs.Common.{ℕ, ◌<◌, ◌≤◌, get_or}
-use Rattle.flow_net.specs.Flow.{arc_at}
+use Rattle.flow_net.specs.inside.Flow.{arc_at}
 use Rattle.flow_net.proofs.graph.Graph.is_within.Given as goal
 
 abbrev pub invariant-loop-place : goal.invariant-loop-place

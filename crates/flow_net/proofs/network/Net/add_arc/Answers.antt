@@ -1,7 +1,7 @@
 use Rattle.std.proofs.Common.{◌≡◌, ◌<◌, sym, subst, [], ◌∷◌, ◌++◌, length, arith}
 use Rattle.std.proofs.lemmas.List.{length_push}
 use Rattle.flow_net.specs.declared.arcs.Arc.{Arc}
-use Rattle.flow_net.specs.Network.{Network}
+use Rattle.flow_net.specs.inside.NetView.{NetView}
 use Rattle.flow_net.proofs.FillLemmas.{IsWholeFlow-add, IsWithinArcs-add}
 use Rattle.flow_net.proofs.network.Net.add_arc.Goals as goal
 
@@ -14,7 +14,7 @@ invariant_of-self c =
     let items : c.push.new.self.items ≡ flow ++ 0 ∷ [] =
     rw c.unwrap.ensures at c.push.ensures.items in
     let room : length arcs < c.self.inside.room =
-    subst (λ (n : Network). length n.arcs < n.room) (sym c.self.view_is) c.requires.room in
+    subst (λ (n : NetView). length n.arcs < n.room) (sym c.self.view_is) c.requires.room in
     record {
       graph = c.add.ensures.graph;
       graph_room = c.add.ensures.room c.self.inside.room old.graph_room;

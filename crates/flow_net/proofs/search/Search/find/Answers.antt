@@ -1,12 +1,12 @@
 use Rattle.std.proofs.Common.{◌≡◌, ◌<◌, ℕ, length, sym, ap, ◌∙◌, subst, inl, inr, arith, true}
 use Rattle.std.proofs.lemmas.Bool.{cases_eq}
-use Rattle.flow_net.specs.declared.arcs.Way.{Way}
-use Rattle.flow_net.specs.declared.arcs.Way.TheVariants.{Along, Against}
+use Rattle.flow_net.specs.declared.arcs.Direction.{Direction}
+use Rattle.flow_net.specs.declared.arcs.Direction.TheVariants.{Along, Against}
 use Rattle.flow_net.specs.declared.search.Reach.{Reach}
-use Rattle.flow_net.specs.Flow.{arc_at}
-use Rattle.flow_net.specs.Cut.{marked}
-use Rattle.flow_net.specs.Way.{tail_of}
-use Rattle.flow_net.specs.Search.{IsScanned, IsSized, reached_at}
+use Rattle.flow_net.specs.inside.Flow.{arc_at}
+use Rattle.flow_net.specs.inside.Cut.{marked}
+use Rattle.flow_net.specs.inside.Direction.{tail_of}
+use Rattle.flow_net.specs.inside.Search.{IsScanned, IsSized, reached_at}
 use Rattle.flow_net.proofs.SearchLemmas.{mark_count-le}
 use Rattle.flow_net.proofs.GrownLemmas.{IsGrown-trans, IsScanned-grown, IsSized-grown}
 use Rattle.flow_net.proofs.search.Search.find.Goals as goal
@@ -46,7 +46,7 @@ loop-place-preserved c =
     let grown = IsGrown-trans old between new first.grown second.grown in
     let here : c.loop-place.place < length old.queue.items =
     omega (arith, c.loop-place-test.true, c.len.ensures, old.queue.ok.0) in
-    let Done : Way → ℕ → Type 0 = λ way place. IsScanned arcs flow way new.reached.items
+    let Done : Direction → ℕ → Type 0 = λ way place. IsScanned arcs flow way new.reached.items
     (reached_at new.queue.items place).node 0 in
     let along : Done Along c.loop-place.place =
     subst (λ (r : Reach). IsScanned arcs flow Along new.reached.items r.node 0)

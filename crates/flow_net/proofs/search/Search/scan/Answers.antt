@@ -1,8 +1,8 @@
 use Rattle.std.proofs.Common.{◌-◌, ℕ, ap, subst, arith}
 use Rattle.std.proofs.lemmas.List.{get_or_read}
 use Rattle.flow_net.specs.declared.search.Reach.{Reach}
-use Rattle.flow_net.specs.Lists.{IsNewest}
-use Rattle.flow_net.specs.Search.{no_reach, reached_at}
+use Rattle.flow_net.specs.inside.Lists.{IsNewest}
+use Rattle.flow_net.specs.inside.Search.{no_reach, reached_at}
 use Rattle.flow_net.proofs.ListsLemmas.{IsNewest-up_to}
 use Rattle.flow_net.proofs.SearchLemmas.{marked-lt}
 use Rattle.flow_net.proofs.GrownLemmas.{IsGrown-trans, IsScanned-grown, IsScanned-next}

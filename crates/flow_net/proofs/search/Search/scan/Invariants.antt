@@ -1,7 +1,7 @@
 use Rattle.std.proofs.Common.{◌≡◌, ◌≤◌, false, length}
-use Rattle.flow_net.specs.Cut.{marked}
-use Rattle.flow_net.specs.Lists.{IsNewest}
-use Rattle.flow_net.specs.Search.{IsGrown, IsScanned, IsSearch, reached_at}
+use Rattle.flow_net.specs.inside.Cut.{marked}
+use Rattle.flow_net.specs.inside.Lists.{IsNewest}
+use Rattle.flow_net.specs.inside.Search.{IsGrown, IsScanned, IsSearch, reached_at}
 use Rattle.flow_net.proofs.search.Search.scan.Given as goal
 
 -- the arcs from the named one on have been looked at, and the sink was not reached

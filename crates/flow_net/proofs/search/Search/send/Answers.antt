@@ -2,10 +2,10 @@ use Rattle.std.proofs.Common.{◌≡◌, ◌≢◌, ◌≤◌, ◌<◌, ◌-◌,
 use Rattle.std.proofs.Common.{arith, get_or-set_other}
 use Rattle.std.proofs.lemmas.List.{get_or_read}
 use Rattle.flow_net.specs.declared.search.Reach.{Reach}
-use Rattle.flow_net.specs.Flow.{arc_at}
-use Rattle.flow_net.specs.Way.{head_of, room_of, sent_over}
-use Rattle.flow_net.specs.Moves.{IsMoved}
-use Rattle.flow_net.specs.Search.{IsOpen, no_reach, reached_at}
+use Rattle.flow_net.specs.inside.Flow.{arc_at}
+use Rattle.flow_net.specs.inside.Direction.{head_of, room_of, sent_over}
+use Rattle.flow_net.specs.inside.Moves.{IsMoved}
+use Rattle.flow_net.specs.inside.Search.{IsOpen, no_reach, reached_at}
 use Rattle.flow_net.proofs.MovesLemmas.{IsMoved-step, IsMoved-trans, IsWithinArcs-step}
 use Rattle.flow_net.proofs.search.Search.send.Goals as goal
 

@@ -1,7 +1,7 @@
 use Rattle.std.proofs.Common.{◌≡◌, ◌≤◌, ◌<◌, ◌-◌, ℕ, length, get_or}
-use Rattle.flow_net.specs.Flow.{IsWithinArcs}
-use Rattle.flow_net.specs.Moves.{IsMoved}
-use Rattle.flow_net.specs.Search.{reached_at}
+use Rattle.flow_net.specs.inside.Flow.{IsWithinArcs}
+use Rattle.flow_net.specs.inside.Moves.{IsMoved}
+use Rattle.flow_net.specs.inside.Search.{reached_at}
 use Rattle.flow_net.proofs.search.Search.send.Given as goal
 
 -- the amount has been moved from the node at this place, and no step up to it has been touched

@@ -2,10 +2,10 @@ use Rattle.std.proofs.Common.{◌≡◌, false, ◌<◌, [], ◌∷◌, ◌++◌
 use Rattle.std.proofs.lemmas.List.{get_or_read}
 use Rattle.flow_net.specs.declared.arcs.Arc.{Arc}
 use Rattle.flow_net.specs.declared.search.Reach.{Reach}
-use Rattle.flow_net.specs.Flow.{arc_at, no_arc}
-use Rattle.flow_net.specs.Cut.{marked}
-use Rattle.flow_net.specs.Way.{head_of, room_of}
-use Rattle.flow_net.specs.Search.{IsOpen, no_reach, reached_at}
+use Rattle.flow_net.specs.inside.Flow.{arc_at, no_arc}
+use Rattle.flow_net.specs.inside.Cut.{marked}
+use Rattle.flow_net.specs.inside.Direction.{head_of, room_of}
+use Rattle.flow_net.specs.inside.Search.{IsOpen, no_reach, reached_at}
 use Rattle.flow_net.proofs.ArcLemmas.{head_in_range}
 use Rattle.flow_net.proofs.SearchLemmas.{IsSearch-reach, mark_count-le, mark_count-lt}
 use Rattle.flow_net.proofs.search.Search.step.Goals as goal

@@ -1,6 +1,6 @@
 use Rattle.std.proofs.Common.{◌∙◌, ap, not, ◌&&◌}
-use Rattle.league_core.specs.Sums.{has_club}
-use Rattle.league_core.specs.ClubSets.{clubs_in}
+use Rattle.league_core.specs.game.Sums.{has_club}
+use Rattle.league_core.specs.game.ClubSets.{clubs_in}
 use Rattle.league_core.proofs.ClubSetLemmas.{has_club-range}
 use Rattle.league_core.proofs.club_set.ClubSet.others.Goals as goal
 

@@ -1,7 +1,7 @@
 use Rattle.std.proofs.Common.{◌≡◌, ◌*◌, ◌%◌, ◌^◌, ◌<◌, ap, ◌∙◌, arith}
 use Rattle.std.proofs.Math.Nat.{mod-eq_of_lt}
 use Rattle.std.proofs.Math.Pow.{pow-lt}
-use Rattle.league_core.specs.ClubSets.{clubs_below}
+use Rattle.league_core.specs.game.ClubSets.{clubs_below}
 use Rattle.league_core.proofs.ClubBitLemmas.{clubs_below-one}
 use Rattle.league_core.proofs.club_set.ClubSet.single.Goals as goal
 

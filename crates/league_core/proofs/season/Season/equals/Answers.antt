@@ -1,7 +1,7 @@
 -- Equal codes mean equal scores, since both seasons have scores that may be.
 use Rattle.std.proofs.Common.{◌≡◌, ◌∙◌, sym, ap, map}
-use Rattle.league_core.specs.Results.{Results}
-use Rattle.league_core.specs.ScoreCodes.{score_code}
+use Rattle.league_core.specs.game.Results.{Results}
+use Rattle.league_core.specs.inside.ScoreCodes.{score_code}
 use Rattle.league_core.proofs.ScoreCodeLemmas.{codes_name_results}
 use Rattle.league_core.proofs.season.Season.equals.Goals as goal
 

@@ -1,9 +1,9 @@
--- The reader behind the wait: bytes came in hand, and nothing else changed.
+-- The reader after the wait: bytes came in hand, and nothing else changed.
 use Rattle.std.proofs.Common.{◌≡◌, ◌+◌, ◌≤◌, ◌∙◌, length, ap, sym, subst, arith, length-append}
 use Rattle.std.specs.Io.KnownBytes.{prepend_known}
-use Rattle.port_core.specs.Buffers.{IsDue}
+use Rattle.port_core.specs.inside.Buffers.{IsDue}
 use Rattle.port_core.specs.Contents.{Position}
-use Rattle.port_core.specs.Readers.{most_held}
+use Rattle.port_core.specs.inside.ReaderCalls.{most_held}
 use Rattle.port_core.proofs.HandLemmas.{answer-same}
 use Rattle.port_core.proofs.line_reader.LineReader.await_due.Goals as goal
 

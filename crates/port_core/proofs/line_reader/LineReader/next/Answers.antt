@@ -1,7 +1,8 @@
--- A line more was passed over, or the answer came behind those that were.
+-- A line more was passed over, or the answer came after those that were.
 use Rattle.std.proofs.Common.{Err, [], inl, subst, arith, refl, sym, ◌∙◌}
 use Rattle.std.proofs.lemmas.Option.{none-some}
-use Rattle.port_core.specs.Readers.{Reader, HasStop, given_by}
+use Rattle.port_core.specs.Readers.{LineReaderView}
+use Rattle.port_core.specs.inside.ReaderCalls.{HasStop, given_by}
 use Rattle.port_core.proofs.TakingLemmas.{MovesOn-from, TakesInput-more, TakesInput-none}
 use Rattle.port_core.proofs.WaitLemmas.{need-more, stops-more}
 use Rattle.port_core.proofs.PassingLemmas.{passes-none, passes-more}
@@ -40,7 +41,8 @@ lines-preserved g c = record {
       ∙ c.lines.invariant.ready has;
   stopped = λ stop has.
       let here : HasStop c.lines.self stop =
-      subst (λ (r : Reader). HasStop r stop) (sym (c.lines.invariant.stopped stop has)) has in
+      subst (λ (r : LineReaderView). HasStop r stop) (sym (c.lines.invariant.stopped stop has)) has
+      in
       absurd (none-some (Err stop) (c.in_default.ensures.stopped stop here).0);
   passed = omega (arith, c.lines.invariant.passed, c.in_default.ensures.leaves);
   counts = c.in_default.ensures.cause ∙ c.lines.invariant.counts;

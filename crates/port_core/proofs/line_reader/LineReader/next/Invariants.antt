@@ -1,8 +1,8 @@
 use Rattle.std.proofs.Common.{◌≡◌, ◌-◌, ◌≤◌, []}
 use Rattle.port_core.specs.Contents.{input_limit}
-use Rattle.port_core.specs.Readers.{HasAnswer, HasStop, PassesTo, ReadsInNeed, TakesInput}
-use Rattle.port_core.specs.Readers.{contents_to_come}
-use Rattle.port_core.specs.declared.answers.ReadStop.{ReadStop}
+use Rattle.port_core.specs.Readers.{HasAnswer, TakesInput, contents_to_come}
+use Rattle.port_core.specs.inside.ReaderCalls.{HasStop, PassesTo, ReadsInNeed}
+use Rattle.port_core.specs.declared.line.ReadStop.{ReadStop}
 use Rattle.port_core.proofs.line_reader.LineReader.next.Given as goal
 
 -- the lines so far were passed over: what is to come is the same; an answer in hand is in hand

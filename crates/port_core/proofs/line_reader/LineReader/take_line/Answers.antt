@@ -1,4 +1,4 @@
--- The answer behind the wait for the line that is due.
+-- The answer after the wait for the line that is due.
 use Rattle.port_core.proofs.WaitLemmas.{wait-gives, wait-passes, wait-leaves, wait-moves, wait-last}
 use Rattle.port_core.proofs.WaitLemmas.{wait-keeps, wait-stopped}
 use Rattle.port_core.proofs.line_reader.LineReader.take_line.Goals as goal

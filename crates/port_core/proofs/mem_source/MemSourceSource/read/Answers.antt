@@ -10,5 +10,5 @@ returns-clause-bytes c =
     Reads-piece s.bytes.items _ _ c.args.into.now _ s.at _ _ s.piece
     (ap (λ v. v.left) (sym c.self.view_is))
     (take_rest c.deref-2.result.now s.at ∙ ap (drop s.at) c.deref-2.ensures.value)
-    c.min.ensures c.min-count.ensures c.copy_to_front.ensures c.copy_to_front.auto.into
+    c.min.ensures c.min-count.ensures c.copy_to_start.ensures c.copy_to_start.auto.into
     c.self.invariant.1 c.requires

@@ -2,7 +2,7 @@ use Rattle.std.proofs.Common.{take, drop, sym, take-append-drop}
 use Rattle.std.proofs.KnownBytes.{Appends-kept}
 use Rattle.port_core.proofs.std_ports.StdSink.hand_on.Goals as goal
 
--- the writer took a front of the piece, and could not flush it
+-- the writer took a prefix of the piece, and could not flush it
 pub returns-in-Err-clause-writer : goal.returns-in-Err-clause-writer
 returns-in-Err-clause-writer g c =
     let piece = c.args.piece.now in

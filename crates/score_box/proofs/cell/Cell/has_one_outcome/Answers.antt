@@ -1,5 +1,5 @@
 use Rattle.std.proofs.Common.{◌≡◌, is_some, sym, ap, ◌∙◌}
-use Rattle.score_box.specs.Cells.{at_most_one}
+use Rattle.score_box.specs.inside.Cells.{at_most_one}
 use Rattle.score_box.proofs.OutcomeLemmas.{decided}
 use Rattle.score_box.proofs.cell.Cell.has_one_outcome.Goals as goal
 

@@ -6,12 +6,12 @@ use Rattle.std.proofs.lemmas.Int.{ints}
 use Rattle.std.proofs.lemmas.Bool.{cases_lt}
 use Rattle.std.proofs.lemmas.List.{get_or_past}
 use Rattle.league_core.specs.declared.sheet.Fixture.{Fixture}
-use Rattle.league_core.specs.Options.{options_in}
-use Rattle.league_core.specs.PointRanges.{total_of}
-use Rattle.score_box.specs.Ends.{end_at, IsMatch}
-use Rattle.score_box.specs.Points.{left_to}
+use Rattle.league_core.specs.search.Options.{options_in}
+use Rattle.league_core.specs.search.PointRanges.{total_of}
+use Rattle.score_box.specs.inside.Ends.{end_at, IsMatch}
+use Rattle.score_box.specs.inside.Points.{left_to}
 use Rattle.score_box.specs.declared.totals.Totals.{Totals}
-use Rattle.score_box.specs.Totals.{AreTotalsNear, totals_at, points_column}
+use Rattle.score_box.specs.inside.Totals.{AreTotalsNear, totals_at, points_column}
 use Rattle.score_box.proofs.EndLemmas.{matches_of}
 use Rattle.score_box.proofs.SetLemmas.{first_spans, none_empty}
 use Rattle.score_box.proofs.ends.Ends.of.Goals as goal

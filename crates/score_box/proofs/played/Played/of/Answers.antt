@@ -1,7 +1,7 @@
 -- As many cells as fixtures, and the numbers of those that are not played.
 use Rattle.std.proofs.Common.{ℕ, List, [], length, get_or, sym, ap, ◌∙◌, arith}
 use Rattle.league_core.proofs.OptionLemmas.{length-options_from}
-use Rattle.score_box.specs.Unplayed.{unplayed_in}
+use Rattle.score_box.specs.inside.Unplayed.{unplayed_in}
 use Rattle.score_box.proofs.SplitLemmas.{unplayed_in_range, unplayed_few}
 use Rattle.score_box.proofs.played.Played.of.Goals as goal
 

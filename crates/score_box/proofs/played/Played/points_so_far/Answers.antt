@@ -1,7 +1,7 @@
 use Rattle.std.proofs.Common.{◌≡◌, pos, slice_index, ap, ◌∙◌, arith}
 use Rattle.std.proofs.lemmas.Int.{ints}
-use Rattle.score_box.specs.Stages.{Stage}
-use Rattle.score_box.specs.Totals.{points_column}
+use Rattle.score_box.specs.inside.PlayedViews.{PlayedView}
+use Rattle.score_box.specs.inside.Totals.{points_column}
 use Rattle.score_box.proofs.played.Played.points_so_far.Goals as goal
 
 pub overflow_sub-result : goal.overflow_sub-result
@@ -15,5 +15,5 @@ returns c =
     let won = c.totals.ensures.sums points_column in
     let off : c.from.result ≡ pos (slice_index c.args.self.now.season.deductions c.args.club) =
     c.from.ensures ∙ ap pos c.deducted.ensures
-    ∙ ap (λ (s : Stage). pos (slice_index s.season.deductions c.args.club)) c.self.view_is in
+    ∙ ap (λ (s : PlayedView). pos (slice_index s.season.deductions c.args.club)) c.self.view_is in
     omega (arith, ints, near.0, near.1, won, off, c.from.ensures, c.deducted.type_inv)

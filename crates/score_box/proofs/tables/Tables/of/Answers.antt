@@ -2,7 +2,7 @@ use Rattle.std.proofs.Common.{◌≡◌, ℕ, replicate, inl, inr, arith, ap, �
 use Rattle.std.proofs.lemmas.Bool.{cases_lt}
 use Rattle.std.proofs.lemmas.List.{get_or-replicate, get_or_past, length-replicate}
 use Rattle.score_box.specs.declared.totals.Totals.{Totals}
-use Rattle.score_box.specs.Totals.{no_totals, totals_at}
+use Rattle.score_box.specs.inside.Totals.{no_totals, totals_at}
 use Rattle.score_box.proofs.tables.Tables.of.Goals as goal
 
 none_at : (count place : ℕ) → totals_at (replicate count no_totals) place ≡ no_totals

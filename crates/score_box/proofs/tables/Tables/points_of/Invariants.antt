@@ -1,7 +1,7 @@
 use Rattle.std.proofs.Common.{◌≡◌, ◌*◌, pos, neg_ℤ, ◌≤ℤ◌}
-use Rattle.league_core.specs.ClubSets.{clubs_below}
-use Rattle.league_core.specs.PointRanges.{total_of}
-use Rattle.score_box.specs.Totals.{totals_at}
+use Rattle.league_core.specs.game.ClubSets.{clubs_below}
+use Rattle.league_core.specs.search.PointRanges.{total_of}
+use Rattle.score_box.specs.inside.Totals.{totals_at}
 use Rattle.score_box.proofs.tables.Tables.points_of.Given as goal
 
 -- the points of the clubs of the set so far

@@ -1,8 +1,8 @@
 -- Each column by itself.
 use Rattle.std.proofs.Common.{arith}
 use Rattle.std.proofs.lemmas.Int.{ints}
-use Rattle.score_box.specs.Totals.{points_column, difference_column, goals_column}
-use Rattle.score_box.specs.Totals.{away_goals_column, wins_column, away_wins_column}
+use Rattle.score_box.specs.inside.Totals.{points_column, difference_column, goals_column}
+use Rattle.score_box.specs.inside.Totals.{away_goals_column, wins_column, away_wins_column}
 use Rattle.score_box.proofs.TotalLemmas.{each_column}
 use Rattle.score_box.proofs.totals.Totals.with.Goals as goal
 

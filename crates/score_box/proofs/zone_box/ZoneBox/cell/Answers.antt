@@ -1,9 +1,9 @@
 -- The cell at a fixture's number is the one of its options.
 use Rattle.std.proofs.Common.{◌<◌, length, subst, ap, ◌∙◌, arith}
-use Rattle.league_core.specs.Options.{options_in}
-use Rattle.score_box.specs.Cells.{allows}
-use Rattle.score_box.specs.Boxes.{AreCellsOf}
-use Rattle.score_box.specs.Settings.{Setting}
+use Rattle.league_core.specs.search.Options.{options_in}
+use Rattle.score_box.specs.inside.Cells.{allows}
+use Rattle.score_box.specs.inside.Boxes.{AreCellsOf}
+use Rattle.score_box.specs.inside.Settings.{ZoneBoxView}
 use Rattle.score_box.proofs.BoxLemmas.{cells_of_season}
 use Rattle.score_box.proofs.zone_box.ZoneBox.cell.Goals as goal
 
@@ -11,7 +11,7 @@ pub index-requires : goal.index-requires
 index-requires c =
     let now = c.args.self.now in
     let cells = c.self.inside.cells.items in
-    let Have : Setting → Type 0 = λ v. AreCellsOf cells (options_in v.sheet v.season v.zone) in
+    let Have : ZoneBoxView → Type 0 = λ v. AreCellsOf cells (options_in v.sheet v.season v.zone) in
     let are = subst Have c.self.view_is c.self.invariant.options in
     omega (arith, cells_of_season now.sheet now.season now.zone cells are, c.self.inside.cells.ok.0)
 
@@ -19,7 +19,7 @@ pub returns : goal.returns
 returns c =
     let now = c.args.self.now in
     let cells = c.self.inside.cells.items in
-    let Have : Setting → Type 0 = λ v. AreCellsOf cells (options_in v.sheet v.season v.zone) in
+    let Have : ZoneBoxView → Type 0 = λ v. AreCellsOf cells (options_in v.sheet v.season v.zone) in
     let are : AreCellsOf cells (options_in now.sheet now.season
     now.zone) = subst Have c.self.view_is c.self.invariant.options in
     let within : c.args.fixture < length cells = omega

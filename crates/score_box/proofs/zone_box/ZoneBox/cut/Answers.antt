@@ -5,14 +5,14 @@ use Rattle.std.proofs.Common.{refl, sym, ap}
 use Rattle.std.proofs.Common.{◌∙◌, arith}
 use Rattle.league_core.specs.declared.sheet.Fixture.{Fixture}
 use Rattle.league_core.specs.declared.zone.Literal.{Literal}
-use Rattle.league_core.specs.Zones.{is_test_of}
-use Rattle.league_core.specs.Options.{options_in}
+use Rattle.league_core.specs.search.Zones.{is_test_of}
+use Rattle.league_core.specs.search.Options.{options_in}
 use Rattle.score_box.specs.declared.cell.Cell.{Cell}
-use Rattle.score_box.specs.Settings.{Setting}
-use Rattle.score_box.specs.Ends.{HasEndsOfCells, IsMatch}
+use Rattle.score_box.specs.inside.Settings.{ZoneBoxView}
+use Rattle.score_box.specs.inside.Ends.{HasEndsOfCells, IsMatch}
 use Rattle.std.specs.List.{All}
 use Rattle.score_box.specs.declared.trail.Undo.{Undo}
-use Rattle.score_box.specs.Stages.{IsBoxOf, IsUndoOf, TakesOneMore}
+use Rattle.score_box.specs.inside.PlayedViews.{IsBoxOf, IsUndoOf, TakesOneMore}
 use Rattle.score_box.proofs.BoxLemmas.{cells_of_season, test_below}
 use Rattle.score_box.proofs.EndLemmas.{matches_of}
 use Rattle.score_box.proofs.TrailLemmas.{cell_before}
@@ -23,7 +23,7 @@ pub take_one-requires : goal.take_one-requires
 take_one-requires c =
     let box = c.self.inside in
     let is : is_test_of box.sheet.now c.args.literal.test ≡ true =
-    ap (λ (s : Setting). is_test_of s.sheet c.args.literal.test) c.self.view_is ∙ c.requires in
+    ap (λ (s : ZoneBoxView). is_test_of s.sheet c.args.literal.test) c.self.view_is ∙ c.requires in
     let fixtures : c.as_slice-fixtures.result.now ≡ box.sheet.now.fixtures =
     c.as_slice-fixtures.ensures in
     let many : length box.sheet.now.fixtures ≡ length c.deref_mut.result.now =
@@ -53,7 +53,7 @@ pub cell_on-requires : goal.cell_on-requires
 cell_on-requires c =
     let box = c.self.inside in
     let is : is_test_of box.sheet.now c.args.literal.test ≡ true =
-    ap (λ (s : Setting). is_test_of s.sheet c.args.literal.test) c.self.view_is ∙ c.requires in
+    ap (λ (s : ZoneBoxView). is_test_of s.sheet c.args.literal.test) c.self.view_is ∙ c.requires in
     let many : length box.sheet.now.fixtures ≡ length c.deref.result.now =
     sym c.self.invariant.league.of_sheet.scores
     ∙ sym (cells_of_season box.sheet.now box.season.now box.zone.items box.cells.items
@@ -66,7 +66,8 @@ pub with-self-inside-requires : goal.with-self-inside-requires
 with-self-inside-requires c =
     let box = c.self.inside in
     let is : is_test_of box.sheet.now c.args.literal.test ≡ true =
-    ap (λ (s : Setting). is_test_of s.sheet c.args.literal.test) c.self.view_is ∙ c.requires in (
+    ap (λ (s : ZoneBoxView). is_test_of s.sheet c.args.literal.test) c.self.view_is
+    ∙ c.requires in (
       length box.sheet.now.fixtures,
       test_below box.sheet.now (length box.sheet.now.fixtures) c.args.literal.test refl
           (omega (arith, c.self.invariant.league.limits.most_clubs)) is,
@@ -77,7 +78,7 @@ invariant_of-self-2 c =
     let box = c.self.inside in
     let literal = c.args.literal in
     let is : is_test_of box.sheet.now literal.test ≡ true =
-    ap (λ (s : Setting). is_test_of s.sheet literal.test) c.self.view_is ∙ c.requires in
+    ap (λ (s : ZoneBoxView). is_test_of s.sheet literal.test) c.self.view_is ∙ c.requires in
     let new = c.take_one.new.cells in
     let ends = c.take_one.new.ends in
     let before = c.with-self-inside.result.before in

@@ -1,11 +1,11 @@
 -- Each cell has one score exactly where each fixture has one option.
 use Rattle.std.proofs.Common.{List, subst, sym}
 use Rattle.std.specs.List.{All}
-use Rattle.league_core.specs.Options.{options_in}
+use Rattle.league_core.specs.search.Options.{options_in}
 use Rattle.score_box.specs.declared.cell.Cell.{Cell}
-use Rattle.score_box.specs.Cells.{HasOneScore}
-use Rattle.score_box.specs.Boxes.{AreCellsOf}
-use Rattle.score_box.specs.Settings.{Setting}
+use Rattle.score_box.specs.inside.Cells.{HasOneScore}
+use Rattle.score_box.specs.inside.Boxes.{AreCellsOf}
+use Rattle.score_box.specs.inside.Settings.{ZoneBoxView}
 use Rattle.score_box.proofs.BoxLemmas.{is_single-is}
 use Rattle.score_box.proofs.zone_box.ZoneBox.is_single.Goals as goal
 
@@ -13,7 +13,7 @@ pub returns : goal.returns
 returns c =
     let now = c.args.self.now in
     let cells = c.self.inside.cells.items in
-    let Have : Setting → Type 0 = λ v. AreCellsOf cells (options_in v.sheet v.season v.zone) in
+    let Have : ZoneBoxView → Type 0 = λ v. AreCellsOf cells (options_in v.sheet v.season v.zone) in
     let One_in_each : List Cell → Type 0 = λ xs. All HasOneScore xs in
     is_single-is now.sheet now.season now.zone cells c.have_one_score.result
     (subst Have c.self.view_is c.self.invariant.options)

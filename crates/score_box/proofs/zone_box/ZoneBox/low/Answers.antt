@@ -4,10 +4,10 @@ use mir.Val.{to_z, of_z}
 use Rattle.std.proofs.Common.{◌≡◌, ◌<◌, pos, ◌-ℤ◌, [], ◌∷◌, length, slice_index, subst, ap, ◌∙◌}
 use Rattle.std.proofs.Common.{arith}
 use Rattle.std.proofs.lemmas.Int.{ints}
-use Rattle.league_core.specs.Options.{options_in}
-use Rattle.league_core.specs.PointRanges.{least_points_of}
-use Rattle.score_box.specs.Ends.{end_at}
-use Rattle.score_box.specs.Settings.{Setting}
+use Rattle.league_core.specs.search.Options.{options_in}
+use Rattle.league_core.specs.search.PointRanges.{least_points_of}
+use Rattle.score_box.specs.inside.Ends.{end_at}
+use Rattle.score_box.specs.inside.Settings.{ZoneBoxView}
 use Rattle.score_box.proofs.EndLemmas.{spans_small}
 use Rattle.score_box.proofs.zone_box.ZoneBox.low.Goals as goal
 
@@ -30,7 +30,7 @@ returns-clause-value c =
     let below : club < 24 = omega (
       arith,
       c.requires.in_range,
-      ap (λ (s : Setting). length s.sheet.clubs) c.self.view_is,
+      ap (λ (s : ZoneBoxView). length s.sheet.clubs) c.self.view_is,
       c.self.invariant.league.limits.most_clubs,
     ) in
     let fits : to_z w32 (of_z w32 (to_z w32 (of_z w32 (end_at box.ends.lows club)) -ℤ to_z w32
@@ -42,7 +42,7 @@ returns-clause-value c =
     (of_z w32 c.from-off.result)))
     ≡ least_points_of box.sheet.now box.season.now box.zone.items (club ∷ []) =
     omega (arith, ints, fits, off, c.self.invariant.ends_are.spans.least club below) in
-    let At : Setting → Type 0 = λ v. to_z w32 (of_z w32 (to_z w32 (of_z w32
+    let At : ZoneBoxView → Type 0 = λ v. to_z w32 (of_z w32 (to_z w32 (of_z w32
     (end_at box.ends.lows club)) -ℤ to_z w32 (of_z w32 c.from-off.result)))
     ≡ least_points_of v.sheet v.season v.zone (club ∷ []) in
     subst At c.self.view_is is

@@ -3,11 +3,11 @@ use Rattle.std.proofs.Common.{◌≡◌, ◌<◌, true, length, refl, subst, sym
 use Rattle.std.proofs.Common.{Some, None, MatchOption}
 use Rattle.std.specs.Option.{IsSome}
 use Rattle.league_core.specs.declared.season.Score.{Score}
-use Rattle.league_core.specs.Options.{options_in}
+use Rattle.league_core.specs.search.Options.{options_in}
 use Rattle.score_box.specs.declared.cell.Cell.{Cell}
-use Rattle.score_box.specs.Cells.{allows, IsEmptyCell}
-use Rattle.score_box.specs.Boxes.{AreCellsOf}
-use Rattle.score_box.specs.Settings.{Setting}
+use Rattle.score_box.specs.inside.Cells.{allows, IsEmptyCell}
+use Rattle.score_box.specs.inside.Boxes.{AreCellsOf}
+use Rattle.score_box.specs.inside.Settings.{ZoneBoxView}
 use Rattle.score_box.proofs.BoxLemmas.{cells_of_season, some_in_each}
 use Rattle.score_box.proofs.zone_box.ZoneBox.pick.Goals as goal
 
@@ -15,7 +15,7 @@ pub index-requires : goal.index-requires
 index-requires c =
     let now = c.args.self.now in
     let cells = c.self.inside.cells.items in
-    let Have : Setting → Type 0 = λ v. AreCellsOf cells (options_in v.sheet v.season v.zone) in
+    let Have : ZoneBoxView → Type 0 = λ v. AreCellsOf cells (options_in v.sheet v.season v.zone) in
     let are = subst Have c.self.view_is c.self.invariant.options in
     omega (arith, cells_of_season now.sheet now.season now.zone cells are, c.self.inside.cells.ok.0)
 
@@ -28,7 +28,7 @@ pub unwrap-requires : goal.unwrap-requires
 unwrap-requires c =
     let now = c.args.self.now in
     let cells = c.self.inside.cells.items in
-    let Have : Setting → Type 0 = λ v. AreCellsOf cells (options_in v.sheet v.season v.zone) in
+    let Have : ZoneBoxView → Type 0 = λ v. AreCellsOf cells (options_in v.sheet v.season v.zone) in
     let are : AreCellsOf cells (options_in now.sheet now.season
     now.zone) = subst Have c.self.view_is c.self.invariant.options in
     let within : c.args.fixture < length cells = omega
@@ -44,7 +44,7 @@ pub returns : goal.returns
 returns c =
     let now = c.args.self.now in
     let cells = c.self.inside.cells.items in
-    let Have : Setting → Type 0 = λ v. AreCellsOf cells (options_in v.sheet v.season v.zone) in
+    let Have : ZoneBoxView → Type 0 = λ v. AreCellsOf cells (options_in v.sheet v.season v.zone) in
     let are : AreCellsOf cells (options_in now.sheet now.season
     now.zone) = subst Have c.self.view_is c.self.invariant.options in
     let within : c.args.fixture < length cells = omega

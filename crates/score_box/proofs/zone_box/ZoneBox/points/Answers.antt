@@ -6,15 +6,15 @@ use Rattle.std.proofs.Common.{true, get_or, slice_index, subst, sym, ap, ◌∙�
 use Rattle.std.specs.List.{All}
 use Rattle.std.proofs.lemmas.Int.{ints}
 use Rattle.league_core.specs.declared.sheet.Fixture.{Fixture}
-use Rattle.league_core.specs.ClubSets.{clubs_in}
-use Rattle.league_core.specs.Options.{has_finish, options_in}
-use Rattle.league_core.specs.PointRanges.{total_of, range_from, points_together}
-use Rattle.league_core.specs.PointRanges.{least_points_of, most_points_of}
+use Rattle.league_core.specs.game.ClubSets.{clubs_in}
+use Rattle.league_core.specs.search.Options.{has_finish, options_in}
+use Rattle.league_core.specs.search.PointRanges.{total_of, range_from, points_together}
+use Rattle.league_core.specs.search.PointRanges.{least_points_of, most_points_of}
 use Rattle.score_box.specs.declared.cell.Cell.{Cell}
-use Rattle.score_box.specs.Cells.{IsEmptyCell}
-use Rattle.score_box.specs.Boxes.{AreCellsOf}
-use Rattle.score_box.specs.Settings.{Setting}
-use Rattle.score_box.specs.Points.{IsRangeOver}
+use Rattle.score_box.specs.inside.Cells.{IsEmptyCell}
+use Rattle.score_box.specs.inside.Boxes.{AreCellsOf}
+use Rattle.score_box.specs.inside.Settings.{ZoneBoxView}
+use Rattle.score_box.specs.inside.Points.{IsRangeOver}
 use Rattle.score_box.proofs.BoxLemmas.{cells_of_season, some_in_each}
 use Rattle.score_box.proofs.EndLemmas.{matches_of}
 use Rattle.score_box.proofs.SplitLemmas.{unplayed_few, unplayed_in_range}
@@ -34,7 +34,7 @@ pub points_left-left-requires-clause-some : goal.points_left-left-requires-claus
 points_left-left-requires-clause-some c =
     let now = c.args.self.now in
     let cells = c.self.inside.cells.items in
-    let Have : Setting → Type 0 = λ v. AreCellsOf cells (options_in v.sheet v.season v.zone) in
+    let Have : ZoneBoxView → Type 0 = λ v. AreCellsOf cells (options_in v.sheet v.season v.zone) in
     let Some_in_each : List Cell → Type 0 = λ xs. All (λ cell. ¬ IsEmptyCell cell) xs in
     subst Some_in_each (sym c.deref.ensures.value)
     (some_in_each now.sheet now.season now.zone cells
@@ -80,7 +80,7 @@ together c =
     let box = c.self.inside in
     let clubs = clubs_in c.args.set in
     let left = c.points_left-left.result in
-    let Finish : Setting → Type 0 = λ v. has_finish v.sheet v.season v.zone ≡ true in
+    let Finish : ZoneBoxView → Type 0 = λ v. has_finish v.sheet v.season v.zone ≡ true in
     let Over_fixtures : List Fixture → Type 0 = λ fixtures. IsRangeOver fixtures c.deref.result.now
     c.deref-2.result.now clubs left in
     let Over_cells : List Cell → Type 0 = λ cells. IsRangeOver box.sheet.now.fixtures cells
@@ -131,7 +131,7 @@ most_is c = omega (arith, ints, fits c, c.moved.ensures.most)
 pub returns-clause-least : goal.returns-clause-least
 returns-clause-least c =
     let box = c.self.inside in
-    let At : Setting → Type 0 = λ v. (c.points_of-won.result +ℤ c.points_left-left.result.least)
+    let At : ZoneBoxView → Type 0 = λ v. (c.points_of-won.result +ℤ c.points_left-left.result.least)
     -ℤ c.deducted-off.result ≡ least_points_of v.sheet v.season v.zone (clubs_in c.args.set) in
     least_is c
     ∙ subst At c.self.view_is (least_points-is box.sheet.now box.season.now box.zone.items
@@ -141,7 +141,7 @@ returns-clause-least c =
 pub returns-clause-most : goal.returns-clause-most
 returns-clause-most c =
     let box = c.self.inside in
-    let At : Setting → Type 0 = λ v. (c.points_of-won.result +ℤ c.points_left-left.result.most)
+    let At : ZoneBoxView → Type 0 = λ v. (c.points_of-won.result +ℤ c.points_left-left.result.most)
     -ℤ c.deducted-off.result ≡ most_points_of v.sheet v.season v.zone (clubs_in c.args.set) in
     most_is c
     ∙ subst At c.self.view_is (most_points-is box.sheet.now box.season.now box.zone.items

@@ -1,8 +1,8 @@
 use Rattle.std.proofs.Common.{length, subst, ap, arith}
-use Rattle.league_core.specs.ClubSets.{clubs_in}
-use Rattle.league_core.specs.Sums.{sum_among}
-use Rattle.score_box.specs.Settings.{Setting}
-use Rattle.score_box.specs.Totals.{AreTotals}
+use Rattle.league_core.specs.game.ClubSets.{clubs_in}
+use Rattle.league_core.specs.game.Sums.{sum_among}
+use Rattle.score_box.specs.inside.Settings.{ZoneBoxView}
+use Rattle.score_box.specs.inside.Totals.{AreTotals}
 use Rattle.score_box.proofs.TotalLemmas.{among-is}
 use Rattle.score_box.proofs.zone_box.ZoneBox.totals_among.Goals as goal
 
@@ -10,8 +10,8 @@ pub returns-clause-sums : goal.returns-clause-sums
 returns-clause-sums c =
     let box = c.self.inside in
     let limits = c.self.invariant.league.limits in
-    let clubs = ap (λ (s : Setting). length s.sheet.clubs) c.self.view_is in
-    let Are : Setting → Type 0 = λ v. AreTotals
+    let clubs = ap (λ (s : ZoneBoxView). length s.sheet.clubs) c.self.view_is in
+    let Are : ZoneBoxView → Type 0 = λ v. AreTotals
     (λ worth. sum_among (clubs_in c.args.group) worth v.sheet v.season c.args.club)
     c.of_group.result in
     subst Are c.self.view_is

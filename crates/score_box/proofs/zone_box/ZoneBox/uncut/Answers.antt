@@ -6,11 +6,11 @@ use Rattle.std.specs.List.{All}
 use Rattle.std.specs.Prelude.{option_to_list}
 use Rattle.league_core.specs.declared.sheet.Fixture.{Fixture}
 use Rattle.league_core.specs.declared.zone.Literal.{Literal}
-use Rattle.league_core.specs.Zones.{is_zone_of}
+use Rattle.league_core.specs.search.Zones.{is_zone_of}
 use Rattle.score_box.specs.declared.cell.Cell.{Cell}
 use Rattle.score_box.specs.declared.trail.Undo.{Undo}
-use Rattle.score_box.specs.Ends.{IsMatch}
-use Rattle.score_box.specs.Stages.{IsBoxOf, IsTrailOf, TakesOneLess}
+use Rattle.score_box.specs.inside.Ends.{IsMatch}
+use Rattle.score_box.specs.inside.PlayedViews.{IsBoxOf, IsTrailOf, TakesOneLess}
 use Rattle.score_box.proofs.BoxLemmas.{cells_of_season, test_below}
 use Rattle.score_box.proofs.EndLemmas.{matches_of}
 use Rattle.score_box.proofs.TrailLemmas.{trail_less}

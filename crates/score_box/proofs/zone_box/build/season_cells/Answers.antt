@@ -1,10 +1,10 @@
 -- The next score makes the next cell.
 use Rattle.std.proofs.Common.{◌≡◌, ℕ, length, get_or, [], Some, None, arith, subst, sym, ap, ◌∙◌}
 use Rattle.std.proofs.lemmas.List.{length_push, get_or_default}
-use Rattle.league_core.specs.Finishes.{may_end}
-use Rattle.league_core.specs.Options.{options_from}
+use Rattle.league_core.specs.game.Finishes.{may_end}
+use Rattle.league_core.specs.search.Options.{options_from}
 use Rattle.league_core.proofs.OptionLemmas.{length-options_from}
-use Rattle.score_box.specs.Cells.{IsCellOf}
+use Rattle.score_box.specs.inside.Cells.{IsCellOf}
 use Rattle.score_box.proofs.BoxLemmas.{options_push, exact_push, first_options}
 use Rattle.score_box.proofs.zone_box.build.season_cells.Goals as goal
 

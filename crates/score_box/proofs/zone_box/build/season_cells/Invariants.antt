@@ -1,7 +1,7 @@
 use Rattle.std.proofs.Common.{◌≡◌, [], length}
-use Rattle.league_core.specs.Options.{options_from}
+use Rattle.league_core.specs.search.Options.{options_from}
 use Rattle.std.specs.List.{All}
-use Rattle.score_box.specs.Cells.{IsExactCell}
+use Rattle.score_box.specs.inside.Cells.{IsExactCell}
 use Rattle.score_box.proofs.BoxLemmas.{HaveOptions}
 use Rattle.score_box.proofs.zone_box.build.season_cells.Given as goal
 

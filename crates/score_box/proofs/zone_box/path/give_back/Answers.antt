@@ -3,11 +3,11 @@ use Rattle.std.proofs.Common.{◌<◌, List, [], ◌∷◌, ◌++◌, length, ge
 use Rattle.std.proofs.Common.{refl, sym, ◌∙◌, arith, subst}
 use Rattle.std.proofs.lemmas.Bool.{eq-eqb}
 use Rattle.league_core.specs.declared.season.Score.{Score}
-use Rattle.league_core.specs.Options.{options_from}
+use Rattle.league_core.specs.search.Options.{options_from}
 use Rattle.league_core.proofs.OptionLemmas.{length-options_from}
 use Rattle.score_box.specs.declared.cell.Cell.{Cell}
-use Rattle.score_box.specs.Boxes.{AreCellsOf}
-use Rattle.score_box.specs.Ends.{AreEnds}
+use Rattle.score_box.specs.inside.Boxes.{AreCellsOf}
+use Rattle.score_box.specs.inside.Ends.{AreEnds}
 use Rattle.score_box.proofs.PathLemmas.{gives_cell, gives_mark, one_less, options_same, cell_set}
 use Rattle.score_box.proofs.zone_box.path.give_back.Goals as goal
 

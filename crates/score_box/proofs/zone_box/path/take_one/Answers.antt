@@ -3,13 +3,13 @@ use Rattle.std.proofs.Common.{◌<◌, ◌&&◌, List, [], ◌∷◌, ◌++◌, 
 use Rattle.std.proofs.Common.{ap, ◌∙◌, arith}
 use Rattle.std.proofs.lemmas.List.{get_or_default}
 use Rattle.league_core.specs.declared.season.Score.{Score}
-use Rattle.league_core.specs.Zones.{is_as_said, passes}
-use Rattle.league_core.specs.Options.{options_from}
+use Rattle.league_core.specs.search.Zones.{is_as_said, passes}
+use Rattle.league_core.specs.search.Options.{options_from}
 use Rattle.league_core.proofs.OptionLemmas.{length-options_from}
 use Rattle.score_box.specs.declared.cell.Cell.{Cell}
-use Rattle.score_box.specs.Cells.{allows}
-use Rattle.score_box.specs.Boxes.{AreCellsOf}
-use Rattle.score_box.specs.Ends.{AreEnds}
+use Rattle.score_box.specs.inside.Cells.{allows}
+use Rattle.score_box.specs.inside.Boxes.{AreCellsOf}
+use Rattle.score_box.specs.inside.Ends.{AreEnds}
 use Rattle.score_box.proofs.BoxLemmas.{takes_cut, takes_mark}
 use Rattle.score_box.proofs.PathLemmas.{one_more, options_same, cell_set}
 use Rattle.score_box.proofs.zone_box.path.take_one.Goals as goal

@@ -1,7 +1,7 @@
 use Rattle.std.proofs.Common.{ap, cond, ◌∙◌, refl}
 use Rattle.std.proofs.lemmas.Bool.{eq-eqb}
 use Rattle.league_core.specs.declared.sure.Sure.TheVariants.{Unknown}
-use Rattle.tie_bound.specs.Answers.{answer_at}
+use Rattle.tie_bound.specs.inside.Answers.{answer_at}
 use Rattle.tie_bound.proofs.AnswerSetLemmas.{put_over}
 use Rattle.tie_bound.proofs.answer_sets.Answers.put.Goals as goal
 

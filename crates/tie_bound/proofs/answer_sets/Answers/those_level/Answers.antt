@@ -1,6 +1,6 @@
 use Rattle.std.proofs.Common.{◌&&◌, ◌||◌, not, ltb, List, ℕ, ap, ◌∙◌}
-use Rattle.league_core.specs.Sums.{has_club}
-use Rattle.league_core.specs.ClubSets.{clubs_in}
+use Rattle.league_core.specs.game.Sums.{has_club}
+use Rattle.league_core.specs.game.ClubSets.{clubs_in}
 use Rattle.league_core.proofs.ClubSetLemmas.{has_club-range}
 use Rattle.tie_bound.proofs.AnswerSetLemmas.{level_of}
 use Rattle.tie_bound.proofs.answer_sets.Answers.those_level.Goals as goal

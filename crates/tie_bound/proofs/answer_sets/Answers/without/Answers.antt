@@ -1,4 +1,4 @@
-use Rattle.league_core.specs.ClubSets.{clubs_in}
+use Rattle.league_core.specs.game.ClubSets.{clubs_in}
 use Rattle.tie_bound.proofs.AnswerSetLemmas.{answers_without}
 use Rattle.tie_bound.proofs.answer_sets.Answers.without.Goals as goal
 

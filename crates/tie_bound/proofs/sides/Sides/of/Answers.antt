@@ -2,8 +2,8 @@
 use Rattle.std.proofs.Common.{◌≡◌, true, false, sym}
 use Rattle.std.proofs.lemmas.Bool.{lt-ltb, eq-eqb}
 use Rattle.league_core.specs.declared.season.Score.{Score}
-use Rattle.league_core.specs.Options.{is_home_win, is_draw, is_away_win}
-use Rattle.score_box.specs.Cells.{allows}
+use Rattle.league_core.specs.search.Options.{is_home_win, is_draw, is_away_win}
+use Rattle.score_box.specs.inside.Cells.{allows}
 use Rattle.score_box.proofs.OutcomeLemmas.{all_home_wins, all_draws, all_away_wins}
 use Rattle.tie_bound.proofs.OutcomeLemmas.{home_goals_are, away_goals_are, none_of_three}
 use Rattle.tie_bound.proofs.SideLemmas.{none_sums}

@@ -3,9 +3,9 @@ use Rattle.std.proofs.Common.{◌≡◌}
 use Rattle.tie_criteria.specs.declared.measure.Measure.TheVariants.{Points, Difference, Goals}
 use Rattle.tie_criteria.specs.declared.measure.Measure.TheVariants.{AwayGoals, Wins, AwayWins}
 use Rattle.tie_criteria.proofs.SumLemmas.{each_measure}
-use Rattle.league_core.specs.PointRanges.{added}
+use Rattle.league_core.specs.search.PointRanges.{added}
 use Rattle.tie_bound.specs.declared.sums.Sums.{Sums}
-use Rattle.tie_bound.specs.Sums.{range_by}
+use Rattle.tie_bound.specs.inside.Sums.{range_by}
 use Rattle.tie_bound.proofs.sums.Sums.plus.Goals as goal
 
 pub plus-requires-clause-near : goal.plus-requires-clause-near

@@ -1,11 +1,11 @@
 use Rattle.std.proofs.Common.{◌≡◌, ℕ, Bool, true, false, [], ◌∷◌, ◌++◌, map, cond, sym, ap, refl}
 use Rattle.std.proofs.Common.{◌∙◌, arith}
 use Rattle.std.proofs.lemmas.List.{map-append}
-use Rattle.league_core.specs.Sums.{has_club}
-use Rattle.league_core.specs.ClubSets.{clubs_below, clubs_in}
+use Rattle.league_core.specs.game.Sums.{has_club}
+use Rattle.league_core.specs.game.ClubSets.{clubs_below, clubs_in}
 use Rattle.league_core.proofs.ClubSetLemmas.{clubs_below-none, clubs_below-more}
 use Rattle.tie_criteria.specs.declared.mini_table.Row.{Row}
-use Rattle.tie_criteria.specs.Records.{record_at}
+use Rattle.tie_criteria.specs.inside.Records.{record_at}
 use Rattle.tie_criteria.proofs.RowLemmas.{row_at, rows_are}
 use Rattle.tie_criteria.proofs.mini_table.MiniTable.of.Goals as goal
 

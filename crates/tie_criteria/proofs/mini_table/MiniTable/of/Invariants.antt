@@ -1,5 +1,5 @@
 use Rattle.std.proofs.Common.{◌≡◌, map}
-use Rattle.league_core.specs.ClubSets.{clubs_below}
+use Rattle.league_core.specs.game.ClubSets.{clubs_below}
 use Rattle.tie_criteria.proofs.RowLemmas.{row_at}
 use Rattle.tie_criteria.proofs.mini_table.MiniTable.of.Given as goal
 

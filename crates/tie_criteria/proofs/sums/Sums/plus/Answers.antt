@@ -1,12 +1,12 @@
 -- Each sum by itself.
 use Rattle.std.proofs.Common.{◌≡◌, ℕ, ◌+◌, ℤ, ◌+ℤ◌, to_z, of_z, w32}
-use Rattle.league_core.specs.Sums.{if_played}
+use Rattle.league_core.specs.game.Sums.{if_played}
 use Rattle.tie_criteria.specs.declared.measure.Measure.{Measure}
 use Rattle.tie_criteria.specs.declared.measure.Measure.TheVariants.{Points, Difference, Goals}
 use Rattle.tie_criteria.specs.declared.measure.Measure.TheVariants.{AwayGoals, Wins, AwayWins}
 use Rattle.tie_criteria.specs.declared.sums.Sums.{Sums}
-use Rattle.tie_criteria.specs.Measures.{worth_of, value_in}
-use Rattle.tie_criteria.specs.Sums.{sum_by, IsNear}
+use Rattle.tie_criteria.specs.inside.Measures.{worth_of, value_in}
+use Rattle.tie_criteria.specs.inside.Sums.{sum_by, IsNear}
 use Rattle.tie_criteria.proofs.SumLemmas.{near_kept, grown_sum, grown_near, each_measure}
 use Rattle.tie_criteria.proofs.sums.Sums.plus.Goals as goal
 

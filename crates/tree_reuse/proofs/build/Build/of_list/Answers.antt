@@ -4,8 +4,8 @@ use Rattle.std.proofs.Common.{List, get_or, refl, false}
 use Rattle.std.proofs.lemmas.List.{drop_all}
 use Rattle.league_core.specs.declared.tree.TreeNode.TheVariants.{Split}
 use Rattle.league_core.specs.declared.zone.Test.TheVariants.{Home}
-use Rattle.league_core.specs.Trees.{preorder}
-use Rattle.league_core.specs.TreeLists.{tree_of, tree_or_leaf}
+use Rattle.league_core.specs.search.Trees.{preorder}
+use Rattle.league_core.specs.inside.TreeLists.{tree_of, tree_or_leaf}
 use Rattle.league_core.specs.declared.tree.TreeNode.{TreeNode}
 use Rattle.tree_reuse.proofs.BuildLemmas.{building_begins, building_some, building_few}
 use Rattle.tree_reuse.proofs.BuildLemmas.{building_within, building_on, building_ends}

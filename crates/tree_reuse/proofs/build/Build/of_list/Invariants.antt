@@ -1,6 +1,6 @@
 use Rattle.std.proofs.Common.{◌≡◌, ◌++◌, length, drop, reverse}
-use Rattle.league_core.specs.TreeLists.{tree_of, tree_or_leaf}
-use Rattle.tree_reuse.specs.Order.{opens_in}
+use Rattle.league_core.specs.inside.TreeLists.{tree_of, tree_or_leaf}
+use Rattle.tree_reuse.specs.inside.Order.{opens_in}
 use Rattle.tree_reuse.proofs.BuildLemmas.{IsBuilding}
 use Rattle.tree_reuse.proofs.build.Build.of_list.Given as goal
 

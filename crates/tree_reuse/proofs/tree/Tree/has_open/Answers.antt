@@ -1,6 +1,6 @@
 use Rattle.std.proofs.Common.{sym, ap, ◌∙◌}
 use Rattle.std.proofs.Common.{nat_lt}
-use Rattle.league_core.specs.Trees.{has_open}
+use Rattle.league_core.specs.search.Trees.{has_open}
 use Rattle.tree_reuse.proofs.ArenaLemmas.{arena-has_open}
 use Rattle.tree_reuse.proofs.tree.Tree.has_open.Goals as goal
 

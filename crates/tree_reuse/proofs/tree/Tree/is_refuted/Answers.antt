@@ -1,7 +1,7 @@
 use Rattle.std.proofs.Common.{◌&&◌, ◌==◌, length}
 use Rattle.std.proofs.Common.{sym, ap, ◌∙◌}
 use Rattle.std.proofs.lemmas.Bool.{ne_eqb}
-use Rattle.league_core.specs.Trees.{is_refuted}
+use Rattle.league_core.specs.search.Trees.{is_refuted}
 use Rattle.tree_reuse.proofs.ArenaLemmas.{arena-is_refuted}
 use Rattle.tree_reuse.proofs.tree.Tree.is_refuted.Goals as goal
 

@@ -38,7 +38,7 @@ invariant_of-self-2 c = record {
   roomy = (step c).roomy;
   leads = leads_lent c.self.inside.nodes c.reserve-2.new.self c.write.new.nodes
       c.self.inside.waiting c.reserve-3.new.self c.self.inside.lent c.pop-leaf.new.self
-      c.pop-leaf.result (Lent c.args.number) (reverse c.self.inside.way) c.self.inside.last
+      c.pop-leaf.result (Lent c.args.number) (reverse c.self.inside.zone_box) c.self.inside.last
       c.self.invariant.roomy c.in_ok-reserve-2.ensures.items c.in_ok-reserve-3.ensures.items
       c.pop-leaf.ensures.items c.write.ensures.items c.self.invariant.leads;
 }

@@ -1,5 +1,5 @@
 use Rattle.std.proofs.Common.{sym, ap, ◌∙◌}
-use Rattle.league_core.specs.Trees.{node_count}
+use Rattle.league_core.specs.search.Trees.{node_count}
 use Rattle.tree_reuse.proofs.ArenaLemmas.{arena-nodes}
 use Rattle.tree_reuse.proofs.tree.Tree.node_count.Goals as goal
 

@@ -1,8 +1,8 @@
 use Rattle.std.proofs.Common.{List, length, reverse, refl, sym, subst, ap, ◌∙◌, arith}
 use Rattle.league_core.specs.declared.zone.Literal.{Literal}
-use Rattle.league_core.specs.Trees.{preorder}
-use Rattle.tree_reuse.specs.Arena.{tree_below}
-use Rattle.tree_reuse.specs.KeptWays.{LeadsToNode}
+use Rattle.league_core.specs.search.Trees.{preorder}
+use Rattle.tree_reuse.specs.inside.Arena.{tree_below}
+use Rattle.tree_reuse.specs.inside.KeptWays.{LeadsToNode}
 use Rattle.tree_reuse.proofs.BuildLemmas.{lents_few, built_roomy}
 use Rattle.tree_reuse.proofs.tree.Tree.of_list.Goals as goal
 
@@ -26,7 +26,8 @@ invariant_of-result c =
           (let size = c.len-more.ensures in let ok = c.in_ok-reserve.ensures.ok in omega arith)
           (let size = c.len-more.ensures in let ok = c.in_ok-reserve-2.ensures.ok in omega arith);
       leads = subst (λ (literals : List Literal).
-          LeadsToNode c.reserve.new.self.items (reverse literals) 0) (sym c.new-way.ensures) refl;
+          LeadsToNode c.reserve.new.self.items (reverse literals) 0) (sym c.new-zone_box.ensures)
+          refl;
     }
 
 pub returns : goal.returns

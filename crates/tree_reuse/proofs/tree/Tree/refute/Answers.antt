@@ -1,8 +1,8 @@
 use Rattle.std.proofs.Common.{true}
 use Rattle.tree_reuse.proofs.RoomLemmas.{marked_once, refutes}
 use Rattle.tree_reuse.proofs.RoomLemmas.{Returns}
-use Rattle.league_core.specs.Trees.{refuted_leaf}
-use Rattle.league_core.specs.Lending.{put}
+use Rattle.league_core.specs.search.Trees.{refuted_leaf}
+use Rattle.league_core.specs.inside.Lending.{put}
 use Rattle.std.proofs.Common.{reverse}
 use Rattle.tree_reuse.specs.declared.node.Kind.TheVariants.{Refuted}
 use Rattle.tree_reuse.proofs.KeptRoomLemmas.{leads_back}
@@ -31,7 +31,7 @@ invariant_of-self c = record {
   roomy = (step c).roomy;
   leads = leads_back c.args.number c.self.inside.nodes c.write.new.nodes c.self.inside.lent
       c.remove-leaf.new.self c.as_slice.result.now c.as_slice-2.result.now c.find-place.result
-      c.remove-leaf.result (Refuted c.args.reason true) (reverse c.self.inside.way)
+      c.remove-leaf.result (Refuted c.args.reason true) (reverse c.self.inside.zone_box)
       c.self.inside.last
       c.as_slice.ensures c.as_slice-2.ensures c.find-place.ensures c.remove-leaf.ensures.item
       c.remove-leaf.ensures.items c.write.ensures.items c.self.invariant.leads;

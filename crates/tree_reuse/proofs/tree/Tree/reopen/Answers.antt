@@ -1,7 +1,7 @@
 use Rattle.tree_reuse.proofs.RoomLemmas.{marked_once, reopens}
 use Rattle.tree_reuse.proofs.RoomLemmas.{Returns}
-use Rattle.league_core.specs.Trees.{open_leaf}
-use Rattle.league_core.specs.Lending.{put}
+use Rattle.league_core.specs.search.Trees.{open_leaf}
+use Rattle.league_core.specs.inside.Lending.{put}
 use Rattle.std.proofs.Common.{reverse}
 use Rattle.tree_reuse.specs.declared.node.Kind.TheVariants.{Open}
 use Rattle.tree_reuse.proofs.KeptRoomLemmas.{leads_back}
@@ -28,7 +28,7 @@ invariant_of-self c = record {
   roomy = (step c).roomy;
   leads = leads_back c.args.number c.self.inside.nodes c.write.new.nodes c.self.inside.lent
       c.remove-leaf.new.self c.as_slice.result.now c.as_slice-2.result.now c.find-place.result
-      c.remove-leaf.result Open (reverse c.self.inside.way) c.self.inside.last
+      c.remove-leaf.result Open (reverse c.self.inside.zone_box) c.self.inside.last
       c.as_slice.ensures c.as_slice-2.ensures c.find-place.ensures c.remove-leaf.ensures.item
       c.remove-leaf.ensures.items c.write.ensures.items c.self.invariant.leads;
 }

@@ -1,5 +1,5 @@
 use Rattle.std.proofs.Common.{arith, reverse}
-use Rattle.league_core.specs.Lending.{all_opened}
+use Rattle.league_core.specs.inside.Lending.{all_opened}
 use Rattle.tree_reuse.proofs.RoomLemmas.{last_lent, opens_last, opens_all}
 use Rattle.tree_reuse.proofs.KeptRoomLemmas.{leads_opened}
 use Rattle.tree_reuse.proofs.tree.Tree.reopen_all.Goals as goal
@@ -20,7 +20,7 @@ loop-self-preserved c = record {
       c.write.ensures.items c.push.ensures.items c.push.ensures.room;
   leads = leads_opened c.loop-self.self-inside.nodes c.write.new.nodes
       c.loop-self.self-inside.waiting c.loop-self.self-inside.lent c.pop-leaf.new.self
-      c.pop-leaf.result (reverse c.loop-self.self-inside.way) c.loop-self.self-inside.last
+      c.pop-leaf.result (reverse c.loop-self.self-inside.zone_box) c.loop-self.self-inside.last
       c.loop-self.invariant.opens.roomy c.pop-leaf.ensures.items c.write.ensures.items
       c.loop-self.invariant.leads;
 }

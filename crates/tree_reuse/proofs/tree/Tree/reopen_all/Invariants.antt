@@ -1,6 +1,6 @@
 use Rattle.std.proofs.Common.{length, reverse}
-use Rattle.league_core.specs.Lending.{all_opened}
-use Rattle.tree_reuse.specs.KeptWays.{LeadsToNode}
+use Rattle.league_core.specs.inside.Lending.{all_opened}
+use Rattle.tree_reuse.specs.inside.KeptWays.{LeadsToNode}
 use Rattle.tree_reuse.proofs.RoomLemmas.{OpensLast}
 use Rattle.tree_reuse.proofs.tree.Tree.reopen_all.Given as goal
 
@@ -8,7 +8,7 @@ abbrev pub invariant-loop-self : goal.invariant-loop-self
 invariant-loop-self l = record {
   opens : OpensLast (all_opened l.fn.self) l.self-inside.nodes l.self-inside.waiting
       l.self-inside.lent;
-  leads : LeadsToNode l.self-inside.nodes.items (reverse l.self-inside.way) l.self-inside.last;
+  leads : LeadsToNode l.self-inside.nodes.items (reverse l.self-inside.zone_box) l.self-inside.last;
 }
 
 abbrev pub decreases-loop-self : goal.decreases-loop-self

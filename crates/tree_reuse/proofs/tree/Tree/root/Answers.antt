@@ -1,6 +1,6 @@
 use Rattle.std.proofs.Common.{List, reverse, refl, sym, subst}
 use Rattle.league_core.specs.declared.zone.Literal.{Literal}
-use Rattle.tree_reuse.specs.KeptWays.{LeadsToNode}
+use Rattle.tree_reuse.specs.inside.KeptWays.{LeadsToNode}
 use Rattle.tree_reuse.proofs.RoomLemmas.{root_pushed}
 use Rattle.tree_reuse.proofs.tree.Tree.root.Goals as goal
 
@@ -11,5 +11,5 @@ invariant_of-result c = record {
       c.in_ok-reserve.ensures.items c.new-nodes.ensures c.push-2.ensures.items
       c.in_ok-reserve-2.ensures.items c.new-waiting.ensures c.new-lent.ensures;
   leads = subst (λ (literals : List Literal).
-      LeadsToNode c.push.new.self.items (reverse literals) 0) (sym c.new-way.ensures) refl;
+      LeadsToNode c.push.new.self.items (reverse literals) 0) (sym c.new-zone_box.ensures) refl;
 }

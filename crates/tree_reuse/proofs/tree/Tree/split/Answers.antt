@@ -1,7 +1,7 @@
 use Rattle.std.proofs.Common.{true}
 use Rattle.tree_reuse.proofs.RoomLemmas.{marked_once, splits_pushed, Returns}
-use Rattle.league_core.specs.Trees.{open_leaf, branch}
-use Rattle.league_core.specs.Lending.{put}
+use Rattle.league_core.specs.search.Trees.{open_leaf, branch}
+use Rattle.league_core.specs.inside.Lending.{put}
 use Rattle.std.proofs.Common.{◌-◌, reverse, false}
 use Rattle.tree_reuse.specs.declared.node.Kind.TheVariants.{Open, Split}
 use Rattle.tree_reuse.proofs.KeptRoomLemmas.{leads_back, leads_pushed}
@@ -33,11 +33,12 @@ invariant_of-self c = record {
   leads = leads_pushed c.write.new.nodes c.push.new.self c.push-2.new.self
       (record { kind = Open; parent = c.remove-leaf.result; yes = true })
       (record { kind = Open; parent = c.remove-leaf.result; yes = false })
-      (reverse c.self.inside.way) c.self.inside.last c.push.ensures.items c.push-2.ensures.items
+      (reverse c.self.inside.zone_box) c.self.inside.last c.push.ensures.items
+      c.push-2.ensures.items
       (leads_back c.args.number c.self.inside.nodes c.write.new.nodes c.self.inside.lent
       c.remove-leaf.new.self c.as_slice.result.now c.as_slice-2.result.now c.find-place.result
       c.remove-leaf.result (Split c.args.test true (c.len-size.result - c.remove-leaf.result - 1))
-      (reverse c.self.inside.way) c.self.inside.last
+      (reverse c.self.inside.zone_box) c.self.inside.last
       c.as_slice.ensures c.as_slice-2.ensures c.find-place.ensures c.remove-leaf.ensures.item
       c.remove-leaf.ensures.items c.write.ensures.items c.self.invariant.leads);
 }

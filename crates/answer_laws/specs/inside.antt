@@ -1,0 +1,3 @@
+-- Reading order: what is known of each season, and of tables.
+pub mod SeasonAnswers
+pub mod TableLaws

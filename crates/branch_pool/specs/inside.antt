@@ -1,0 +1,10 @@
+-- Read in this order: it is the order in which the notions rest on each other.
+pub mod States
+pub mod Steps
+pub mod Goodness
+pub mod Calls
+pub mod Seats
+pub mod Looks
+pub mod Runs
+pub mod Laws
+pub mod Views

@@ -1,0 +1,98 @@
+-- What happens to one question alone: a leaf is lent, or worked on in its place; and what a
+-- question needs for it, and to be carried over a change.
+use Rattle.std.specs.Prelude.{◌≡◌, ◌<◌, ◌≤◌, ◌+◌, ◌^◌, ℕ, zero, suc, true, List, [], ◌∷◌, length}
+use Rattle.std.specs.Prelude.{Option, Some, None}
+use Rattle.league_core.specs.declared.sheet.Sheet.{Sheet}
+use Rattle.league_core.specs.declared.question.Question.{Question}
+use Rattle.league_core.specs.declared.zone.Zone.{Zone}
+use Rattle.league_core.specs.declared.zone.Literal.{Literal}
+use Rattle.league_core.specs.search.Trees.{Tree, open_leaf, refuted_leaf, branch, has_open}
+use Rattle.league_core.specs.search.Trees.{node_count}
+use Rattle.league_core.specs.inside.Lending.{lent_count, lent_zones, put, times_lent}
+use Rattle.reason_core.specs.declared.finding.Finding.{Finding}
+use Rattle.reason_core.specs.declared.finding.Finding.TheVariants.{Refuted, Split, Won}
+use Rattle.reason_core.specs.inside.Findings.{IsTrueFinding}
+use Rattle.league_core.specs.game.Results.{Results}
+use Rattle.tree_reuse.specs.inside.Calls.{AreTestsOf, most_nodes}
+use Rattle.tree_reuse.specs.inside.Retargets.{retargeted}
+use Rattle.branch_pool.specs.declared.question_state.Example.{Example}
+use Rattle.branch_pool.specs.declared.question_state.QuestionState.{QuestionState}
+use Rattle.branch_pool.specs.declared.question_state.Loan.{Loan}
+use Rattle.branch_pool.specs.inside.Steps.{seat_lent}
+
+-- one leaf that was open is lent under the number, and both zones are its zone
+pub record LendsSeat (number : ℕ) (old new : QuestionState) (zone other : Zone) : Type 0 where
+  pub is : new ≡ seat_lent new.tree old
+  pub leaf : put number open_leaf new.tree ≡ old.tree
+  pub lent : lent_zones number [] new.tree ≡ zone.literals ∷ []
+  pub same : other ≡ zone
+
+-- its tests are of the sheet, and so is its club
+pub record MayBeCarried (sheet : Sheet) (seat : QuestionState) : Type 0 where
+  pub club : seat.question.club < length sheet.clubs
+  pub tests : AreTestsOf sheet seat.tree
+
+-- its tree is one open leaf
+abbrev pub IsUncut : QuestionState → Type 0
+IsUncut seat = seat.tree ≡ open_leaf
+
+-- what a season leaves of a tree, where that is to be made: one open leaf stays as it is
+abbrev pub tree_left : Sheet → Results → Question → Tree → Option Tree
+tree_left sheet season question open_leaf = None
+tree_left sheet season question tree = Some (retargeted sheet season question tree)
+
+-- its tree for another season, where that is to be made
+abbrev pub tree_for : Sheet → Results → QuestionState → Option Tree
+tree_for sheet season seat = tree_left sheet season seat.question seat.tree
+
+-- what a question needs so that a leaf of it may be lent under a number
+pub record MayLend (number : ℕ) (seat : QuestionState) : Type 0 where
+  pub some : has_open seat.tree ≡ true
+  pub free : times_lent number seat.tree ≡ 0
+  pub few : node_count seat.tree + lent_count seat.tree ≤ most_nodes
+  pub fits : seat.lent + 1 < 2 ^ 32
+  pub units_fit : seat.units + 1 < 2 ^ 32
+
+-- what comes in place of a leaf in which this was found
+abbrev pub leaf_found : Finding → Tree
+leaf_found (Refuted reason) = refuted_leaf reason true
+leaf_found (Split literal) = branch literal.test true open_leaf open_leaf
+leaf_found (Won finish lots) = open_leaf
+
+-- a refutation and a split are one unit of work
+abbrev pub units_found : Finding → ℕ
+units_found (Refuted reason) = 1
+units_found (Split literal) = 1
+units_found (Won finish lots) = 0
+
+-- the first example that is found is kept
+abbrev pub example_found : Option Example → Finding → Option Example
+example_found (Some example) finding = Some example
+example_found None (Refuted reason) = None
+example_found None (Split literal) = None
+example_found None (Won finish lots) = Some (record { finish = finish; lots = lots })
+
+-- a question after work in its place: this was found in the leaf that was lent under the number
+abbrev pub seat_found : ℕ → Finding → Tree → QuestionState → QuestionState
+seat_found number finding tree seat = record seat {
+  tree = put number (leaf_found finding) tree;
+  units = seat.units + units_found finding;
+  example = example_found seat.example finding;
+}
+
+-- one open leaf of a question was worked on, and what was found there is true
+pub record WorksSeat (sheet : Sheet) (season : Results) (number : ℕ) (old new : QuestionState)
+    : Type 0 where
+  pub tree : Tree
+  pub zone : List Literal
+  pub finding : Finding
+  pub leaf : put number open_leaf tree ≡ old.tree
+  pub lent : lent_zones number [] tree ≡ zone ∷ []
+  pub found : IsTrueFinding sheet season old.question zone finding
+  pub is : new ≡ seat_found number finding tree old
+
+-- the loans with a place for a free number, and nothing there
+abbrev pub with_slot : List (Option Loan) → ℕ → List (Option Loan)
+with_slot [] number = None ∷ []
+with_slot (first ∷ loans) zero = None ∷ loans
+with_slot (first ∷ loans) (suc number) = first ∷ with_slot loans number

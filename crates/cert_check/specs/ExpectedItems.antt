@@ -1,0 +1,355 @@
+-- What must come yet in a report, by what a part is judged, and what each line that may come leaves
+-- due in its place. The forms and their order are this project's own.
+use Rattle.std.specs.Prelude.{ℕ, ◌+◌, Bool, true, false, not, ◌&&◌, ◌==◌, nat_lt, nat_le}
+use Rattle.std.specs.Prelude.{List, [], ◌∷◌, ◌++◌, length, map, Option, Some, None, codes, decimal}
+use Rattle.std.specs.Prelude.{bytes_eq, if◌then◌else◌, get_or}
+use Rattle.std.specs.List.{list_all}
+use Rattle.league_core.specs.declared.sheet.Sheet.{Sheet}
+use Rattle.league_core.specs.declared.season.Score.{Score}
+use Rattle.league_core.specs.declared.question.Claim.{Claim}
+use Rattle.league_core.specs.declared.question.Claim.TheVariants.{Inside, Outside}
+use Rattle.league_core.specs.declared.question.Question.{Question}
+use Rattle.league_core.specs.declared.zone.Test.{Test}
+use Rattle.league_core.specs.declared.zone.Literal.{Literal}
+use Rattle.league_core.specs.declared.zone.Reason.{Reason}
+use Rattle.league_core.specs.declared.zone.Reason.TheVariants.{Count, Window, Low, High, Tie}
+use Rattle.league_core.specs.declared.tree.TreeNode.{TreeNode}
+use Rattle.league_core.specs.declared.tree.TreeNode.TheVariants as node
+use Rattle.league_core.specs.game.Results.{Results}
+use Rattle.league_core.specs.game.ClubSets.{clubs_in}
+use Rattle.league_core.specs.game.Ranking.{are_lots}
+use Rattle.league_core.specs.game.Questions.{holds_at, full_question}
+use Rattle.league_core.specs.search.Zones.{with_test}
+use Rattle.league_core.specs.search.Reasons.{has_member, has_reason}
+use Rattle.cert_text.specs.declared.proof_line.ProofLine.{ProofLine}
+use Rattle.cert_text.specs.declared.proof_line.ProofLine.TheVariants as line
+use Rattle.fixture_sheet.specs.Fields.{field}
+use Rattle.cert_text.specs.TreeLines.{is_test_for}
+use Rattle.cert_check.specs.declared.token.Token.{Token}
+use Rattle.cert_check.specs.declared.token.Token.TheVariants.{Blank, Row, Proof, Unknown}
+use Rattle.cert_check.specs.declared.expected.RowWord.{RowWord}
+use Rattle.cert_check.specs.declared.expected.RowWord.TheVariants.{Clinched, Lost, Possible}
+use Rattle.cert_check.specs.declared.expected.RowWord.TheVariants.{Unsettled}
+use Rattle.cert_check.specs.declared.expected.Head.{Head}
+use Rattle.cert_check.specs.declared.expected.Head.TheVariants.{RefutedTree, SpentTree, Example}
+use Rattle.cert_check.specs.declared.expected.TreeKind.{TreeKind}
+use Rattle.cert_check.specs.declared.expected.TreeKind.TheVariants.{Refutation, Spent}
+use Rattle.cert_check.specs.declared.expected.Tally.{Tally}
+
+-- what a part of a report is judged by: the sheet, and the season and the epoch of its ask
+pub record Basis : Type 0 where
+  pub sheet : Sheet
+  pub season : Results
+  pub epoch : ℕ
+
+-- what must come: the row of the ask; the row of a line and a club; a refutation, a spent tree or
+-- an example of a question from its head on, or one of the last two; what stands for the two
+-- questions of an unsettled row; the nodes of a tree for the zones that are still due, the first of
+-- which comes next; the score of the fixture behind those that have ended; the lots
+pub data Expected : Type 0 where
+  ask_row : Expected
+  verdict_row : ℕ → ℕ → Expected
+  tree_head : Question → Expected
+  spent_head : Question → Expected
+  finish_head : Question → Expected
+  both_parts : ℕ → ℕ → Expected
+  one_part : Question → Expected
+  nodes : TreeKind → Question → List Literal → List (List Literal) → Tally → Expected
+  score : Question → List (Option Score) → List (Option Score) → Expected
+  lots : Question → List (Option Score) → Expected
+
+-- a line where something is due: it may not come there; or it may, it proves what it says or does
+-- not, and other things are due in its place
+pub data Next : Type 0 where
+  bad : Next
+  go : Bool → List Expected → Next
+
+-- ---- rows
+
+-- the name of a club
+abbrev pub name_of_club : Sheet → ℕ → List ℕ
+name_of_club sheet club = get_or (map (λ it. it.name) sheet.clubs) club []
+
+-- `ask,E`
+abbrev pub ask_fields : ℕ → List (List ℕ)
+ask_fields epoch = codes "ask" ∷ decimal epoch ∷ []
+
+-- the word in a row
+abbrev pub text_of_word : RowWord → List ℕ
+text_of_word Clinched = codes "clinched"
+text_of_word Lost = codes "lost"
+text_of_word Possible = codes "possible"
+text_of_word Unsettled = codes "unsettled"
+
+-- `verdict,K,CLUB,WORD`
+abbrev pub verdict_fields : ℕ → List ℕ → RowWord → List (List ℕ)
+verdict_fields line name word =
+    codes "verdict" ∷ decimal line ∷ name ∷ text_of_word word ∷ []
+
+-- the fields are the row of the ask, byte for byte
+abbrev pub is_ask_row : ℕ → List (List ℕ) → Bool
+is_ask_row epoch fields =
+    (length fields == 2) && bytes_eq (field 0 fields) (codes "ask")
+    && bytes_eq (field 1 fields) (decimal epoch)
+
+-- the fields are a row about a line and a club, whatever its word
+abbrev pub is_row_about : ℕ → List ℕ → List (List ℕ) → Bool
+is_row_about line name fields =
+    (length fields == 4) && bytes_eq (field 0 fields) (codes "verdict")
+    && bytes_eq (field 1 fields) (decimal line) && bytes_eq (field 2 fields) name
+
+-- the word that a text is
+abbrev pub word_named : List ℕ → Option RowWord
+word_named text =
+    if bytes_eq text (codes "clinched") then Some Clinched
+    else if bytes_eq text (codes "lost") then Some Lost
+    else if bytes_eq text (codes "possible") then Some Possible
+    else if bytes_eq text (codes "unsettled") then Some Unsettled
+    else None
+
+-- the word in a row, where the row is about the line and the club
+abbrev pub word_if_about : Bool → List ℕ → Option RowWord
+word_if_about is_about text = if is_about then word_named text else None
+
+-- the word that a row says of a club and a line, where it is their row
+abbrev pub word_in_row : ℕ → List ℕ → List (List ℕ) → Option RowWord
+word_in_row line name fields = word_if_about (is_row_about line name fields) (field 3 fields)
+
+-- ---- what a report's lines may name
+
+-- a zone with such tests alone
+abbrev pub is_path_for : Sheet → Question → List Literal → Bool
+is_path_for sheet question zone = list_all (λ it. is_test_for sheet question it.test) zone
+
+-- a set of clubs of the sheet without the question's own, with a member
+abbrev pub is_set_for : Sheet → Question → List ℕ → Bool
+is_set_for sheet question clubs =
+    has_member clubs
+    && list_all (λ club. nat_lt club (length sheet.clubs) && not (club == question.club)) clubs
+
+-- a reason that a leaf of a tree for the question may have
+abbrev pub is_reason_for : Sheet → Question → Reason → Bool
+is_reason_for sheet question Count = true
+is_reason_for sheet question Window = true
+is_reason_for sheet question (Low set) = is_set_for sheet question (clubs_in set)
+is_reason_for sheet question (High set) = is_set_for sheet question (clubs_in set)
+is_reason_for sheet question Tie = true
+
+-- a score with which an unplayed match may end
+abbrev pub is_ending : Sheet → Score → Bool
+is_ending sheet ending = nat_le ending.home sheet.goal_limit && nat_le ending.away sheet.goal_limit
+
+-- both claims are the same
+abbrev pub same_claim : Claim → Claim → Bool
+same_claim Inside Inside = true
+same_claim Inside Outside = false
+same_claim Outside Inside = false
+same_claim Outside Outside = true
+
+-- ---- trees
+
+-- the node that a line of a tree stands for, where trees of this kind have such a line
+abbrev pub node_in : TreeKind → ProofLine → Option TreeNode
+node_in Refutation (line.Split test) = Some (node.Split test false)
+node_in Refutation (line.Leaf reason) = Some (node.Refuted reason false)
+node_in Refutation _ = None
+node_in Spent (line.Split test) = Some (node.Split test false)
+node_in Spent (line.NewSplit test) = Some (node.Split test true)
+node_in Spent (line.Leaf reason) = Some (node.Refuted reason false)
+node_in Spent (line.NewLeaf reason) = Some (node.Refuted reason true)
+node_in Spent line.OpenLeaf = Some node.Open
+node_in Spent _ = None
+
+-- one new node more, where the node is new
+abbrev pub with_fresh : Bool → Tally → Tally
+with_fresh false tally = tally
+with_fresh true tally = record tally { news = tally.news + 1 }
+
+-- an open leaf was there
+abbrev pub with_open : Tally → Tally
+with_open tally = record tally { some_open = true }
+
+-- the tree may end with this tally: one on which the budget was spent has exactly so many new
+-- nodes, and an open leaf
+abbrev pub is_tally_whole : ℕ → TreeKind → Tally → Bool
+is_tally_whole budget Refutation tally = true
+is_tally_whole budget Spent tally = (tally.news == budget) && tally.some_open
+
+-- what is due after a leaf: the next zone that is, or nothing more of the tree
+abbrev pub after_leaf : Basis → TreeKind → Question → List (List Literal) → Tally → Bool → Next
+after_leaf basis kind question [] tally holds =
+    go (holds && is_tally_whole basis.sheet.budget kind tally) []
+after_leaf basis kind question (zone ∷ zones) tally holds =
+    go holds (nodes kind question zone zones tally ∷ [])
+
+-- what is due after a split: the half where its test is true, and later the other
+abbrev pub after_split : TreeKind → Question → List Literal → List (List Literal) → Tally → Test
+    → Next
+after_split kind question zone zones tally test =
+    go true
+    (nodes kind question (with_test zone test true) (with_test zone test false ∷ zones) tally ∷ [])
+
+-- what is due after a node
+abbrev pub after_node : Basis → TreeKind → Question → List Literal → List (List Literal) → Tally
+    → TreeNode → Next
+after_node basis kind question zone zones tally (node.Split test fresh) =
+    if is_test_for basis.sheet question test
+    then after_split kind question zone zones (with_fresh fresh tally) test else bad
+after_node basis kind question zone zones tally (node.Refuted reason fresh) =
+    if is_reason_for basis.sheet question reason
+    then after_leaf basis kind question zones (with_fresh fresh tally)
+    (has_reason basis.sheet basis.season question zone reason) else bad
+after_node basis kind question zone zones tally node.Open =
+    after_leaf basis kind question zones (with_open tally) true
+after_node basis kind question zone zones tally (node.Lent number) = bad
+
+-- what is due after a line that may stand for a node
+abbrev pub after_node_if : Basis → TreeKind → Question → List Literal → List (List Literal)
+    → Tally → Option TreeNode → Next
+after_node_if basis kind question zone zones tally None = bad
+after_node_if basis kind question zone zones tally (Some it) =
+    after_node basis kind question zone zones tally it
+
+-- ---- examples
+
+-- what is due after these scores: the score of the next fixture that the season has none for, or
+-- the lots
+abbrev pub scores_due : Question → List (Option Score) → List (Option Score) → Expected
+scores_due question ended [] = lots question ended
+scores_due question ended (Some played ∷ left) = scores_due question (ended ++ Some played ∷ [])
+    left
+scores_due question ended (None ∷ left) = score question ended left
+
+-- a finish with these scores
+abbrev pub finish_with : Results → List (Option Score) → Results
+finish_with season scores = record season { scores = scores }
+
+-- ---- each line
+
+-- the row of the ask
+abbrev pub after_ask_row : Basis → List (List ℕ) → Next
+after_ask_row basis fields = if is_ask_row basis.epoch fields then go true [] else bad
+
+-- what a word asks for
+abbrev pub dues_of_word : ℕ → ℕ → RowWord → List Expected
+dues_of_word line club Clinched = tree_head (full_question club line Outside) ∷ []
+dues_of_word line club Lost = tree_head (full_question club line Inside) ∷ []
+dues_of_word line club Possible =
+    finish_head (full_question club line Inside)
+    ∷ finish_head (full_question club line Outside) ∷ []
+dues_of_word line club Unsettled = both_parts line club ∷ []
+
+-- what is due after a row, where it has a word
+abbrev pub promised : ℕ → ℕ → Option RowWord → Next
+promised line club None = bad
+promised line club (Some word) = go true (dues_of_word line club word)
+
+-- a head, where it is of this claim
+abbrev pub if_of_claim : Claim → Claim → Head → Option Head
+if_of_claim claim other head = if same_claim other claim then Some head else None
+
+-- which head of this claim a line is
+abbrev pub head_in : Claim → ProofLine → Option Head
+head_in claim (line.Tree other) = if_of_claim claim other RefutedTree
+head_in claim (line.Spent other) = if_of_claim claim other SpentTree
+head_in claim (line.Finish other) = if_of_claim claim other Example
+head_in claim _ = None
+
+-- the nodes of a tree from its root on
+abbrev pub whole_tree : TreeKind → Question → Expected
+whole_tree kind question = nodes kind question [] [] (record { news = 0; some_open = false })
+
+-- an example after its head
+abbrev pub whole_example : Basis → Question → Expected
+whole_example basis question = scores_due question [] basis.season.scores
+
+-- a refutation's head
+abbrev pub after_tree_head : Question → Option Head → Next
+after_tree_head question None = bad
+after_tree_head question (Some RefutedTree) = go true (whole_tree Refutation question ∷ [])
+after_tree_head question (Some SpentTree) = bad
+after_tree_head question (Some Example) = bad
+
+-- a spent tree's head
+abbrev pub after_spent_head : Question → Option Head → Next
+after_spent_head question None = bad
+after_spent_head question (Some RefutedTree) = bad
+after_spent_head question (Some SpentTree) = go true (whole_tree Spent question ∷ [])
+after_spent_head question (Some Example) = bad
+
+-- an example's head
+abbrev pub after_finish_head : Basis → Question → Option Head → Next
+after_finish_head basis question None = bad
+after_finish_head basis question (Some RefutedTree) = bad
+after_finish_head basis question (Some SpentTree) = bad
+after_finish_head basis question (Some Example) = go true (whole_example basis question ∷ [])
+
+-- the head of an example or of a spent tree
+abbrev pub after_one_part : Basis → Question → Option Head → Next
+after_one_part basis question None = bad
+after_one_part basis question (Some RefutedTree) = bad
+after_one_part basis question (Some SpentTree) = go true (whole_tree Spent question ∷ [])
+after_one_part basis question (Some Example) = go true (whole_example basis question ∷ [])
+
+-- the first head after an unsettled row: after an example of inside only a spent tree of outside
+-- may come
+abbrev pub after_both_parts : Basis → Question → Question → Option Head → Next
+after_both_parts basis inside outside None = bad
+after_both_parts basis inside outside (Some RefutedTree) = bad
+after_both_parts basis inside outside (Some SpentTree) =
+    go true (whole_tree Spent inside ∷ one_part outside ∷ [])
+after_both_parts basis inside outside (Some Example) =
+    go true (whole_example basis inside ∷ spent_head outside ∷ [])
+
+-- the score of the fixture that is due
+abbrev pub after_score : Basis → Question → List (Option Score) → List (Option Score) → ProofLine
+    → Next
+after_score basis question ended left (line.Score fixture ending) =
+    if (fixture == length ended) && is_ending basis.sheet ending
+    then go true (scores_due question (ended ++ Some ending ∷ []) left ∷ []) else bad
+after_score basis question ended left _ = bad
+
+-- lots, where a list is lots
+abbrev pub lots_if_drawn : Bool → List ℕ → Option (List ℕ)
+lots_if_drawn is_drawn list = if is_drawn then Some list else None
+
+-- the lots: they end the example, and the question has to hold with them
+abbrev pub after_lots : Basis → Question → List (Option Score) → ProofLine → Next
+after_lots basis question ended (line.Lots list) =
+    if are_lots (length basis.sheet.clubs) list.list
+    then go (holds_at basis.sheet question (finish_with basis.season ended) list.list) [] else bad
+after_lots basis question ended _ = bad
+
+-- a row where something is due
+abbrev pub after_row : Basis → Expected → List (List ℕ) → Next
+after_row basis ask_row fields = after_ask_row basis fields
+after_row basis (verdict_row line club) fields =
+    promised line club (word_in_row line (name_of_club basis.sheet club) fields)
+after_row basis _ fields = bad
+
+-- a proof line where something is due
+abbrev pub after_proof : Basis → Expected → ProofLine → Next
+after_proof basis ask_row it = bad
+after_proof basis (verdict_row line club) it = bad
+after_proof basis (tree_head question) it =
+    after_tree_head question (head_in question.claim it)
+after_proof basis (spent_head question) it =
+    after_spent_head question (head_in question.claim it)
+after_proof basis (finish_head question) it =
+    after_finish_head basis question (head_in question.claim it)
+after_proof basis (both_parts line club) it =
+    after_both_parts basis (full_question club line Inside) (full_question club line Outside)
+    (head_in Inside it)
+after_proof basis (one_part question) it =
+    after_one_part basis question (head_in question.claim it)
+after_proof basis (nodes kind question zone zones tally) it =
+    after_node_if basis kind question zone zones tally (node_in kind it)
+after_proof basis (score question ended left) it = after_score basis question ended left it
+after_proof basis (lots question ended) it = after_lots basis question ended it
+
+-- any line where something is due; a line that is passed over leaves it due
+abbrev pub after : Basis → Expected → Token → Next
+after basis due Blank = go true (due ∷ [])
+after basis due (Row fields) = after_row basis due fields
+after basis due (Proof it) = after_proof basis due it
+after basis due Unknown = bad

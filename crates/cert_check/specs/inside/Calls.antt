@@ -1,0 +1,317 @@
+-- What the calls of the checker come to, each by the reading line by line: a call that reads what
+-- is due leaves the rest to be read from where it stops, whatever else is due; or the reading
+-- stops.
+use Rattle.std.specs.Prelude.{◌≡◌, ◌<◌, ◌≤◌, ℕ, ◌+◌, ◌^◌, Bool, true, false, IsTrue, List, [], ◌∷◌}
+use Rattle.std.specs.Prelude.{◌++◌, ◌*◌, length, take, drop, reverse, Result, Ok, Err, Option, Some}
+use Rattle.std.specs.Prelude.{None, if◌then◌else◌}
+use Rattle.league_core.specs.declared.tree.TreeNode.{TreeNode}
+use Rattle.league_core.specs.declared.question.Question.{Question}
+use Rattle.league_core.specs.declared.zone.Literal.{Literal}
+use Rattle.league_core.specs.declared.sheet.Sheet.{Sheet}
+use Rattle.league_core.specs.game.Results.{Results}
+use Rattle.league_core.specs.game.Seasons.{IsLeague}
+use Rattle.league_core.specs.search.Zones.{with_test}
+use Rattle.cert_check.specs.declared.token.Token.{Token}
+use Rattle.cert_check.specs.declared.stop.Accepted.{Accepted}
+use Rattle.cert_check.specs.declared.stop.CheckStop.{CheckStop}
+use Rattle.cert_check.specs.declared.stop.CheckStop.TheVariants as stop
+use Rattle.cert_check.specs.declared.stop.CheckStopAt.{CheckStopAt}
+use Rattle.cert_check.specs.declared.stop.CheckStopAt.TheVariants as halt
+use Rattle.cert_check.specs.declared.expected.RowWord.{RowWord}
+use Rattle.cert_check.specs.declared.expected.RowWord.TheVariants.{Clinched, Lost, Possible}
+use Rattle.cert_check.specs.declared.expected.RowWord.TheVariants.{Unsettled}
+use Rattle.cert_check.specs.declared.expected.TreeKind.{TreeKind}
+use Rattle.cert_check.specs.Tokens.{counts, counted_lines}
+use Rattle.cert_check.specs.LineLists.{NumberedLine, tokens_of, line_number_at}
+use Rattle.cert_check.specs.declared.token.Token.TheVariants.{Blank, Row, Proof, Unknown}
+use Rattle.cert_check.specs.declared.item.Item.{Item}
+use Rattle.cert_check.specs.declared.tree.TreeSpec.{TreeSpec}
+use Rattle.cert_check.specs.declared.tree.Walk.{Walk}
+use Rattle.cert_check.specs.ExpectedItems.{Basis, Expected, verdict_row, nodes, dues_of_word, Next}
+use Rattle.cert_check.specs.ExpectedItems.{bad, go}
+use Rattle.cert_check.specs.ExpectedItems.{node_in, after_node, head_in, scores_due, finish_with}
+use Rattle.cert_check.specs.declared.expected.Head.{Head}
+use Rattle.league_core.specs.declared.question.Claim.{Claim}
+use Rattle.league_core.specs.declared.season.Score.{Score}
+use Rattle.league_core.specs.game.Questions.{holds_at}
+use Rattle.league_core.specs.game.Ranking.{are_lots}
+use Rattle.cert_text.specs.declared.proof_line.ProofLine.TheVariants as line
+use Rattle.check_bounds.specs.inside.Trails.{TrailView, root_of}
+use Rattle.cert_check.specs.ExpectedItems.{is_path_for, lots_if_drawn}
+use Rattle.cert_check.specs.Machine.{Ending, whole_at, bad_line, no_proof, short, ending_of}
+use Rattle.cert_check.specs.Machine.{part_of_ask}
+use Rattle.cert_check.specs.inside.Truths.{AreTrueRows}
+use Rattle.cert_check.specs.Machine.{part_ending}
+
+-- what is judged: by what, and which lines
+pub record ReportView : Type 0 where
+  pub basis : Basis
+  pub tokens : List Token
+
+-- a sheet and a season of it, and the way to the whole of it, from which each tree begins
+pub record IsJudgedFrom (sheet : Sheet) (season : Results) (root : TrailView) : Type 0 where
+  pub league : IsLeague sheet season
+  pub whole : root ≡ root_of sheet season
+
+-- what the lines from a position on come to, where this is due first
+abbrev pub ending_from : ReportView → ℕ → List Expected → ℕ → Ending
+ending_from judged from dues unsettled =
+    ending_of judged.basis (drop from judged.tokens) dues from unsettled
+
+-- the reading stops so, whatever else is due
+abbrev pub HaltsAt : ReportView → ℕ → Expected → CheckStopAt → Type 0
+HaltsAt judged from due (halt.BadLine at) =
+    (at < length judged.tokens)
+    × ((dues : List Expected) (unsettled : ℕ)
+    → ending_from judged from (due ∷ dues) unsettled ≡ bad_line at)
+HaltsAt judged from due (halt.NoProof at) =
+    (at < length judged.tokens)
+    × ((dues : List Expected) (unsettled : ℕ)
+    → ending_from judged from (due ∷ dues) unsettled ≡ no_proof at)
+HaltsAt judged from due halt.Short =
+    (dues : List Expected) (unsettled : ℕ)
+    → ending_from judged from (due ∷ dues) unsettled ≡ short
+HaltsAt judged from due halt.OutOfMemory = Unit {0}
+
+-- the position from which the rest is read, where what was due is shown; or why the reading stops
+abbrev pub Goes : ReportView → ℕ → Expected → Result ℕ CheckStopAt → Type 0
+Goes judged from due (Ok at) =
+    (at ≤ length judged.tokens)
+    × ((dues : List Expected) (unsettled : ℕ)
+    → ending_from judged from (due ∷ dues) unsettled ≡ ending_from judged at dues unsettled)
+Goes judged from due (Err stop) = HaltsAt judged from due stop
+
+-- the next line that counts
+pub record IsNextAt (judged : ReportView) (from at : ℕ) (token : Token) : Type 0 where
+  pub behind : from ≤ at
+  pub within : at < length judged.tokens
+  pub fits : at + 1 < 2 ^ 64
+  pub there : drop at judged.tokens ≡ token ∷ drop (at + 1) judged.tokens
+  pub counted : IsTrue (counts token)
+  pub same : (due : Expected) (dues : List Expected) (unsettled : ℕ)
+      → ending_from judged from (due ∷ dues) unsettled
+      ≡ ending_from judged at (due ∷ dues) unsettled
+
+-- a call that looks for the next line that counts: there is none where lines are missing
+abbrev pub FindsNext : ReportView → ℕ → Result (ℕ × Token) CheckStopAt → Type 0
+FindsNext judged from (Ok found) = IsNextAt judged from found.0 found.1
+FindsNext judged from (Err halt.Short) =
+    (due : Expected) (dues : List Expected) (unsettled : ℕ)
+    → ending_from judged from (due ∷ dues) unsettled ≡ short
+FindsNext judged from (Err halt.OutOfMemory) = Unit {0}
+FindsNext judged from (Err (halt.BadLine at)) = ⊥
+FindsNext judged from (Err (halt.NoProof at)) = ⊥
+
+-- ---- rows
+
+-- what is due after the row of an ask, where it is that
+abbrev pub after_ask_row_if : Bool → Next
+after_ask_row_if is = if is then go true [] else bad
+
+-- a row of this word counts so many unsettled rows
+abbrev pub unsettled_in : RowWord → ℕ
+unsettled_in Clinched = 0
+unsettled_in Lost = 0
+unsettled_in Possible = 0
+unsettled_in Unsettled = 1
+
+-- the row of a line and a club leaves due what its word asks for
+abbrev pub GoesByWord : ReportView → ℕ → ℕ → ℕ → Result (ℕ × RowWord) CheckStopAt → Type 0
+GoesByWord judged from line club (Ok found) =
+    (found.0 ≤ length judged.tokens)
+    × ((dues : List Expected) (unsettled : ℕ)
+    → ending_from judged from (verdict_row line club ∷ dues) unsettled
+    ≡ ending_from judged found.0 (dues_of_word line club found.1 ++ dues)
+    (unsettled + unsettled_in found.1))
+GoesByWord judged from line club (Err stop) = HaltsAt judged from (verdict_row line club) stop
+
+-- ---- trees
+
+-- the halves that are still due after the end of a way, its last literal first: one for each yes
+-- on it
+abbrev pub to_come : List Literal → List (List Literal)
+to_come [] = []
+to_come (literal ∷ up) =
+    if literal.yes then with_test (reverse up) literal.test false ∷ to_come up else to_come up
+
+-- the same for a way from the root on
+abbrev pub pending_of : List Literal → List (List Literal)
+pending_of path = to_come (reverse path)
+
+-- both are places of one season
+pub record IsInSeasonOf (old new : TrailView) : Type 0 where
+  pub sheet : new.sheet ≡ old.sheet
+  pub season : new.season ≡ old.season
+
+-- a place of the season that is judged by, whose zone a tree for the question can have
+pub record IsPathFor (basis : Basis) (question : Question) (path : TrailView) : Type 0 where
+  pub sheet : path.sheet ≡ basis.sheet
+  pub season : path.season ≡ basis.season
+  pub tests : IsTrue (is_path_for basis.sheet question path.zone)
+
+-- what is due where the reading of a tree stands so
+abbrev pub nodes_due : TreeSpec → Walk → Expected
+nodes_due wanted walk =
+    nodes wanted.kind wanted.question walk.path.zone (pending_of walk.path.zone) walk.tally
+
+-- what is due after a node where it stands so
+abbrev pub after_walked : Basis → TreeSpec → Walk → TreeNode → Next
+after_walked basis wanted walk node =
+    after_node basis wanted.kind wanted.question walk.path.zone (pending_of walk.path.zone)
+    walk.tally node
+
+-- the node that a line stands for, where it is a proof line that stands for one
+abbrev pub node_of_token : TreeKind → Token → Option TreeNode
+node_of_token kind Blank = None
+node_of_token kind (Row fields) = None
+node_of_token kind (Proof line) = node_in kind line
+node_of_token kind Unknown = None
+
+-- what a call says of a node: true where it ends its tree, false where nodes are due after it
+abbrev pub NodeSays : Next → ℕ → Expected → Result Bool CheckStopAt → Type 0
+NodeSays next at due (Ok true) = next ≡ go true []
+NodeSays next at due (Ok false) = next ≡ go true (due ∷ [])
+NodeSays next at due (Err (halt.BadLine place)) = (place ≡ at) × (next ≡ bad)
+NodeSays next at due (Err (halt.NoProof place)) =
+    (place ≡ at) × ((more : List Expected) × (next ≡ go false more))
+NodeSays next at due (Err halt.Short) = ⊥
+NodeSays next at due (Err halt.OutOfMemory) = Unit {0}
+
+-- ---- heads
+
+-- the head of a claim that a line is, where it is a proof line that is one
+abbrev pub head_of_token : Claim → Token → Option Head
+head_of_token claim Blank = None
+head_of_token claim (Row fields) = None
+head_of_token claim (Proof line) = head_in claim line
+head_of_token claim Unknown = None
+
+-- ---- examples
+
+-- what is due of an example where the fixtures before this one have ended with these scores
+abbrev pub example_due : Question → ℕ → List (Option Score) → Expected
+example_due question fixture scores = scores_due question (take fixture scores) (drop fixture
+    scores)
+
+-- what is due after a score, where the line is one that may come
+abbrev pub after_score_if : Question → List (Option Score) → List (Option Score) → Option Score →
+    Next
+after_score_if question ended left None = bad
+after_score_if question ended left (Some ending) =
+    go true (scores_due question (ended ++ Some ending ∷ []) left ∷ [])
+
+-- what is due behind lots, where the line has such
+abbrev pub after_lots_if : Basis → Question → List (Option Score) → Option (List ℕ) → Next
+after_lots_if basis question ended None = bad
+after_lots_if basis question ended (Some drawn) =
+    go (holds_at basis.sheet question (finish_with basis.season ended) drawn) []
+
+-- the lots that a line tells, where it tells some of so many clubs
+abbrev pub lots_of_token : ℕ → Token → Option (List ℕ)
+lots_of_token clubs Blank = None
+lots_of_token clubs (Row fields) = None
+lots_of_token clubs (Proof (line.Lots told)) = lots_if_drawn (are_lots clubs told.list) told.list
+lots_of_token clubs (Proof _) = None
+lots_of_token clubs Unknown = None
+
+-- a call that goes on over one fixture: the scores so far are longer by its score
+abbrev pub GoesOverFixture : ReportView → ℕ → ℕ → List (Option Score) → List (Option Score)
+    → Result ℕ CheckStopAt → Type 0
+GoesOverFixture judged from fixture old new (Ok at) =
+    (at ≤ length judged.tokens)
+    × ((question : Question) (dues : List Expected) (unsettled : ℕ)
+    → ending_from judged from (example_due question fixture old ∷ dues) unsettled
+    ≡ ending_from judged at (example_due question (fixture + 1) new ∷ dues) unsettled)
+GoesOverFixture judged from fixture old new (Err stop) =
+    (question : Question) → HaltsAt judged from (example_due question fixture old) stop
+
+-- ---- items
+
+-- the reading stops so where all of this is due, whatever else is
+abbrev pub AllHalt : ReportView → ℕ → List Expected → CheckStopAt → Type 0
+AllHalt judged from wanted (halt.BadLine at) =
+    (at < length judged.tokens)
+    × ((dues : List Expected) (unsettled : ℕ)
+    → ending_from judged from (wanted ++ dues) unsettled ≡ bad_line at)
+AllHalt judged from wanted (halt.NoProof at) =
+    (at < length judged.tokens)
+    × ((dues : List Expected) (unsettled : ℕ)
+    → ending_from judged from (wanted ++ dues) unsettled ≡ no_proof at)
+AllHalt judged from wanted halt.Short =
+    (dues : List Expected) (unsettled : ℕ)
+    → ending_from judged from (wanted ++ dues) unsettled ≡ short
+AllHalt judged from wanted halt.OutOfMemory = Unit {0}
+
+-- the position from which the rest is read, where all of this is shown; or why the reading stops
+abbrev pub GoesAfter : ReportView → ℕ → List Expected → Result ℕ CheckStopAt → Type 0
+GoesAfter judged from wanted (Ok at) =
+    (at ≤ length judged.tokens)
+    × ((dues : List Expected) (unsettled : ℕ)
+    → ending_from judged from (wanted ++ dues) unsettled ≡ ending_from judged at dues unsettled)
+GoesAfter judged from wanted (Err stop) = AllHalt judged from wanted stop
+
+-- items are shown, with so many unsettled rows among them, or the reading stops
+abbrev pub GoesOverAll : ReportView → ℕ → List Expected → Result Item CheckStopAt → Type 0
+GoesOverAll judged from wanted (Ok found) =
+    (found.next ≤ length judged.tokens)
+    × ((dues : List Expected) (unsettled : ℕ)
+    → ending_from judged from (wanted ++ dues) unsettled
+    ≡ ending_from judged found.next dues (unsettled + found.unsettled))
+GoesOverAll judged from wanted (Err stop) = AllHalt judged from wanted stop
+
+-- one item is
+abbrev pub GoesOverItem : ReportView → ℕ → ℕ → ℕ → Result Item CheckStopAt → Type 0
+GoesOverItem judged from line club result =
+    GoesOverAll judged from (verdict_row line club ∷ []) result
+
+-- a season that has gone over one fixture: this fixture has a score, and the rest is as it was
+pub record IsOver (fixture : ℕ) (old new : Results) : Type 0 where
+  pub scores : length new.scores ≡ length old.scores
+  pub deductions : new.deductions ≡ old.deductions
+
+-- what is due is shown up to a position, with so many unsettled rows, and the rest is still due
+abbrev pub Reaches : ReportView → ℕ → List Expected → ℕ → List Expected → ℕ → Type 0
+Reaches judged from wanted at left unsettled =
+    (dues : List Expected) (before : ℕ)
+    → ending_from judged from (wanted ++ dues) before
+    ≡ ending_from judged at (left ++ dues) (before + unsettled)
+
+-- ---- the whole
+
+-- the lines up to a position are the rows of an ask with what comes after each, some lines being
+-- passed over, and each row is true of the season
+abbrev pub SaysTruly : Basis → List NumberedLine → ℕ → ℕ → Type 0
+SaysTruly basis lines from next =
+    (taken : List Token) × (rest : List Token) × (drop from (tokens_of lines) ≡ taken ++ rest)
+    × (next ≡ from + length taken)
+    × AreTrueRows basis (part_of_ask basis.sheet) (counted_lines taken)
+
+-- a call that checks the part of one ask: it is whole, with a row for each line and each club, and
+-- tells the truth; or
+-- the reading stops at a line, whose number is told
+abbrev pub ChecksPart : Basis → List NumberedLine → ℕ → Result Accepted CheckStop → Type 0
+ChecksPart basis lines from (Ok accepted) =
+    (part_ending basis lines from ≡ whole_at accepted.next accepted.unsettled)
+    × (accepted.rows ≡ length basis.sheet.lines * length basis.sheet.clubs)
+    × SaysTruly basis lines from accepted.next
+ChecksPart basis lines from (Err (stop.BadLine number)) =
+    (at : ℕ) × (at < length lines) × (part_ending basis lines from ≡ bad_line at)
+    × (number ≡ line_number_at lines at)
+ChecksPart basis lines from (Err (stop.NoProof number)) =
+    (at : ℕ) × (at < length lines) × (part_ending basis lines from ≡ no_proof at)
+    × (number ≡ line_number_at lines at)
+ChecksPart basis lines from (Err stop.Short) = part_ending basis lines from ≡ short
+ChecksPart basis lines from (Err stop.OutOfMemory) = Unit {0}
+
+-- a call that looks for lines after a report: there is none that counts; or the first that does is
+-- told
+abbrev pub ChecksEnd : List NumberedLine → ℕ → Result (Unit {0}) CheckStop → Type 0
+ChecksEnd lines from (Ok it) = counted_lines (drop from (tokens_of lines)) ≡ []
+ChecksEnd lines from (Err (stop.BadLine number)) =
+    (at : ℕ) × (from ≤ at) × (at < length lines) × (number ≡ line_number_at lines at)
+    × (counted_lines (drop from (tokens_of lines)) ≡ counted_lines (drop at (tokens_of lines)))
+    × ((token : Token) × (drop at (tokens_of lines) ≡ token ∷ drop (at + 1) (tokens_of lines))
+    × IsTrue (counts token))
+ChecksEnd lines from (Err (stop.NoProof number)) = ⊥
+ChecksEnd lines from (Err stop.Short) = ⊥
+ChecksEnd lines from (Err stop.OutOfMemory) = Unit {0}

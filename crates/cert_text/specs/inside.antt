@@ -1,0 +1,6 @@
+-- What the functions promise each other and the crates above: no promise of the program rests on
+-- these words. Read in this order.
+pub mod LineLaws
+pub mod Values
+pub mod Widths
+pub mod PlainForms

@@ -1,0 +1,48 @@
+-- Lines by their own texts, after the name that each begins with: what is read of them without a
+-- reader of JSON.
+use Rattle.std.specs.Prelude.{◌≡◌, ◌≤◌, ℕ, List, [], ◌∷◌, ◌++◌, Some, codes, decimal, IsTrue}
+use Rattle.std.specs.List.{list_all}
+use Rattle.league_core.specs.declared.club_set.ClubSet.{ClubSet}
+use Rattle.league_core.specs.declared.zone.Test.{Test}
+use Rattle.league_core.specs.declared.zone.Reason.{Reason}
+use Rattle.cert_text.specs.declared.proof_line.ProofLine.TheVariants as line
+use Rattle.cert_text.specs.Lines.{Part, clubs, part_text, test_parts}
+use Rattle.cert_text.specs.Ranges.{is_club_number, is_test_in_range}
+use Rattle.cert_text.specs.Places.{set_listed}
+use Rattle.cert_text.specs.Forms.{line_in}
+
+-- the text of an array that begins with this name
+abbrev pub text_named : List ℕ → List ℕ → List ℕ
+text_named name behind = 91 ∷ 34 ∷ (name ++ 34 ∷ behind)
+
+-- what goes on with this name, after a comma
+abbrev pub next_named : List ℕ → List ℕ → List ℕ
+next_named name behind = 44 ∷ 34 ∷ (name ++ 34 ∷ behind)
+
+-- these parts, each after a comma, and the end of the array
+abbrev pub text_of_rest : List Part → List ℕ
+text_of_rest [] = 93 ∷ []
+text_of_rest (part ∷ parts) = 44 ∷ (part_text part ++ text_of_rest parts)
+
+-- the text goes on with a number within these bounds
+abbrev pub IsNumberBefore : ℕ → ℕ → List ℕ → ℕ → List ℕ → Type 0
+IsNumberBefore least most text number behind =
+    (least ≤ number) × (number ≤ most) × (text ≡ 44 ∷ (decimal number ++ behind))
+
+-- the text goes on with this list of clubs, and ends
+abbrev pub AreClubsAtEnd : List ℕ → List ℕ → Type 0
+AreClubsAtEnd text list =
+    IsTrue (list_all is_club_number list) × (text ≡ text_of_rest (clubs list ∷ []))
+
+-- the text goes on with a list of clubs that is this set, and ends
+abbrev pub IsSetAtEnd : List ℕ → ClubSet → Type 0
+IsSetAtEnd text set = (list : List ℕ) × AreClubsAtEnd text list × (set_listed list ≡ Some set)
+
+-- the text goes on with the parts of the test, and ends
+abbrev pub IsTestAtEnd : List ℕ → Test → Type 0
+IsTestAtEnd text test = IsTrue (is_test_in_range test) × (text ≡ text_of_rest (test_parts test))
+
+-- after the name of a leaf it makes the line of this reason, new or not
+pub record IsReasonAtEnd (text : List ℕ) (reason : Reason) : Type 0 where
+  pub leaf : line_in (text_named (codes "leaf") text) ≡ Some (line.Leaf reason)
+  pub new_leaf : line_in (text_named (codes "new_leaf") text) ≡ Some (line.NewLeaf reason)

@@ -1,8 +1,0 @@
-use Rattle.std.proofs.Common.{◌≡◌, length}
-use Rattle.check_bounds.proofs.ScopeLemmas.{HaveCorners}
-use Rattle.check_bounds.proofs.zone.all_corners.Given as goal
-
--- one list of corners for each scope so far
-abbrev pub invariant-loop-scope : goal.invariant-loop-scope
-invariant-loop-scope l =
-    (length l.corners.items ≡ l.scope-index) × HaveCorners l.scopes l.corners.items

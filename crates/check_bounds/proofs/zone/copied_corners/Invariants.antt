@@ -1,6 +1,0 @@
-use Rattle.std.proofs.Common.{◌≡◌, take}
-use Rattle.check_bounds.proofs.zone.copied_corners.Given as goal
-
--- those so far
-abbrev pub invariant-loop-own : goal.invariant-loop-own
-invariant-loop-own l = l.copied.items ≡ take l.own-index l.corners

@@ -1,0 +1,5 @@
+-- What the functions promise each other and the crates above: no promise of the program rests on
+-- these words. Read in this order.
+pub mod Around
+pub mod Tables
+pub mod Spans

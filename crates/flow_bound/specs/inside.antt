@@ -1,0 +1,7 @@
+-- what the public contracts rest on
+pub mod Excess
+-- what the inner functions promise each other
+pub mod Parts
+pub mod Fixtures
+pub mod Meetings
+pub mod Network

@@ -1,0 +1,2 @@
+-- What is known of each question.
+pub mod Completeness

@@ -1,0 +1,10 @@
+-- The setting of a box, what a cell stands for, then what a box does, then the points that it
+-- leaves.
+pub mod Settings
+pub mod Cells
+pub mod Unplayed
+pub mod Boxes
+pub mod Ends
+pub mod Totals
+pub mod PlayedViews
+pub mod Points

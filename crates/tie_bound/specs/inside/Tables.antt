@@ -1,0 +1,56 @@
+-- Tables of the clubs' sums over the fixtures of a box.
+use Rattle.std.specs.Prelude.{◌≡◌, ◌⊎◌, ℕ, ◌+◌, ◌<◌, ℤ, true, List}
+use Rattle.league_core.specs.declared.sheet.Fixture.{Fixture}
+use Rattle.league_core.specs.declared.season.Score.{Score}
+use Rattle.league_core.specs.game.Sums.{Worth, has_club, worth_to}
+use Rattle.league_core.specs.search.PointRanges.{range_of, range_from}
+use Rattle.tie_criteria.specs.declared.measure.Measure.{Measure}
+use Rattle.tie_criteria.specs.inside.Measures.{worth_of}
+use Rattle.score_box.specs.declared.cell.Cell.{Cell}
+use Rattle.score_box.specs.inside.Cells.{IsCellOf}
+use Rattle.tie_bound.specs.declared.sums.Sums.{Sums}
+use Rattle.tie_bound.specs.inside.Sums.{range_by, sums_at, AreNear, SpansGrowBy}
+
+-- what a match is worth to a club, where a worth and a club are given
+abbrev pub Value : Type 0
+Value = Worth → ℕ → Fixture → Score → ℤ
+
+-- the table has each club's ranges over these fixtures, no number of them far from zero
+pub record AreSums (value : Value) (fixtures : List Fixture) (options : List (List Score))
+    (table : List Sums) : Type 0 where
+  pub each : (club : ℕ) (measure : Measure)
+      → range_by (sums_at table club) measure ≡ range_from (value (worth_of measure) club) fixtures
+      options
+  pub near : (club : ℕ) → AreNear 6000000 (sums_at table club)
+
+-- each club's sums grow by what the options of the match are worth to it
+abbrev pub AddsSpansOfMatch : Value → Fixture → Cell → List Sums → List Sums → Type 0
+AddsSpansOfMatch value match cell old new =
+    (options : List Score) → IsCellOf cell options → (club : ℕ)
+    → SpansGrowBy (λ measure. range_of (value (worth_of measure) club match) options)
+    (sums_at old club) (sums_at new club)
+
+-- of so many clubs this is a wanted one, or it is a number that is no club's
+abbrev pub IsWanted : ℕ → List ℕ → ℕ → Type 0
+IsWanted clubs wanted club = club < clubs → has_club wanted club ≡ true
+
+-- the table has the ranges over all matches of those clubs of which something is so
+abbrev pub AreSumsOfThose : (ℕ → Type 0) → List Fixture → List (List Score) → List Sums → Type 0
+AreSumsOfThose IsOne fixtures options table =
+    (club : ℕ) → IsOne club → (measure : Measure) → range_by (sums_at table club) measure
+    ≡ range_from (worth_to (worth_of measure) club) fixtures options
+
+-- of the clubs of a group and of one club besides
+abbrev pub AreSumsFor : List ℕ → ℕ → List Fixture → List (List Score) → List Sums → Type 0
+AreSumsFor group club =
+    AreSumsOfThose (λ other. (has_club group other ≡ true) ⊎ (other ≡ club))
+
+-- a club's sums grow by what the options of the match are worth to it, where it is wanted or plays
+-- another match; and none grows much
+abbrev pub AddsSpansFor : List ℕ → Fixture → Cell → List Sums → List Sums → Type 0
+AddsSpansFor wanted match cell old new =
+    (options : List Score) → IsCellOf cell options → (club : ℕ)
+    → (((match.home ≡ club) ⊎ (match.away ≡ club) → has_club wanted club ≡ true)
+    → SpansGrowBy (λ measure. range_of (worth_to (worth_of measure) club match) options)
+    (sums_at old club) (sums_at new club))
+    × ((bound : ℕ) → AreNear bound (sums_at old club) → AreNear (bound + 255) (sums_at new club))
