@@ -9,10 +9,12 @@ those alone that are another word than at the moment before.
 from __future__ import annotations
 
 import hashlib
+import mmap
+import os
 import re
 import subprocess
 import tempfile
-from dataclasses import asdict, dataclass, field
+from dataclasses import dataclass, field
 from typing import Iterator
 
 from . import common
@@ -26,7 +28,6 @@ from .records import Refused, count_lines, fields_of, records_of
 from .running import ENDINGS
 from .words import words_for
 
-BLOCK = 1 << 20
 ROW = re.compile(rb"\n([avfu][^\n]*)")
 FORM = 1
 
@@ -65,7 +66,7 @@ class Part:
 
     def as_object(self) -> dict:
         """The part as JSON takes it."""
-        return asdict(self)
+        return dict(vars(self))
 
 
 def part_of(value: dict) -> Part:
@@ -162,30 +163,36 @@ def _changes(program: str, data: bytes) -> Iterator[list[tuple[int, str, str]]]:
         yield found
 
 
+def rows_in(text: mmap.mmap) -> Iterator[bytes]:
+    """The complete rows of a text, without the finishes between them."""
+    end = text.rfind(b"\n")
+    if end >= 0:
+        yield text[:text.find(b"\n")]
+        for found in ROW.finditer(text, 0, end):
+            yield found[1]
+
+
 def rows_of(program: str, data: bytes) -> Iterator[bytes]:
     """The rows of a run with one worker, without finishes; raises `Trouble` if it ends badly.
 
-    What the program writes goes to a file that has no name, and is read piece by piece: the program
-    never waits for its reader, and no answer is ever in memory whole.
+    What the program writes goes to a file that has no name: the program never waits for its reader,
+    and the file is looked through where it lies, however long an answer is.
     """
-    with tempfile.TemporaryFile() as source, tempfile.TemporaryFile() as sink:
-        source.write(data)
-        source.seek(0)
+    last, is_whole = b"", False
+    with tempfile.TemporaryFile() as sink:
         try:
-            run = subprocess.run([program, "verdicts", "--workers", "1"], stdin=source,
+            run = subprocess.run([program, "verdicts", "--workers", "1"], input=data,
                                  stdout=sink, check=False)
         except (OSError, ValueError) as fault:
             reason = getattr(fault, "strerror", None) or str(fault)
             raise common.Trouble(f"{program} cannot be run: {reason}",
                                  common.NO_PROGRAM) from fault
-        sink.seek(0)
-        rest, last = b"\n", b""
-        for block in iter(lambda: sink.read(BLOCK), b""):
-            whole, sign, after = (rest + block).rpartition(b"\n")
-            rest = sign + after
-            for last in ROW.findall(whole):
-                yield last
-    if run.returncode == 0 and rest == b"\n":
+        if sink.seek(0, os.SEEK_END):
+            with mmap.mmap(sink.fileno(), 0, access=mmap.ACCESS_READ) as text:
+                is_whole = text[-1:] == b"\n"
+                for last in rows_in(text):
+                    yield last
+    if run.returncode == 0 and is_whole:
         return
     if last.startswith(b"fault,"):
         raise common.Trouble(f"futmax ended with `{last.decode('utf-8', 'replace')}`, and these "
