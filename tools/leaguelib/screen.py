@@ -30,7 +30,7 @@ def limit_text(sheet: Sheet, season: Season) -> str:
         return "In and out hold however lots are drawn; no match is open."
     return paragraph(f"In and out hold however the open matches end, with at most "
                      f"{counted(sheet.goal_limit, 'goal')} a side, and however lots are drawn; "
-                     "open can still go both ways.")
+                     "open can still go either way.")
 
 
 def marks_of(verdicts: list[Verdict]) -> Marks:

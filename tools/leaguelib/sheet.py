@@ -30,8 +30,7 @@ Which criteria decide first between clubs level on points? Say --order head_firs
                  European Championship groups, Spain (La Liga), Italy (Serie A), Portugal,
                  Champions League groups up to 2023/24
   overall_first  goal difference and goals over all matches, before the matches between them:
-                 Premier League, Bundesliga, Eredivisie, Champions League league phase,
-                 World Cup groups up to 2022
+                 Premier League, Bundesliga, Eredivisie, World Cup groups up to 2022
 Rules change, and a play-off or fair play may come in: look into the rules of your competition."""
 LINES_HELP = """\
 Which places count? Give --lines, like `--lines 1,4,17` for the title, the first four, and all but

@@ -4,7 +4,7 @@ use Rattle.std.proofs.Common.{◌≡◌, ◌≢◌, ℕ, zero, suc, ◌+◌, ◌
 use Rattle.std.proofs.Common.{true, false}
 use Rattle.std.proofs.Common.{List, [], ◌∷◌, length, Option, Some, None, refl, sym, ap}
 use Rattle.std.proofs.Common.{◌∙◌, inl, inr, arith, get_or, set, nat_lt}
-use Rattle.std.specs.Prelude.{position}
+use Rattle.std.specs.Prelude.{IfSome, position}
 use Rattle.std.specs.List.{slice_get, list_any, position_or_len}
 use Rattle.std.proofs.lemmas.List.Folds.{list_any_none}
 use Rattle.std.proofs.lemmas.List.Sums.{fails_before_first}
@@ -15,7 +15,9 @@ use Rattle.std.proofs.lemmas.Option.{slice_get_read}
 use Rattle.std.proofs.lemmas.List.{set-get_or}
 use Rattle.std.proofs.lemmas.List.Quantifiers.{position-Some}
 use Rattle.league_core.specs.declared.zone.Zone.{Zone}
-use Rattle.reason_core.specs.declared.done.Done.{Done}
+use Rattle.reason_core.specs.declared.finding.Finding.{Finding}
+use Rattle.reason_core.specs.inside.Dones.{IsTrueOf, done_with}
+use Rattle.reason_core.proofs.DoneLemmas.{done_is_for, done_is_true, finding_of-done_with}
 use Rattle.league_core.specs.inside.Lending.{lent_zones, times_lent}
 use Rattle.league_core.proofs.LendingLemmas.{length-lent_zones, times_lent-le}
 use Rattle.branch_pool.specs.declared.question_state.QuestionState.{QuestionState}
@@ -24,12 +26,12 @@ use Rattle.branch_pool.specs.declared.ticket.Ticket.{Ticket}
 use Rattle.branch_pool.specs.inside.States.{PoolView, present_epoch, is_workable, has_work}
 use Rattle.branch_pool.specs.inside.States.{loan_at, free_number, with_loan}
 use Rattle.branch_pool.specs.inside.Steps.{IsOwnTicket, IsPresent, loan_of, ComesHome, Keeps}
-use Rattle.branch_pool.specs.inside.Steps.{loans_home, seat_given}
-use Rattle.branch_pool.specs.inside.Seats.{LendsSeat, MayLend}
+use Rattle.branch_pool.specs.inside.Steps.{loans_home, seat_after, MayBeGiven}
+use Rattle.branch_pool.specs.inside.QuestionStates.{LendsSeat, MayLend}
 use Rattle.branch_pool.specs.inside.Goodness.{IsSoundPool, IsGoodSeat, IsGoodLoan, zones_due}
 use Rattle.branch_pool.specs.inside.Calls.{next_place, is_untouched, LendsNext}
 use Rattle.branch_pool.proofs.SlotLemmas.{All-at, loan_at-free, loan_meets}
-use Rattle.branch_pool.proofs.SeatLemmas.{workable_within, lent_once}
+use Rattle.branch_pool.proofs.QuestionStateLemmas.{workable_within, lent_once}
 use Rattle.branch_pool.proofs.LoanLemmas.{due_here}
 
 -- ---- take
@@ -218,17 +220,32 @@ home_after pool ticket loans sound own other is =
     let has_been = (out_is_good pool ticket sound own.out).0 in
     record { own = own; epoch = omega arith; after = rw is refl }
 
--- what was done was put in place
-pub kept_after : (pool : PoolView) (ticket : Ticket) (done : Done) (seat new : QuestionState)
-    (loans : List (Option Loan)) → IsOwnTicket pool ticket → ticket.epoch ≡ present_epoch pool
-    → slice_get pool.seats ticket.place ≡ Some seat → new ≡ seat_given ticket.number done seat
+-- what was found may be given
+pub found_may_be_given : (pool : PoolView) (ticket : Ticket) (finding : Option Finding)
+    → IfSome finding (IsTrueOf pool.sheet ticket.piece)
+    → MayBeGiven pool ticket (done_with ticket.piece finding)
+found_may_be_given pool ticket finding sound = record {
+  is_for = done_is_for ticket.piece finding;
+  sound = done_is_true pool.sheet ticket.piece finding sound;
+}
+
+-- what was found was put in place
+pub kept_after : (pool : PoolView) (ticket : Ticket) (finding : Option Finding)
+    (seat new : QuestionState) (loans : List (Option Loan)) → IsOwnTicket pool ticket
+    → ticket.epoch ≡ present_epoch pool → slice_get pool.seats ticket.place ≡ Some seat
+    → new ≡ seat_after ticket.number finding seat
     → loans ≡ loans_home pool.loans ticket.number
-    → Keeps pool ticket done (record pool {
+    → Keeps pool ticket (done_with ticket.piece finding) (record pool {
       seats = set pool.seats ticket.place new;
       loans = loans;
     })
-kept_after pool ticket done seat new loans own epoch found is home =
-    record { own = own; epoch = epoch; seat = seat; found = found; after = rw (is, home) refl }
+kept_after pool ticket finding seat new loans own epoch found is home = record {
+  own = own;
+  epoch = epoch;
+  seat = seat;
+  found = found;
+  after = rw (is, home, finding_of-done_with ticket.piece finding) refl;
+}
 
 -- a ticket of the present epoch that is out is the pool's where its question and season are
 pub present_is : (pool : PoolView) (ticket : Ticket) (seat : QuestionState) → IsSoundPool pool

@@ -30,7 +30,7 @@ use Rattle.branch_pool.specs.inside.States.{PoolView}
 use Rattle.branch_pool.specs.inside.Steps.{TakesLeaf, pool_lent}
 use Rattle.branch_pool.specs.inside.Goodness.{IsGoodNode, IsGoodSeat, IsSoundPool, IsCovered}
 use Rattle.branch_pool.specs.inside.Goodness.{AreLeavesRefuted, IsExampleTrue, AreUnitsTrue, IsGood}
-use Rattle.branch_pool.specs.inside.Seats.{MayBeCarried}
+use Rattle.branch_pool.specs.inside.QuestionStates.{MayBeCarried}
 use Rattle.branch_pool.specs.inside.Calls.{IsFit}
 use Rattle.branch_pool.proofs.SlotLemmas.{All-at}
 

@@ -1,5 +1,5 @@
 pub mod SlotLemmas
-pub mod SeatLemmas
+pub mod QuestionStateLemmas
 pub mod LoanLemmas
 pub mod UncutLemmas
 pub mod CarriedLemmas

@@ -20,6 +20,7 @@ use Rattle.league_core.specs.inside.Lending.{lent_count}
 use Rattle.league_core.proofs.LendingLemmas.{length-lent_zones, lent_count-none, settled_is_refuted}
 use Rattle.reason_core.specs.declared.done.Done.{Done}
 use Rattle.reason_core.specs.declared.done.Done.TheVariants.{Refuted, Split, Won, Undone}
+use Rattle.reason_core.specs.inside.Dones.{finding_of}
 use Rattle.branch_pool.specs.declared.question_state.Example.{Example}
 use Rattle.branch_pool.specs.declared.question_state.QuestionState.{QuestionState}
 use Rattle.branch_pool.specs.declared.question_state.Loan.{Loan}
@@ -27,14 +28,14 @@ use Rattle.branch_pool.specs.declared.ticket.Answer.TheVariants as answer
 use Rattle.branch_pool.specs.declared.ticket.Ticket.{Ticket}
 use Rattle.branch_pool.specs.inside.States.{PoolView, pool_begun, has_work, out_count, is_workable}
 use Rattle.branch_pool.specs.inside.States.{most_questions, loan_at, present_epoch}
-use Rattle.branch_pool.specs.inside.Steps.{TakesLeaf, Keeps, seat_lent, seat_given}
+use Rattle.branch_pool.specs.inside.Steps.{TakesLeaf, Keeps, seat_lent, seat_after}
 use Rattle.branch_pool.specs.inside.Goodness.{IsSoundPool, IsGood, IsGoodSeat, zones_due}
 use Rattle.branch_pool.specs.inside.Calls.{pool_answer, answer_of}
 use Rattle.branch_pool.specs.inside.Runs.{Step, take_step, give_step, change_step, start_step}
 use Rattle.branch_pool.specs.inside.Runs.{shut_step, recall_step, MakesStep, Move, AreSteps}
 use Rattle.branch_pool.specs.inside.Runs.{pool_after, IsWorked, WorksNext, seat_left, work_left}
 use Rattle.branch_pool.proofs.SlotLemmas.{All-at, set_twice, slice_get-set_same}
-use Rattle.branch_pool.proofs.SeatLemmas.{workable_within}
+use Rattle.branch_pool.proofs.QuestionStateLemmas.{workable_within}
 use Rattle.branch_pool.proofs.GoodLemmas.{sound_is_good}
 use Rattle.branch_pool.proofs.StepLemmas.{begun_sound, taken_sound, given_sound, kept_sound}
 use Rattle.branch_pool.proofs.StepLemmas.{changed_sound}
@@ -95,7 +96,7 @@ sum_less f seats place seat new found less =
 -- a question of which a leaf was worked on has less left
 turn_less : (sheet : Sheet) (seat : QuestionState) (tree : Tree) (number : ℕ) (done : Done)
     → is_workable sheet seat ≡ true → IsWorked done
-    → seat_left sheet.budget (seat_given number done (seat_lent tree seat))
+    → seat_left sheet.budget (seat_after number (finding_of done) (seat_lent tree seat))
     < seat_left sheet.budget seat
 turn_less sheet seat tree number done workable worked = by_example seat.example refl done worked
   where
@@ -109,7 +110,7 @@ turn_less sheet seat tree number done workable worked = by_example seat.example 
     some = omega arith
 
     by_example : (kept : Option Example) → seat.example ≡ kept → (what : Done) → IsWorked what
-        → seat_left sheet.budget (seat_given number what (seat_lent tree seat))
+        → seat_left sheet.budget (seat_after number (finding_of what) (seat_lent tree seat))
         < seat_left sheet.budget seat
     by_example (Some example) is what did = absurd (false≢true (ap is_none (sym is)
         ∙ (and_parts _ _ (and_parts _ _ workable).0).0))
@@ -123,7 +124,7 @@ pub turns_leave_less : (old new : PoolView) → IsSoundPool old → WorksNext ol
     → work_left new < work_left old
 turns_leave_less old new sound works = rw (same_sheet, seats_are)
     (sum_less (seat_left old.sheet.budget) old.seats ticket.place taken.seat
-    (seat_given ticket.number works.done (seat_lent taken.tree taken.seat)) taken.found
+    (seat_after ticket.number (finding_of works.done) (seat_lent taken.tree taken.seat)) taken.found
     (turn_less old.sheet taken.seat taken.tree ticket.number works.done taken.workable
     works.worked))
   where
@@ -151,15 +152,15 @@ turns_leave_less old new sound works = rw (same_sheet, seats_are)
         (seat_lent taken.tree taken.seat) taken.found)
 
     seats_are : new.seats ≡ set old.seats ticket.place
-        (seat_given ticket.number works.done (seat_lent taken.tree taken.seat))
+        (seat_after ticket.number (finding_of works.done) (seat_lent taken.tree taken.seat))
     seats_are =
         ap (λ (p : PoolView). p.seats) kept.after
-        ∙ ap (λ seats. set seats ticket.place (seat_given ticket.number works.done kept.seat))
-        between_seats
+        ∙ ap (λ seats. set seats ticket.place
+        (seat_after ticket.number (finding_of works.done) kept.seat)) between_seats
         ∙ set_twice old.seats ticket.place (seat_lent taken.tree taken.seat)
-        (seat_given ticket.number works.done kept.seat)
-        ∙ ap (λ seat. set old.seats ticket.place (seat_given ticket.number works.done seat))
-        same_seat
+        (seat_after ticket.number (finding_of works.done) kept.seat)
+        ∙ ap (λ seat. set old.seats ticket.place
+        (seat_after ticket.number (finding_of works.done) seat)) same_seat
 
 -- ---- nothing left
 

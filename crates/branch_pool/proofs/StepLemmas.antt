@@ -24,6 +24,9 @@ use Rattle.league_core.proofs.LendingLemmas.{lent_zones-all_opened, lent_zones_a
 use Rattle.tree_reuse.specs.inside.Retargets.{retargeted}
 use Rattle.tree_reuse.proofs.RetargetLemmas.{times_lent-retargeted}
 use Rattle.reason_core.specs.declared.done.Done.{Done}
+use Rattle.reason_core.specs.declared.finding.Finding.{Finding}
+use Rattle.reason_core.specs.inside.Dones.{finding_of}
+use Rattle.reason_core.proofs.DoneLemmas.{finding_is_true}
 use Rattle.branch_pool.specs.declared.question_state.QuestionState.{QuestionState}
 use Rattle.branch_pool.specs.declared.question_state.Loan.{Loan}
 use Rattle.branch_pool.specs.declared.ticket.Ticket.{Ticket}
@@ -32,13 +35,14 @@ use Rattle.branch_pool.specs.declared.ticket.Gave.TheVariants.{Kept, Stale}
 use Rattle.branch_pool.specs.inside.States.{PoolView, pool_begun, new_seat, loan_at, present_epoch}
 use Rattle.branch_pool.specs.inside.States.{most_questions}
 use Rattle.branch_pool.specs.inside.Steps.{TakesLeaf, pool_lent, loan_of, seat_lent, Keeps}
-use Rattle.branch_pool.specs.inside.Steps.{ComesHome, IsPresent, Gives, leaf_given, MayBeGiven}
-use Rattle.branch_pool.specs.inside.Steps.{seat_given, pool_changed, seat_changed, pool_opened}
+use Rattle.branch_pool.specs.inside.Steps.{ComesHome, IsPresent, Gives, leaf_after, MayBeGiven}
+use Rattle.branch_pool.specs.inside.Steps.{seat_after, pool_changed, seat_changed, pool_opened}
 use Rattle.branch_pool.specs.inside.Steps.{pool_shut, pool_recalled, seat_recalled}
 use Rattle.branch_pool.specs.inside.Goodness.{IsSoundPool, IsGoodSeat, IsGoodLoan}
 use Rattle.branch_pool.proofs.SlotLemmas.{loan_at-free, free_number-le, All-with_loan, All-at}
-use Rattle.branch_pool.proofs.SeatLemmas.{seat_lent_good, seat_given_good, seat_recalled_good}
-use Rattle.branch_pool.proofs.SeatLemmas.{new_seat_good, given_lends_nothing}
+use Rattle.branch_pool.proofs.QuestionStateLemmas.{seat_lent_good, seat_after_good}
+use Rattle.branch_pool.proofs.QuestionStateLemmas.{seat_recalled_good, new_seat_good}
+use Rattle.branch_pool.proofs.QuestionStateLemmas.{leaf_lends_nothing}
 use Rattle.branch_pool.proofs.LoanLemmas.{Agree-lent, Agree-given, Agree-home, Agree-left}
 use Rattle.branch_pool.proofs.CarriedLemmas.{seat_changed_good}
 
@@ -126,8 +130,8 @@ pub taken_sound : (old : PoolView) (ticket : Ticket) (new : PoolView) → IsSoun
     → TakesLeaf old ticket new → IsSoundPool new
 taken_sound old ticket new sound takes = subst IsSoundPool (sym takes.after) after
   where
-    seat_after : QuestionState
-    seat_after = seat_lent takes.tree takes.seat
+    lent : QuestionState
+    lent = seat_lent takes.tree takes.seat
 
     free : loan_at old.loans ticket.number ≡ None
     free = ap (loan_at old.loans) takes.number ∙ loan_at-free old.loans
@@ -141,22 +145,22 @@ taken_sound old ticket new sound takes = subst IsSoundPool (sym takes.after) aft
       season = sound.season;
       events = sound.events;
       most_events = sound.most_events;
-      asked = asked-set old.seats ticket.place takes.seat seat_after takes.found refl ∙ sound.asked;
+      asked = asked-set old.seats ticket.place takes.seat lent takes.found refl ∙ sound.asked;
       questions = sound.questions;
       most_questions = sound.most_questions;
-      seats = All-set (IsGoodSeat old.sheet old.season) old.seats ticket.place seat_after
+      seats = All-set (IsGoodSeat old.sheet old.season) old.seats ticket.place lent
           (seat_lent_good old.sheet old.season takes.seat takes.tree ticket.number
           ticket.piece.zone.literals
           (All-at (IsGoodSeat old.sheet old.season) old.seats ticket.place takes.seat sound.seats
           takes.found) takes.workable takes.leaf takes.zone) sound.seats;
-      loans = rw (length-set old.seats ticket.place seat_after)
+      loans = rw (length-set old.seats ticket.place lent)
           (All-with_loan (λ loan. IfSome loan (IsGoodLoan (present_epoch old) (length old.seats)))
           old.loans ticket.number (loan_of ticket)
           (record {
             has_been = omega (arith, takes.epoch);
             in_range = slice_get_within old.seats ticket.place takes.seat takes.found;
           }) sound.loans);
-      due = Agree-lent (present_epoch old) old.seats old.loans ticket.number takes.seat seat_after
+      due = Agree-lent (present_epoch old) old.seats old.loans ticket.number takes.seat lent
           (loan_of ticket) sound.due few free takes.found takes.epoch takes.leaf takes.zone;
     }
 
@@ -167,8 +171,11 @@ pub kept_sound : (old : PoolView) (ticket : Ticket) (done : Done) (new : PoolVie
     → MayBeGiven old ticket done → Keeps old ticket done new → IsSoundPool new
 kept_sound old ticket done new sound may keeps = subst IsSoundPool (sym keeps.after) after
   where
-    seat_after : QuestionState
-    seat_after = seat_given ticket.number done keeps.seat
+    finding : Option Finding
+    finding = finding_of done
+
+    settled : QuestionState
+    settled = seat_after ticket.number finding keeps.seat
 
     present : IsPresent old ticket
     present = keeps.own.present keeps.epoch
@@ -177,7 +184,7 @@ kept_sound old ticket done new sound may keeps = subst IsSoundPool (sym keeps.af
     same_seat = same_Some present.seat keeps.seat (sym present.found ∙ keeps.found)
 
     after : IsSoundPool (record old {
-      seats = set old.seats ticket.place (seat_given ticket.number done keeps.seat);
+      seats = set old.seats ticket.place settled;
       loans = set old.loans ticket.number None;
     })
     after = record {
@@ -185,23 +192,24 @@ kept_sound old ticket done new sound may keeps = subst IsSoundPool (sym keeps.af
       season = sound.season;
       events = sound.events;
       most_events = sound.most_events;
-      asked = asked-set old.seats ticket.place keeps.seat seat_after keeps.found refl ∙ sound.asked;
+      asked = asked-set old.seats ticket.place keeps.seat settled keeps.found refl ∙ sound.asked;
       questions = sound.questions;
       most_questions = sound.most_questions;
-      seats = All-set (IsGoodSeat old.sheet old.season) old.seats ticket.place seat_after
-          (seat_given_good old.sheet old.season keeps.seat ticket.number ticket.piece done
+      seats = All-set (IsGoodSeat old.sheet old.season) old.seats ticket.place settled
+          (seat_after_good old.sheet old.season keeps.seat ticket.number ticket.piece finding
           (All-at (IsGoodSeat old.sheet old.season) old.seats ticket.place keeps.seat sound.seats
-          keeps.found) may.is_for may.sound present.season
+          keeps.found) (finding_is_true old.sheet ticket.piece done may.is_for may.sound)
+          present.season
           (present.question ∙ ap (λ (s : QuestionState). s.question) same_seat)
           (ap (λ (s : QuestionState). lent_zones ticket.number [] s.tree) (sym same_seat)
           ∙ present.zone))
           sound.seats;
-      loans = rw (length-set old.seats ticket.place seat_after)
+      loans = rw (length-set old.seats ticket.place settled)
           (All-set (λ loan. IfSome loan (IsGoodLoan (present_epoch old) (length old.seats)))
           old.loans ticket.number None tt sound.loans);
-      due = Agree-given (present_epoch old) old.seats old.loans ticket.number keeps.seat seat_after
-          (loan_of ticket) (leaf_given done) sound.due keeps.own.out keeps.found refl
-          (λ n. given_lends_nothing n done);
+      due = Agree-given (present_epoch old) old.seats old.loans ticket.number keeps.seat settled
+          (loan_of ticket) (leaf_after finding) sound.due keeps.own.out keeps.found refl
+          (λ n. leaf_lends_nothing n finding);
     }
 
 pub home_sound : (old : PoolView) (ticket : Ticket) (new : PoolView) → IsSoundPool old

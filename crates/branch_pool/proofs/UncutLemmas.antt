@@ -7,7 +7,7 @@ use Rattle.league_core.specs.game.Results.{Results}
 use Rattle.league_core.specs.search.Trees.{Tree, open_leaf, lent_leaf, refuted_leaf, branch}
 use Rattle.tree_reuse.specs.inside.Retargets.{retargeted}
 use Rattle.tree_reuse.proofs.RetargetLemmas.{open_leaf_stays}
-use Rattle.branch_pool.specs.inside.Seats.{tree_left}
+use Rattle.branch_pool.specs.inside.QuestionStates.{tree_left}
 
 -- nothing is made of it
 pub none_left : (sheet : Sheet) (season : Results) (question : Question) (tree : Tree)

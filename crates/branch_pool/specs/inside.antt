@@ -3,7 +3,7 @@ pub mod States
 pub mod Steps
 pub mod Goodness
 pub mod Calls
-pub mod Seats
+pub mod QuestionStates
 pub mod Looks
 pub mod Runs
 pub mod Laws

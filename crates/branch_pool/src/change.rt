@@ -5,7 +5,7 @@ ghost use Rattle.std.specs.Prelude.{OnErr, OnOk, Err, IsTrue};
 ghost use Rattle.league_core.specs.game.Limits.{most_events};
 ghost use Rattle.league_core.specs.game.Seasons.{IsEventOf};
 ghost use Rattle.branch_pool.specs.inside.Steps.{Changes, pool_changed};
-ghost use Rattle.branch_pool.specs.inside.Seats.{IsUncut};
+ghost use Rattle.branch_pool.specs.inside.QuestionStates.{IsUncut};
 
 use crate::pool::Pool;
 use crate::questions::{are_uncut, change_seats, change_uncut, trees_for};
@@ -15,7 +15,7 @@ use league_core::{Event, OutOfMemory};
 
 impl Pool {
     /// Reports an event, and answers the new epoch. Each tree is carried over to the new season,
-    /// and an example stays where it is one. After a refusal the pool is as before.
+    /// and an example stays if it is one. After a refusal the pool is as before.
     pub fn change(&mut self, event: Event) -> Result<u64, ChangeStop>
         requires may_be { IsEventOf self.old.season event }
         ensures ok { OnOk result (Changes self.old event self.new) }
@@ -35,7 +35,7 @@ impl Pool {
         }
     }
 
-    /// Reports an event where the log has room for one more. After an `Err` the pool is as before.
+    /// Reports an event if the log has room for one more. After an `Err` the pool is as before.
     pub fn change_with_room(&mut self, event: Event) -> Result<(), OutOfMemory>
         requires may_be { IsEventOf self.old.season event }
         requires room { length self.old.log < most_events }
@@ -69,7 +69,7 @@ impl Pool {
         self.apply_retarget(event)
     }
 
-    // Writes an event down where each tree is one open leaf, and so stays as it is.
+    // Writes an event down if each tree is one open leaf, and so stays as it is.
     fn apply_uncut(&mut self, event: Event) -> Result<(), OutOfMemory>
         requires room { length self.old.log < most_events }
         requires may_be { IsEventOf self.old.season event }

@@ -7,7 +7,6 @@
 
 mod change;
 mod discarded;
-mod found;
 mod give;
 mod laws;
 mod loans;

@@ -3,7 +3,7 @@
 ghost use Rattle.std.specs.Prelude.{◌≡◌, ◌<◌, ◌≤◌, ◌↔◌, length, IsTrue};
 ghost use Rattle.branch_pool.specs.inside.States.{free_number, with_loan};
 ghost use Rattle.branch_pool.specs.inside.Steps.{loan_of};
-ghost use Rattle.branch_pool.specs.inside.Seats.{with_slot};
+ghost use Rattle.branch_pool.specs.inside.QuestionStates.{with_slot};
 
 use crate::question_state::Loan;
 use crate::ticket::Ticket;

@@ -8,18 +8,17 @@ ghost use Rattle.league_core.specs.inside.Lending.{times_lent, lent_count, lent_
 ghost use Rattle.tree_reuse.specs.inside.Calls.{most_nodes};
 ghost use Rattle.tree_reuse.specs.inside.Retargets.{retargeted};
 ghost use Rattle.branch_pool.specs.inside.States.{new_seat, is_workable};
-ghost use Rattle.branch_pool.specs.inside.Steps.{seat_given, seat_recalled, seat_changed};
-ghost use Rattle.branch_pool.specs.inside.Steps.{example_kept, example_given, units_given};
-ghost use Rattle.branch_pool.specs.inside.Calls.{is_untouched, answer_of, example_over, piece_done};
-ghost use Rattle.branch_pool.specs.inside.Seats.{LendsSeat, MayLend, WorksSeat, seat_found};
-ghost use Rattle.branch_pool.specs.inside.Seats.{tree_for};
+ghost use Rattle.branch_pool.specs.inside.Steps.{seat_after, seat_recalled, seat_changed};
+ghost use Rattle.branch_pool.specs.inside.Steps.{example_kept};
+ghost use Rattle.branch_pool.specs.inside.Calls.{is_untouched, answer_of, example_over};
+ghost use Rattle.branch_pool.specs.inside.QuestionStates.{LendsSeat, MayLend, WorksSeat, tree_for};
 ghost use Rattle.branch_pool.specs.inside.Goodness.{IsGoodSeat};
 ghost use Rattle.league_core.specs.game.Questions.{IsQuestionOf};
 
 use crate::discarded::keep_first;
 use crate::ticket::Answer;
 use league_core::{Finish, Lots, OutOfMemory, Question, Season, Sheet, Zone};
-use reason_core::{Done, Finding, Piece, Solver};
+use reason_core::{Finding, Solver};
 use std::alloc::Global;
 use tree_reuse::Tree;
 
@@ -84,9 +83,9 @@ impl QuestionState {
         self.is_workable(sheet) && self.lent == 0
     }
 
-    /// Lends an open leaf under a number, and answers its zone twice: one for who works on it, one
-    /// for who waits for it. If memory runs out, the seat is as before.
-    #[tactic(auto, using(crate::proofs::SeatLemmas::lent_once))]
+    /// Lends an open leaf under a number, and returns its zone twice: one for who works on it, one
+    /// for who waits for it. If memory runs out, the question is as before.
+    #[tactic(auto, using(crate::proofs::QuestionStateLemmas::lent_once))]
     pub fn lend(&mut self, alloc: Global, number: u64) -> Result<(Zone, Zone), OutOfMemory>
         requires open_leaf { has_open self.old.tree ≡ true }
         requires free { times_lent number self.old.tree ≡ 0 }
@@ -110,42 +109,39 @@ impl QuestionState {
         }
     }
 
-    /// Puts what was done in place of the leaf that is lent under a number, and answers the piece
-    /// that was worked on and the example that is not kept.
-    pub fn give(&mut self, number: u64, done: Done) -> (Option<Piece>, Option<Example>)
+    /// Puts what was found, if something was, in place of the leaf that is lent under a number, and
+    /// returns the example that is not kept.
+    pub fn settle(&mut self, number: u64, finding: Option<Finding>) -> Option<Example>
         requires out { times_lent number self.old.tree ≡ 1 }
         requires some { 0 < self.old.lent }
         requires fits { self.old.units + 1 < 2 ^ 32 }
-        ensures seat { self.new ≡ seat_given number done self.old }
-        ensures piece { result.0 ≡ piece_done done }
-        ensures example { result.1 ≡ example_over self.old.example done }
+        ensures seat { self.new ≡ seat_after number finding self.old }
+        ensures example { result ≡ example_over self.old.example finding }
     {
         self.lent -= 1;
-        match done {
-            Done::Refuted(piece, reason) => {
+        match finding {
+            Some(Finding::Refuted(reason)) => {
                 self.units += 1;
                 self.tree.refute(number, reason);
-                (Some(piece), None)
+                None
             }
-            Done::Split(piece, literal) => {
+            Some(Finding::Split(literal)) => {
                 self.units += 1;
                 self.tree.split(number, literal.test);
-                (Some(piece), None)
+                None
             }
-            Done::Won(piece, finish, lots) => {
+            Some(Finding::Won(finish, lots)) => {
                 self.tree.reopen(number);
-                let over = keep_first(&mut self.example, Example { finish, lots });
-                (Some(piece), over)
+                keep_first(&mut self.example, Example { finish, lots })
             }
-            Done::Undone => {
+            None => {
                 self.tree.reopen(number);
-                (None, None)
+                None
             }
         }
     }
 
-    /// Has an open leaf worked on in its place, under a number, and puts what was found there. If
-    /// memory runs out, the seat is as before.
+    /// Solves an open leaf in place, under a number. If memory runs out, the question is as before.
     pub fn work<W: Solver>(&mut self, number: u64, worker: &mut W) -> Result<(), OutOfMemory>
         requires may_lend { MayLend number self.old }
         requires good { IsGoodSeat (W.sheet worker.old) (W.season worker.old) self.old }
@@ -161,36 +157,13 @@ impl QuestionState {
         };
         match worker.solve(&self.question, zone.literals.as_slice()) {
             Ok(finding) => {
-                self.put(number, finding);
+                self.lent += 1;
+                let _ = self.settle(number, Some(finding));
                 Ok(())
             }
             Err(refused) => {
                 self.tree.reopen(number);
                 Err(refused)
-            }
-        }
-    }
-
-    // Puts what was found in place of the leaf that is lent under a number.
-    fn put(&mut self, number: u64, finding: Finding)
-        requires out { times_lent number self.old.tree ≡ 1 }
-        requires fits { self.old.units + 1 < 2 ^ 32 }
-        ensures { self.new ≡ seat_found number finding self.old.tree self.old }
-    {
-        match finding {
-            Finding::Refuted(reason) => {
-                self.units += 1;
-                self.tree.refute(number, reason);
-            }
-            Finding::Split(literal) => {
-                self.units += 1;
-                self.tree.split(number, literal.test);
-            }
-            Finding::Won(finish, lots) => {
-                self.tree.reopen(number);
-                if self.example.is_none() {
-                    self.example = Some(Example { finish, lots });
-                }
             }
         }
     }
@@ -204,7 +177,7 @@ impl QuestionState {
     }
 
     /// Goes on in another season with the tree that was made for it, if one was; an example stays
-    /// where it is one there.
+    /// if it is one there.
     #[tactic(auto, using(crate::proofs::UncutLemmas::is_left, crate::proofs::UncutLemmas::stays))]
     pub fn change(&mut self, sheet: &Sheet, season: &Season, tree: &mut Option<Tree>)
         requires { tree.old ≡ tree_for sheet.now season.now self.old }
@@ -218,7 +191,7 @@ impl QuestionState {
     }
 
     /// Goes on in another season with its tree as it is, which is one open leaf; an example stays
-    /// where it is one there.
+    /// if it is one there.
     #[tactic(auto, using(tree_reuse::proofs::RetargetLemmas::open_leaf_stays))]
     pub fn change_uncut(&mut self, sheet: &Sheet, season: &Season)
         requires { self.old.tree ≡ open_leaf }
@@ -227,7 +200,7 @@ impl QuestionState {
         self.begin_anew(sheet, season);
     }
 
-    // No unit is used and no leaf is lent, and an example stays where it is one.
+    // No unit is used and no leaf is lent, and an example stays if it is one.
     fn begin_anew(&mut self, sheet: &Sheet, season: &Season)
         ensures { self.new ≡ record self.old {
           units = 0;

@@ -5,7 +5,7 @@ ghost use Rattle.std.specs.Prelude.{◌↔◌, [], IsTrue, OnOk};
 ghost use Rattle.league_core.specs.game.Seasons.{IsLeague};
 ghost use Rattle.branch_pool.specs.inside.States.{new_seat};
 ghost use Rattle.branch_pool.specs.inside.Steps.{seat_changed, seat_recalled};
-ghost use Rattle.branch_pool.specs.inside.Seats.{IsUncut, MayBeCarried, tree_for};
+ghost use Rattle.branch_pool.specs.inside.QuestionStates.{IsUncut, MayBeCarried, tree_for};
 
 use crate::question_state::QuestionState;
 use league_core::{OutOfMemory, Question, Season, Sheet};
@@ -50,7 +50,7 @@ pub fn change_uncut(sheet: &Sheet, season: &Season, seats: &mut Vec<QuestionStat
     }
 }
 
-/// The tree of each question for another season, where that is to be made.
+/// The tree of each question for another season, if that is to be made.
 pub fn trees_for(
     alloc: Global,
     sheet: &Sheet,
@@ -84,7 +84,7 @@ fn trees_by(
     Ok(trees)
 }
 
-// The tree of a question for the season of a box without a literal, where that is to be made.
+// The tree of a question for the season of a box without a literal, if that is to be made.
 #[tactic(auto, using(crate::proofs::UncutLemmas::none_left, crate::proofs::UncutLemmas::some_left))]
 fn tree_for(
     alloc: Global,

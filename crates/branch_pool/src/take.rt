@@ -27,7 +27,7 @@ impl Pool {
         self.take_with(&mut spare)
     }
 
-    /// As `take`, but a ticket carries the spare season where that is the pool's season: then none
+    /// As `take`, but a ticket carries the spare season if that is the pool's season: then none
     /// is copied, and none is spare any more. Else the pool's season is copied, and the spare one
     /// stays. If memory runs out, both are as before.
     pub fn take_with(&mut self, spare: &mut Option<Season>) -> Took
@@ -58,7 +58,7 @@ impl Pool {
         self.is_open || self.out() > 0
     }
 
-    // Lends a leaf of the question at a place, with the spare season where that is the pool's.
+    // Lends a leaf of the question at a place, with the spare season if that is the pool's.
     fn lend_next(&mut self, place: u16, spare: &mut Option<Season>) -> Result<Ticket, OutOfMemory>
         requires next { next_place self.old ≡ Some place }
         ensures ok { IfOk result (λ ticket. LendsNext self.old ticket self.new) }

@@ -1,9 +1,8 @@
-//! What a worker is handed, and what the calls of a pool answer.
+//! What a worker is handed, and what the calls of a pool return.
 
 use reason_core::Piece;
 
-/// A piece of work that is out under a number. It cannot be dropped: `give` and `give_leaving`
-/// spend it.
+/// A piece of work that is out under a number. Must be consumed by `give` or `give_leaving`.
 pub struct Ticket {
     /// The least number that was not out.
     pub number: u64,
@@ -41,10 +40,10 @@ pub enum Turn {
     OutOfMemory,
 }
 
-/// Why the pool cannot be told an event.
+/// Why no event can be reported to the pool.
 #[derive(Clone, Copy, Debug, PartialEq, Eq)]
 pub enum ChangeStop {
-    /// It has been told 100,000 events.
+    /// Its log has 100,000 events.
     LogFull,
     OutOfMemory,
 }

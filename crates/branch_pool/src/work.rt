@@ -19,7 +19,7 @@ impl Pool {
         requires sheet { W.sheet worker.old ≡ self.old.sheet }
         requires season { W.season worker.old ≡ self.old.season }
         ensures turn { TakesTurn self.old result self.new }
-        ensures rest { IsSameButSeats self.old self.new }
+        ensures unchanged { IsSameButSeats self.old self.new }
         ensures same_sheet { W.sheet worker.new ≡ W.sheet worker.old }
         ensures same_season { W.season worker.new ≡ W.season worker.old }
     {
@@ -37,7 +37,7 @@ impl Pool {
         requires sheet { W.sheet worker.old ≡ self.old.sheet }
         requires season { W.season worker.old ≡ self.old.season }
         ensures ok { OnOk result (WorksNext self.old self.new) }
-        ensures rest { IsSameButSeats self.old self.new }
+        ensures unchanged { IsSameButSeats self.old self.new }
         ensures err { OnErr result (self.new ≡ self.old) }
         ensures same_sheet { W.sheet worker.new ≡ W.sheet worker.old }
         ensures same_season { W.season worker.new ≡ W.season worker.old }

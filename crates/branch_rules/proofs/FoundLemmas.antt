@@ -33,7 +33,7 @@ use Rattle.league_core.proofs.LotsLemmas.{holds_at-favoured, lots_for_claim-favo
 use Rattle.league_core.proofs.LotsLemmas.{lots_for_claim-are_lots}
 use Rattle.branch_rules.specs.inside.Works.{IsWorkOf}
 
--- where the question holds at the proposed finish with the lots that favour the claim, it is an
+-- if the question holds at the proposed finish with the lots that favour the claim, it is an
 -- example with these
 pub proposed_example : (sheet : Sheet) (season : Results) (question : Question)
     (zone : List Literal) (finish : Results) (lots : List ℕ) → IsSeasonOf sheet season
@@ -66,7 +66,7 @@ proposed_in_vain sheet season question zone never lots example =
     (lots_for_claim (length sheet.clubs) question.club question.claim)
     (lots_for_claim-favoured (length sheet.clubs) question.club question.claim) example.holds)
 
--- where neither this nor a reason is found, some fixture has several scores left
+-- if neither this nor a reason is found, some fixture has several scores left
 pub has_several : (sheet : Sheet) (season : Results) (question : Question) (zone : List Literal)
     → IsSeasonOf sheet season → IsQuestionOf sheet question → has_finish sheet season zone ≡ true
     → IsProposedInVain sheet season question zone
@@ -84,7 +84,7 @@ has_several sheet season question zone of_sheet asked some in_vain no_reason =
       | inr several ↦ several
     ]
 
--- a part of a zone is of the sheet where the zone is
+-- a part of a zone is of the sheet if the zone is
 pub zone_part : (sheet : Sheet) (zone : List Literal) (from count : ℕ)
     → is_zone_of sheet zone ≡ true → is_zone_of sheet (take count (drop from zone)) ≡ true
 zone_part sheet zone from count all =
@@ -106,7 +106,7 @@ found_is_true sheet season question zone (Won finish lots) is = is.example
 found_is_true sheet season question zone (Refuted reason) is = is.first.holds
 found_is_true sheet season question zone (Split literal) is = is
 
--- also where running out of memory may come in its place
+-- even if running out of memory may come in its place
 pub found_are_true : (sheet : Sheet) (season : Results) (question : Question) (zone : List Literal)
     (result : Result Finding OutOfMemory)
     → IfOk result (IsFoundIn sheet season question zone)

@@ -2,8 +2,8 @@
 use Rattle.std.proofs.Common.{◌≡◌, inl, inr, ◌<◌, ◌≤◌, ℕ, Bool, true, false, List, [], ◌∷◌}
 use Rattle.std.proofs.Common.{Option, Some, None, IfSome, IfNone, IsTrue, length, get_or, refl, sym}
 use Rattle.std.proofs.Common.{subst, ◌∙◌, arith}
-use Rattle.std.proofs.lemmas.Bool.{false≢true, true≢false, le-leb, lt-leb, cases_Bool, lt-ltb}
-use Rattle.std.proofs.lemmas.Bool.{eq-eqb, or_right}
+use Rattle.std.proofs.lemmas.Bool.{false≢true, true≢false, cases_Bool, lt-ltb}
+use Rattle.std.proofs.lemmas.Bool.{or_right}
 use Rattle.league_core.specs.declared.sheet.Sheet.{Sheet}
 use Rattle.league_core.specs.declared.season.Score.{Score}
 use Rattle.league_core.specs.declared.question.Question.{Question}
@@ -16,17 +16,17 @@ use Rattle.league_core.specs.game.Finishes.{same_score}
 use Rattle.league_core.specs.search.Zones.{passes}
 use Rattle.league_core.specs.search.Options.{meets, options_of, options_in, has_score, has_option}
 use Rattle.league_core.specs.search.Options.{has_finish, has_one_score, has_one_outcome, is_single}
-use Rattle.league_core.specs.search.Options.{is_home_win, is_draw, is_away_win}
+use Rattle.league_core.specs.search.Options.{is_away_win}
 use Rattle.league_core.proofs.PlainLemmas.{list_all-at, all_from}
 use Rattle.league_core.proofs.OptionLemmas.{same_score-itself, has_score-first, all_options}
 use Rattle.league_core.proofs.OptionLemmas.{length-options_from}
 use Rattle.league_core.proofs.LiteralLemmas.{options_at}
 use Rattle.score_box.specs.declared.cell.Cell.{Cell}
-use Rattle.score_box.specs.declared.cell.goals.GoalRange.{GoalRange}
-use Rattle.score_box.specs.inside.Cells.{allows, IsCellOf, IsAllowed, IsSpanOf, HasOneOutcome}
-use Rattle.score_box.specs.inside.Settings.{ZoneBoxView, HasFinish}
+use Rattle.score_box.specs.declared.cell.goals.ScoreRange.{ScoreRange}
+use Rattle.score_box.specs.inside.Cells.{allows, IsCellOf, IsAllowed, IsScoreRangeOf, HasOneOutcome}
+use Rattle.score_box.specs.inside.ZoneBoxViews.{ZoneBoxView, HasFinish}
 use Rattle.score_box.specs.inside.Unplayed.{is_unplayed, unplayed_in}
-use Rattle.score_box.proofs.OutcomeLemmas.{all_home_wins, all_draws, all_away_wins, one_outcome_of}
+use Rattle.score_box.proofs.OutcomeLemmas.{all_away_wins, one_outcome_of}
 use Rattle.branch_rules.specs.declared.rated.Rated.{Rated}
 use Rattle.branch_rules.specs.inside.Choices.{IsDivided, IsGoalSplit, options_at_fixture}
 use Rattle.branch_rules.specs.inside.GoalTests.{DividesByGoals, HasOneAtMost, AreSame}
@@ -35,95 +35,38 @@ use Rattle.branch_rules.proofs.SplitLemmas.{home_most_is_proper, away_most_is_pr
 
 -- ---- what parts the scores of a cell
 
--- a number between the least and the most goals at home parts them
-pub home_parts : (cell : Cell) (test : Score → Bool) (goals : GoalRange) (fixture most : ℕ)
-    → IsSpanOf cell test goals → goals.home_least ≤ most → most < goals.home_most
-    → DividesByGoals cell fixture (HomeMost fixture most)
-home_parts cell test goals fixture most span low high =
-    let least : span.home_least.0.home ≡ goals.home_least = span.home_least.2 in
-    let greatest : span.home_most.0.home ≡ goals.home_most = span.home_most.2 in
-    record {
-      of_fixture = refl;
-      parts = record {
-        one = span.home_least.0;
-        has_one = span.home_least.1.allowed;
-        passed = le-leb span.home_least.0.home most (omega arith);
-        other = span.home_most.0;
-        has_other = span.home_most.1.allowed;
-        failed = lt-leb span.home_most.0.home most (omega arith);
-      };
-    }
-
-pub away_parts : (cell : Cell) (test : Score → Bool) (goals : GoalRange) (fixture most : ℕ)
-    → IsSpanOf cell test goals → goals.away_least ≤ most → most < goals.away_most
-    → DividesByGoals cell fixture (AwayMost fixture most)
-away_parts cell test goals fixture most span low high =
-    let least : span.away_least.0.away ≡ goals.away_least = span.away_least.2 in
-    let greatest : span.away_most.0.away ≡ goals.away_most = span.away_most.2 in
-    record {
-      of_fixture = refl;
-      parts = record {
-        one = span.away_least.0;
-        has_one = span.away_least.1.allowed;
-        passed = le-leb span.away_least.0.away most (omega arith);
-        other = span.away_most.0;
-        has_other = span.away_most.1.allowed;
-        failed = lt-leb span.away_most.0.away most (omega arith);
-      };
-    }
-
 -- what parts every cell with these goals parts this one
-pub parts_this : (found : Option Rated) (cell : Cell) (test : Score → Bool) (goals : GoalRange)
+pub parts_this : (found : Option Rated) (cell : Cell) (test : Score → Bool) (goals : ScoreRange)
     (fixture : ℕ)
-    → IfSome found (λ one. (other : Cell) (passed : Score → Bool) → IsSpanOf other passed goals
+    → IfSome found (λ one. (other : Cell) (passed : Score → Bool)
+    → IsScoreRangeOf other passed goals
     → DividesByGoals other fixture one.test)
-    → IsSpanOf cell test goals → IfSome found (λ one. DividesByGoals cell fixture one.test)
-parts_this None cell test goals fixture each span = tt
-parts_this (Some one) cell test goals fixture each span = each cell test span
+    → IsScoreRangeOf cell test goals → IfSome found (λ one. DividesByGoals cell fixture one.test)
+parts_this None cell test goals fixture each range = tt
+parts_this (Some one) cell test goals fixture each range = each cell test range
 
 -- ---- one score alone
 
 -- scores between the same ends are the same
-same_ends : (cell : Cell) (test : Score → Bool) (goals : GoalRange) → IsSpanOf cell test goals
+same_ends : (cell : Cell) (test : Score → Bool) (goals : ScoreRange)
+    → IsScoreRangeOf cell test goals
     → AreSame goals → (score other : Score) → IsAllowed cell test score → IsAllowed cell test other
     → score ≡ other
-same_ends cell test goals span same score other is other_is =
-    let one = span.within score is in
-    let two = span.within other other_is in
+same_ends cell test goals range same score other is other_is =
+    let one = range.within score is in
+    let two = range.within other other_is in
     let home : score.home ≡ other.home = omega arith in
     let away : score.away ≡ other.away = omega arith in
     λ i. record { home = home i; away = away i }
 
-pub one_home_win : (found : Option Rated) (cell : Cell) (goals : GoalRange) → IfNone found (AreSame
+pub one_away_win : (found : Option Rated) (cell : Cell) (goals : ScoreRange) → IfNone found (AreSame
     goals)
-    → IsSpanOf cell is_home_win goals → IfNone found (HasOneOutcome cell → HasOneAtMost cell)
-one_home_win (Some one) cell goals same span = tt
-one_home_win None cell goals same span = λ one score other is other_is.
-    let won = λ (s : Score) (here : allows cell s ≡ true). lt-ltb s.away s.home
-    (all_home_wins cell span.home_least.0 one span.home_least.1 s here) in
-    same_ends cell is_home_win goals span same score other
-    (record { allowed = is; passed = won score is })
-    (record { allowed = other_is; passed = won other other_is })
-
-pub one_draw : (found : Option Rated) (cell : Cell) (goals : GoalRange)
-    → IfNone found (AreSame goals)
-    → IsSpanOf cell is_draw goals → IfNone found (HasOneOutcome cell → HasOneAtMost cell)
-one_draw (Some one) cell goals same span = tt
-one_draw None cell goals same span = λ one score other is other_is.
-    let drawn = λ (s : Score) (here : allows cell s ≡ true). eq-eqb s.home s.away
-    (all_draws cell span.home_least.0 one span.home_least.1 s here) in
-    same_ends cell is_draw goals span same score other
-    (record { allowed = is; passed = drawn score is })
-    (record { allowed = other_is; passed = drawn other other_is })
-
-pub one_away_win : (found : Option Rated) (cell : Cell) (goals : GoalRange) → IfNone found (AreSame
-    goals)
-    → IsSpanOf cell is_away_win goals → IfNone found (HasOneOutcome cell → HasOneAtMost cell)
-one_away_win (Some one) cell goals same span = tt
-one_away_win None cell goals same span = λ one score other is other_is.
+    → IsScoreRangeOf cell is_away_win goals → IfNone found (HasOneOutcome cell → HasOneAtMost cell)
+one_away_win (Some one) cell goals same range = tt
+one_away_win None cell goals same range = λ one score other is other_is.
     let lost = λ (s : Score) (here : allows cell s ≡ true). lt-ltb s.home s.away
-    (all_away_wins cell span.home_least.0 one span.home_least.1 s here) in
-    same_ends cell is_away_win goals span same score other
+    (all_away_wins cell range.home_least.0 one range.home_least.1 s here) in
+    same_ends cell is_away_win goals range same score other
     (record { allowed = is; passed = lost score is })
     (record { allowed = other_is; passed = lost other other_is })
 
@@ -232,7 +175,7 @@ played_has_one_score sheet season zone k some within played =
           | inr dropped ↦ absurd (false≢true (rw dropped at option))
         ]
 
--- where each fixture that is not played has one score, each has
+-- if each fixture that is not played has one score, each has
 pub scores_fixed : (sheet : Sheet) (season : Results) (zone : List Literal)
     → has_finish sheet season zone ≡ true
     → ((j : ℕ) → j < length (unplayed_in season.scores)

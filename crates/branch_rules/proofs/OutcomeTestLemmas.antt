@@ -1,6 +1,6 @@
 -- Tests of outcomes, by the outcomes that are left.
 use Rattle.std.proofs.Common.{◌≡◌, ◌⊎◌, inl, inr, ◌<◌, ℕ, Bool, true, false, ◌&&◌, ◌||◌, List, []}
-use Rattle.std.proofs.Common.{◌∷◌, Option, Some, None, MatchOption, is_some, length}
+use Rattle.std.proofs.Common.{◌∷◌, Option, Some, None, length}
 use Rattle.std.proofs.Common.{get_or, refl, sym, ap, subst, ◌∙◌, arith}
 use Rattle.std.specs.List.{list_any}
 use Rattle.std.proofs.lemmas.Bool.{false≢true, true≢false, or_left, or_right, or_cases, cases_Bool}
@@ -28,42 +28,13 @@ use Rattle.league_core.proofs.OutcomeLemmas.{same_outcome-joined}
 use Rattle.league_core.proofs.PlainLemmas.{all_from}
 use Rattle.league_core.proofs.OptionTestLemmas.{any_gives, any_shows}
 use Rattle.league_core.proofs.LiteralLemmas.{options_at}
-use Rattle.score_box.specs.declared.cell.Cell.{Cell}
-use Rattle.score_box.specs.declared.cell.goals.GoalRange.{GoalRange}
-use Rattle.score_box.specs.inside.Cells.{IsCellOf, AllowsNone, IsSpanOf}
-use Rattle.score_box.specs.inside.Settings.{ZoneBoxView, HasFinish}
+use Rattle.score_box.specs.inside.ZoneBoxViews.{ZoneBoxView, HasFinish}
 use Rattle.score_box.specs.inside.Unplayed.{is_unplayed, unplayed_in}
 use Rattle.branch_rules.specs.declared.left.Outcomes.{Outcomes}
 use Rattle.branch_rules.specs.inside.Choices.{IsOutcomeSplit, options_at_fixture}
 use Rattle.branch_rules.specs.inside.Outcomes.{AreOutcomesOf}
 use Rattle.example_finish.proofs.UnplayedLemmas.{each_fixture}
 use Rattle.branch_rules.proofs.SplitLemmas.{home_is_proper, draw_is_proper}
-
--- ---- what is among the options
-
--- where none passes, none does
-none_shows : (test : Score → Bool) (options : List Score)
-    → ((score : Score) → has_score options score ≡ true → test score ≡ true → ⊥)
-    → list_any test options ≡ false
-none_shows test options none_passes =
-    elim (cases_Bool (list_any test options)) as (λ _. list_any test options ≡ false) [
-      | inl some ↦
-          let one = any_gives test options some in
-          absurd (none_passes one.0 one.1 one.2)
-      | inr not_so ↦ not_so
-    ]
-
--- an outcome of the cell is left among the options where it has goals
-pub outcome_is_left : (cell : Cell) (test : Score → Bool) (found : Option GoalRange)
-    (options : List Score) → IsCellOf cell options
-    → MatchOption found (AllowsNone cell test) (IsSpanOf cell test)
-    → is_some found ≡ list_any test options
-outcome_is_left cell test None options of_cell none_allowed =
-    sym (none_shows test options (λ score is passed.
-    none_allowed score (record { allowed = of_cell score ∙ is; passed = passed })))
-outcome_is_left cell test (Some goals) options of_cell span =
-    sym (any_shows test options span.home_least.0
-    (sym (of_cell span.home_least.0) ∙ span.home_least.1.allowed) span.home_least.1.passed)
 
 -- ---- one outcome, or several
 
@@ -83,7 +54,7 @@ one_outcome_same (first ∷ options) one score other is other_is =
         ap (same_outcome first) (same_score-true s first same) ∙ same_outcome-itself first
     with_first s (inr later) = each_option (same_outcome first) options one s later
 
--- where any two have the same, they have one
+-- if any two have the same, they have one
 one_outcome_from : (options : List Score)
     → ((score other : Score) → has_score options score ≡ true → has_score options other ≡ true
     → same_outcome score other ≡ true) → has_one_outcome options ≡ true
@@ -100,7 +71,7 @@ not_left : (test : Score → Bool) (options : List Score) (left : Bool) (score :
 not_left test options left score is_left is passed = is_left ∙ any_shows test options score is
     passed
 
--- where neither a home win nor a draw is left beside others, one outcome is left
+-- if neither a home win nor a draw is left beside others, one outcome is left
 pub one_is_left : (options : List Score) (left : Outcomes) → AreOutcomesOf options left
     → (left.wins && (left.draws || left.losses)) ≡ false
     → (left.draws && (left.wins || left.losses)) ≡ false → has_one_outcome options ≡ true
@@ -274,7 +245,7 @@ played_has_one sheet season zone k within played =
           | inr dropped ↦ rw dropped refl
         ]
 
--- where each fixture that is not played has one outcome, each has
+-- if each fixture that is not played has one outcome, each has
 pub outcomes_fixed : (sheet : Sheet) (season : Results) (zone : List Literal)
     → ((j : ℕ) → j < length (unplayed_in season.scores)
     → has_one_outcome (get_or (options_in sheet season zone)

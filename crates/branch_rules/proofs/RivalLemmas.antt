@@ -1,4 +1,4 @@
--- Where no rival is left unmarked, all are marked.
+-- If no rival is left unmarked, all are marked.
 use Rattle.std.proofs.Common.{◌≡◌, ℕ, Bool, true, false, not, ◌&&◌, ◌||◌, ◌==◌, nat_lt}
 use Rattle.std.proofs.Common.{inl, inr, List, [], ◌∷◌, length, filter, refl, sym, ap, ◌∙◌}
 use Rattle.std.proofs.Common.{arith}

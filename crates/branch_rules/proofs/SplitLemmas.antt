@@ -1,5 +1,4 @@
--- When a test of a score splits a zone properly: where some options of its fixture pass it, and
--- some
+-- When a test of a score splits a zone properly: if some options of its fixture pass it, and some
 -- do not.
 use Rattle.std.proofs.Common.{◌≡◌, ◌<◌, ℕ, Bool, true, false, not, ◌==◌, List}
 use Rattle.std.proofs.Common.{[], inl, inr, length, get_or, refl, ap, subst, ◌∙◌}
@@ -24,8 +23,8 @@ use Rattle.league_core.proofs.OptionTestLemmas.{has_option-some, first_shown}
 use Rattle.league_core.proofs.LiteralLemmas.{options_at-with}
 use Rattle.branch_rules.specs.inside.Choices.{IsDivided}
 
--- the half of a zone in which a score's test is as said has a finish, where some option of its
--- fixture is as said
+-- the half of a zone in which a score's test is as said has a finish, if some option of its fixture
+-- is as said
 half_has : (sheet : Sheet) (season : Results) (zone : List Literal) (test : Test) (holds : Bool)
     (fixture : ℕ) (score : Score) → ((k : ℕ) → is_on k test ≡ (fixture == k))
     → has_finish sheet season zone ≡ true
@@ -64,7 +63,7 @@ half_has sheet season zone test holds fixture score on some is passed =
           (ap not (on k ∙ ne_eqb fixture k other)))
     ])
 
--- so both halves have one, where some option passes and some does not
+-- so both halves have one, if some option passes and some does not
 both_have : (sheet : Sheet) (season : Results) (zone : List Literal) (test : Test) (fixture : ℕ)
     → ((k : ℕ) → is_on k test ≡ (fixture == k)) → has_finish sheet season zone ≡ true
     → IsDivided (has_score (get_or (options_in sheet season zone) fixture [])) (passes test)

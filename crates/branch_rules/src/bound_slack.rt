@@ -1,8 +1,8 @@
-//! What becomes of the rivals that a zone marks where a match has fewer outcomes. It stands in no
-//! clause.
+//! What becomes of the rivals that a zone marks when a match has fewer outcomes. No clause mentions
+//! it.
 
 ghost use Rattle.std.specs.Prelude.{◌<◌, length};
-ghost use Rattle.score_box.specs.inside.Settings.{HasFinish};
+ghost use Rattle.score_box.specs.inside.ZoneBoxViews.{HasFinish};
 
 use crate::left::Outcomes;
 use crate::slack_table::SlackTable;
@@ -71,8 +71,8 @@ impl<'a> BoundSlack<'a> {
         self.rises.of(rival) <= MOST_OF_A_MATCH || self.falls.of(rival) <= MOST_OF_A_MATCH
     }
 
-    /// What becomes of the rivals where of the outcomes that are left these remain. Where one
-    /// breaks its bound, it does not matter whether another is level.
+    /// What becomes of the rivals if of the outcomes that are left these remain. If one breaks its
+    /// bound, it does not matter whether another is level.
     pub fn effect(&self, sides: Fixture, left: Outcomes, half: Outcomes) -> Effect {
         let home = Step::between(
             (left.home_least(), left.home_most()),

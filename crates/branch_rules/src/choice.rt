@@ -3,7 +3,7 @@
 ghost use Rattle.std.specs.Prelude.{◌≡◌, ◌<◌, false, length, IsTrue};
 ghost use Rattle.league_core.specs.search.Options.{is_single};
 ghost use Rattle.league_core.specs.search.Splits.{are_all_marked};
-ghost use Rattle.score_box.specs.inside.Settings.{HasFinish};
+ghost use Rattle.score_box.specs.inside.ZoneBoxViews.{HasFinish};
 ghost use Rattle.branch_rules.specs.inside.Choices.{IsDueSplit};
 
 use crate::goals::goal_test;

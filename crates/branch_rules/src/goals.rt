@@ -6,19 +6,19 @@ ghost use Rattle.league_core.specs.declared.season.Score.{Score};
 ghost use Rattle.league_core.specs.search.Options.{has_one_outcome, has_one_score, is_single};
 ghost use Rattle.league_core.specs.search.Splits.{are_outcomes_fixed};
 ghost use Rattle.score_box.specs.declared.cell.Cell.{Cell};
-ghost use Rattle.score_box.specs.inside.Cells.{IsSpanOf, HasOneOutcome};
-ghost use Rattle.score_box.specs.inside.Settings.{HasFinish};
+ghost use Rattle.score_box.specs.inside.Cells.{IsScoreRangeOf, HasOneOutcome};
+ghost use Rattle.score_box.specs.inside.ZoneBoxViews.{HasFinish};
 ghost use Rattle.branch_rules.specs.inside.Choices.{IsGoalSplit, options_at_fixture};
 ghost use Rattle.branch_rules.specs.inside.GoalTests.{DividesByGoals, HasOneAtMost, AreSame};
 
 use crate::outcomes::sides_of;
 use crate::rated::{Rated, better, test_of};
 use league_core::{Fixture, Question, Test};
-use score_box::{Cell, GoalRange, ZoneBox};
+use score_box::{Cell, ScoreRange, ZoneBox};
 
 /// The test of goals that is rated highest, of those that split the zone: in the widest range of
-/// goals, matches of clubs level with the question's club before all others. None where each
-/// fixture has one score, if each has one outcome.
+/// goals, matches of clubs level with the question's club before all others. None if each fixture
+/// has one score, if each has one outcome.
 pub fn goal_test(zone_box: &ZoneBox, question: &Question) -> Option<Test>
     requires has_finish { HasFinish zone_box.now }
     requires of_sheet { question.now.club < length zone_box.now.sheet.clubs }
@@ -36,7 +36,7 @@ pub fn goal_test(zone_box: &ZoneBox, question: &Question) -> Option<Test>
     test_of(best)
 }
 
-// The test of a fixture's goals, where it has several scores.
+// The test of a fixture's goals, if it has several scores.
 fn rated_goals(zone_box: &ZoneBox, question: &Question, fixture: u16) -> Option<Rated>
     requires has_finish { HasFinish zone_box.now }
     requires of_sheet { question.now.club < length zone_box.now.sheet.clubs }
@@ -75,7 +75,7 @@ fn has_least(zone_box: &ZoneBox, club: u8, points: i32) -> bool
     (club as usize) < zone_box.sheet().clubs.len() && zone_box.low(club) == points
 }
 
-// A test of goals that splits what the cell has left of its first outcome; none where that is one
+// A test of goals that splits what the cell has left of its first outcome; none if that is one
 // score.
 fn goal_split(cell: &Cell, fixture: u16) -> Option<Rated>
     ensures some { IfSome result (λ one. DividesByGoals cell.now fixture one.test) }
@@ -91,10 +91,10 @@ fn goal_split(cell: &Cell, fixture: u16) -> Option<Rated>
     split_of(goals, fixture)
 }
 
-// The middle of the wider of two ranges; none where both have one number.
-fn split_of(goals: GoalRange, fixture: u16) -> Option<Rated>
+// The middle of the wider of two ranges; none if both have one number.
+fn split_of(goals: ScoreRange, fixture: u16) -> Option<Rated>
     ensures some { IfSome result (λ one. (cell : Cell) (test : Score → Bool)
-        → IsSpanOf cell test goals → DividesByGoals cell fixture one.test) }
+        → IsScoreRangeOf cell test goals → DividesByGoals cell fixture one.test) }
     ensures none { IfNone result (AreSame goals) }
 {
     let home = goals.home_most.saturating_sub(goals.home_least);

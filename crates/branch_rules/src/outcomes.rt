@@ -5,7 +5,7 @@ ghost use Rattle.std.specs.Prelude.{None};
 ghost use Rattle.league_core.specs.game.Seasons.{IsSeasonOf};
 ghost use Rattle.league_core.specs.search.Options.{has_one_outcome};
 ghost use Rattle.league_core.specs.search.Splits.{are_outcomes_fixed};
-ghost use Rattle.score_box.specs.inside.Settings.{HasFinish};
+ghost use Rattle.score_box.specs.inside.ZoneBoxViews.{HasFinish};
 ghost use Rattle.branch_rules.specs.inside.Choices.{IsOutcomeSplit, options_at_fixture};
 ghost use Rattle.branch_rules.specs.inside.Outcomes.{AreOutcomesOf};
 
@@ -15,8 +15,8 @@ use crate::rating::Rater;
 use league_core::{Fixture, Question, Test};
 use score_box::ZoneBox;
 
-/// The test of an outcome that is rated highest, of those that split the zone; none where each
-/// fixture has one outcome.
+/// The test of an outcome that is rated highest, of those that split the zone; none if each fixture
+/// has one outcome.
 pub fn outcome_test(zone_box: &ZoneBox, question: &Question) -> Option<Test>
     requires has_finish { HasFinish zone_box.now }
     requires of_sheet { question.now.club < length zone_box.now.sheet.clubs }
@@ -36,8 +36,8 @@ pub fn outcome_test(zone_box: &ZoneBox, question: &Question) -> Option<Test>
     test_of(best)
 }
 
-// The best test so far, or a test of a fixture's outcome that is rated higher. Where no such test
-// can be, none is rated.
+// The best test so far, or a test of a fixture's outcome that is rated higher. If no such test can
+// be, none is rated.
 fn better_of(
     zone_box: &ZoneBox,
     question: &Question,
@@ -67,7 +67,7 @@ fn better_of(
     )
 }
 
-// The better of the two tests of a fixture's outcome; none where it has one outcome.
+// The better of the two tests of a fixture's outcome; none if it has one outcome.
 fn rated_outcome(
     zone_box: &ZoneBox,
     question: &Question,
@@ -87,7 +87,7 @@ fn rated_outcome(
     better(home, draw)
 }
 
-// The test of a home win, where it splits the zone.
+// The test of a home win, if it splits the zone.
 fn rated_home(
     zone_box: &ZoneBox,
     question: &Question,
@@ -116,7 +116,7 @@ fn rated_home(
     }
 }
 
-// The test of a draw, where it splits the zone.
+// The test of a draw, if it splits the zone.
 fn rated_draw(
     zone_box: &ZoneBox,
     question: &Question,

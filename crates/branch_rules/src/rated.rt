@@ -11,7 +11,7 @@ pub struct Rated {
     pub rate: i32,
 }
 
-/// The found one where it is rated higher, otherwise the best so far.
+/// The found one if it is rated higher, otherwise the best so far.
 pub fn better(best: Option<Rated>, found: Option<Rated>) -> Option<Rated>
     ensures one { (result ≡ best) ⊎ (result ≡ found) }
     ensures none { result ≡ None → (best ≡ None) × (found ≡ None) }

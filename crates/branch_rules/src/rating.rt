@@ -1,13 +1,13 @@
-//! How soon a test of an outcome is tried. The rating stands in no clause: whatever it says, a
+//! How soon a test of an outcome is tried. No clause mentions the rating: whatever it says, a
 //! choice is proper and due.
 //!
 //! First come tests of which one half breaks the bound of one marked rival alone. Of the others
-//! those come first whose yes half brings no pressed rival exactly level with the club: where one
-//! is level the criteria decide, and they are sure only when all outcomes are fixed. Where the
-//! club's own points may miss the window, its own matches come before all that.
+//! those come first whose yes half brings no pressed rival exactly level with the club: if one is
+//! level the criteria decide, and they are sure only when all outcomes are fixed. If the club's own
+//! points may miss the window, its own matches come before all that.
 
 ghost use Rattle.std.specs.Prelude.{pos, neg_ℤ, ◌<◌, ◌≤ℤ◌, ◌≢◌, IsTrue, None, length};
-ghost use Rattle.score_box.specs.inside.Settings.{HasFinish};
+ghost use Rattle.score_box.specs.inside.ZoneBoxViews.{HasFinish};
 
 use crate::bound_slack::BoundSlack;
 use crate::left::Outcomes;
@@ -18,10 +18,10 @@ use score_box::ZoneBox;
 /// The rating of a test of which one half is refuted at once.
 const REFUTES_A_HALF: i32 = 8;
 
-/// The rating of a home win, where the match brings no marked rival to its bound.
+/// The rating of a home win, if the match brings no marked rival to its bound.
 const UNFELT_HOME_WIN: i32 = 5;
 
-/// The least rating of the club's own matches where its points may miss the window.
+/// The least rating of the club's own matches if its points may miss the window.
 const OWN_MATCH: i32 = 100_000;
 
 /// What the tests of one zone are rated by.
@@ -71,7 +71,7 @@ impl<'a> Rater<'a> {
         }
     }
 
-    /// The rating of a test that leaves these outcomes where it holds, and those where not.
+    /// The rating of a test that leaves these outcomes if it holds, and those if not.
     pub fn rate(
         &self,
         sides: Fixture,
@@ -146,7 +146,7 @@ fn points_if(counts: bool, points: i32) -> i32
     if counts { points } else { 0 }
 }
 
-// Less the farther a step is from the wanted one; least where it leads away.
+// Less the farther a step is from the wanted one; least if it leads away.
 fn nearness(step: i32, wanted: i32) -> i32
     ensures { (neg_ℤ (pos 5000) ≤ℤ result) × (result ≤ℤ pos 0) }
 {

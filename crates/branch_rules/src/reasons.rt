@@ -3,7 +3,7 @@
 ghost use Rattle.std.specs.Prelude.{◌≡◌, ◌<◌, false, IfOk, IfSome, None, length};
 ghost use Rattle.league_core.specs.declared.zone.Reason.{Reason};
 ghost use Rattle.league_core.specs.search.Reasons.{has_reason};
-ghost use Rattle.score_box.specs.inside.Settings.{HasFinish};
+ghost use Rattle.score_box.specs.inside.ZoneBoxViews.{HasFinish};
 ghost use Rattle.branch_rules.specs.inside.Found.{IsFirstReason};
 
 use flow_bound::{FlowKeep, high_cut_from, low_cut_from};
@@ -13,7 +13,7 @@ use std::alloc::Global;
 use tie_bound::{count_reason, tie_reason, window_reason};
 
 /// The first reason that holds: the marks, the window, a floor cut, a ceiling cut, the criteria;
-/// none where none holds. Both cuts are sought from what the keep holds.
+/// none if none holds. Both cuts are sought from what the keep holds.
 pub fn first_reason(
     alloc: Global,
     zone_box: &ZoneBox,

@@ -7,12 +7,12 @@ ghost use Rattle.league_core.specs.game.ClubSets.{clubs_in};
 ghost use Rattle.league_core.specs.game.Sums.{has_club};
 ghost use Rattle.league_core.specs.search.Zones.{is_marked};
 ghost use Rattle.league_core.specs.search.Splits.{are_all_marked, is_proper};
-ghost use Rattle.score_box.specs.inside.Settings.{HasFinish};
+ghost use Rattle.score_box.specs.inside.ZoneBoxViews.{HasFinish};
 
 use league_core::{ClubSet, Question};
 use score_box::{ZoneBox, own_least, own_most};
 
-/// A rival that the zone does not mark; none where it marks each.
+/// A rival that the zone does not mark; none if it marks each.
 pub fn unmarked_rival(zone_box: &ZoneBox, question: &Question) -> Option<u8>
     requires has_finish { HasFinish zone_box.now }
     requires of_sheet { question.now.club < length zone_box.now.sheet.clubs }
@@ -67,7 +67,7 @@ struct Ranked {
     rank: i32,
 }
 
-// The one that ranks higher; the best so far where they rank alike.
+// The one that ranks higher; the best so far if they rank alike.
 fn higher(best: Ranked, other: Ranked) -> Ranked
     ensures { (result ≡ best) ⊎ (result ≡ other) }
 {

@@ -2,7 +2,7 @@
 
 ghost use Rattle.std.specs.Prelude.{IfOk, IsTrue};
 ghost use Rattle.league_core.specs.game.Questions.{IsQuestionOf};
-ghost use Rattle.score_box.specs.inside.Settings.{HasFinish};
+ghost use Rattle.score_box.specs.inside.ZoneBoxViews.{HasFinish};
 ghost use Rattle.branch_rules.specs.inside.Found.{IsFoundIn, IsProposedInVain, is_proposed_example};
 
 use crate::choice::choose;
@@ -15,8 +15,8 @@ use reason_core::Finding;
 use score_box::ZoneBox;
 use std::alloc::Global;
 
-/// The proposed finish with lots, exactly where it is an example; otherwise the first reason,
-/// exactly where one holds; otherwise a split. A finish is made for an example alone. Cuts are
+/// The proposed finish with lots, exactly when it is an example; otherwise the first reason,
+/// exactly when one holds; otherwise a split. A finish is made for an example alone. Cuts are
 /// sought from what an earlier search left in the keep, whatever that was.
 pub fn find_with(
     alloc: Global,
@@ -52,7 +52,7 @@ fn won(alloc: Global, zone_box: &ZoneBox, question: &Question) -> Result<Finding
     Ok(Finding::Won(finish, lots))
 }
 
-// The first reason where one holds, otherwise a split.
+// The first reason if one holds, otherwise a split.
 fn reason_or_split(
     alloc: Global,
     zone_box: &ZoneBox,

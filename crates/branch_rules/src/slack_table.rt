@@ -1,12 +1,13 @@
-//! How many points rivals can move until they pass the bound that their marks set. It stands in no
-//! clause.
+//! How many points rivals can move until they pass the bound that their marks set. No clause
+//! mentions it.
 
 ghost use Rattle.std.specs.Prelude.{◌<◌};
 
 /// More room than any rival can use up.
-const AMPLE: i32 = 1_000_000;
+const UNBOUNDED: i32 = 1_000_000;
 
-/// The room of each of some rivals, which all others have amply; and which of them has least.
+/// The room left to each of some rivals (that of all others is unbounded), and which of them has
+/// least.
 #[derive(Clone, Copy)]
 pub struct SlackTable {
     of_clubs: [i32; 32],
@@ -16,13 +17,13 @@ pub struct SlackTable {
 }
 
 impl SlackTable {
-    /// Ample room for each.
+    /// Unbounded room for each.
     pub fn unbounded() -> SlackTable {
         SlackTable {
-            of_clubs: [AMPLE; 32],
+            of_clubs: [UNBOUNDED; 32],
             nearest: 32,
-            least: AMPLE,
-            next: AMPLE,
+            least: UNBOUNDED,
+            next: UNBOUNDED,
         }
     }
 

@@ -1,4 +1,4 @@
-//! A worker of one season, who keeps the box and the flow of a cut between pieces.
+//! A worker on one season, which keeps the box and the flow of a cut between pieces.
 
 ghost use Rattle.std.specs.Prelude.{◌≡◌, ◌↔◌, ◌≤◌, ◌++◌, IfOk, OnOk, IsTrue, length, take};
 ghost use Rattle.league_core.specs.game.Questions.{IsQuestionOf};
@@ -15,8 +15,8 @@ use score_box::{Played, ZoneBox};
 use std::alloc::Global;
 use std::marker::Model;
 
-/// Works on zones of one season. From one zone to the next the box goes back to what both have in
-/// front, and on from there, and a search for a cut begins with the flow of the one before.
+/// Works on zones of one season. From one zone to the next the box goes back to the prefix that
+/// both share, and on from there, and a search for a cut begins with the flow of the one before.
 /// Contracts see the sheet and the season.
 #[derive(Drop)]
 pub struct ZoneSolver<'a> {
@@ -34,7 +34,7 @@ impl<'a> Model for ZoneSolver<'a> {
 }
 
 impl<'a> ZoneSolver<'a> {
-    /// A worker of the season that the tables are of.
+    /// A worker on the season that the tables are of.
     pub fn new(alloc: Global, played: &'a Played<'a>) -> Result<ZoneSolver<'a>, OutOfMemory>
         ensures { IfOk result (λ worker. worker ≡ played.now) }
     {
@@ -69,7 +69,7 @@ impl<'a> Solver for ZoneSolver<'a> {
     }
 }
 
-// Makes the box that of another zone.
+// Moves the box to another zone.
 fn move_to(zone_box: &mut ZoneBox, zone: &[Literal]) -> Result<(), OutOfMemory>
     requires { IsTrue (is_zone_of zone_box.old.sheet zone.now) }
     ensures ok { OnOk result (zone_box.new ≡ record zone_box.old { zone = zone.now }) }
@@ -81,7 +81,7 @@ fn move_to(zone_box: &mut ZoneBox, zone: &[Literal]) -> Result<(), OutOfMemory>
     go_on(zone_box, &zone[common..])
 }
 
-// How many literals both zones have at the front.
+// How many literals the two zones share as a prefix.
 fn common_prefix(zone: &[Literal], other: &[Literal]) -> usize
     ensures one { result ≤ length zone.now }
     ensures two { result ≤ length other.now }

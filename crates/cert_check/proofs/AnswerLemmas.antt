@@ -393,7 +393,7 @@ all_count-items basis (item ∷ items) =
     (list_all counts (flat_map (item_tokens basis) items)) (all_count-proofs item.lines)
     (all_count-items basis items)
 
--- where all lines count none is left out
+-- if all lines count none is left out
 counted_all : (tokens : List Token) → list_all counts tokens ≡ true → counted_lines tokens ≡ tokens
 counted_all [] all = refl
 counted_all (token ∷ tokens) all =

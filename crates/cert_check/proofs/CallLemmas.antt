@@ -1,6 +1,6 @@
 -- What the next line that counts makes of the reading, by what is due there.
 use Rattle.std.proofs.Common.{◌≡◌, ℕ, ◌+◌, Bool, true, false, not, ◌&&◌, List, [], ◌∷◌, ◌++◌}
-use Rattle.std.proofs.Common.{Result, Ok, Err, refl, ap, ◌∙◌}
+use Rattle.std.proofs.Common.{Ok, refl, ap, ◌∙◌}
 use Rattle.std.proofs.Common.{arith}
 use Rattle.std.proofs.lemmas.Bool.{false≢true, and_parts, and_from}
 use Rattle.league_core.specs.declared.sheet.Sheet.{Sheet}
@@ -14,12 +14,11 @@ use Rattle.cert_text.specs.Ranges.{is_test_in_range}
 use Rattle.cert_text.specs.TreeLines.{is_test_for}
 use Rattle.cert_check.specs.declared.token.Token.{Token}
 use Rattle.cert_check.specs.declared.token.Token.TheVariants.{Blank, Row, Proof, Unknown}
-use Rattle.cert_check.specs.declared.stop.CheckStopAt.{CheckStopAt}
 use Rattle.cert_check.specs.declared.stop.CheckStopAt.TheVariants as halt
 use Rattle.cert_check.specs.declared.expected.TreeKind.{TreeKind}
 use Rattle.cert_check.specs.declared.expected.Tally.{Tally}
 use Rattle.cert_check.specs.ExpectedItems.{Basis, Expected, ask_row, verdict_row}
-use Rattle.cert_check.specs.ExpectedItems.{nodes, bad, go}
+use Rattle.cert_check.specs.ExpectedItems.{nodes, go}
 use Rattle.cert_check.specs.ExpectedItems.{after, is_ask_row, is_path_for, is_reason_for}
 use Rattle.cert_check.specs.ExpectedItems.{after_leaf}
 use Rattle.cert_check.specs.ExpectedItems.{after_node, with_fresh}
@@ -39,18 +38,6 @@ at_next judged from at token is due dues unsettled =
     is.same due dues unsettled
     ∙ ap (λ lines. ending_of judged.basis lines (due ∷ dues) at unsettled) is.there
 
--- a line that may not come
-pub next_bad : (judged : ReportView) (from at : ℕ) (token : Token) → IsNextAt judged from at token
-    → (due : Expected) → after judged.basis due token ≡ bad
-    → HaltsAt judged from due (halt.BadLine at)
-next_bad judged from at token is due goes = (
-  is.within,
-  λ dues unsettled.
-      at_next judged from at token is due dues unsettled
-      ∙ ap (λ next. by_next next at
-      (λ more. ending_from judged (at + 1) (more ++ dues) (with_unsettled unsettled token))) goes,
-)
-
 -- a line that does not prove what it says
 pub next_unproved : (judged : ReportView) (from at : ℕ) (token : Token)
     → IsNextAt judged from at token → (due : Expected) (more : List Expected)
@@ -68,7 +55,7 @@ abbrev pub is_quiet : Expected → Bool
 is_quiet (verdict_row line club) = false
 is_quiet _ = true
 
--- where another thing is due, a line that goes on is no row of an unsettled club
+-- if another thing is due, a line that goes on is no row of an unsettled club
 quiet : (basis : Basis) (due : Expected) (token : Token) (holds : Bool) (more : List Expected)
     → is_quiet due ≡ true → after basis due token ≡ go holds more → (unsettled : ℕ)
     → with_unsettled unsettled token ≡ unsettled
@@ -101,91 +88,6 @@ pub next_ends : (judged : ReportView) (from at : ℕ) (token : Token) → IsNext
     → Goes judged from due (Ok (at + 1))
 next_ends judged from at token is due is_other goes =
     (omega (arith, is.within), next_goes judged from at token is due [] is_other goes)
-
--- a line after which this is due
-pub next_then : (judged : ReportView) (from at : ℕ) (token : Token) → IsNextAt judged from at token
-    → (due next : Expected) → is_quiet due ≡ true
-    → after judged.basis due token ≡ go true (next ∷ []) → (result : Result ℕ CheckStopAt)
-    → Goes judged (at + 1) next result → Goes judged from due result
-next_then judged from at token is due next is_other goes (Ok to) later = (
-  later.0,
-  λ dues unsettled.
-      next_goes judged from at token is due (next ∷ []) is_other goes dues unsettled
-      ∙ later.1 dues unsettled,
-)
-next_then judged from at token is due next is_other goes (Err (halt.BadLine place)) later = (
-  later.0,
-  λ dues unsettled.
-      next_goes judged from at token is due (next ∷ []) is_other goes dues unsettled
-      ∙ later.1 dues unsettled,
-)
-next_then judged from at token is due next is_other goes (Err (halt.NoProof place)) later = (
-  later.0,
-  λ dues unsettled.
-      next_goes judged from at token is due (next ∷ []) is_other goes dues unsettled
-      ∙ later.1 dues unsettled,
-)
-next_then judged from at token is due next is_other goes (Err halt.Short) later =
-    λ dues unsettled.
-    next_goes judged from at token is due (next ∷ []) is_other goes dues unsettled
-    ∙ later dues unsettled
-next_then judged from at token is due next is_other goes (Err halt.OutOfMemory) later = tt
-
--- a line after which two things are due, of which the first stops the reading
-pub next_two_halt : (judged : ReportView) (from at : ℕ) (token : Token)
-    → IsNextAt judged from at token → (due first second : Expected) → is_quiet due ≡ true
-    → after judged.basis due token ≡ go true (first ∷ second ∷ []) → (stop : CheckStopAt)
-    → HaltsAt judged (at + 1) first stop → HaltsAt judged from due stop
-next_two_halt judged from at token is due first second is_other goes (halt.BadLine place) later = (
-  later.0,
-  λ dues unsettled.
-      next_goes judged from at token is due (first ∷ second ∷ []) is_other goes dues unsettled
-      ∙ later.1 (second ∷ dues) unsettled,
-)
-next_two_halt judged from at token is due first second is_other goes (halt.NoProof place) later = (
-  later.0,
-  λ dues unsettled.
-      next_goes judged from at token is due (first ∷ second ∷ []) is_other goes dues unsettled
-      ∙ later.1 (second ∷ dues) unsettled,
-)
-next_two_halt judged from at token is due first second is_other goes halt.Short later =
-    λ dues unsettled.
-    next_goes judged from at token is due (first ∷ second ∷ []) is_other goes dues unsettled
-    ∙ later (second ∷ dues) unsettled
-next_two_halt judged from at token is due first second is_other goes halt.OutOfMemory later = tt
-
--- of two things due the first is shown
-pub two_then : (judged : ReportView) (from at to : ℕ) (token : Token)
-    → IsNextAt judged from at token → (due first second : Expected) → is_quiet due ≡ true
-    → after judged.basis due token ≡ go true (first ∷ second ∷ [])
-    → Goes judged (at + 1) first (Ok to) → (result : Result ℕ CheckStopAt)
-    → Goes judged to second result → Goes judged from due result
-two_then judged from at to token is due first second is_other goes shown (Ok last) later = (
-  later.0,
-  λ dues unsettled.
-      next_goes judged from at token is due (first ∷ second ∷ []) is_other goes dues unsettled
-      ∙ shown.1 (second ∷ dues) unsettled ∙ later.1 dues unsettled,
-)
-two_then judged from at to token is due first second is_other goes shown (Err (halt.BadLine place))
-    later = (
-      later.0,
-      λ dues unsettled.
-          next_goes judged from at token is due (first ∷ second ∷ []) is_other goes dues unsettled
-          ∙ shown.1 (second ∷ dues) unsettled ∙ later.1 dues unsettled,
-    )
-two_then judged from at to token is due first second is_other goes shown (Err (halt.NoProof place))
-    later = (
-      later.0,
-      λ dues unsettled.
-          next_goes judged from at token is due (first ∷ second ∷ []) is_other goes dues unsettled
-          ∙ shown.1 (second ∷ dues) unsettled ∙ later.1 dues unsettled,
-    )
-two_then judged from at to token is due first second is_other goes shown (Err halt.Short) later =
-    λ dues unsettled.
-    next_goes judged from at token is due (first ∷ second ∷ []) is_other goes dues unsettled
-    ∙ shown.1 (second ∷ dues) unsettled ∙ later dues unsettled
-two_then judged from at to token is due first second is_other goes shown (Err halt.OutOfMemory)
-    later = tt
 
 -- ---- trees
 

@@ -1,6 +1,6 @@
 -- What the code of examples rests on: lots, and scores fixture by fixture.
 use Rattle.std.proofs.Common.{◌≡◌, ◌≤◌, ℕ, ◌+◌, Bool, true, false, List, [], ◌∷◌, Option}
-use Rattle.std.proofs.Common.{Some, None, Result, Ok, Err, length, take, refl, sym, ap, ◌∙◌, arith}
+use Rattle.std.proofs.Common.{Some, Result, Ok, Err, length, take, refl, sym, ap, ◌∙◌, arith}
 use Rattle.std.specs.Prelude.{if◌then◌else◌}
 use Rattle.std.proofs.lemmas.Bool.{false≢true, and_parts, and_from, leb-true, le-leb}
 use Rattle.std.proofs.lemmas.List.{take_all, drop_all}
@@ -22,7 +22,7 @@ use Rattle.cert_check.specs.ExpectedItems.{finish_with}
 use Rattle.cert_check.specs.ExpectedItems.{lots_if_drawn, scores_due}
 use Rattle.cert_check.specs.inside.Calls.{ReportView, ending_from, HaltsAt, Goes, IsNextAt}
 use Rattle.cert_check.specs.inside.Calls.{after_lots_if, lots_of_token, example_due}
-use Rattle.cert_check.proofs.CallLemmas.{next_ends, next_unproved, next_bad}
+use Rattle.cert_check.proofs.CallLemmas.{next_ends, next_unproved}
 
 -- a score of an unplayed match is one that a match may have
 pub ending_is_score : (sheet : Sheet) (ending : Score) → IsWithinLimits sheet
@@ -34,7 +34,7 @@ ending_is_score sheet ending limits is =
     and_from _ _ (le-leb ending.home 99 (omega (arith, home, limits.most_goal_limit)))
     (le-leb ending.away 99 (omega (arith, away, limits.most_goal_limit)))
 
--- what is due behind a line where lots are due, by the lots that it tells
+-- what is due after a line if lots are due, by the lots that it gives
 pub after_lots-token : (basis : Basis) (question : Question) (ended : List (Option Score))
     (token : Token) → counts token ≡ true → after basis (lots question ended) token
     ≡ after_lots_if basis question ended (lots_of_token (length basis.sheet.clubs) token)
@@ -58,7 +58,7 @@ pub same_finish : (season finish : Results) → finish.deductions ≡ season.ded
 same_finish season finish same =
     λ i. record { scores = finish.scores; deductions = sym same i }
 
--- what lots leave due, where they are told
+-- what lots leave due, if they are given
 told_lots : (judged : ReportView) (question : Question) (finish : Results) (token : Token)
     (found : Option (List ℕ)) (drawn : List ℕ) (holds : Bool) → counts token ≡ true
     → finish.deductions ≡ judged.basis.season.deductions
@@ -96,18 +96,7 @@ lots_fail judged from at token next question finish found drawn holds deductions
     (told_lots judged question finish token found drawn holds next.counted deductions is some says
     ∙ ap (λ it. go it []) so)
 
--- a line that tells no lots
-pub lots_missing : (judged : ReportView) (from at : ℕ) (token : Token)
-    → IsNextAt judged from at token
-    → (question : Question) (ended : List (Option Score)) (found : Option (List ℕ))
-    → found ≡ lots_of_token (length judged.basis.sheet.clubs) token → found ≡ None
-    → HaltsAt judged from (lots question ended) (halt.BadLine at)
-lots_missing judged from at token next question ended found is none =
-    next_bad judged from at token next (lots question ended)
-    (after_lots-token judged.basis question ended token next.counted
-    ∙ ap (after_lots_if judged.basis question ended) (sym is ∙ none))
-
--- behind all fixtures the lots are due
+-- after all fixtures the lots are due
 pub example_due-end : (question : Question) (fixture : ℕ) (scores : List (Option Score))
     → length scores ≤ fixture → example_due question fixture scores ≡ lots question scores
 example_due-end question fixture scores all =

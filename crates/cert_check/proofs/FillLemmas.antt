@@ -34,7 +34,7 @@ use Rattle.cert_check.specs.inside.Grammar.{IsPartFor, AreParts, TreesFit, AreTr
 use Rattle.cert_check.specs.inside.Grammar.{no_tally, IsExampleFrom, IsRefutationPart, IsSpentPart}
 use Rattle.cert_check.specs.inside.Grammar.{IsExamplePart, tally_after}
 
--- where proofs are not asked for, nothing has to hold
+-- if proofs are not asked for, nothing has to hold
 asked_not : (P : Type 0) → OnTrue false P
 asked_not P = OnTrue_from false P (λ it. absurd (false≢true it))
 

@@ -1,5 +1,7 @@
 -- Small facts on lists and rows, then what each line that may come makes of what is due and back,
--- then whole reports.
+-- then whole reports. After these inputs: how a reading of a sheet and of an entry goes on whatever
+-- follows it, feeds entry by entry, what comes after them, and reports part by part; then the text
+-- of a proof line, of a row, and of an answer.
 pub mod ListLemmas
 pub mod NextLemmas
 pub mod RowLemmas
@@ -13,3 +15,10 @@ pub mod FillLemmas
 pub mod ReportLemmas
 pub mod TruthLemmas
 pub mod AnswerLemmas
+pub mod ReadingLemmas
+pub mod FeedLemmas
+pub mod InputLemmas
+pub mod OutcomeLemmas
+pub mod ReadBackLemmas
+pub mod RowBackLemmas
+pub mod WrittenLemmas

@@ -19,7 +19,7 @@ go-same holds other more others same = (cc, cc)
 pub bad-go : (holds : Bool) (more : List Expected) → bad ≡ go holds more → ⊥
 bad-go holds more same = cc
 
--- where a line goes on under a test, the test was true
+-- if a line goes on under a test, the test was true
 pub go-if : (test : Bool) (next : Next) (holds : Bool) (more : List Expected)
     → (if test then next else bad) ≡ go holds more → (test ≡ true) × (next ≡ go holds more)
 go-if true next holds more same = (refl, same)
@@ -80,7 +80,7 @@ Parted proved basis due tokens =
     × (tokens ≡ token ∷ rest) × (after basis due token ≡ go holds more)
     × (proved ≡ true → holds ≡ true) × (counts token ≡ true) × AreParts proved basis more rest
 
--- what holds where a test is true gives what follows from it
+-- what holds if a test is true gives what follows from it
 pub OnTrue-weaker : (test : Bool) (P Q : Type 0) → (P → Q) → OnTrue test P → OnTrue test Q
 OnTrue-weaker test P Q follows holds =
     OnTrue_from test Q (λ it. follows (OnTrue_at {b = test} {P = P} it holds))

@@ -53,7 +53,7 @@ with_tree-branch tally false yes_half no_half test =
     same_tally _ _ (omega arith)
     (or_again tally.some_open (has_open yes_half) (has_open no_half))
 
--- that after a refuted leaf counts it where it is new
+-- that after a refuted leaf counts it if it is new
 with_tree-refuted : (tally : Tally) (fresh : Bool) (reason : _)
     → with_tree tally (refuted_leaf reason fresh) ≡ with_fresh fresh tally
 with_tree-refuted tally true reason =

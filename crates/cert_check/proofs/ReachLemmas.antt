@@ -10,29 +10,9 @@ use Rattle.cert_check.specs.declared.stop.CheckStopAt.{CheckStopAt}
 use Rattle.cert_check.specs.declared.stop.CheckStopAt.TheVariants as halt
 use Rattle.cert_check.specs.ExpectedItems.{Expected}
 use Rattle.cert_check.specs.Machine.{Ending, ending_of, whole_at}
-use Rattle.cert_check.specs.inside.Calls.{ReportView, ending_from, HaltsAt, Goes, AllHalt}
+use Rattle.cert_check.specs.inside.Calls.{ReportView, ending_from, Goes, AllHalt}
 use Rattle.cert_check.specs.inside.Calls.{GoesAfter}
 use Rattle.cert_check.specs.inside.Calls.{GoesOverAll, Reaches}
-
--- one thing due is all that is
-pub goes_behind : (judged : ReportView) (from : ℕ) (due : Expected) (result : Result ℕ CheckStopAt)
-    → Goes judged from due result → GoesAfter judged from (due ∷ []) result
-goes_behind judged from due (Ok at) goes = goes
-goes_behind judged from due (Err (halt.BadLine at)) goes = goes
-goes_behind judged from due (Err (halt.NoProof at)) goes = goes
-goes_behind judged from due (Err halt.Short) goes = goes
-goes_behind judged from due (Err halt.OutOfMemory) goes = tt
-
--- of two things due the first stops the reading
-pub first_halts : (judged : ReportView) (from : ℕ) (first second : Expected) (stop : CheckStopAt)
-    → HaltsAt judged from first stop → AllHalt judged from (first ∷ second ∷ []) stop
-first_halts judged from first second (halt.BadLine at) halts =
-    (halts.0, λ dues unsettled. halts.1 (second ∷ dues) unsettled)
-first_halts judged from first second (halt.NoProof at) halts =
-    (halts.0, λ dues unsettled. halts.1 (second ∷ dues) unsettled)
-first_halts judged from first second halt.Short halts =
-    λ dues unsettled. halts (second ∷ dues) unsettled
-first_halts judged from first second halt.OutOfMemory halts = tt
 
 -- of two things due the first is shown
 pub first_shown : (judged : ReportView) (from at : ℕ) (first second : Expected)
@@ -48,12 +28,6 @@ first_shown judged from at first second (Err (halt.NoProof place)) goes later =
 first_shown judged from at first second (Err halt.Short) goes later =
     λ dues unsettled. goes.1 (second ∷ dues) unsettled ∙ later dues unsettled
 first_shown judged from at first second (Err halt.OutOfMemory) goes later = tt
-
--- at the start all is due
-pub reach_start : (judged : ReportView) (from : ℕ) (wanted : List Expected)
-    → Reaches judged from wanted from wanted 0
-reach_start judged from wanted = λ dues before.
-    ap (λ count. ending_from judged from (wanted ++ dues) count) (omega arith)
 
 -- one piece more is shown
 pub reach_on : (judged : ReportView) (from at unsettled : ℕ) (wanted first later : List Expected)
@@ -88,7 +62,7 @@ reach_halt judged from at unsettled wanted first later halt.Short reaches halts 
     ∙ halts (later ++ dues) (before + unsettled)
 reach_halt judged from at unsettled wanted first later halt.OutOfMemory reaches halts = tt
 
--- where nothing is due the reading ends
+-- if nothing is due the reading ends
 pub ends_whole : (judged : ReportView) (at unsettled : ℕ)
     → ending_from judged at [] unsettled ≡ whole_at at unsettled
 ends_whole judged at unsettled = of_lines (drop at judged.tokens)

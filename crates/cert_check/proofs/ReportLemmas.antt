@@ -114,7 +114,7 @@ passes_on basis (token ∷ before) rest (due ∷ dues) left at unsettled passed 
     ∙ ap (λ it. ending_of basis rest left it
     (unsettled_with (with_unsettled unsettled token) before)) (omega arith)
 
--- lines that pass begin what is due where those after them begin what is due there
+-- lines that pass begin what is due if those after them begin what is due there
 begins_through : (basis : Basis) (before tokens : List Token) (dues left : List Expected)
     → LeavesDue basis before dues left → Begins basis left tokens
     → Begins basis dues (before ++ tokens)
@@ -424,7 +424,7 @@ is_no_proof basis tokens dues at unsettled place it =
     (with_unsettled (unsettled_with unsettled it.before) it.unproved))) it.fails
     ∙ ap (λ number. no_proof (at + number)) (sym it.place)
 
--- where lines are said to be missing they are too few
+-- if lines are said to be missing they are too few
 pub short_is : (basis : Basis) (tokens : List Token) (dues : List Expected) (at unsettled : ℕ)
     → ending_of basis tokens dues at unsettled ≡ short → AreTooFew basis tokens dues
 short_is basis tokens dues at unsettled ending =
@@ -461,7 +461,7 @@ short_is basis tokens dues at unsettled ending =
     no_proof_not : {m : ℕ} → no_proof m ≡ short → ⊥
     no_proof_not same = cc
 
--- where they are too few this is said
+-- if they are too few this is said
 pub is_short : (basis : Basis) (tokens : List Token) (dues : List Expected) (at unsettled : ℕ)
     → AreTooFew basis tokens dues → ending_of basis tokens dues at unsettled ≡ short
 is_short basis tokens dues at unsettled few =
@@ -533,7 +533,7 @@ none_counted (Row fields ∷ tokens) unsettled none = absurd cc
 none_counted (Proof shown ∷ tokens) unsettled none = absurd cc
 none_counted (Unknown ∷ tokens) unsettled none = absurd cc
 
--- none of them counts, so not all do where there is one
+-- none of them counts, so not all do if there is one
 not_all : (tokens : List Token) → counted_lines tokens ≡ [] → list_all counts tokens ≡ true
     → length tokens ≡ 0
 not_all [] none all = refl
@@ -561,7 +561,7 @@ no_lines basis due dues parts =
     nil_not : (token : Token) (tokens : List Token) → [] ≡ token ∷ tokens → ⊥
     nil_not token tokens same = cc
 
--- where nothing is due the reading ends
+-- if nothing is due the reading ends
 read_none : (basis : Basis) (taken rest : List Token) (at unsettled : ℕ)
     → counted_lines taken ≡ [] → IsRead basis taken rest [] at unsettled
 read_none basis taken rest at unsettled none = (

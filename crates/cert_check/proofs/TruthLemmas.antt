@@ -136,7 +136,7 @@ rows_due clubs (line ∷ lines) =
     (list_all-map (is_row_due clubs) (verdict_row line) (range_with_len 0 clubs)
     ∙ clubs_below_number clubs) (rows_due clubs lines)
 
--- the part of an ask is true where it is proved
+-- the part of an ask is true if it is proved
 pub part_true : (basis : Basis) (tokens : List Token)
     → AreParts true basis (part_of_ask basis.sheet) tokens
     → AreTrueRows basis (part_of_ask basis.sheet) tokens

@@ -45,7 +45,7 @@ pub record Basis : Type 0 where
 -- what must come: the row of the ask; the row of a line and a club; a refutation, a spent tree or
 -- an example of a question from its head on, or one of the last two; what stands for the two
 -- questions of an unsettled row; the nodes of a tree for the zones that are still due, the first of
--- which comes next; the score of the fixture behind those that have ended; the lots
+-- which comes next; the score of the fixture after those that have ended; the lots
 pub data Expected : Type 0 where
   ask_row : Expected
   verdict_row : ℕ → ℕ → Expected
@@ -58,7 +58,7 @@ pub data Expected : Type 0 where
   score : Question → List (Option Score) → List (Option Score) → Expected
   lots : Question → List (Option Score) → Expected
 
--- a line where something is due: it may not come there; or it may, it proves what it says or does
+-- a line when something is due: it may not come there; or it may, it proves what it says or does
 -- not, and other things are due in its place
 pub data Next : Type 0 where
   bad : Next
@@ -107,11 +107,11 @@ word_named text =
     else if bytes_eq text (codes "unsettled") then Some Unsettled
     else None
 
--- the word in a row, where the row is about the line and the club
+-- the word in a row, if the row is about the line and the club
 abbrev pub word_if_about : Bool → List ℕ → Option RowWord
 word_if_about is_about text = if is_about then word_named text else None
 
--- the word that a row says of a club and a line, where it is their row
+-- the word that a row says of a club and a line, if it is their row
 abbrev pub word_in_row : ℕ → List ℕ → List (List ℕ) → Option RowWord
 word_in_row line name fields = word_if_about (is_row_about line name fields) (field 3 fields)
 
@@ -148,7 +148,7 @@ same_claim Outside Outside = true
 
 -- ---- trees
 
--- the node that a line of a tree stands for, where trees of this kind have such a line
+-- the node that a line of a tree stands for, if trees of this kind have such a line
 abbrev pub node_in : TreeKind → ProofLine → Option TreeNode
 node_in Refutation (line.Split test) = Some (node.Split test false)
 node_in Refutation (line.Leaf reason) = Some (node.Refuted reason false)
@@ -160,7 +160,7 @@ node_in Spent (line.NewLeaf reason) = Some (node.Refuted reason true)
 node_in Spent line.OpenLeaf = Some node.Open
 node_in Spent _ = None
 
--- one new node more, where the node is new
+-- one new node more, if the node is new
 abbrev pub with_fresh : Bool → Tally → Tally
 with_fresh false tally = tally
 with_fresh true tally = record tally { news = tally.news + 1 }
@@ -239,12 +239,12 @@ dues_of_word line club Possible =
     ∷ finish_head (full_question club line Outside) ∷ []
 dues_of_word line club Unsettled = both_parts line club ∷ []
 
--- what is due after a row, where it has a word
+-- what is due after a row, if it has a word
 abbrev pub promised : ℕ → ℕ → Option RowWord → Next
 promised line club None = bad
 promised line club (Some word) = go true (dues_of_word line club word)
 
--- a head, where it is of this claim
+-- a head, if it is of this claim
 abbrev pub if_of_claim : Claim → Claim → Head → Option Head
 if_of_claim claim other head = if same_claim other claim then Some head else None
 
@@ -309,7 +309,7 @@ after_score basis question ended left (line.Score fixture ending) =
     then go true (scores_due question (ended ++ Some ending ∷ []) left ∷ []) else bad
 after_score basis question ended left _ = bad
 
--- lots, where a list is lots
+-- lots, if a list is lots
 abbrev pub lots_if_drawn : Bool → List ℕ → Option (List ℕ)
 lots_if_drawn is_drawn list = if is_drawn then Some list else None
 
@@ -320,14 +320,14 @@ after_lots basis question ended (line.Lots list) =
     then go (holds_at basis.sheet question (finish_with basis.season ended) list.list) [] else bad
 after_lots basis question ended _ = bad
 
--- a row where something is due
+-- a row when something is due
 abbrev pub after_row : Basis → Expected → List (List ℕ) → Next
 after_row basis ask_row fields = after_ask_row basis fields
 after_row basis (verdict_row line club) fields =
     promised line club (word_in_row line (name_of_club basis.sheet club) fields)
 after_row basis _ fields = bad
 
--- a proof line where something is due
+-- a proof line when something is due
 abbrev pub after_proof : Basis → Expected → ProofLine → Next
 after_proof basis ask_row it = bad
 after_proof basis (verdict_row line club) it = bad
@@ -347,7 +347,7 @@ after_proof basis (nodes kind question zone zones tally) it =
 after_proof basis (score question ended left) it = after_score basis question ended left it
 after_proof basis (lots question ended) it = after_lots basis question ended it
 
--- any line where something is due; a line that is passed over leaves it due
+-- any line when something is due; a line that is passed over leaves it due
 abbrev pub after : Basis → Expected → Token → Next
 after basis due Blank = go true (due ∷ [])
 after basis due (Row fields) = after_row basis due fields

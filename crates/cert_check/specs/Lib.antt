@@ -1,6 +1,8 @@
--- Read in this order: what a line is, what may come and what it leaves due, and a whole report.
+-- Read in this order: what a line is, what may come and what it leaves due, a whole report, and
+-- what an input with a report comes to.
 pub mod Tokens
 pub mod LineLists
 pub mod ExpectedItems
 pub mod Machine
+pub mod Outcomes
 pub mod inside

@@ -20,7 +20,7 @@ pub data Ending : Type 0 where
   no_proof : ℕ → Ending
   short : Ending
 
--- one more, where the line is the row of an unsettled club
+-- one more, if the line is the row of an unsettled club
 abbrev pub with_unsettled : ℕ → Token → ℕ
 with_unsettled unsettled Blank = unsettled
 with_unsettled unsettled (Row fields) =
@@ -28,13 +28,13 @@ with_unsettled unsettled (Row fields) =
 with_unsettled unsettled (Proof it) = unsettled
 with_unsettled unsettled Unknown = unsettled
 
--- what a line comes to, and where the report goes on, what the rest of it comes to
+-- what a line comes to, and if the report goes on, what the rest of it comes to
 abbrev pub by_next : Next → ℕ → (List Expected → Ending) → Ending
 by_next bad at rest = bad_line at
 by_next (go false dues) at rest = no_proof at
 by_next (go true dues) at rest = rest dues
 
--- what the lines from a position on come to where this is due, with so many unsettled rows so far
+-- what the lines from a position on come to if this is due, with so many unsettled rows so far
 abbrev pub ending_of : Basis → List Token → List Expected → ℕ → ℕ → Ending
 ending_of basis [] [] at unsettled = whole_at at unsettled
 ending_of basis [] (due ∷ dues) at unsettled = short

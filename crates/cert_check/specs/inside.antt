@@ -5,3 +5,7 @@ pub mod Laws
 pub mod Truths
 pub mod Calls
 pub mod Answers
+pub mod ReportTruths
+pub mod InputCalls
+pub mod WrittenLines
+pub mod WrittenReports

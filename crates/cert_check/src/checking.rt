@@ -18,8 +18,9 @@ use league_core::{Season, Sheet};
 use std::alloc::Global;
 
 /// Checks the lines from a position on, from 0, as the part of a report that answers one ask of a
-/// season; `epoch` is how many events told of it. `BadLine` and `NoProof` name the line at which
-/// the reading stops, by its number in the input; `Short` and running out of memory name none.
+/// season; `epoch` is how many events the season took. `BadLine` and `NoProof` name the line at
+/// which the reading stops, by its number in the input; `Short` and running out of memory name
+/// none.
 pub fn check(
     alloc: Global,
     sheet: &Sheet,

@@ -22,7 +22,7 @@ use league_core::{Event, Lots, OutOfMemory, Question, Score, Season};
 use tie_criteria::points_of;
 
 impl<'a> Report<'a> {
-    /// An example behind its head: a score for each fixture that the season has none for, and lots
+    /// An example after its head: a score for each fixture that the season has none for, and lots
     /// with which the question holds.
     pub fn example(&self, from: usize, question: Question) -> Result<usize, CheckStopAt>
         requires room { from ≤ length self.now.tokens }
@@ -37,7 +37,7 @@ impl<'a> Report<'a> {
         self.lots(at, question, &finish)
     }
 
-    // Goes on over one fixture: its score is read where it has none.
+    // Goes on over one fixture: its score is read if it has none.
     fn take_fixture(
         &self,
         from: usize,

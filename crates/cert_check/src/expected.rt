@@ -1,4 +1,4 @@
-//! What a report's parts are told apart by.
+//! What distinguishes a report's parts.
 
 /// The word of a verdict row.
 #[derive(Clone, Copy)]

@@ -25,7 +25,7 @@ use league_core::{Claim, Question};
 pub struct Item {
     /// The position after its last line.
     pub next: usize,
-    /// 1 where its club is unsettled, 0 otherwise.
+    /// 1 if its club is unsettled, 0 otherwise.
     pub unsettled: u32,
 }
 

@@ -10,8 +10,8 @@ ghost use Rattle.cert_check.specs.inside.Calls.{IsInSeasonOf, pending_of};
 use check_bounds::Trail;
 use league_core::{Literal, OutOfMemory};
 
-/// Goes on to the next half that is due: the last yes of the way becomes a no. False where no half
-/// is due.
+/// Goes on to the next half that is due: the last yes of the way becomes a no. False if no half is
+/// due.
 pub fn next_half(path: &mut Trail) -> Result<bool, OutOfMemory>
     requires { IsTrue (is_zone_of path.old.sheet path.old.zone) }
     ensures due { IfOk result (λ found. pending_of path.old.zone

@@ -1,4 +1,4 @@
-//! What `check` answers.
+//! What `check` returns.
 
 ghost use Rattle.std.specs.Prelude.{◌≡◌};
 

@@ -57,7 +57,7 @@ impl<'a> Report<'a> {
         }
     }
 
-    // True where the tree is whole after this line.
+    // True if the tree is whole after this line.
     fn take_node(
         &self,
         at: usize,

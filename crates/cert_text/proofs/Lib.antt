@@ -1,6 +1,5 @@
 -- Rows read back, the clubs of a set, the JSON of proof lines, and that it is printed; then lines
--- and
--- rows worked by hand.
+-- and rows worked by hand.
 pub mod RowLemmas
 pub mod PlainRowLemmas
 pub mod SetListLemmas

@@ -1,4 +1,4 @@
--- Numbers and lists of clubs at the front of a text, digit by digit and club by club.
+-- Numbers and lists of clubs at the start of a text, digit by digit and club by club.
 use Rattle.std.proofs.Common.{◌≡◌, ◌<◌, ◌+◌, ◌*◌, ◌/◌, ◌%◌, ℕ, true, List, []}
 use Rattle.std.proofs.Common.{◌∷◌, ◌++◌, map, refl, sym, ap, ◌∙◌, arith, append_assoc, decimal}
 use Rattle.std.proofs.Common.{Option, Some, None, MatchOption, IfSome}

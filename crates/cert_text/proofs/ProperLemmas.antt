@@ -31,7 +31,7 @@ use Rattle.league_core.proofs.FinishLemmas.{may_end_is_score}
 use Rattle.cert_text.specs.Ranges.{is_fixture_number, is_goal_bound}
 use Rattle.cert_text.specs.TreeLines.{is_test_for, are_tests_for}
 
--- where a test of a fixture misses, its no half has a score that misses
+-- if a test of a fixture misses, its no half has a score that misses
 missed_score : (limit : ℕ) (zone : List Literal) (test : Test) (fixture : ℕ) (played : Option Score)
     → is_on fixture test ≡ true → limit ≤ 20 → is_score_or_none played ≡ true
     → has_option (options_of limit (with_test zone test false) fixture played) ≡ true

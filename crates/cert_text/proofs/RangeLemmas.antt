@@ -9,8 +9,8 @@ use Rattle.league_core.proofs.ClubSetLemmas.{has_club-range}
 use Rattle.league_core.proofs.ClubLemmas.{each_member, all_members, no_member}
 use Rattle.cert_text.specs.Ranges.{is_club_number}
 
--- where a list has the clubs of another but the numbers of clubs, all of the other are such numbers
--- where it is empty
+-- if a list has the clubs of another but the numbers of clubs, all of the other are such numbers if
+-- it is empty
 pub list_all-rest : (clubs rest first : List ℕ) (is_empty : Bool) → first ≡ range_with_len 0 24
     → ((club : ℕ) → has_club rest club ≡ (has_club clubs club && not (has_club first club)))
     → (IsTrue is_empty ↔ (rest ≡ [])) → is_empty ≡ list_all is_club_number clubs

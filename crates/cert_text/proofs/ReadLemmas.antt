@@ -11,7 +11,7 @@ use Rattle.std.proofs.Common.{refl}
 pub json_of-utf8 : (text : List ℕ) → IsUtf8 text → json_of text ≡ read text
 json_of-utf8 text utf8 = ap (λ b. cond b (read text) None) (is_utf8-from_IsUtf8 text utf8)
 
--- a text that reads as nothing where it is UTF-8 is nothing
+-- a text that reads as nothing if it is UTF-8 is nothing
 pub json_of-none : (text : List ℕ) → (IsUtf8 text → read text ≡ None) → json_of text ≡ None
 json_of-none text none =
     cond_both (is_utf8 text) (read text) None (λ found. found ≡ None)

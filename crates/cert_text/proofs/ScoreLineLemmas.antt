@@ -6,7 +6,7 @@ use Rattle.cert_text.specs.declared.proof_line.ProofLine.TheVariants as line
 use Rattle.cert_text.specs.Lines.{word, number_in_text, part_text, text_of_proof_line}
 use Rattle.cert_text.proofs.LineLemmas.{join-more}
 
--- three numbers after a front, each with its mark
+-- three numbers after a prefix, each with its mark
 in_a_row : (front one two three : List ℕ)
     → ((front ++ (one ++ 44 ∷ [])) ++ (two ++ 44 ∷ [])) ++ (three ++ 93 ∷ [])
     ≡ front ++ (one ++ 44 ∷ (two ++ 44 ∷ (three ++ 93 ∷ [])))

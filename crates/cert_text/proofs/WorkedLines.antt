@@ -1,6 +1,5 @@
 -- Lines and rows worked by hand, computed when the crate is checked: a text with an exchanged side
--- or a
--- club counted from 0 fails here.
+-- or a club counted from 0 fails here.
 use Rattle.std.proofs.Common.{◌≡◌, pos, negsuc, false, [], ◌∷◌, map, codes, refl}
 use Rattle.std.specs.Fmt.{digits}
 use Rattle.csv.specs.Writing.{escaped, fields_text, is_blank}
@@ -37,8 +36,7 @@ unfolding digits
 lots = refl
 
 -- fixture 601, a bound that no score misses, club 25, an empty set, a set with club 25, a hundred
--- goals,
--- -100 points
+-- goals, -100 points
 ranges : map is_in_range
     (line.Score 600 (record { home = 0; away = 0 }) ∷ line.Split (HomeMost 0 99) ∷ line.Split
     (Rival 24) ∷ line.Leaf (Low (record { bits = 0 })) ∷ line.Leaf

@@ -1,4 +1,4 @@
--- Examples as proof lines: a finish of the season, told by the scores of the fixtures that the
+-- Examples as proof lines: a finish of the season, given by the scores of the fixtures that the
 -- season has none for, and a drawing of lots.
 use Rattle.std.specs.Prelude.{◌≡◌, ℕ, ◌+◌, List, [], ◌∷◌, ◌++◌, Option, Some, None}
 use Rattle.std.specs.List.{flat_map}
@@ -12,7 +12,7 @@ use Rattle.cert_text.specs.declared.proof_line.ProofLine.{ProofLine}
 use Rattle.cert_text.specs.declared.proof_line.ProofLine.TheVariants as line
 use Rattle.cert_text.specs.Lines.{text_of_proof_line}
 
--- the line of a fixture in an example: none where the season has its score already
+-- the line of a fixture in an example: none if the season has its score already
 abbrev pub score_line_if : ℕ → Option Score → Option Score → List ProofLine
 score_line_if fixture (Some played) ended = []
 score_line_if fixture None None = []

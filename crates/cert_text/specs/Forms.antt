@@ -17,7 +17,7 @@ use Rattle.cert_text.specs.Ranges.{most_goal_bound}
 use Rattle.cert_text.specs.Places.{is_end_at, word_at, integer_at, fixture_at, club_at, points_at}
 use Rattle.cert_text.specs.Places.{claim_at, clubs_at, set_at}
 
--- where the array ends at the place, what it is; otherwise it has no such form
+-- if the array ends at the place, what it is; otherwise it has no such form
 abbrev pub if_ends_at : {A : Type 0} → ℕ → Data → Option A → Option A
 if_ends_at place shown found = if is_end_at place shown then found else None
 
@@ -155,7 +155,7 @@ line_named name shown =
 abbrev pub line_of_value : Data → Option ProofLine
 line_of_value shown = option_and_then (λ name. line_named name shown) (word_at 0 shown)
 
--- what a text is as JSON: nothing where it is not UTF-8, or no JSON
+-- what a text is as JSON: nothing if it is not UTF-8, or no JSON
 abbrev pub json_of : List ℕ → Option Data
 json_of text = if is_utf8 text then read text else None
 

@@ -1,7 +1,6 @@
 -- The text of each proof line: one JSON array without a space, of words, numbers and lists of
 -- clubs. Clubs and fixtures count from 1 in texts, and from 0 in types. The forms are this
--- project's
--- own.
+-- project's own.
 use Rattle.std.specs.Prelude.{ℕ, ◌+◌, ℤ, Bool, ◌&&◌, nat_le, nat_lt, List, [], ◌∷◌, ◌++◌, map}
 use Rattle.std.specs.Prelude.{codes, decimal}
 use Rattle.std.specs.List.{join_with_byte}
@@ -32,7 +31,7 @@ abbrev pub claim_word : Claim → List ℕ
 claim_word Inside = codes "inside"
 claim_word Outside = codes "outside"
 
--- a test says its kind, then its fixture or its club, then a bound on goals where it has one
+-- a test says its kind, then its fixture or its club, then a bound on goals if it has one
 abbrev pub test_parts : Test → List Part
 test_parts (Home fixture) = word (codes "home") ∷ whole (number_in_text fixture) ∷ []
 test_parts (Draw fixture) = word (codes "draw") ∷ whole (number_in_text fixture) ∷ []
@@ -42,7 +41,7 @@ test_parts (AwayMost fixture most) =
     word (codes "ag") ∷ whole (number_in_text fixture) ∷ whole most ∷ []
 test_parts (Rival club) = word (codes "rival") ∷ whole (number_in_text club) ∷ []
 
--- a reason says its kind, then the clubs of its set where it has one
+-- a reason says its kind, then the clubs of its set if it has one
 abbrev pub reason_parts : Reason → List Part
 reason_parts Count = word (codes "count") ∷ []
 reason_parts Window = word (codes "window") ∷ []

@@ -1,4 +1,4 @@
--- What stands at a place of a JSON array, where it is what a form has there: places count from 0.
+-- What stands at a place of a JSON array, if it is what a form has there: places count from 0.
 -- Fixtures and clubs count from 1 in texts, and from 0 here.
 use Rattle.std.specs.Prelude.{ℕ, ◌+◌, ◌-◌, ◌^◌, ℤ, Bool, true, ◌&&◌, not, nat_le, List, []}
 use Rattle.std.specs.Prelude.{◌∷◌, Option, Some, None, option_map, option_and_then}
@@ -71,7 +71,7 @@ listed_club shown =
     option_map number_here
     (option_and_then (if_between 1 most_clubs) (option_and_then as_u64 (as_number shown)))
 
--- the clubs of a list, where each of its items is one
+-- the clubs of a list, if each of its items is one
 abbrev pub listed_clubs : Items → Option (List ℕ)
 listed_clubs no_items = Some []
 listed_clubs (item shown items) =

@@ -1,6 +1,6 @@
 -- Trees of zones as proof lines: from the root on, the half where a test is true first. A list of
--- lines is a refutation of a question, or a tree on which its budget was spent, where it is the
--- list of such a tree.
+-- lines is a refutation of a question, or a tree on which its budget was spent, if it is the list
+-- of such a tree.
 use Rattle.std.specs.Prelude.{◌≡◌, ℕ, Bool, true, false, not, ◌&&◌, IsTrue, List, [], ◌∷◌, map}
 use Rattle.league_core.specs.declared.sheet.Sheet.{Sheet}
 use Rattle.league_core.specs.declared.question.Claim.{Claim}
@@ -17,7 +17,7 @@ use Rattle.cert_text.specs.declared.proof_line.ProofLine.{ProofLine}
 use Rattle.cert_text.specs.declared.proof_line.ProofLine.TheVariants as line
 use Rattle.cert_text.specs.Ranges.{is_test_in_range}
 
--- the line of a node in a refutation, where it does not matter which nodes are new. A lent leaf is
+-- the line of a node in a refutation, if it does not matter which nodes are new. A lent leaf is
 -- written as what it is without its worker, an open one
 abbrev pub plain_line : TreeNode → ProofLine
 plain_line (Split test fresh) = line.Split test

@@ -16,7 +16,7 @@ use league_core::{ClubSet, Listing, OutOfMemory, Reason, Score, Test};
 use serde_json::Value;
 use std::alloc::Global;
 
-/// The line that the value has the form of; `None` where it has none of the forms.
+/// The line that the value has the form of; `None` if it has none of the forms.
 pub fn line_of(alloc: Global, value: &Value) -> Result<Option<ProofLine>, OutOfMemory>
     ensures { IfOk result (λ found. found ≡ line_of_value (view value.now)) }
 {

@@ -1,4 +1,4 @@
-//! What stands at the places of a JSON array, from 0 on, where it is what a form has there.
+//! What stands at the places of a JSON array, from 0 on, if it is what a form has there.
 
 ghost use Rattle.std.specs.Prelude.{◌≡◌, ◌<◌, IfOk, Some, None, option_map, map, ◌∷◌, []};
 ghost use Rattle.serde_json.specs.View.{view, items_view};
@@ -25,7 +25,7 @@ pub fn word(value: &Value, place: usize) -> Option<&str>
     value.get(place).and_then(Value::as_str)
 }
 
-/// The integer at the place, where it is within these bounds.
+/// The integer at the place, if it is within these bounds.
 pub fn number(value: &Value, place: usize, least: u64, most: u64) -> Option<u64>
     ensures { result ≡ integer_at place least most (view value.now) }
 {
@@ -91,7 +91,7 @@ fn club_of(value: &Value) -> Option<u8>
     }
 }
 
-// The clubs of a list, where each of its items is one.
+// The clubs of a list, if each of its items is one.
 fn clubs_of(alloc: Global, items: &[Value]) -> Result<Option<Vec<u8>>, OutOfMemory>
     ensures { IfOk result
         (λ found. option_map (λ clubs. clubs.items) found ≡ listed_clubs (items_view items.now)) }

@@ -1,4 +1,4 @@
-//! Numbers and lists of clubs at the front of a text, as the lines' own texts have them.
+//! Numbers and lists of clubs at the start of a text, as the lines' own texts have them.
 
 ghost use Rattle.std.specs.Prelude.{◌≡◌, ◌<◌, ◌+◌, ◌++◌, IfOk, IfSome, IsTrue, decimal};
 ghost use Rattle.cert_text.specs.inside.PlainForms.{AreClubsAtEnd, IsNumberBefore};
@@ -8,7 +8,7 @@ use league_core::OutOfMemory;
 use league_core::limits::MOST_CLUBS;
 use std::alloc::Global;
 
-/// What is left of the text after these bytes, where it begins with them.
+/// What is left of the text after these bytes, if it begins with them.
 pub fn behind<'a>(text: &'a [u8], front: &[u8]) -> Option<&'a [u8]>
     ensures { IfSome result (λ rest. text.now ≡ front.now ++ rest.now) }
 {
@@ -43,7 +43,7 @@ fn digits(text: &[u8]) -> Option<(u16, &[u8])>
     Some(more_digits(number, rest))
 }
 
-// The number that these digits and those at the front of the text make. After a 0 none may come.
+// The number that these digits and those at the start of the text make. After a 0 none may come.
 fn more_digits(number: u16, text: &[u8]) -> (u16, &[u8])
     requires { number < 10000 }
     ensures few { result.0 < 10000 }

@@ -46,7 +46,7 @@ pub fn plain_row(alloc: Global, fields: &[Vec<u8>]) -> Result<Vec<u8>, OutOfMemo
     Ok(row)
 }
 
-// Puts the field of a place at the end, a comma before it where another is before it.
+// Puts the field of a place at the end, a comma before it if another is before it.
 fn push_field(row: &mut Vec<u8>, place: usize, field: &[u8]) -> Result<(), OutOfMemory>
     ensures { OnOk result
         (row.new.items ≡ row.old.items ++ (next_sep default_writer place ++ field.now)) }

@@ -58,7 +58,7 @@ fn line_by_json(alloc: Global, text: &[u8]) -> Result<ProofLine, LineStop>
     }
 }
 
-// The JSON value of a text; `None` where it is none, or is not UTF-8.
+// The JSON value of a text; `None` if it is none, or is not UTF-8.
 fn json_in(alloc: Global, text: &[u8]) -> Result<Option<Value>, OutOfMemory>
     ensures { IfOk result (λ found. option_map (λ value. view value) found ≡ json_of text.now) }
 {

@@ -9,8 +9,8 @@ use csv::{ByteRecord, WriterBuilder};
 use league_core::OutOfMemory;
 use std::alloc::Global;
 
-/// The row as `csv` writes it, quoted where it has to be, and ended by a line feed. A byte order
-/// mark that begins the first field is lost on a reader that takes one off its input.
+/// The row as `csv` writes it, quoted if it has to be, and ended by a line feed. A byte order mark
+/// that begins the first field is lost on a reader that takes one off its input.
 pub fn write_row(alloc: Global, fields: &[Vec<u8>]) -> Result<Vec<u8>, OutOfMemory>
     requires some { 0 < length fields.now }
     ensures text { IfOk result
@@ -22,7 +22,7 @@ pub fn write_row(alloc: Global, fields: &[Vec<u8>]) -> Result<Vec<u8>, OutOfMemo
     Ok(row)
 }
 
-// Without csv's writer where it would quote nothing.
+// Without csv's writer if it would quote nothing.
 fn row_of(alloc: Global, fields: &[Vec<u8>]) -> Result<Vec<u8>, OutOfMemory>
     requires some { 0 < length fields.now }
     ensures { IfOk result
@@ -45,7 +45,7 @@ fn gathered(alloc: Global, fields: &[Vec<u8>]) -> Result<ByteRecord, OutOfMemory
     Ok(found)
 }
 
-// A writer over memory can want memory alone, so each of its refusals is answered as that.
+// A writer over memory fails only if memory runs out, so each of its refusals is returned as that.
 fn written(alloc: Global, fields: &ByteRecord) -> Result<Vec<u8>, OutOfMemory>
     ensures { IfOk result (λ row. row.items ≡ text_of_row (fields_of fields.now)) }
 {

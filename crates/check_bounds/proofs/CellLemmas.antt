@@ -1,4 +1,4 @@
--- Cells: scopes with their corners, where one of them changes, and where a zone is looked at.
+-- Cells: domains with their extremes, when one of them changes, and when a zone is looked at.
 use Rattle.std.proofs.Common.{◌≡◌, ◌≢◌, ◌⊎◌, inl, inr, ℕ, ◌<◌, List, [], length, get_or}
 use Rattle.std.proofs.Common.{set, false, sym, subst, ◌∙◌, arith}
 use Rattle.std.proofs.lemmas.Bool.{cases_eq}
@@ -15,7 +15,7 @@ use Rattle.check_bounds.specs.declared.open_counts.OpenCounts.{OpenCounts}
 use Rattle.check_bounds.specs.inside.OpenCounts.{AreExchanged}
 use Rattle.check_bounds.proofs.OpenCountLemmas.{loose_set}
 
--- corners that fit scopes are those of what the scopes leave
+-- extremes that fit domains are those of what the domains leave
 pub fit_zone : (scopes : List ScoreDomain) (corners options : List (List Score))
     → FitScoreDomains scopes corners → AreScoreDomainsOf scopes options
     → AreAllExtremesOf corners options
@@ -35,7 +35,7 @@ fit_zone scopes corners options fit are = record {
       away = record { least = 1; most = 0 };
     }
 
--- another scope at one place, with its corners
+-- another domain at one place, with its extremes
 pub fit_set : (scopes : List ScoreDomain) (corners : List (List Score)) (place : ℕ)
     (scope : ScoreDomain)
     (own : List Score) → place < length scopes → FitScoreDomains scopes corners
@@ -70,7 +70,7 @@ fit_set scopes corners place scope own inside fit is = record {
         (subst (λ (s : ScoreDomain). IsScoreDomainOf s options)
         (get_or-set_other scopes place k scope d other) of))
 
--- another scope at one place
+-- another domain at one place
 pub cells_set : (sheet : Sheet) (scopes : List ScoreDomain) (corners : List (List Score))
     (won now : List IntRange) (loose after : OpenCounts) (place : ℕ) (scope : ScoreDomain)
     (own : List Score)

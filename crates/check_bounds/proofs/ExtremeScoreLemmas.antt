@@ -1,4 +1,4 @@
--- Corners: the scores at the ends of what is left of each outcome are among the options, and each
+-- Extremes: the scores at the ends of what is left of each outcome are among the options, and each
 -- option lies between them.
 use Rattle.std.proofs.Common.{◌≡◌, ℕ, ◌+◌, ◌<◌, ◌≤◌, ◌⊎◌, inl, inr, Bool, true, false, ◌&&◌, ◌||◌}
 use Rattle.std.proofs.Common.{List, [], ◌∷◌, ◌++◌, Option, Some, None, refl, sym, ap, subst, ◌∙◌}
@@ -27,7 +27,7 @@ use Rattle.check_bounds.specs.inside.ExtremeScores.{HasExtreme, LiesBetween, Are
 use Rattle.check_bounds.specs.inside.ExtremeScores.{AreWinsOf, CanDraw, AreDrawsOf, home_extremes}
 use Rattle.check_bounds.specs.inside.ExtremeScores.{away_extremes, draw_extremes, extremes_if}
 
--- a corner of a part of the corners is one of all
+-- an extreme of a part of the extremes is one of all
 abbrev IsAmong : List Score → List Score → Type 0
 IsAmong part whole = (c : Score) → has_score part c ≡ true → has_score whole c ≡ true
 
@@ -95,7 +95,7 @@ four_pass test a b c d pa pb pc pd =
     (and_from (test b) (list_all test (c ∷ d ∷ [])) pb
     (and_from (test c) (list_all test (d ∷ [])) pc (and_from (test d) true pd refl)))
 
--- the corners of each outcome are left
+-- the extremes of each outcome are left
 home_inside : (scope : ScoreDomain) (left : Bool) (wins : Option Wins) → scope.home_win ≡ left
     → MatchOption wins ((won lost : ℕ) → CanWin scope.home scope.away won lost → ⊥)
     (AreWinsOf scope.home scope.away)
@@ -138,7 +138,7 @@ draw_inside scope true (Some draws) is are =
     (and_from (is_left scope (score_of draws.most draws.most)) true
     (draw_left scope draws.most is are.most) refl)
 
--- a home win lies between the corners of home wins
+-- a home win lies between the extremes of home wins
 home_between : (scope : ScoreDomain) (left : Bool) (wins : Option Wins) (score : Score)
     → left ≡ true
     → MatchOption wins ((won lost : ℕ) → CanWin scope.home scope.away won lost → ⊥)
@@ -313,7 +313,7 @@ draw_between scope true (Some draws) score is are home away drawn =
       most_lead = (low, at_low.0, at_low.1, omega (arith, level));
     }
 
--- what is left lies between the corners of its outcome
+-- what is left lies between the extremes of its outcome
 lies_between : (scope : ScoreDomain) (hs ds ws : List Score) (score : Score)
     → (scope.home_win ≡ true → is_goals_of scope.home score.home ≡ true
     → is_goals_of scope.away score.away ≡ true → is_home_win score ≡ true → LiesBetween hs score)
@@ -359,7 +359,7 @@ lies_between scope hs ds ws score by_home by_draw by_away left =
     behind xs ys c there =
         list_any-append (same_score c) xs ys ∙ or_right (has_score xs c) (has_score ys c) there
 
--- the corners of all outcomes
+-- the extremes of all outcomes
 pub corners_are : (scope : ScoreDomain) (home away : Option Wins) (draws : Option Draws)
     → MatchOption home ((won lost : ℕ) → CanWin scope.home scope.away won lost → ⊥)
     (AreWinsOf scope.home scope.away)
@@ -406,7 +406,7 @@ between_itself only =
       most_lead = (only, there, same, omega arith);
     }
 
--- where one score is left, it is the corners
+-- if one score is left, it is the extremes
 pub only_corner : (scope : ScoreDomain) (only : Score)
     → ((score : Score) → is_left scope score ≡ same_score only score) → (options : List Score)
     → IsScoreDomainOf scope options → AreExtremesOf (only ∷ []) options

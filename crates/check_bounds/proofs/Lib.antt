@@ -1,4 +1,4 @@
--- Lemmas on one notion each: ranges of sums, tables of them, scopes of a zone, corners, what they
+-- Lemmas on one notion each: ranges of sums, tables of them, domains of a zone, extremes, what they
 -- give, what a reason says over them, rivals counted by sets, steps of answers, match points that
 -- change, cells, rounds, and ways.
 pub mod IntRangeLemmas

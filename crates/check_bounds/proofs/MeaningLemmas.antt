@@ -1,5 +1,5 @@
--- What is sure of two clubs, and what a reason says, is the same over the corners of a zone as over
--- its options.
+-- What is sure of two clubs, and what a reason says, is the same over the extremes of a zone as
+-- over its options.
 use Rattle.std.proofs.Common.{◌≡◌, ℕ, zero, suc, pos, neg_ℤ, ◌-ℤ◌, Bool, ◌&&◌, ◌||◌, ◌==◌, List}
 use Rattle.std.proofs.Common.{[], ◌∷◌, length, filter, refl, ap, ◌∙◌}
 use Rattle.std.specs.Prelude.{int_lt}
@@ -145,7 +145,7 @@ points_same sheet season corners options clubs are =
     λ i. added (ranges_same (points_together clubs) (together_same clubs) sheet.fixtures corners
     options are i) (one_value (pos 0 -ℤ deducted_from season clubs))
 
--- what is sure over corners is what is sure
+-- what is sure over extremes is what is sure
 pub sure_over-is : (sheet : Sheet) (season : Results) (zone : List Literal)
     (corners : List (List Score)) (club rival : ℕ)
     → AreAllExtremesOf corners (options_in sheet season zone)
@@ -163,7 +163,7 @@ sure_over-is sheet season zone corners club rival are =
     λ i. sure_then (sure_by_range (points_same sheet season corners options (rival ∷ []) are i)
     (points_same sheet season corners options (club ∷ []) are i)) (next i)
 
--- what a reason says over corners and sets is what it says
+-- what a reason says over extremes and sets is what it says
 pub refutes_over-is : (sheet : Sheet) (season : Results) (question : Question)
     (zone : List Literal) (corners : List (List Score)) (before after : ℕ → Bool)
     (reason : Reason) → AreAllExtremesOf corners (options_in sheet season zone)

@@ -1,26 +1,14 @@
 -- Counts of fixtures that do not pass a test: one fixture more, another answer at one place, and
--- that none fails exactly where all pass.
+-- that none fails exactly when all pass.
 use Rattle.std.proofs.Common.{◌≡◌, ℕ, zero, suc, ◌+◌, ◌<◌, ◌≤◌, Bool, true, false, ◌&&◌, ◌==◌}
-use Rattle.std.proofs.Common.{List, [], ◌∷◌, length, get_or, set, drop, refl, ap, ◌∙◌, arith}
+use Rattle.std.proofs.Common.{List, [], ◌∷◌, length, get_or, set, refl, ap, ◌∙◌, arith}
 use Rattle.std.specs.List.{list_all}
 use Rattle.std.proofs.lemmas.Bool.{ne_eqb}
-use Rattle.std.proofs.lemmas.List.{drop_more, drop_all}
 use Rattle.league_core.specs.declared.season.Score.{Score}
 use Rattle.league_core.specs.search.Options.{has_option, has_one_outcome}
 use Rattle.check_bounds.specs.declared.open_counts.OpenCounts.{OpenCounts}
 use Rattle.check_bounds.specs.inside.OpenCounts.{fails, failing, AreOpenCounts, AreExchanged}
 use Rattle.check_bounds.specs.inside.OpenCounts.{IsAmong}
-
--- one fixture more
-pub failing-more : (test : List Score → Bool) (corners : List (List Score)) (i : ℕ)
-    → i < length corners → failing test (drop i corners)
-    ≡ fails (test (get_or corners i [])) + failing test (drop (i + 1) corners)
-failing-more test corners i inside = ap (failing test) (drop_more corners i [] inside)
-
--- and no fixture
-pub failing-all : (test : List Score → Bool) (corners : List (List Score)) (i : ℕ)
-    → length corners ≤ i → failing test (drop i corners) ≡ 0
-failing-all test corners i all = ap (failing test) (drop_all i corners all)
 
 one_at_most : (passed : Bool) → fails passed ≤ 1
 one_at_most true = omega arith
@@ -61,7 +49,7 @@ with_first true count rest same =
     let e : 0 + count ≡ count = omega arith in ap (λ n. n == 0) e ∙ same
 with_first false count rest same = ne_eqb (fails false + count) 0 (λ e. omega (arith, e))
 
--- none fails exactly where all pass
+-- none fails exactly when all pass
 pub failing-none : (test : List Score → Bool) (corners : List (List Score))
     → (failing test corners == 0) ≡ list_all test corners
 failing-none test [] = refl
@@ -69,7 +57,7 @@ failing-none test (own ∷ corners) =
     with_first (test own) (failing test corners) (list_all test corners)
     (failing-none test corners)
 
--- the corners of each fixture are counted
+-- the extremes of each fixture are counted
 pub is_among : (corners : List (List Score)) (loose : OpenCounts) (k : ℕ) → k < length corners
     → length corners ≤ 600 → AreOpenCounts corners loose → IsAmong (get_or corners k []) loose
 is_among corners loose k inside few are =
@@ -84,7 +72,7 @@ is_among corners loose k inside few are =
       few_outcomes = omega (arith, few, all_outcomes, are.undecided);
     }
 
--- counts that follow one fixture are those of the new corners
+-- counts that follow one fixture are those of the new extremes
 pub loose_set : (corners : List (List Score)) (before after : OpenCounts) (k : ℕ)
     (new : List Score) → k < length corners → AreOpenCounts corners before
     → AreExchanged before (get_or corners k []) new after → AreOpenCounts (set corners k new) after

@@ -1,5 +1,5 @@
 -- Rivals counted by sets of clubs.
-use Rattle.std.proofs.Common.{◌≡◌, ◌≢◌, ℕ, zero, suc, ◌+◌, ◌*◌, ◌-◌, ◌<◌, ◌≤◌, ℤ, pos, neg_ℤ, ◌*ℤ◌}
+use Rattle.std.proofs.Common.{◌≡◌, ◌≢◌, ℕ, ◌+◌, ◌*◌, ◌-◌, ◌<◌, ◌≤◌, ℤ, ◌*ℤ◌}
 use Rattle.std.proofs.Common.{◌≤ℤ◌, Bool, true, false, not, ◌&&◌, ◌||◌, ◌==◌, nat_lt, nat_le, ltb}
 use Rattle.std.proofs.Common.{cond, List, [], ◌∷◌, length, refl, sym, ap, ◌∙◌, arith}
 use Rattle.std.specs.Prelude.{count_by}
@@ -7,7 +7,6 @@ use Rattle.std.specs.List.{list_all, list_any, range_with_len}
 use Rattle.std.proofs.Math.Bool.{or-false}
 use Rattle.std.proofs.lemmas.Bool.{and_parts, ltb-true, lt-ltb}
 use Rattle.std.proofs.lemmas.Bool.{eqb-true, eqb-false, not-true}
-use Rattle.std.proofs.lemmas.Int.{ints}
 use Rattle.std.proofs.lemmas.List.Sums.{length-filter, sum_by-cons}
 use Rattle.league_core.specs.declared.sheet.Sheet.{Sheet}
 use Rattle.league_core.specs.declared.question.Claim.{Claim}
@@ -19,7 +18,7 @@ use Rattle.league_core.specs.game.Sums.{has_club}
 use Rattle.league_core.specs.game.ClubSets.{clubs_below}
 use Rattle.league_core.specs.search.Zones.{others_of}
 use Rattle.league_core.specs.search.Reasons.{too_many}
-use Rattle.league_core.proofs.PlainLemmas.{eqb-swap, times-suc}
+use Rattle.league_core.proofs.PlainLemmas.{eqb-swap}
 use Rattle.league_core.proofs.ClubSetLemmas.{clubs_below-filter_range, has_club-range}
 use Rattle.league_core.proofs.ClubSetLemmas.{filter-filter, filter_agree_in, has_club-filter}
 use Rattle.league_core.proofs.ClubLemmas.{each_member}
@@ -83,7 +82,7 @@ too_many_same sheet question front back front' back' Outside fronts backs =
     ap (nat_le (length sheet.clubs - question.line))
     (count_same (length sheet.clubs) question.club back back' backs)
 
--- one rival passes exactly where the count is not 0
+-- one rival passes exactly when the count is not 0
 pub any_counted : (test : ℕ → Bool) (xs : List ℕ) → nat_lt 0 (count_by test xs) ≡ list_any test xs
 any_counted test [] = refl
 any_counted test (x ∷ xs) =
@@ -95,17 +94,6 @@ any_counted test (x ∷ xs) =
     counted true all rest later more is = lt-ltb 0 all (omega (arith, more))
     counted false all rest later more is =
         let none : all ≡ rest = omega (arith, more) in ap (nat_lt 0) none ∙ is
-
--- so many times a number that is not far from 0
-pub times_near : (count : ℕ) (number : ℤ) → neg_ℤ (pos 3000000000) ≤ℤ number
-    → number ≤ℤ pos 3000000000
-    → (neg_ℤ (pos (3000000000 * count)) ≤ℤ (pos count *ℤ number))
-    × ((pos count *ℤ number) ≤ℤ pos (3000000000 * count))
-times_near zero number low high = (omega (arith, ints), omega (arith, ints))
-times_near (suc count) number low high =
-    let rest = times_near count number low high in
-    let more = times-suc count number in
-    (omega (arith, ints, rest.0, more, low), omega (arith, ints, rest.1, more, high))
 
 -- a club of the sheet that is surely before or behind, by a set
 by_set : (clubs : List ℕ) (test : Sure → Bool) (said known : ℕ → Sure)

@@ -1,15 +1,13 @@
--- Scopes that have the options of a zone, fixture by fixture, and what a literal leaves of them.
-use Rattle.std.proofs.Common.{◌≡◌, ℕ, ◌<◌, ◌≤◌, ◌≢◌, ◌⊎◌, Bool, true, false, not, ◌&&◌, ◌||◌}
+-- Domains that have the options of a zone, fixture by fixture, and what a literal leaves of them.
+use Rattle.std.proofs.Common.{◌≡◌, ℕ, ◌<◌, ◌≤◌, ◌≢◌, ◌⊎◌, true, false, not, ◌&&◌, ◌||◌}
 use Rattle.std.proofs.Common.{◌==◌, nat_lt, List, [], ◌∷◌, ◌++◌, length, get_or, set, Option, Some}
 use Rattle.std.proofs.Common.{None}
 use Rattle.std.proofs.Common.{refl, sym, ap, subst, ◌∙◌, inl, inr, arith}
-use Rattle.std.specs.List.{All, list_all}
-use Rattle.std.proofs.Math.Bool.{and-true, or-false}
+use Rattle.std.specs.List.{list_all}
+use Rattle.std.proofs.Math.Bool.{and-true}
 use Rattle.std.proofs.lemmas.Bool.{cases_eq, eq-eqb, ne_eqb, ltb-true, lt-ltb, and_parts, and_from}
 use Rattle.std.proofs.lemmas.List.{length-set, get_or-set_same, get_or-set_other}
 use Rattle.std.proofs.lemmas.List.{get_or_append_left, get_or_push, length_push}
-use Rattle.std.proofs.lemmas.List.Folds.{list_any-append}
-use Rattle.std.proofs.lemmas.List.Sums.{AllPass-from_list_all}
 use Rattle.league_core.specs.declared.sheet.Sheet.{Sheet}
 use Rattle.league_core.specs.declared.sheet.Fixture.{Fixture}
 use Rattle.league_core.specs.declared.season.Score.{Score}
@@ -21,7 +19,7 @@ use Rattle.league_core.specs.declared.zone.Test.{Test}
 use Rattle.league_core.specs.declared.zone.Test.TheVariants.{Home, Draw, HomeMost, AwayMost, Rival}
 use Rattle.league_core.specs.declared.zone.Literal.{Literal}
 use Rattle.league_core.specs.game.Finishes.{may_end}
-use Rattle.league_core.specs.search.Zones.{is_on, passes, is_as_said, is_test_of, is_zone_of}
+use Rattle.league_core.specs.search.Zones.{is_on, passes, is_as_said, is_test_of}
 use Rattle.league_core.specs.search.Options.{meets_literal, options_from, options_in, has_score}
 use Rattle.league_core.proofs.OptionLemmas.{has_score-options_of}
 use Rattle.league_core.proofs.OptionLemmas.{length-options_from}
@@ -29,10 +27,9 @@ use Rattle.league_core.proofs.LiteralLemmas.{options_at, options_at-with, meets-
 use Rattle.check_bounds.specs.declared.score_domain.ScoreDomain.{ScoreDomain}
 use Rattle.check_bounds.specs.inside.ScoreDomains.{is_left, IsScoreDomainOf}
 use Rattle.check_bounds.specs.inside.ExtremeScores.{AreExtremesOf}
-use Rattle.check_bounds.specs.inside.Zones.{AreAllExtremesOf, CutsBy, IsTestWithin, is_mark}
-use Rattle.check_bounds.specs.inside.Zones.{marked_as}
+use Rattle.check_bounds.specs.inside.Zones.{AreAllExtremesOf, CutsBy, IsTestWithin}
 
--- where no fixture is tested, each scope stays
+-- if no fixture is tested, each domain stays
 pub takes_mark : (scopes : List ScoreDomain) (literal : Literal)
     → ((number : ℕ) → is_on number literal.test ≡ false) → CutsBy scopes scopes literal
 takes_mark scopes literal off limit zone scores are = record {
@@ -52,7 +49,7 @@ takes_mark scopes literal off limit zone scores are = record {
       ∙ sym (options_at-with limit zone literal scores k score inside);
 }
 
--- where a fixture is tested, its scope is cut, and each other stays
+-- if a fixture is tested, its domain is cut, and each other stays
 pub takes_cut : (scopes : List ScoreDomain) (fixture : ℕ) (scope : ScoreDomain) (literal : Literal)
     → fixture < length scopes → ((number : ℕ) → is_on number literal.test ≡ (fixture == number))
     → ((d : ScoreDomain) (score : Score)
@@ -96,12 +93,12 @@ takes_cut scopes fixture scope literal in_range on cut limit zone scores are = r
         ∙ ap (λ b. has_score (get_or (options_from limit zone 0 scores) k []) score && b)
         (sym (meets-other k score literal (on k ∙ ne_eqb fixture k (λ e. other (sym e)))))
 
--- the scopes so far have the options of their fixtures
+-- the domains so far have the options of their fixtures
 abbrev pub HaveOptions : List ScoreDomain → List (List Score) → Type 0
 HaveOptions scopes options = (k : ℕ) (d : ScoreDomain) → k < length scopes
     → IsScoreDomainOf (get_or scopes k d) (get_or options k [])
 
--- one scope more
+-- one domain more
 pub options_push : (scopes : List ScoreDomain) (scope : ScoreDomain) (options : List (List Score))
     → HaveOptions scopes options → IsScoreDomainOf scope (get_or options (length scopes) [])
     → HaveOptions (scopes ++ scope ∷ []) options
@@ -118,7 +115,7 @@ options_push scopes scope options have is k d within = at (cases_eq k (length sc
         λ score. ap (λ c. is_left c score) (get_or_append_left scopes (scope ∷ []) d k below)
         ∙ have k d below score
 
--- a scope that has what its fixture may end with has its options where no literal is asked for
+-- a domain that has what its fixture may end with has its options if no literal is asked for
 pub first_options : (limit : ℕ) (scores : List (Option Score)) (k : ℕ) (scope : ScoreDomain)
     → k < length scores
     → ((score : Score) → is_left scope score ≡ may_end limit (get_or scores k None) (Some score))
@@ -127,14 +124,6 @@ first_options limit scores k scope within may score =
     may score
     ∙ sym (has_score-options_of limit [] k (get_or scores k None) score)
     ∙ ap (λ options. has_score options score) (sym (options_at limit [] scores k within))
-
--- the marks of a zone with one literal more
-pub marked_as-push : (said : Bool) (zone : List Literal) (literal : Literal) (rival : ℕ)
-    → marked_as said (zone ++ literal ∷ []) rival
-    ≡ (marked_as said zone rival || is_mark said rival literal)
-marked_as-push said zone literal rival =
-    list_any-append (is_mark said rival) zone (literal ∷ [])
-    ∙ ap (λ b. marked_as said zone rival || b) (or-false (is_mark said rival literal))
 
 -- a test of the sheet is of one of its fixtures or clubs
 pub test_within : (sheet : Sheet) (fixtures : ℕ) (test : Test) → length sheet.fixtures ≤ fixtures
@@ -150,19 +139,12 @@ test_within sheet fixtures (AwayMost fixture most) many few is =
 test_within sheet fixtures (Rival club) many few is =
     let h = ltb-true club (length sheet.clubs) is in omega (arith, h, few)
 
-pub tests_within : (sheet : Sheet) (fixtures : ℕ) (zone : List Literal)
-    → length sheet.fixtures ≤ fixtures → length sheet.clubs ≤ 32 → is_zone_of sheet zone ≡ true
-    → All (λ literal. IsTestWithin fixtures literal.test) zone
-tests_within sheet fixtures zone many few is k d within =
-    test_within sheet fixtures (get_or zone k d).test many few
-    (AllPass-from_list_all (λ (l : Literal). is_test_of sheet l.test) zone is k d within)
-
--- the corners so far are those of their scopes
+-- the extremes so far are those of their domains
 abbrev pub HaveCorners : List ScoreDomain → List (List Score) → Type 0
 HaveCorners scopes corners = (k : ℕ) (d : ScoreDomain) → k < length corners → (options : List Score)
     → IsScoreDomainOf (get_or scopes k d) options → AreExtremesOf (get_or corners k []) options
 
--- one list of corners more
+-- one list of extremes more
 pub corners_push : (scopes : List ScoreDomain) (corners : List (List Score)) (more : List Score)
     → HaveCorners scopes corners
     → ((d : ScoreDomain) (options : List Score)
@@ -182,7 +164,7 @@ corners_push scopes corners more have is k d within options of = at (cases_eq k 
         subst (λ (xs : List Score). AreExtremesOf xs options)
         (sym (get_or_append_left corners (more ∷ []) [] k below)) (have k d below options of)
 
--- the corners of a league's zone are those of its fixtures
+-- the extremes of a league's zone are those of its fixtures
 pub played_over : (sheet : Sheet) (season : Results) (zone : List Literal)
     (corners : List (List Score)) → IsLeague sheet season
     → AreAllExtremesOf corners (options_in sheet season zone)

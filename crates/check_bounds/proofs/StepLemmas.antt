@@ -13,7 +13,7 @@ use Rattle.league_core.specs.game.Sums.{has_club}
 use Rattle.league_core.specs.search.SureOrder.{sure_then, is_level}
 use Rattle.league_core.proofs.ClubSetLemmas.{has_club-filter}
 use Rattle.check_bounds.specs.declared.int_range.IntRange.{IntRange}
-use Rattle.check_bounds.specs.inside.Steps.{sure_at, sure_by_tables, is_level_by_tables, TakesNext}
+use Rattle.check_bounds.specs.inside.Steps.{sure_at, sure_by_tables, is_level_by_tables}
 
 -- the clubs below a number have taken the next answer, and the others have not
 pub record IsTakenBelow (old now : List Sure) (count : ℕ) (next : ℕ → Sure) : Type 0 where
@@ -21,14 +21,6 @@ pub record IsTakenBelow (old now : List Sure) (count : ℕ) (next : ℕ → Sure
   pub done : (rival : ℕ) → rival < count → sure_at now rival ≡ sure_then (sure_at old rival)
       (next rival)
   pub left : (rival : ℕ) → count ≤ rival → sure_at now rival ≡ sure_at old rival
-
-pub taken_none : (old : List Sure) (next : ℕ → Sure) → length old ≡ 32
-    → IsTakenBelow old old 0 next
-taken_none old next long = record {
-  long = long;
-  done = λ rival below. absurd (omega (arith, below));
-  left = λ rival above. refl;
-}
 
 -- one club more
 pub taken_more : (old now : List Sure) (count : ℕ) (next : ℕ → Sure) (was answer said : Sure)
@@ -63,12 +55,7 @@ taken_more old now count next was answer said inside taken was_is said_is is = r
         get_or-set_other now count rival answer Unknown other
         ∙ taken.done rival (omega (arith, below, other))
 
--- all of them
-pub taken_all : (old now : List Sure) (count : ℕ) (next : ℕ → Sure) → 32 ≤ count
-    → IsTakenBelow old now count next → TakesNext old now next
-taken_all old now count next all taken rival below = taken.done rival (omega (arith, all, below))
-
--- all pass a test exactly where none of them fails it
+-- all pass a test exactly when none of them fails it
 pub all_pass-none_fails : (test : ℕ → Bool) (clubs failed : List ℕ) (is_empty : Bool)
     → failed ≡ filter (λ x. not (test x)) clubs → (IsTrue is_empty ↔ (failed ≡ []))
     → is_empty ≡ list_all test clubs
@@ -100,7 +87,7 @@ stays Below next apart = refl
 stays Level next apart = absurd (apart refl)
 stays Unknown next apart = refl
 
--- an answer is level after a step where it was so before, and by the step
+-- an answer is level after a step if it was so before, and by the step
 pub both_level : (a b : Sure) → is_level (sure_then a b) ≡ true
     → (is_level a ≡ true) × (is_level b ≡ true)
 both_level Above b level = absurd (false≢true level)

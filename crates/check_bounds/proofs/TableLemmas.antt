@@ -7,7 +7,7 @@ use Rattle.std.proofs.Common.{ap, subst, ◌∙◌, arith}
 use Rattle.std.proofs.lemmas.Bool.{cases_eq, cases_lt, eq-eqb, ne_eqb}
 use Rattle.std.proofs.lemmas.Bool.{or_right}
 use Rattle.std.proofs.lemmas.Int.{ints}
-use Rattle.std.proofs.lemmas.List.{get_or-set_same, get_or-set_other, length-set, get_or_past}
+use Rattle.std.proofs.lemmas.List.{get_or-set_same, get_or-set_other, get_or_past}
 use Rattle.std.proofs.lemmas.List.{get_or-replicate, length-replicate}
 use Rattle.league_core.specs.declared.sheet.Sheet.{Sheet}
 use Rattle.league_core.specs.declared.sheet.Fixture.{Fixture}
@@ -23,7 +23,7 @@ use Rattle.league_core.proofs.RangeLemmas.{added-none, none-added, added-assoc, 
 use Rattle.check_bounds.specs.declared.term.Measure.{Measure}
 use Rattle.check_bounds.specs.declared.int_range.IntRange.{IntRange}
 use Rattle.check_bounds.specs.inside.Terms.{worth_by, side_worth}
-use Rattle.check_bounds.specs.inside.IntRanges.{range_of_span, span_at, no_span, IsSpanWithin}
+use Rattle.check_bounds.specs.inside.IntRanges.{as_sum_range, range_at, no_range, IsRangeWithin}
 use Rattle.check_bounds.specs.inside.Tables.{IsTableOf, TableTakes, worth_if}
 use Rattle.check_bounds.specs.inside.Walks.{worth_near}
 use Rattle.check_bounds.proofs.IntRangeLemmas.{near_wider}
@@ -32,21 +32,21 @@ use Rattle.check_bounds.proofs.IntRangeLemmas.{near_wider}
 pub record IsTableSoFar (value : ℕ → Fixture → Score → ℤ) (fixtures : List Fixture)
     (corners : List (List Score)) (count : ℕ) (table : List IntRange) : Type 0 where
   pub long : length table ≡ 32
-  pub sums : (club : ℕ) → added (range_of_span (span_at table club))
+  pub sums : (club : ℕ) → added (as_sum_range (range_at table club))
       (range_from (value club) (drop count fixtures) (drop count corners))
       ≡ range_from (value club) fixtures corners
-  pub near : (club : ℕ) → IsSpanWithin (255 * count) (span_at table club)
+  pub near : (club : ℕ) → IsRangeWithin (255 * count) (range_at table club)
 
 -- one match more
 pub table_more : (value : ℕ → Fixture → Score → ℤ) (fixtures : List Fixture)
     (corners : List (List Score)) (count : ℕ) (table new : List IntRange) (d : Fixture)
     → count < length fixtures → count < length corners
     → IsTableSoFar value fixtures corners count table → length new ≡ 32
-    → ((club : ℕ) → range_of_span (span_at new club)
-    ≡ added (range_of_span (span_at table club))
+    → ((club : ℕ) → as_sum_range (range_at new club)
+    ≡ added (as_sum_range (range_at table club))
     (range_of (value club (get_or fixtures count d)) (get_or corners count [])))
-    → ((bound : ℕ) → ((club : ℕ) → IsSpanWithin bound (span_at table club))
-    → (club : ℕ) → IsSpanWithin (bound + 255) (span_at new club))
+    → ((bound : ℕ) → ((club : ℕ) → IsRangeWithin bound (range_at table club))
+    → (club : ℕ) → IsRangeWithin (bound + 255) (range_at new club))
     → IsTableSoFar value fixtures corners (count + 1) new
 table_more value fixtures corners count table new d inside there so_far long adds grows = record {
   long = long;
@@ -54,12 +54,12 @@ table_more value fixtures corners count table new d inside there so_far long add
       let rest = range_from (value club) (drop (count + 1) fixtures) (drop (count + 1) corners) in
       let here = range_of (value club (get_or fixtures count d)) (get_or corners count []) in
       ap (λ r. added r rest) (adds club)
-      ∙ added-assoc (range_of_span (span_at table club)) here rest
-      ∙ ap (added (range_of_span (span_at table club)))
+      ∙ added-assoc (as_sum_range (range_at table club)) here rest
+      ∙ ap (added (as_sum_range (range_at table club)))
       (sym (range_from-more (value club) fixtures corners count d inside there))
       ∙ so_far.sums club;
   near = λ club.
-      near_wider (255 * count + 255) (255 * (count + 1)) (span_at new club) (omega arith)
+      near_wider (255 * count + 255) (255 * (count + 1)) (range_at new club) (omega arith)
       (grows (255 * count) so_far.near club);
 }
 
@@ -68,8 +68,8 @@ pub table_all : (value : ℕ → Fixture → Score → ℤ) (fixtures : List Fix
     (corners : List (List Score)) (count : ℕ) (table : List IntRange) → length fixtures ≤ count
     → IsTableSoFar value fixtures corners count table → IsTableOf value fixtures corners table
 table_all value fixtures corners count table all so_far club =
-    sym (added-none (range_of_span (span_at table club)))
-    ∙ ap (added (range_of_span (span_at table club)))
+    sym (added-none (as_sum_range (range_at table club)))
+    ∙ ap (added (as_sum_range (range_at table club)))
     (sym (range_from-all (value club) fixtures corners count all))
     ∙ so_far.sums club
 
@@ -77,16 +77,16 @@ table_all value fixtures corners count table all so_far club =
 pub match_adds : (kind : Measure) (match : Fixture) (corners : List Score)
     (table middle new : List IntRange) (home away : IntRange)
     → match.home ≢ match.away
-    → range_of_span home ≡ range_of (side_worth kind false) corners
-    → range_of_span away ≡ range_of (side_worth kind true) corners
-    → range_of_span (span_at middle match.home)
-    ≡ added (range_of_span (span_at table match.home)) (range_of_span home)
-    → ((other : ℕ) → other ≢ match.home → span_at middle other ≡ span_at table other)
-    → range_of_span (span_at new match.away)
-    ≡ added (range_of_span (span_at middle match.away)) (range_of_span away)
-    → ((other : ℕ) → other ≢ match.away → span_at new other ≡ span_at middle other)
-    → (club : ℕ) → range_of_span (span_at new club)
-    ≡ added (range_of_span (span_at table club))
+    → as_sum_range home ≡ range_of (side_worth kind false) corners
+    → as_sum_range away ≡ range_of (side_worth kind true) corners
+    → as_sum_range (range_at middle match.home)
+    ≡ added (as_sum_range (range_at table match.home)) (as_sum_range home)
+    → ((other : ℕ) → other ≢ match.home → range_at middle other ≡ range_at table other)
+    → as_sum_range (range_at new match.away)
+    ≡ added (as_sum_range (range_at middle match.away)) (as_sum_range away)
+    → ((other : ℕ) → other ≢ match.away → range_at new other ≡ range_at middle other)
+    → (club : ℕ) → as_sum_range (range_at new club)
+    ≡ added (as_sum_range (range_at table club))
     (range_of (worth_to (worth_by kind) club match) corners)
 match_adds kind match corners table middle new home away apart home_is away_is
     home_adds home_others away_adds away_others club =
@@ -97,48 +97,48 @@ match_adds kind match corners table middle new home away apart home_is away_is
         (cond at_away (side_worth kind true score) (pos 0))
 
     by_away : (match.home ≢ club) → (match.away ≡ club) ⊎ (match.away ≢ club)
-        → range_of_span (span_at new club) ≡ added (range_of_span (span_at table club))
+        → as_sum_range (range_at new club) ≡ added (as_sum_range (range_at table club))
         (range_of (side (eqb match.home club) (eqb match.away club)) corners)
     by_away not_home (inl same) =
-        ap (λ n. range_of_span (span_at new n)) (sym same)
+        ap (λ n. as_sum_range (range_at new n)) (sym same)
         ∙ away_adds
-        ∙ ap (λ s. added (range_of_span s) (range_of_span away))
+        ∙ ap (λ s. added (as_sum_range s) (as_sum_range away))
         (home_others match.away (λ e. apart (sym e)))
-        ∙ ap (added (range_of_span (span_at table match.away))) away_is
-        ∙ ap (λ n. added (range_of_span (span_at table n))
+        ∙ ap (added (as_sum_range (range_at table match.away))) away_is
+        ∙ ap (λ n. added (as_sum_range (range_at table n))
         (range_of (side_worth kind true) corners)) same
-        ∙ ap (λ b. added (range_of_span (span_at table club)) (range_of (side false b) corners))
+        ∙ ap (λ b. added (as_sum_range (range_at table club)) (range_of (side false b) corners))
         (sym (eq-eqb match.away club same))
-        ∙ ap (λ b. added (range_of_span (span_at table club))
+        ∙ ap (λ b. added (as_sum_range (range_at table club))
         (range_of (side b (eqb match.away club)) corners))
         (sym (ne_eqb match.home club not_home))
     by_away not_home (inr not_away) =
-        ap range_of_span (away_others club (λ e. not_away (sym e))
+        ap as_sum_range (away_others club (λ e. not_away (sym e))
         ∙ home_others club (λ e. not_home (sym e)))
-        ∙ sym (added-none (range_of_span (span_at table club)))
-        ∙ ap (added (range_of_span (span_at table club))) (sym (range_of-none corners))
-        ∙ ap (λ b. added (range_of_span (span_at table club)) (range_of (side false b) corners))
+        ∙ sym (added-none (as_sum_range (range_at table club)))
+        ∙ ap (added (as_sum_range (range_at table club))) (sym (range_of-none corners))
+        ∙ ap (λ b. added (as_sum_range (range_at table club)) (range_of (side false b) corners))
         (sym (ne_eqb match.away club not_away))
-        ∙ ap (λ b. added (range_of_span (span_at table club))
+        ∙ ap (λ b. added (as_sum_range (range_at table club))
         (range_of (side b (eqb match.away club)) corners))
         (sym (ne_eqb match.home club not_home))
 
     by_home : (match.home ≡ club) ⊎ (match.home ≢ club)
-        → range_of_span (span_at new club) ≡ added (range_of_span (span_at table club))
+        → as_sum_range (range_at new club) ≡ added (as_sum_range (range_at table club))
         (range_of (side (eqb match.home club) (eqb match.away club)) corners)
     by_home (inl same) =
-        ap range_of_span (away_others club (λ e. apart (same ∙ e)))
-        ∙ ap (λ n. range_of_span (span_at middle n)) (sym same)
+        ap as_sum_range (away_others club (λ e. apart (same ∙ e)))
+        ∙ ap (λ n. as_sum_range (range_at middle n)) (sym same)
         ∙ home_adds
-        ∙ ap (added (range_of_span (span_at table match.home))) home_is
-        ∙ ap (λ n. added (range_of_span (span_at table n))
+        ∙ ap (added (as_sum_range (range_at table match.home))) home_is
+        ∙ ap (λ n. added (as_sum_range (range_at table n))
         (range_of (side_worth kind false) corners)) same
-        ∙ ap (λ b. added (range_of_span (span_at table club))
+        ∙ ap (λ b. added (as_sum_range (range_at table club))
         (range_of (side b (eqb match.away club)) corners))
         (sym (eq-eqb match.home club same))
     by_home (inr not_home) = by_away not_home (cases_eq match.away club)
 
--- where it counts, that is what a match adds; where it does not, nothing
+-- if it counts, that is what a match adds; if it does not, nothing
 pub adds_when : (counts : Bool) (value : ℕ → Score → ℤ) (corners : List Score)
     (old new : List IntRange) → counts ≡ true → TableTakes value corners old new
     → TableTakes (λ club score. cond counts (value club score) (pos 0)) corners old new
@@ -154,10 +154,10 @@ adds_unless counts value corners table is =
     table) (sym is) (record {
       long = refl;
       sums = λ club.
-          sym (added-none (range_of_span (span_at table club)))
-          ∙ ap (added (range_of_span (span_at table club))) (sym (range_of-none corners));
+          sym (added-none (as_sum_range (range_at table club)))
+          ∙ ap (added (as_sum_range (range_at table club))) (sym (range_of-none corners));
       near = λ bound all club.
-          near_wider bound (bound + 255) (span_at table club) (omega arith) (all club);
+          near_wider bound (bound + 255) (range_at table club) (omega arith) (all club);
     })
 
 -- one match more, by what it added
@@ -176,16 +176,16 @@ adds_more value worth fixtures corners count table new d counts own inside there
     (adds.long ∙ so_far.long)
     (λ club.
     adds.sums club
-    ∙ (λ i. added (range_of_span (span_at table club)) (range_of (same club i) (own_is i))))
+    ∙ (λ i. added (as_sum_range (range_at table club)) (range_of (same club i) (own_is i))))
     adds.near
 
 -- sums so far are not far from 0
 pub so_far_near : (value : ℕ → Fixture → Score → ℤ) (fixtures : List Fixture)
     (corners : List (List Score)) (count : ℕ) (table : List IntRange) → count < 600
     → IsTableSoFar value fixtures corners count table → (club : ℕ)
-    → IsSpanWithin 500000 (span_at table club)
+    → IsRangeWithin 500000 (range_at table club)
 so_far_near value fixtures corners count table few so_far club =
-    near_wider (255 * count) 500000 (span_at table club) (omega (arith, few)) (so_far.near club)
+    near_wider (255 * count) 500000 (range_at table club) (omega (arith, few)) (so_far.near club)
 
 -- what matches with an end in a group are worth to a club of the group is all that matches are
 pub near_is : (group : List ℕ) (worth : Worth) (club : ℕ) → has_club group club ≡ true
@@ -220,49 +220,21 @@ near_is group worth club has =
 pub record AreRanksBelow (sheet : Sheet) (table : List IntRange) (count : ℕ) : Type 0 where
   pub long : length table ≡ 32
   pub done : (club : ℕ) → club < count
-      → range_of_span (span_at table club) ≡ one_value (neg_ℤ (pos (rank_of sheet club)))
-  pub left : (club : ℕ) → count ≤ club → range_of_span (span_at table club) ≡ one_value (pos 0)
-
-pub ranks_more : (sheet : Sheet) (table : List IntRange) (count rank : ℕ) (span : IntRange)
-    → count < 32
-    → AreRanksBelow sheet table count → rank ≡ rank_of sheet count
-    → range_of_span span ≡ one_value (neg_ℤ (pos rank))
-    → AreRanksBelow sheet (set table count span) (count + 1)
-ranks_more sheet table count rank span inside so_far rank_is is = record {
-  long = length-set table count span ∙ so_far.long;
-  done = λ club below. at club below (cases_eq club count);
-  left = λ club above.
-      ap range_of_span (get_or-set_other table count club span no_span (omega (arith, above)))
-      ∙ so_far.left club (omega (arith, above));
-}
-  where
-    here : count < length table
-    here = omega (arith, inside, so_far.long)
-
-    at : (club : ℕ) → club < count + 1 → (club ≡ count) ⊎ (club ≢ count)
-        → range_of_span (span_at (set table count span) club)
-        ≡ one_value (neg_ℤ (pos (rank_of sheet club)))
-    at club below (inl same) =
-        ap (λ n. range_of_span (span_at (set table count span) n)) same
-        ∙ ap range_of_span (get_or-set_same table count span no_span here)
-        ∙ is
-        ∙ ap (λ n. one_value (neg_ℤ (pos n))) (rank_is ∙ ap (rank_of sheet) (sym same))
-    at club below (inr other) =
-        ap range_of_span (get_or-set_other table count club span no_span other)
-        ∙ so_far.done club (omega (arith, below, other))
+      → as_sum_range (range_at table club) ≡ one_value (neg_ℤ (pos (rank_of sheet club)))
+  pub left : (club : ℕ) → count ≤ club → as_sum_range (range_at table club) ≡ one_value (pos 0)
 
 -- a table without a match
-pub nothing_at : (count club : ℕ) → span_at (replicate count no_span) club ≡ no_span
+pub nothing_at : (count club : ℕ) → range_at (replicate count no_range) club ≡ no_range
 nothing_at count club =
-    elim (cases_lt club count) as (λ _. span_at (replicate count no_span) club ≡ no_span) [
-      | inl within ↦ get_or-replicate count club no_span no_span within
-      | inr past ↦ get_or_past (replicate count no_span) club no_span
+    elim (cases_lt club count) as (λ _. range_at (replicate count no_range) club ≡ no_range) [
+      | inl within ↦ get_or-replicate count club no_range no_range within
+      | inr past ↦ get_or_past (replicate count no_range) club no_range
           (omega (arith, past, length-replicate {A = IntRange}))
     ]
 
-pub near_nothing : (bound : ℕ) (span : IntRange) → span ≡ no_span → IsSpanWithin bound span
-near_nothing bound span is =
-    let At : IntRange → Type 0 = λ s. IsSpanWithin bound s in
+pub near_nothing : (bound : ℕ) (range : IntRange) → range ≡ no_range → IsRangeWithin bound range
+near_nothing bound range is =
+    let At : IntRange → Type 0 = λ s. IsRangeWithin bound s in
     subst At (sym is) (record {
       least_above = omega (arith, ints);
       least_below = omega (arith, ints);
@@ -272,69 +244,69 @@ near_nothing bound span is =
 
 pub table_none : (value : ℕ → Fixture → Score → ℤ) (fixtures : List Fixture)
     (corners : List (List Score))
-    → IsTableSoFar value fixtures corners 0 (replicate 32 no_span)
+    → IsTableSoFar value fixtures corners 0 (replicate 32 no_range)
 table_none value fixtures corners = record {
   long = refl;
   sums = λ club.
-      ap (λ s. added (range_of_span s) (range_from (value club) fixtures corners))
+      ap (λ s. added (as_sum_range s) (range_from (value club) fixtures corners))
       (nothing_at 32 club)
       ∙ none-added (range_from (value club) fixtures corners);
-  near = λ club. near_nothing 0 (span_at (replicate 32 no_span) club) (nothing_at 32 club);
+  near = λ club. near_nothing 0 (range_at (replicate 32 no_range) club) (nothing_at 32 club);
 }
 
 -- how far the sums are from 0 after a match
 pub match_near : (bound : ℕ) (match : Fixture) (table middle new : List IntRange)
-    → match.home ≢ match.away → ((club : ℕ) → IsSpanWithin bound (span_at table club))
-    → (IsSpanWithin bound (span_at table match.home)
-    → IsSpanWithin (bound + 255) (span_at middle match.home))
-    → ((other : ℕ) → other ≢ match.home → span_at middle other ≡ span_at table other)
-    → (IsSpanWithin bound (span_at middle match.away)
-    → IsSpanWithin (bound + 255) (span_at new match.away))
-    → ((other : ℕ) → other ≢ match.away → span_at new other ≡ span_at middle other)
-    → (club : ℕ) → IsSpanWithin (bound + 255) (span_at new club)
+    → match.home ≢ match.away → ((club : ℕ) → IsRangeWithin bound (range_at table club))
+    → (IsRangeWithin bound (range_at table match.home)
+    → IsRangeWithin (bound + 255) (range_at middle match.home))
+    → ((other : ℕ) → other ≢ match.home → range_at middle other ≡ range_at table other)
+    → (IsRangeWithin bound (range_at middle match.away)
+    → IsRangeWithin (bound + 255) (range_at new match.away))
+    → ((other : ℕ) → other ≢ match.away → range_at new other ≡ range_at middle other)
+    → (club : ℕ) → IsRangeWithin (bound + 255) (range_at new club)
 match_near bound match table middle new apart all home_grows home_others away_grows away_others
     club = by_away (cases_eq match.away club)
   where
     At : IntRange → Type 0
-    At s = IsSpanWithin (bound + 255) s
+    At s = IsRangeWithin (bound + 255) s
 
     Was : IntRange → Type 0
-    Was s = IsSpanWithin bound s
+    Was s = IsRangeWithin bound s
 
     by_home : (match.away ≢ club) → (match.home ≡ club) ⊎ (match.home ≢ club)
-        → IsSpanWithin (bound + 255) (span_at new club)
+        → IsRangeWithin (bound + 255) (range_at new club)
     by_home not_away (inl same) =
-        subst (λ (s : IntRange). IsSpanWithin (bound + 255) s)
+        subst (λ (s : IntRange). IsRangeWithin (bound + 255) s)
         (sym (away_others club (λ e. not_away (sym e))))
-        (subst (λ (n : ℕ). IsSpanWithin (bound + 255) (span_at middle n)) same
+        (subst (λ (n : ℕ). IsRangeWithin (bound + 255) (range_at middle n)) same
         (home_grows (all match.home)))
     by_home not_away (inr other) =
-        subst (λ (s : IntRange). IsSpanWithin (bound + 255) s)
+        subst (λ (s : IntRange). IsRangeWithin (bound + 255) s)
         (sym (away_others club (λ e. not_away (sym e)) ∙ home_others club (λ e. other (sym e))))
-        (near_wider bound (bound + 255) (span_at table club) (omega arith) (all club))
+        (near_wider bound (bound + 255) (range_at table club) (omega arith) (all club))
 
     by_away : (match.away ≡ club) ⊎ (match.away ≢ club)
-        → IsSpanWithin (bound + 255) (span_at new club)
+        → IsRangeWithin (bound + 255) (range_at new club)
     by_away (inl same) =
-        subst (λ (n : ℕ). IsSpanWithin (bound + 255) (span_at new n)) same
-        (away_grows (subst (λ (s : IntRange). IsSpanWithin bound s)
+        subst (λ (n : ℕ). IsRangeWithin (bound + 255) (range_at new n)) same
+        (away_grows (subst (λ (s : IntRange). IsRangeWithin bound s)
         (sym (home_others match.away (λ e. apart (sym e)))) (all match.away)))
     by_away (inr other) = by_home other (cases_eq match.home club)
 
-pub ranks_none : (sheet : Sheet) → AreRanksBelow sheet (replicate 32 no_span) 0
+pub ranks_none : (sheet : Sheet) → AreRanksBelow sheet (replicate 32 no_range) 0
 ranks_none sheet = record {
   long = refl;
   done = λ club below. absurd (omega (arith, below));
-  left = λ club above. ap range_of_span (nothing_at 32 club);
+  left = λ club above. ap as_sum_range (nothing_at 32 club);
 }
 
 -- the points of a set in a match, by which of its ends are of the set
 pub together_by_ends : (bits : ℕ) (match : Fixture) (corners : List Score) (home away : Bool)
-    (span : IntRange) → match.home ≢ match.away → home ≡ has_club (clubs_below 32 bits) match.home
+    (range : IntRange) → match.home ≢ match.away → home ≡ has_club (clubs_below 32 bits) match.home
     → away ≡ has_club (clubs_below 32 bits) match.away
-    → range_of_span span ≡ range_of (points_of_sides home away) corners
-    → range_of_span span ≡ range_of (points_together (clubs_below 32 bits) match) corners
-together_by_ends bits match corners home away span apart home_is away_is is =
+    → as_sum_range range ≡ range_of (points_of_sides home away) corners
+    → as_sum_range range ≡ range_of (points_together (clubs_below 32 bits) match) corners
+together_by_ends bits match corners home away range apart home_is away_is is =
     is
     ∙ ap (λ b. range_of (points_of_sides b away) corners) home_is
     ∙ ap (λ b. range_of (points_of_sides (has_club (clubs_below 32 bits) match.home) b) corners)
@@ -348,19 +320,19 @@ together_by_ends bits match corners home away span apart home_is away_is is =
 pub sum_more : (value : Fixture → Score → ℤ) (fixtures : List Fixture)
     (corners : List (List Score)) (count : ℕ) (old here new : IntRange) (d : Fixture)
     → count < length fixtures → count < length corners
-    → added (range_of_span old) (range_from value (drop count fixtures) (drop count corners))
+    → added (as_sum_range old) (range_from value (drop count fixtures) (drop count corners))
     ≡ range_from value fixtures corners
-    → range_of_span here ≡ range_of (value (get_or fixtures count d)) (get_or corners count [])
-    → range_of_span new ≡ added (range_of_span old) (range_of_span here)
-    → added (range_of_span new)
+    → as_sum_range here ≡ range_of (value (get_or fixtures count d)) (get_or corners count [])
+    → as_sum_range new ≡ added (as_sum_range old) (as_sum_range here)
+    → added (as_sum_range new)
     (range_from value (drop (count + 1) fixtures) (drop (count + 1) corners))
     ≡ range_from value fixtures corners
 sum_more value fixtures corners count old here new d inside there so_far here_is is =
     let rest = range_from value (drop (count + 1) fixtures) (drop (count + 1) corners) in
     ap (λ r. added r rest) is
-    ∙ added-assoc (range_of_span old) (range_of_span here) rest
-    ∙ ap (λ r. added (range_of_span old) (added r rest)) here_is
-    ∙ ap (added (range_of_span old)) (sym (range_from-more value fixtures corners count d inside
+    ∙ added-assoc (as_sum_range old) (as_sum_range here) rest
+    ∙ ap (λ r. added (as_sum_range old) (added r rest)) here_is
+    ∙ ap (added (as_sum_range old)) (sym (range_from-more value fixtures corners count d inside
     there))
     ∙ so_far
 
@@ -376,16 +348,18 @@ points_alone club fixtures corners =
     without n = omega (arith, ints)
 
 -- what holds of each club passed, and of one more
-pub each_more : (Fact : ℕ → IntRange → Type 0) (table : List IntRange) (count : ℕ) (span : IntRange)
-    → count < length table → ((x : ℕ) → x < count → Fact x (span_at table x)) → Fact count span
-    → (x : ℕ) → x < count + 1 → Fact x (span_at (set table count span) x)
-each_more Fact table count span inside so_far here x below = at (cases_eq x count)
+pub each_more : (Fact : ℕ → IntRange
+    → Type 0) (table : List IntRange) (count : ℕ) (range : IntRange)
+    → count < length table → ((x : ℕ) → x < count → Fact x (range_at table x)) → Fact count range
+    → (x : ℕ) → x < count + 1 → Fact x (range_at (set table count range) x)
+each_more Fact table count range inside so_far here x below = at (cases_eq x count)
   where
-    at : (x ≡ count) ⊎ (x ≢ count) → Fact x (span_at (set table count span) x)
+    at : (x ≡ count) ⊎ (x ≢ count) → Fact x (range_at (set table count range) x)
     at (inl same) =
-        subst (λ (n : ℕ). Fact n (span_at (set table count span) n)) (sym same)
+        subst (λ (n : ℕ). Fact n (range_at (set table count range) n)) (sym same)
         (subst (λ (s : IntRange). Fact count s)
-        (sym (get_or-set_same table count span no_span inside)) here)
+        (sym (get_or-set_same table count range no_range inside)) here)
     at (inr other) =
-        subst (λ (s : IntRange). Fact x s) (sym (get_or-set_other table count x span no_span other))
+        subst (λ (s : IntRange). Fact x s) (sym
+        (get_or-set_other table count x range no_range other))
         (so_far x (omega (arith, below, other)))

@@ -20,7 +20,7 @@ use Rattle.league_core.proofs.SureLemmas.{sure_then-level}
 use Rattle.check_bounds.specs.declared.term.Measure.{Measure}
 use Rattle.check_bounds.specs.declared.int_range.IntRange.{IntRange}
 use Rattle.check_bounds.specs.inside.Terms.{worth_by}
-use Rattle.check_bounds.specs.inside.IntRanges.{range_of_span, span_at}
+use Rattle.check_bounds.specs.inside.IntRanges.{as_sum_range, range_at}
 use Rattle.check_bounds.specs.inside.Walks.{sum_ranges}
 use Rattle.check_bounds.specs.inside.Tables.{HoldRanges}
 use Rattle.check_bounds.specs.inside.Steps.{sure_by_tables, is_level_by_tables, is_sure_by_tables}
@@ -74,7 +74,7 @@ round_is times sheet corners group rival club sure whole all same =
     (rest_of_round b (length level == length group) overall next)) all
     ∙ ap (λ b. sure_then record_says (rest_of_round sure b overall next)) same
 
--- where it is not sure who shares the record, nothing is
+-- if it is not sure who shares the record, nothing is
 pub unsure_round : (times : ℕ) (sheet : Sheet) (corners : List (List Score))
     (tables : List (List IntRange)) (group : List ℕ) (rival club : ℕ) → times ≢ 0
     → HoldRanges tables (record_ranges sheet corners group)
@@ -90,7 +90,7 @@ unsure_round (suc times) sheet corners tables group rival club some hold unsure 
     (ap (λ test. list_all test group)
     (sym (sure_by_tables-is tables (record_ranges sheet corners group) club hold)) ∙ unsure) refl)
 
--- where all share it, the sums over all matches decide
+-- if all share it, the sums over all matches decide
 pub last_round : (times : ℕ) (sheet : Sheet) (corners : List (List Score))
     (tables : List (List IntRange)) (group level : List ℕ) (rival club : ℕ) → times ≢ 0
     → HoldRanges tables (record_ranges sheet corners group)
@@ -111,7 +111,7 @@ last_round (suc times) sheet corners tables group level rival club some hold sur
     (sym (level_by_tables-is tables (record_ranges sheet corners group) club hold))
     ∙ ap length (sym level_is) ∙ same)))
 
--- where fewer do, they go on among themselves
+-- if fewer do, they go on among themselves
 pub next_round : (times : ℕ) (sheet : Sheet) (corners : List (List Score))
     (tables : List (List IntRange)) (group level : List ℕ) (rival club : ℕ) → times ≢ 0
     → HoldRanges tables (record_ranges sheet corners group)
@@ -140,9 +140,9 @@ next_round (suc times) sheet corners tables group level rival club some hold sur
 pub sums_say : (sheet : Sheet) (corners : List (List Score)) (kinds later : List Measure)
     (d : Measure)
     (table : List IntRange) (club rival : ℕ) → 0 < length kinds → later ≡ drop 1 kinds
-    → range_of_span (span_at table club)
+    → as_sum_range (range_at table club)
     ≡ range_over (worth_by (get_or kinds 0 d)) sheet corners club
-    → range_of_span (span_at table rival)
+    → as_sum_range (range_at table rival)
     ≡ range_over (worth_by (get_or kinds 0 d)) sheet corners rival
     → sure_then (sure_by_tables (table ∷ []) club rival)
     (sure_by_ranges (sum_ranges sheet corners later rival) (sum_ranges sheet corners later club))
@@ -173,7 +173,7 @@ by_sums_first sheet corners group rival club sure all =
     (rest_of_sums b
     (sure_in sheet corners (surely_level_overall sheet corners group club) rival club))) all
 
--- where it is not sure who shares them, nothing is
+-- if it is not sure who shares them, nothing is
 pub unsure_sums : (sheet : Sheet) (corners : List (List Score)) (tables : List (List IntRange))
     (group : List ℕ) (rival club : ℕ) → HoldRanges tables (first_sum_ranges sheet corners)
     → list_all (is_sure_by_tables tables club) group ≡ false
@@ -186,7 +186,7 @@ unsure_sums sheet corners tables group rival club hold unsure =
     (ap (λ test. list_all test group)
     (sym (sure_by_tables-is tables (first_sum_ranges sheet corners) club hold)) ∙ unsure))
 
--- where it is, they go on among themselves
+-- if it is, they go on among themselves
 pub sure_sums : (sheet : Sheet) (corners : List (List Score)) (tables : List (List IntRange))
     (group level : List ℕ) (rival club : ℕ) → HoldRanges tables (first_sum_ranges sheet corners)
     → list_all (is_sure_by_tables tables club) group ≡ true

@@ -1,6 +1,6 @@
 -- The way to a zone: what a step more makes of it, and what going back over the last one leaves.
 use Rattle.std.proofs.Common.{◌≡◌, ℕ, ◌&&◌, true, List, [], ◌∷◌, ◌++◌, length, reverse}
-use Rattle.std.proofs.Common.{Option, sym, ap, subst, arith}
+use Rattle.std.proofs.Common.{Option, sym, subst, arith}
 use Rattle.std.specs.List.{list_all}
 use Rattle.std.proofs.lemmas.List.{reverse-append}
 use Rattle.league_core.specs.declared.sheet.Sheet.{Sheet}
@@ -26,17 +26,12 @@ use Rattle.check_bounds.specs.inside.Trails.{AreOfZone, LeadTo, IsTrail}
 use Rattle.check_bounds.proofs.ScoreDomainLemmas.{test_within}
 use Rattle.check_bounds.proofs.MeaningLemmas.{has_reason-is}
 
--- the last step stands first where steps are turned round
+-- the last step stands first when steps are turned round
 turned-push : (steps : List Step) (step : Step)
     → reverse (steps ++ step ∷ []) ≡ step ∷ reverse steps
 turned-push steps step = reverse-append steps (step ∷ [])
 
--- one step more is one literal more
-pub zone_of-push : (steps : List Step) (step : Step)
-    → zone_of (steps ++ step ∷ []) ≡ zone_of steps ++ step.literal ∷ []
-zone_of-push steps step = ap literals_up (turned-push steps step)
-
--- scopes and marks are those of the zone of the steps
+-- domains and marks are those of the zone of the steps
 here : (limit : ℕ) (scores : List (Option Score)) (up : List Step) (scopes : List ScoreDomain)
     (marks : Marks) → LeadTo limit scores up scopes marks
     → AreOfZone limit scores (literals_up up) scopes marks
@@ -49,7 +44,7 @@ pub of_trail : (sheet : Sheet) (season : Results) (scopes : List ScoreDomain) (m
 of_trail sheet season scopes marks steps way =
     here sheet.goal_limit season.scores (reverse steps) scopes marks way.leads
 
--- a test of the sheet is of one of the scopes, or of a club that a set can have
+-- a test of the sheet is of one of the domains, or of a club that a set can have
 pub within_trail : (sheet : Sheet) (season : Results) (scopes : List ScoreDomain) (marks : Marks)
     (steps : List Step) (test : Test) → IsTrail sheet season scopes marks steps
     → is_test_of sheet test ≡ true
@@ -102,7 +97,7 @@ leads_back sheet season scopes marks steps step way =
     let leads = subst Up (turned-push steps step) way.leads in
     (leads.1, record { league = way.league; leads = leads.2 })
 
--- a reason over the corners of a zone, with its marks as sets, is the reason in the zone
+-- a reason over the extremes of a zone, with its marks as sets, is the reason in the zone
 pub reason_of : (sheet : Sheet) (season : Results) (question : Question) (zone : List Literal)
     (corners : List (List Score)) (marks : Marks) (reason : Reason)
     → AreAllExtremesOf corners (options_in sheet season zone) → AreMarks marks zone

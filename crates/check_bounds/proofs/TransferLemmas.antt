@@ -1,4 +1,4 @@
--- Whatever is looked at, the corners of a fixture give the same as its options: least and greatest
+-- Whatever is looked at, the extremes of a fixture give the same as its options: least and greatest
 -- values, whether there is one, and whether all have one outcome.
 use Rattle.std.proofs.Common.{◌≡◌, ℕ, suc, ℤ, pos, ◌≤ℤ◌, Bool, true}
 use Rattle.std.proofs.Common.{false, ◌&&◌, ◌||◌, ◌==◌, nat_lt, cond, List, [], ◌∷◌, refl}
@@ -25,7 +25,7 @@ use Rattle.check_bounds.specs.inside.Terms.{worth_by, side_worth}
 use Rattle.check_bounds.specs.inside.ExtremeScores.{AreExtremesOf}
 use Rattle.check_bounds.specs.inside.Zones.{AreAllExtremesOf}
 
--- there is a corner where there is an option
+-- there is an extreme if there is an option
 pub some_same : (corners options : List Score) → AreExtremesOf corners options
     → has_option corners ≡ has_option options
 some_same [] [] are = refl
@@ -35,7 +35,7 @@ some_same [] (o ∷ options) are =
 some_same (c ∷ corners) [] are =
     absurd (false≢true (are.inside c (has_score-first c corners)))
 
--- a value that some corner reaches from below at each option, and one from above
+-- a value that some extreme reaches from below at each option, and one from above
 abbrev IsBounded : (Score → ℤ) → List Score → List Score → Type 0
 IsBounded value corners options =
     (score : Score) → has_score options score ≡ true
@@ -65,7 +65,7 @@ range_same value (c ∷ corners) options are bounded =
     omega (arith, ints, corner.2, greatest))
     (high.0, are.inside high.0 high.1, high.2))
 
--- all corners have one outcome where all options have
+-- all extremes have one outcome if all options have
 pub one_same : (corners options : List Score) → AreExtremesOf corners options
     → has_one_outcome corners ≡ has_one_outcome options
 one_same [] [] are = refl

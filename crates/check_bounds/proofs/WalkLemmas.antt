@@ -5,7 +5,7 @@ use Rattle.league_core.specs.declared.sheet.Fixture.{Fixture}
 use Rattle.league_core.specs.declared.season.Score.{Score}
 use Rattle.league_core.specs.game.Sums.{has_club, worth_among, match_points, goal_difference, goals}
 use Rattle.check_bounds.specs.declared.records.Records.{Records}
-use Rattle.check_bounds.specs.inside.IntRanges.{no_span}
+use Rattle.check_bounds.specs.inside.IntRanges.{no_range}
 use Rattle.check_bounds.specs.inside.Tables.{worth_if}
 use Rattle.check_bounds.specs.inside.Walks.{AreRecordsNear, AddsRecord, AreRecordsOf}
 use Rattle.check_bounds.proofs.TableLemmas.{IsTableSoFar, table_none, table_all, adds_more}
@@ -14,9 +14,9 @@ use Rattle.check_bounds.proofs.TableLemmas.{so_far_near}
 -- tables without a match
 abbrev pub no_records : Records
 no_records = record {
-  points = replicate 32 no_span;
-  difference = replicate 32 no_span;
-  goals = replicate 32 no_span;
+  points = replicate 32 no_range;
+  difference = replicate 32 no_range;
+  goals = replicate 32 no_range;
 }
 
 -- each table so far

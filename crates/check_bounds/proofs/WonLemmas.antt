@@ -15,7 +15,7 @@ use Rattle.league_core.proofs.RangeLemmas.{same_range, range_of-none}
 use Rattle.check_bounds.specs.declared.term.Measure.TheVariants as kind
 use Rattle.check_bounds.specs.declared.int_range.IntRange.{IntRange}
 use Rattle.check_bounds.specs.inside.Terms.{side_worth}
-use Rattle.check_bounds.specs.inside.IntRanges.{range_of_span, span_at, IsSpanWithin}
+use Rattle.check_bounds.specs.inside.IntRanges.{as_sum_range, range_at, IsRangeWithin}
 use Rattle.check_bounds.specs.inside.Cells.{AreWonIn, points_by_table}
 use Rattle.check_bounds.proofs.TableLemmas.{points_alone}
 
@@ -90,13 +90,13 @@ sums_few value few (match ∷ matches) (own ∷ corners) =
 -- the points of a league's clubs are not far from 0
 pub won_near : (sheet : Sheet) (corners : List (List Score)) (won : List IntRange)
     → length sheet.fixtures ≤ 600 → AreWonIn sheet corners won → (club : ℕ)
-    → IsSpanWithin 2000 (span_at won club)
+    → IsRangeWithin 2000 (range_at won club)
 won_near sheet corners won few are club =
     let all = sums_few (worth_to match_points club) (worth_few club) sheet.fixtures corners in
-    let least : (span_at won club).least
+    let least : (range_at won club).least
     ≡ (range_from (worth_to match_points club) sheet.fixtures corners).least =
     ap (λ (r : Range). r.least) (are club) in
-    let greatest : (span_at won club).greatest
+    let greatest : (range_at won club).greatest
     ≡ (range_from (worth_to match_points club) sheet.fixtures corners).greatest =
     ap (λ (r : Range). r.greatest) (are club) in
     let a = all.0.0 in
@@ -119,85 +119,85 @@ sides at_home at_away corners =
 -- one part of a sum in the place of another, at each club
 pub match_exchanged : (match : Fixture) (old new : List Score) (table middle now : List IntRange)
     (home_old home_new away_old away_new : IntRange) → match.home ≢ match.away
-    → range_of_span home_old ≡ range_of (side_worth kind.Points false) old
-    → range_of_span home_new ≡ range_of (side_worth kind.Points false) new
-    → range_of_span away_old ≡ range_of (side_worth kind.Points true) old
-    → range_of_span away_new ≡ range_of (side_worth kind.Points true) new
-    → added (range_of_span (span_at middle match.home)) (range_of_span home_old)
-    ≡ added (range_of_span (span_at table match.home)) (range_of_span home_new)
-    → ((other : ℕ) → other ≢ match.home → span_at middle other ≡ span_at table other)
-    → added (range_of_span (span_at now match.away)) (range_of_span away_old)
-    ≡ added (range_of_span (span_at middle match.away)) (range_of_span away_new)
-    → ((other : ℕ) → other ≢ match.away → span_at now other ≡ span_at middle other)
-    → (club : ℕ) → added (range_of_span (span_at now club))
+    → as_sum_range home_old ≡ range_of (side_worth kind.Points false) old
+    → as_sum_range home_new ≡ range_of (side_worth kind.Points false) new
+    → as_sum_range away_old ≡ range_of (side_worth kind.Points true) old
+    → as_sum_range away_new ≡ range_of (side_worth kind.Points true) new
+    → added (as_sum_range (range_at middle match.home)) (as_sum_range home_old)
+    ≡ added (as_sum_range (range_at table match.home)) (as_sum_range home_new)
+    → ((other : ℕ) → other ≢ match.home → range_at middle other ≡ range_at table other)
+    → added (as_sum_range (range_at now match.away)) (as_sum_range away_old)
+    ≡ added (as_sum_range (range_at middle match.away)) (as_sum_range away_new)
+    → ((other : ℕ) → other ≢ match.away → range_at now other ≡ range_at middle other)
+    → (club : ℕ) → added (as_sum_range (range_at now club))
     (range_of (worth_to match_points club match) old)
-    ≡ added (range_of_span (span_at table club))
+    ≡ added (as_sum_range (range_at table club))
     (range_of (worth_to match_points club match) new)
 match_exchanged match old new table middle now home_old home_new away_old away_new apart
     home_old_is home_new_is away_old_is away_new_is home_is home_others away_is away_others club =
     at (cases_eq match.home club) (cases_eq match.away club)
   where
-    at_home : added (range_of_span (span_at now match.home))
+    at_home : added (as_sum_range (range_at now match.home))
         (range_of (side_worth kind.Points false) old)
-        ≡ added (range_of_span (span_at table match.home))
+        ≡ added (as_sum_range (range_at table match.home))
         (range_of (side_worth kind.Points false) new)
     at_home =
-        ap (λ s. added (range_of_span s) (range_of (side_worth kind.Points false) old))
+        ap (λ s. added (as_sum_range s) (range_of (side_worth kind.Points false) old))
         (away_others match.home apart)
-        ∙ ap (added (range_of_span (span_at middle match.home))) (sym home_old_is)
+        ∙ ap (added (as_sum_range (range_at middle match.home))) (sym home_old_is)
         ∙ home_is
-        ∙ ap (added (range_of_span (span_at table match.home))) home_new_is
+        ∙ ap (added (as_sum_range (range_at table match.home))) home_new_is
 
-    at_away : added (range_of_span (span_at now match.away))
+    at_away : added (as_sum_range (range_at now match.away))
         (range_of (side_worth kind.Points true) old)
-        ≡ added (range_of_span (span_at table match.away))
+        ≡ added (as_sum_range (range_at table match.away))
         (range_of (side_worth kind.Points true) new)
     at_away =
-        ap (added (range_of_span (span_at now match.away))) (sym away_old_is)
+        ap (added (as_sum_range (range_at now match.away))) (sym away_old_is)
         ∙ away_is
-        ∙ ap (added (range_of_span (span_at middle match.away))) away_new_is
-        ∙ ap (λ s. added (range_of_span s) (range_of (side_worth kind.Points true) new))
+        ∙ ap (added (as_sum_range (range_at middle match.away))) away_new_is
+        ∙ ap (λ s. added (as_sum_range s) (range_of (side_worth kind.Points true) new))
         (home_others match.away (λ e. apart (sym e)))
 
     at : (match.home ≡ club) ⊎ (match.home ≢ club) → (match.away ≡ club) ⊎ (match.away ≢ club)
-        → added (range_of_span (span_at now club)) (range_of (worth_to match_points club match) old)
-        ≡ added (range_of_span (span_at table club))
+        → added (as_sum_range (range_at now club)) (range_of (worth_to match_points club match) old)
+        ≡ added (as_sum_range (range_at table club))
         (range_of (worth_to match_points club match) new)
     at (inl home) away =
-        subst (λ (b : Bool). added (range_of_span (span_at now club))
+        subst (λ (b : Bool). added (as_sum_range (range_at now club))
         (sides b (eqb match.away club) old)
-        ≡ added (range_of_span (span_at table club)) (sides b (eqb match.away club) new))
+        ≡ added (as_sum_range (range_at table club)) (sides b (eqb match.away club) new))
         (sym (eq-eqb match.home club home))
-        (subst (λ (n : ℕ). added (range_of_span (span_at now n))
+        (subst (λ (n : ℕ). added (as_sum_range (range_at now n))
         (range_of (side_worth kind.Points false) old)
-        ≡ added (range_of_span (span_at table n)) (range_of (side_worth kind.Points false) new))
+        ≡ added (as_sum_range (range_at table n)) (range_of (side_worth kind.Points false) new))
         home at_home)
     at (inr not_home) (inl away) =
-        subst (λ (b : Bool). added (range_of_span (span_at now club))
+        subst (λ (b : Bool). added (as_sum_range (range_at now club))
         (sides b (eqb match.away club) old)
-        ≡ added (range_of_span (span_at table club)) (sides b (eqb match.away club) new))
+        ≡ added (as_sum_range (range_at table club)) (sides b (eqb match.away club) new))
         (sym (ne_eqb match.home club not_home))
-        (subst (λ (b : Bool). added (range_of_span (span_at now club)) (sides false b old)
-        ≡ added (range_of_span (span_at table club)) (sides false b new))
+        (subst (λ (b : Bool). added (as_sum_range (range_at now club)) (sides false b old)
+        ≡ added (as_sum_range (range_at table club)) (sides false b new))
         (sym (eq-eqb match.away club away))
-        (subst (λ (n : ℕ). added (range_of_span (span_at now n))
+        (subst (λ (n : ℕ). added (as_sum_range (range_at now n))
         (range_of (side_worth kind.Points true) old)
-        ≡ added (range_of_span (span_at table n)) (range_of (side_worth kind.Points true) new))
+        ≡ added (as_sum_range (range_at table n)) (range_of (side_worth kind.Points true) new))
         away at_away))
     at (inr not_home) (inr not_away) =
-        subst (λ (b : Bool). added (range_of_span (span_at now club))
+        subst (λ (b : Bool). added (as_sum_range (range_at now club))
         (sides b (eqb match.away club) old)
-        ≡ added (range_of_span (span_at table club)) (sides b (eqb match.away club) new))
+        ≡ added (as_sum_range (range_at table club)) (sides b (eqb match.away club) new))
         (sym (ne_eqb match.home club not_home))
-        (subst (λ (b : Bool). added (range_of_span (span_at now club)) (sides false b old)
-        ≡ added (range_of_span (span_at table club)) (sides false b new))
+        (subst (λ (b : Bool). added (as_sum_range (range_at now club)) (sides false b old)
+        ≡ added (as_sum_range (range_at table club)) (sides false b new))
         (sym (ne_eqb match.away club not_away))
-        (ap (added (range_of_span (span_at now club))) (range_of-none old)
-        ∙ ap (λ s. added (range_of_span s) (one_value (pos 0)))
+        (ap (added (as_sum_range (range_at now club))) (range_of-none old)
+        ∙ ap (λ s. added (as_sum_range s) (one_value (pos 0)))
         (away_others club (λ e. not_away (sym e)) ∙ home_others club (λ e. not_home (sym e)))
-        ∙ ap (added (range_of_span (span_at table club))) (sym (range_of-none new))))
+        ∙ ap (added (as_sum_range (range_at table club))) (sym (range_of-none new))))
 
--- the sums where one match has other corners
+-- the sums if one match has other extremes
 range_from-set : (value : Fixture → Score → ℤ) (matches : List Fixture)
     (corners : List (List Score)) (k : ℕ) (new : List Score) (d : Fixture) → k < length matches
     → k < length corners
@@ -228,9 +228,9 @@ range_from-set value (match ∷ matches) (own ∷ corners) (suc k) new d inside 
 pub won_exchanged : (sheet : Sheet) (corners : List (List Score)) (won now : List IntRange) (k : ℕ)
     (new : List Score) (d : Fixture) → k < length sheet.fixtures → k < length corners
     → AreWonIn sheet corners won
-    → ((club : ℕ) → added (range_of_span (span_at now club))
+    → ((club : ℕ) → added (as_sum_range (range_at now club))
     (range_of (worth_to match_points club (get_or sheet.fixtures k d)) (get_or corners k []))
-    ≡ added (range_of_span (span_at won club))
+    ≡ added (as_sum_range (range_at won club))
     (range_of (worth_to match_points club (get_or sheet.fixtures k d)) new))
     → AreWonIn sheet (set corners k new) now
 won_exchanged sheet corners won now k new d inside there are follows club =
@@ -244,7 +244,7 @@ won_exchanged sheet corners won now k new d inside there are follows club =
     let was_greatest = ap (λ (r : Range). r.greatest) was in
     let is_least = ap (λ (r : Range). r.least) is in
     let is_greatest = ap (λ (r : Range). r.greatest) is in
-    same_range (range_of_span (span_at now club))
+    same_range (as_sum_range (range_at now club))
     (range_from (worth_to match_points club) sheet.fixtures (set corners k new))
     (omega (arith, ints, sums_least, was_least, is_least))
     (omega (arith, ints, sums_greatest, was_greatest, is_greatest))

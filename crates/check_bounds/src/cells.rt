@@ -1,4 +1,4 @@
-//! What a zone leaves of each fixture: its scope, its corners, and the points that these give. A
+//! What a zone leaves of each fixture: its domain, its extremes, and the points that these give. A
 //! literal changes one fixture alone, and so does going back over one; all others are kept.
 
 ghost use Rattle.std.specs.Prelude.{◌≡◌, ◌<◌, [], ◌∷◌, IfOk, length, set, slice_index_or};
@@ -11,7 +11,7 @@ ghost use Rattle.league_core.specs.search.Options.{options_in, has_option, has_o
 ghost use Rattle.league_core.specs.search.PointRanges.{points_range, points_together, range_from};
 ghost use Rattle.check_bounds.specs.declared.score_domain.ScoreDomain.{ScoreDomain};
 ghost use Rattle.check_bounds.specs.inside.Terms.{worth_by};
-ghost use Rattle.check_bounds.specs.inside.IntRanges.{range_of_span, IsSpanWithin};
+ghost use Rattle.check_bounds.specs.inside.IntRanges.{as_sum_range, IsRangeWithin};
 ghost use Rattle.check_bounds.specs.inside.Tables.{IsTableOf};
 ghost use Rattle.check_bounds.specs.inside.Walks.{AreRecordsOf, worth_near};
 ghost use Rattle.check_bounds.specs.inside.Zones.{AreScoreDomainsOf};
@@ -32,7 +32,7 @@ use league_core::{ClubSet, OutOfMemory, Season, Sheet};
 use std::alloc::Global;
 use std::marker::Model;
 
-/// The fixtures of a sheet, cell by cell. Contracts see the sheet, the scopes and the corners.
+/// The fixtures of a sheet, cell by cell. Contracts see the sheet, the domains and the extremes.
 #[derive(Drop)]
 pub struct Cells<'a> {
     sheet: &'a Sheet,
@@ -126,7 +126,7 @@ impl<'a> Cells<'a> {
         self.scopes[fixture as usize]
     }
 
-    /// Puts another scope in the place of a fixture's.
+    /// Puts another domain in the place of a fixture's.
     pub fn put(&mut self, fixture: u16, scope: ScoreDomain)
         requires { fixture < length self.old.scopes }
         ensures sheet { self.new.sheet ≡ self.old.sheet }
@@ -179,9 +179,9 @@ impl<'a> Cells<'a> {
 
     /// The match points of the clubs of a set together.
     pub fn won_by(&self, set: ClubSet) -> IntRange
-        ensures points { range_of_span result ≡ range_from (points_together (clubs_in set))
+        ensures points { as_sum_range result ≡ range_from (points_together (clubs_in set))
             self.now.sheet.fixtures self.now.corners }
-        ensures near { IsSpanWithin 153000 result }
+        ensures near { IsRangeWithin 153000 result }
     {
         won_by(self.sheet.fixtures.as_slice(), self.corners.as_slice(), set)
     }
@@ -189,9 +189,9 @@ impl<'a> Cells<'a> {
     /// The points of a club.
     pub fn points(&self, season: &Season, club: u8) -> IntRange
         requires { club < 32 }
-        ensures range { range_of_span result
+        ensures range { as_sum_range result
             ≡ points_range self.now.sheet season.now self.now.corners (club ∷ []) }
-        ensures near { IsSpanWithin 200000 result }
+        ensures near { IsRangeWithin 200000 result }
     {
         points_of_club(&self.won, season, club)
     }

@@ -3,16 +3,16 @@
 ghost use Rattle.std.specs.Prelude.{◌≡◌};
 ghost use Rattle.league_core.specs.search.SureOrder as order;
 ghost use Rattle.league_core.specs.search.SureOrder.{sure_by_range, sure_then, is_apart};
-ghost use Rattle.check_bounds.specs.inside.IntRanges as spans;
-ghost use Rattle.check_bounds.specs.inside.IntRanges.{range_of_span, ranges_at};
+ghost use Rattle.check_bounds.specs.inside.IntRanges as ranges;
+ghost use Rattle.check_bounds.specs.inside.IntRanges.{as_sum_range, ranges_at};
 ghost use Rattle.check_bounds.specs.inside.Steps.{sure_by_tables, is_level_by_tables};
 ghost use Rattle.check_bounds.specs.inside.Steps.{is_sure_by_tables};
 
 use crate::int_range::IntRange;
 use league_core::Sure;
 
-fn by_span(rival: IntRange, club: IntRange) -> Sure
-    ensures { result ≡ sure_by_range (range_of_span rival) (range_of_span club) }
+fn by_range(rival: IntRange, club: IntRange) -> Sure
+    ensures { result ≡ sure_by_range (as_sum_range rival) (as_sum_range club) }
 {
     if club.greatest < rival.least {
         Sure::Above
@@ -25,7 +25,7 @@ fn by_span(rival: IntRange, club: IntRange) -> Sure
     }
 }
 
-/// Where one step leaves the two level, the next decides.
+/// If one step leaves the two level, the next decides.
 pub fn then(first: Sure, next: Sure) -> Sure
     ensures { result ≡ sure_then first next }
 {
@@ -37,7 +37,7 @@ pub fn then(first: Sure, next: Sure) -> Sure
     }
 }
 
-/// Where the answer is level, the tables decide; else it stays, and no table is looked at.
+/// If the answer is level, the tables decide; else it stays, and no table is looked at.
 pub fn then_by(answer: Sure, tables: &[[IntRange; 32]], club: u8, rival: u8) -> Sure
     ensures { result ≡ sure_then answer (sure_by_tables tables.now club rival) }
 {
@@ -50,8 +50,8 @@ pub fn then_by(answer: Sure, tables: &[[IntRange; 32]], club: u8, rival: u8) -> 
 }
 
 /// What the table has at the club's number; past the last one a sum without a match.
-pub fn span_at(table: &[IntRange; 32], club: u8) -> IntRange
-    ensures { result ≡ spans.span_at table.now club }
+pub fn range_at(table: &[IntRange; 32], club: u8) -> IntRange
+    ensures { result ≡ ranges.range_at table.now club }
 {
     table.get(club as usize).copied().unwrap_or(IntRange::ZERO)
 }
@@ -63,7 +63,7 @@ pub fn by_tables(tables: &[[IntRange; 32]], club: u8, rival: u8) -> Sure
     if tables.is_empty() {
         return Sure::Level;
     }
-    let first = by_span(span_at(&tables[0], rival), span_at(&tables[0], club));
+    let first = by_range(range_at(&tables[0], rival), range_at(&tables[0], club));
     then(first, by_tables(&tables[1..], club, rival))
 }
 
@@ -73,8 +73,8 @@ fn are_apart(tables: &[[IntRange; 32]], club: u8, other: u8) -> bool
     if tables.is_empty() {
         return false;
     }
-    let own = span_at(&tables[0], club);
-    let found = span_at(&tables[0], other);
+    let own = range_at(&tables[0], club);
+    let found = range_at(&tables[0], other);
     own.greatest < found.least || found.greatest < own.least || are_apart(&tables[1..], club, other)
 }
 

@@ -121,7 +121,7 @@ impl ExtremeScores {
         }
     }
 
-    /// The corners of what is left: at most ten, and one where one score is all that is left.
+    /// The extremes of what is left: at most ten, and one if one score is all that is left.
     pub fn of(scope: &ScoreDomain) -> ExtremeScores
         ensures { (options : List Score) → IsScoreDomainOf scope.now options
             → AreExtremesOf result options }

@@ -3,7 +3,7 @@
 ghost use Rattle.std.specs.Prelude.{◌≡◌, ◌+◌, ◌-ℤ◌, ◌≤ℤ◌, ℕ, pos};
 ghost use Rattle.league_core.specs.search.PointRanges.{one_value, added, widened, range_of};
 ghost use Rattle.check_bounds.specs.inside.Terms as looks;
-ghost use Rattle.check_bounds.specs.inside.IntRanges.{range_of_span, IsSpanWithin};
+ghost use Rattle.check_bounds.specs.inside.IntRanges.{as_sum_range, IsRangeWithin};
 
 use crate::term::{Term, term_value};
 use league_core::Score;
@@ -22,7 +22,7 @@ impl IntRange {
     };
 
     pub fn only(value: i64) -> IntRange
-        ensures { range_of_span result ≡ one_value value }
+        ensures { as_sum_range result ≡ one_value value }
     {
         IntRange {
             least: value,
@@ -32,9 +32,9 @@ impl IntRange {
 
     /// Both sums together.
     pub fn plus(self, other: IntRange) -> IntRange
-        requires near { IsSpanWithin 1000000 self }
-        requires other_near { IsSpanWithin 1000000 other }
-        ensures { range_of_span result ≡ added (range_of_span self) (range_of_span other) }
+        requires near { IsRangeWithin 1000000 self }
+        requires other_near { IsRangeWithin 1000000 other }
+        ensures { as_sum_range result ≡ added (as_sum_range self) (as_sum_range other) }
     {
         IntRange {
             least: self.least + other.least,
@@ -44,11 +44,12 @@ impl IntRange {
 
     /// The sum with so much taken off.
     pub fn less(self, off: i64) -> IntRange
-        requires near { IsSpanWithin 1000000 self }
+        requires near { IsRangeWithin 1000000 self }
         requires few { (pos 0 ≤ℤ off) × (off ≤ℤ pos 10000) }
-        ensures range { range_of_span result
-            ≡ added (range_of_span self) (one_value (pos 0 -ℤ off)) }
-        ensures near { (bound : ℕ) → IsSpanWithin bound self → IsSpanWithin (bound + 10000) result }
+        ensures range { as_sum_range result
+            ≡ added (as_sum_range self) (one_value (pos 0 -ℤ off)) }
+        ensures near { (bound : ℕ) → IsRangeWithin bound self
+            → IsRangeWithin (bound + 10000) result }
     {
         IntRange {
             least: self.least - off,
@@ -58,11 +59,11 @@ impl IntRange {
 
     /// The sum with one part in the place of another.
     pub fn exchanged(self, old: IntRange, new: IntRange) -> IntRange
-        requires near { IsSpanWithin 2000 self }
-        requires old_near { IsSpanWithin 255 old }
-        requires new_near { IsSpanWithin 255 new }
-        ensures { added (range_of_span result) (range_of_span old)
-            ≡ added (range_of_span self) (range_of_span new) }
+        requires near { IsRangeWithin 2000 self }
+        requires old_near { IsRangeWithin 255 old }
+        requires new_near { IsRangeWithin 255 new }
+        ensures { added (as_sum_range result) (as_sum_range old)
+            ≡ added (as_sum_range self) (as_sum_range new) }
     {
         IntRange {
             least: self.least - old.least + new.least,
@@ -72,7 +73,7 @@ impl IntRange {
 
     // With one value more.
     fn widened(self, value: i64) -> IntRange
-        ensures { range_of_span result ≡ widened value (range_of_span self) }
+        ensures { as_sum_range result ≡ widened value (as_sum_range self) }
     {
         IntRange {
             least: value.min(self.least),
@@ -82,9 +83,9 @@ impl IntRange {
 }
 
 /// What the look sees in these scores, at the least and at the most.
-pub fn span_of(scores: &[Score], look: Term) -> IntRange
-    ensures range { range_of_span result ≡ range_of (looks.term_value look) scores.now }
-    ensures near { IsSpanWithin 255 result }
+pub fn look_range(scores: &[Score], look: Term) -> IntRange
+    ensures range { as_sum_range result ≡ range_of (looks.term_value look) scores.now }
+    ensures near { IsRangeWithin 255 result }
 {
     if scores.is_empty() {
         return IntRange::ZERO;
@@ -93,5 +94,5 @@ pub fn span_of(scores: &[Score], look: Term) -> IntRange
     if scores.len() == 1 {
         return IntRange::only(value);
     }
-    span_of(&scores[1..], look).widened(value)
+    look_range(&scores[1..], look).widened(value)
 }

@@ -16,7 +16,7 @@ pub struct OpenCounts {
 }
 
 impl OpenCounts {
-    /// Those with these corners.
+    /// Those with these extremes.
     pub fn of(corners: &[ExtremeScores]) -> OpenCounts
         ensures { AreOpenCounts corners.now result }
     {
@@ -31,7 +31,7 @@ impl OpenCounts {
         loose
     }
 
-    /// With other corners of one fixture.
+    /// With other extremes of one fixture.
     pub fn exchanged(self, old: &ExtremeScores, new: &ExtremeScores) -> OpenCounts
         requires { IsAmong old.now self }
         ensures { AreExchanged self old.now new.now result }

@@ -1,4 +1,4 @@
-//! What a reason says, over the corners and the marks of a zone.
+//! What a reason says, over the extremes and the marks of a zone.
 
 ghost use Rattle.std.specs.Prelude.{◌≡◌, ◌&&◌, ◌<◌, ◌≤◌, length, int_lt, pos, neg_ℤ};
 ghost use Rattle.std.specs.Prelude.{◌||◌, ◌≤ℤ◌, ◌*ℤ◌};

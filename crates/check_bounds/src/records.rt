@@ -38,7 +38,7 @@ pub fn records_of(fixtures: &[Fixture], corners: &[ExtremeScores], group: ClubSe
     records
 }
 
-// Adds a match to the records of its two sides, where it counts.
+// Adds a match to the records of its two sides, if it counts.
 fn add_record(records: &mut Records, fixture: Fixture, corners: &ExtremeScores, counts: bool)
     requires team { IsTrue (is_fixture 24 fixture) }
     requires near { AreRecordsNear records.old }

@@ -9,7 +9,7 @@ ghost use Rattle.check_bounds.specs.inside.ScoreDomains.{is_goals_of, is_left};
 
 use league_core::{Literal, Score, Test};
 
-/// A range of goals; none where the least is above the most.
+/// A range of goals; none if the least is above the most.
 #[derive(Clone, Copy)]
 pub struct GoalRange {
     pub least: u16,
@@ -27,8 +27,8 @@ pub struct ScoreDomain {
 }
 
 impl ScoreDomain {
-    /// What the season leaves of a fixture: its score where it was played, any up to the goal limit
-    /// where it was not.
+    /// What the season leaves of a fixture: its score if it was played, any up to the goal limit if
+    /// it was not.
     pub fn of(played: Option<Score>, goal_limit: u8) -> ScoreDomain
         ensures { (score : Score) → is_left result score ≡ may_end goal_limit played (Some score) }
     {
@@ -55,8 +55,8 @@ impl ScoreDomain {
         }
     }
 
-    /// The one score that is left where each side has one number of goals and no outcome was cut,
-    /// as of a match that was played.
+    /// The one score that is left if each side has one number of goals and no outcome was cut, as
+    /// of a match that was played.
     pub fn only_score(&self) -> Option<Score>
         ensures { IfSome result (λ only.
             (score : Score) → is_left self.now score ≡ same_score only score) }

@@ -1,4 +1,4 @@
-//! One literal of a way, and what has to be put back where the way goes back over it.
+//! One literal of a way, and what has to be put back when the way goes back over it.
 
 ghost use Rattle.std.specs.Prelude.{◌≡◌, [], ◌∷◌, ◌++◌, List, length};
 ghost use Rattle.league_core.specs.declared.zone.Literal.{Literal};
@@ -10,7 +10,7 @@ use crate::score_domain::ScoreDomain;
 use crate::zone::{fixture_of, with_mark};
 use league_core::{ClubSet, Literal};
 
-/// A fixture, and the scope that it had before a literal cut it.
+/// A fixture, and the domain that it had before a literal cut it.
 #[derive(Clone, Copy)]
 pub struct Cut {
     pub fixture: u16,
@@ -55,8 +55,8 @@ impl Marks {
     }
 }
 
-/// Cuts the scope of the fixture that a literal is of, and hands out what it was; of a literal that
-/// is of none, nothing.
+/// Cuts the domain of the fixture that a literal is of, and hands out what it was; of a literal
+/// that is of none, nothing.
 pub fn cut_by(cells: &mut Cells, literal: &Literal) -> Option<Cut>
     requires { IsTestWithin (length cells.old.scopes) literal.now.test }
     ensures cut { CutsBy cells.old.scopes cells.new.scopes literal.now }

@@ -5,7 +5,7 @@ ghost use Rattle.league_core.specs.game.Sheets.{is_fixture};
 ghost use Rattle.league_core.specs.game.Sums.{has_club};
 ghost use Rattle.league_core.specs.game.ClubSets.{clubs_in};
 ghost use Rattle.check_bounds.specs.inside.Terms.{worth_by};
-ghost use Rattle.check_bounds.specs.inside.IntRanges.{span_at, IsSpanWithin};
+ghost use Rattle.check_bounds.specs.inside.IntRanges.{range_at, IsRangeWithin};
 ghost use Rattle.check_bounds.specs.inside.Tables.{ArePlayedOver, TableTakes, IsTableOf, worth_if};
 ghost use Rattle.check_bounds.specs.inside.Walks.{worth_near};
 
@@ -34,7 +34,7 @@ pub fn sums_in(
     table
 }
 
-// Adds a match to the sums of its two sides, where it counts.
+// Adds a match to the sums of its two sides, if it counts.
 fn add_if(
     table: &mut [IntRange],
     fixture: Fixture,
@@ -44,7 +44,7 @@ fn add_if(
 )
     requires long { length table.old ≡ 32 }
     requires team { IsTrue (is_fixture 24 fixture) }
-    requires near { (club : ℕ) → IsSpanWithin 500000 (span_at table.old club) }
+    requires near { (club : ℕ) → IsRangeWithin 500000 (range_at table.old club) }
     ensures { TableTakes (worth_if counts (worth_by kind) fixture) corners.now table.old table.new }
 {
     if counts {

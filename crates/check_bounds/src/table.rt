@@ -5,12 +5,12 @@ ghost use Rattle.league_core.specs.game.Sheets.{is_fixture};
 ghost use Rattle.league_core.specs.game.Sums.{worth_to};
 ghost use Rattle.league_core.specs.game.Ahead.{rank_of};
 ghost use Rattle.league_core.specs.search.PointRanges.{one_value, added};
-ghost use Rattle.check_bounds.specs.inside.IntRanges.{range_of_span, span_at, IsSpanWithin};
+ghost use Rattle.check_bounds.specs.inside.IntRanges.{as_sum_range, range_at, IsRangeWithin};
 ghost use Rattle.check_bounds.specs.inside.Terms.{worth_by};
 ghost use Rattle.check_bounds.specs.inside.Tables.{ArePlayedOver, IsTableOf, TableTakes, worth_if};
 
 use crate::extreme_scores::ExtremeScores;
-use crate::int_range::{IntRange, span_of};
+use crate::int_range::{IntRange, look_range};
 use crate::term::{Measure, Term};
 use league_core::{Fixture, Sheet};
 
@@ -30,41 +30,41 @@ pub fn sums_of(fixtures: &[Fixture], corners: &[ExtremeScores], kind: Measure) -
 pub fn add_match(table: &mut [IntRange], fixture: Fixture, corners: &ExtremeScores, kind: Measure)
     requires long { length table.old ≡ 32 }
     requires team { IsTrue (is_fixture 24 fixture) }
-    requires near { (club : ℕ) → IsSpanWithin 500000 (span_at table.old club) }
+    requires near { (club : ℕ) → IsRangeWithin 500000 (range_at table.old club) }
     ensures { TableTakes (worth_if true (worth_by kind) fixture) corners.now table.old table.new }
 {
     let scores = corners.as_slice();
     add(
         table,
         fixture.home,
-        span_of(scores, Term::Side { kind, away: false }),
+        look_range(scores, Term::Side { kind, away: false }),
     );
     add(
         table,
         fixture.away,
-        span_of(scores, Term::Side { kind, away: true }),
+        look_range(scores, Term::Side { kind, away: true }),
     );
 }
 
-fn add(table: &mut [IntRange], club: u8, span: IntRange)
+fn add(table: &mut [IntRange], club: u8, range: IntRange)
     requires in_range { club < length table.old }
-    requires near { IsSpanWithin 500000 (span_at table.old club) }
-    requires small { IsSpanWithin 255 span }
+    requires near { IsRangeWithin 500000 (range_at table.old club) }
+    requires small { IsRangeWithin 255 range }
     ensures long { length table.new ≡ length table.old }
-    ensures own { range_of_span (span_at table.new club)
-        ≡ added (range_of_span (span_at table.old club)) (range_of_span span) }
-    ensures grows { (bound : ℕ) → IsSpanWithin bound (span_at table.old club)
-        → IsSpanWithin (bound + 255) (span_at table.new club) }
+    ensures own { as_sum_range (range_at table.new club)
+        ≡ added (as_sum_range (range_at table.old club)) (as_sum_range range) }
+    ensures grows { (bound : ℕ) → IsRangeWithin bound (range_at table.old club)
+        → IsRangeWithin (bound + 255) (range_at table.new club) }
     ensures others { (other : ℕ) → other ≢ club
-        → span_at table.new other ≡ span_at table.old other }
+        → range_at table.new other ≡ range_at table.old other }
 {
-    table[club as usize] = table[club as usize].plus(span);
+    table[club as usize] = table[club as usize].plus(range);
 }
 
 /// The fixed ranks, each as a sum that is better the greater it is.
 pub fn ranks_of(sheet: &Sheet) -> [IntRange; 32]
     requires { length sheet.now.clubs ≤ 24 }
-    ensures { (club : ℕ) → range_of_span (span_at result club)
+    ensures { (club : ℕ) → as_sum_range (range_at result club)
         ≡ one_value (neg_ℤ (pos (rank_of sheet.now club))) }
 {
     let mut table = [IntRange::ZERO; 32];

@@ -107,7 +107,7 @@ fn has_level(answers: &[Sure; 32], rivals: ClubSet) -> bool
 }
 
 // The sums over all matches by these measures, one after the other, and then the fixed ranks, among
-// the clubs of a group. Where no rival is level any more there is nothing to decide.
+// the clubs of a group. If no rival is level any more there is nothing to decide.
 fn take_sums(answers: &mut [Sure; 32], kinds: &[Measure], cells: &Cells, group: ClubSet, club: u8)
     requires { club < 32 }
     ensures { TakesNextIn (clubs_in group) club answers.old answers.new (λ rival. sure_by_ranges
@@ -189,7 +189,7 @@ fn take_overall(answers: &mut [Sure; 32], cells: &Cells, group: ClubSet, club: u
     take_rounds(level.len(), answers, cells, level, club);
 }
 
-/// What is sure of each rival against the club, by their numbers. Where no rival is on the club's
+/// What is sure of each rival against the club, by their numbers. If no rival is on the club's
 /// points, these decide.
 pub fn sure_against(season: &Season, cells: &Cells, club: u8) -> [Sure; 32]
     requires { club < 32 }

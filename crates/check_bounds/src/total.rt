@@ -5,13 +5,13 @@ ghost use Rattle.std.specs.Prelude.{if◌then◌else◌};
 ghost use Rattle.league_core.specs.game.ClubSets.{clubs_in};
 ghost use Rattle.league_core.specs.search.PointRanges.{points_range, points_together, total_of};
 ghost use Rattle.league_core.specs.search.PointRanges.{range_from, range_of, points_of_sides};
-ghost use Rattle.check_bounds.specs.inside.IntRanges as spans;
-ghost use Rattle.check_bounds.specs.inside.IntRanges.{range_of_span, IsSpanWithin};
+ghost use Rattle.check_bounds.specs.inside.IntRanges as ranges;
+ghost use Rattle.check_bounds.specs.inside.IntRanges.{as_sum_range, IsRangeWithin};
 ghost use Rattle.check_bounds.specs.inside.Tables.{ArePlayedOver};
 
 use crate::cells::Cells;
 use crate::extreme_scores::ExtremeScores;
-use crate::int_range::{IntRange, span_of};
+use crate::int_range::{IntRange, look_range};
 use crate::term::Term;
 use league_core::{ClubSet, Fixture, Season};
 
@@ -19,9 +19,9 @@ use league_core::{ClubSet, Fixture, Season};
 /// is taken off.
 pub fn points_of_set(season: &Season, cells: &Cells, set: ClubSet) -> IntRange
     requires { length season.now.deductions ≤ 24 }
-    ensures points { range_of_span result
+    ensures points { as_sum_range result
         ≡ points_range cells.now.sheet season.now cells.now.corners (clubs_in set) }
-    ensures near { IsSpanWithin 200000 result }
+    ensures near { IsRangeWithin 200000 result }
 {
     let won = cells.won_by(set);
     won.less(taken_off(season.deductions(), set))
@@ -30,9 +30,9 @@ pub fn points_of_set(season: &Season, cells: &Cells, set: ClubSet) -> IntRange
 /// The match points of the clubs of a set.
 pub fn won_by(fixtures: &[Fixture], corners: &[ExtremeScores], set: ClubSet) -> IntRange
     requires { ArePlayedOver fixtures.now corners.now }
-    ensures points { range_of_span result
+    ensures points { as_sum_range result
         ≡ range_from (points_together (clubs_in set)) fixtures.now corners.now }
-    ensures near { IsSpanWithin 153000 result }
+    ensures near { IsRangeWithin 153000 result }
 {
     let mut won = IntRange::ZERO;
     for i in 0..fixtures.len() {
@@ -46,11 +46,11 @@ pub fn won_by(fixtures: &[Fixture], corners: &[ExtremeScores], set: ClubSet) -> 
 // The match points that a match gives to its sides that count; most matches of a small set give
 // none.
 fn won_in(corners: &ExtremeScores, home: bool, away: bool) -> IntRange
-    ensures range { range_of_span result ≡ range_of (points_of_sides home away) corners.now }
-    ensures near { IsSpanWithin 255 result }
+    ensures range { as_sum_range result ≡ range_of (points_of_sides home away) corners.now }
+    ensures near { IsRangeWithin 255 result }
 {
     if home || away {
-        span_of(corners.as_slice(), Term::Both { home, away })
+        look_range(corners.as_slice(), Term::Both { home, away })
     } else {
         IntRange::ZERO
     }
@@ -79,7 +79,7 @@ fn taken_if(counts: bool, points: u8) -> i64
 
 /// The points of each club.
 pub fn points_table(season: &Season, cells: &Cells) -> [IntRange; 32]
-    ensures { (club : ℕ) → club < 32 → range_of_span (spans.span_at result club)
+    ensures { (club : ℕ) → club < 32 → as_sum_range (ranges.range_at result club)
         ≡ points_range cells.now.sheet season.now cells.now.corners (club ∷ []) }
 {
     let mut table = [IntRange::ZERO; 32];

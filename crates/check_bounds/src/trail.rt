@@ -88,7 +88,7 @@ impl<'a> Trail<'a> {
         Ok(())
     }
 
-    /// Goes back over the last literal, which it hands out; nothing where the way has none.
+    /// Goes back over the last literal, which it hands out; nothing if the way has none.
     pub fn back(&mut self) -> Option<Literal>
         ensures some { IfSome result (λ literal. self.old ≡ farther self.new literal) }
         ensures none { IfNone result ((self.old.zone ≡ []) × (self.new ≡ self.old)) }

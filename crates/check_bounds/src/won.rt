@@ -7,13 +7,13 @@ ghost use Rattle.league_core.specs.game.Sums.{match_points, worth_to};
 ghost use Rattle.league_core.specs.search.PointRanges.{added, range_of};
 ghost use Rattle.check_bounds.specs.inside.Terms.{side_worth};
 ghost use Rattle.check_bounds.specs.declared.term.Measure.TheVariants as kinds;
-ghost use Rattle.check_bounds.specs.inside.IntRanges as spans;
-ghost use Rattle.check_bounds.specs.inside.IntRanges.{range_of_span, IsSpanWithin};
+ghost use Rattle.check_bounds.specs.inside.IntRanges as ranges;
+ghost use Rattle.check_bounds.specs.inside.IntRanges.{as_sum_range, IsRangeWithin};
 ghost use Rattle.check_bounds.specs.inside.Cells.{points_by_table};
 
-use crate::compare::span_at;
+use crate::compare::range_at;
 use crate::extreme_scores::ExtremeScores;
-use crate::int_range::{IntRange, span_of};
+use crate::int_range::{IntRange, look_range};
 use crate::term::{Measure, Term};
 use league_core::{Fixture, Season};
 
@@ -25,10 +25,10 @@ pub fn exchange_match(
     new: &ExtremeScores,
 )
     requires team { IsTrue (is_fixture 24 fixture) }
-    requires near { (club : ℕ) → IsSpanWithin 2000 (spans.span_at won.old club) }
-    ensures { (club : ℕ) → added (range_of_span (spans.span_at won.new club))
+    requires near { (club : ℕ) → IsRangeWithin 2000 (ranges.range_at won.old club) }
+    ensures { (club : ℕ) → added (as_sum_range (ranges.range_at won.new club))
         (range_of (worth_to match_points club fixture) old.now)
-        ≡ added (range_of_span (spans.span_at won.old club))
+        ≡ added (as_sum_range (ranges.range_at won.old club))
         (range_of (worth_to match_points club fixture) new.now) }
 {
     exchange(
@@ -47,22 +47,22 @@ pub fn exchange_match(
 
 // The match points of one side in a match.
 fn points_in(corners: &ExtremeScores, away: bool) -> IntRange
-    ensures range { range_of_span result ≡ range_of (side_worth kinds.Points away) corners.now }
-    ensures near { IsSpanWithin 255 result }
+    ensures range { as_sum_range result ≡ range_of (side_worth kinds.Points away) corners.now }
+    ensures near { IsRangeWithin 255 result }
 {
     let kind = Measure::Points;
-    span_of(corners.as_slice(), Term::Side { kind, away })
+    look_range(corners.as_slice(), Term::Side { kind, away })
 }
 
-// One span in the place of another in a club's sum.
+// One range in the place of another in a club's sum.
 fn exchange(won: &mut [IntRange; 32], club: u8, old: IntRange, new: IntRange)
     requires in_range { club < 32 }
-    requires near { IsSpanWithin 2000 (spans.span_at won.old club) }
-    requires small { IsSpanWithin 255 old × IsSpanWithin 255 new }
-    ensures own { added (range_of_span (spans.span_at won.new club)) (range_of_span old)
-        ≡ added (range_of_span (spans.span_at won.old club)) (range_of_span new) }
+    requires near { IsRangeWithin 2000 (ranges.range_at won.old club) }
+    requires small { IsRangeWithin 255 old × IsRangeWithin 255 new }
+    ensures own { added (as_sum_range (ranges.range_at won.new club)) (as_sum_range old)
+        ≡ added (as_sum_range (ranges.range_at won.old club)) (as_sum_range new) }
     ensures others { (other : ℕ) → other ≢ club
-        → spans.span_at won.new other ≡ spans.span_at won.old other }
+        → ranges.range_at won.new other ≡ ranges.range_at won.old other }
 {
     won[club as usize] = won[club as usize].exchanged(old, new);
 }
@@ -70,11 +70,11 @@ fn exchange(won: &mut [IntRange; 32], club: u8, old: IntRange, new: IntRange)
 /// A club's match points less what is taken off it.
 pub fn points_of_club(won: &[IntRange; 32], season: &Season, club: u8) -> IntRange
     requires in_range { club < 32 }
-    requires near { IsSpanWithin 2000 (spans.span_at won.now club) }
-    ensures range { range_of_span result ≡ points_by_table season.now won.now club }
-    ensures near { IsSpanWithin 200000 result }
+    requires near { IsRangeWithin 2000 (ranges.range_at won.now club) }
+    ensures range { as_sum_range result ≡ points_by_table season.now won.now club }
+    ensures near { IsRangeWithin 200000 result }
 {
-    span_at(won, club).less(taken_off(season, club))
+    range_at(won, club).less(taken_off(season, club))
 }
 
 // The points that are taken off a club.

@@ -16,7 +16,7 @@ use crate::score_domain::ScoreDomain;
 use league_core::{ClubSet, Literal, OutOfMemory, Score, Season, Sheet, Test};
 use std::alloc::Global;
 
-/// The scopes of a season in which no literal is asked for.
+/// The domains of a season in which no literal is asked for.
 pub fn season_domains(
     alloc: Global,
     scores: &[Option<Score>],
@@ -48,7 +48,7 @@ pub fn fixture_of(test: &Test) -> Option<u16>
     }
 }
 
-/// The corners of each scope.
+/// The extremes of each domain.
 pub fn all_extremes(
     alloc: Global,
     scopes: &[ScoreDomain],
@@ -62,7 +62,7 @@ pub fn all_extremes(
     Ok(corners)
 }
 
-/// The same lists of corners once more.
+/// The same lists of extremes once more.
 pub fn copied_extremes(
     alloc: Global,
     corners: &[ExtremeScores],

@@ -42,25 +42,25 @@ app = with_rule (with_rule (with_rule (with_rule (new_app (codes "futmax")) mode
 
 -- ---- what is taken of them
 
--- what was taken, where nothing is a fault
+-- what was taken, if nothing is a fault
 abbrev pub unless_fault : Kinds → List Row → Option (List Row)
 unless_fault [] rows = Some rows
 unless_fault (kind ∷ kinds) rows = None
 
--- what clap takes of the words, where it takes them without a fault
+-- what clap takes of the words, if it takes them without a fault
 unfoldable pub rows_taken : List Text → Option (List Row)
 rows_taken words = unless_fault (fault_of app words) (matches_of app words)
 
 -- ---- what a mode and a number are
 
--- the mode of a word, where it names one
-abbrev pub mode_named : List ℕ → Option Mode
-mode_named word =
-    if bytes_eq word (codes "verdicts") then Some Verdicts
+-- the mode of a word, if it names one, with proofs or without, and with this seed
+abbrev pub mode_named : List ℕ → Bool → ℕ → Option Mode
+mode_named word proofs seed =
+    if bytes_eq word (codes "verdicts") then Some (Verdicts proofs)
     else if bytes_eq word (codes "table") then Some Table
     else if bytes_eq word (codes "scores") then Some Scores
     else if bytes_eq word (codes "check") then Some Check
-    else if bytes_eq word (codes "sample") then Some Sample
+    else if bytes_eq word (codes "sample") then Some (Sample seed)
     else None
 
 -- 1 to 20 ASCII digits
@@ -77,22 +77,18 @@ abbrev pub numeral_within : ℕ → ℕ → List ℕ → Option ℕ
 numeral_within least most text =
     if is_number_within least most text then Some (digits_value 10 text) else None
 
--- the number of an option, which has one where it is not given
+-- the number of an option, which has one even if it is not given
 abbrev pub option_number : ℕ → ℕ → ℕ → Option Text → Option ℕ
 option_number absent least most None = Some absent
 option_number absent least most (Some text) = numeral_within least most text
 
 -- ---- the command
 
--- the mode of what was taken
-abbrev pub mode_in : List Row → Option Mode
-mode_in rows = option_and_then mode_named (first_of (codes "mode") rows)
-
--- 1 to 8 workers, and 4 where none are named
+-- 1 to 8 workers, and 4 if none are named
 abbrev pub workers_in : List Row → Option ℕ
 workers_in rows = option_number 4 1 8 (first_of (codes "workers") rows)
 
--- a seed of 64 bits, and 1 where none is named
+-- a seed of 64 bits, and 1 if none is named
 abbrev pub seed_in : List Row → Option ℕ
 seed_in rows = option_number 1 0 18446744073709551615 (first_of (codes "seed") rows)
 
@@ -101,16 +97,22 @@ abbrev pub has_proofs : List Row → Bool
 has_proofs rows =
     option_map_or (λ text. bytes_eq text (codes "true")) (first_of (codes "proofs") rows) false
 
--- the command of what was taken, where it has a mode and its options are numbers in range
+-- the mode of what was taken, if its word names one and the seed is a number in range
+abbrev pub mode_in : List Row → Option Mode
+mode_in rows =
+    option_and_then (λ seed. option_and_then (λ word. mode_named word (has_proofs rows) seed)
+    (first_of (codes "mode") rows)) (seed_in rows)
+
+-- the command of what was taken, if it has a mode and its workers are a number in range
 abbrev pub command_in : List Row → Option Command
 command_in rows =
-    option_and_then (λ mode. option_and_then (λ workers. option_map (λ seed. record {
-      mode = mode;
-      proofs = has_proofs rows;
-      workers = workers;
-      seed = seed;
-    }) (seed_in rows)) (workers_in rows)) (mode_in rows)
+    option_and_then (λ mode. option_map (λ workers. record { mode = mode; workers = workers })
+    (workers_in rows)) (mode_in rows)
 
--- the command of the words, where they fit
+-- the command of the words, if they fit
 unfoldable pub command_of : List Text → Option Command
 command_of words = option_and_then command_in (rows_taken words)
+
+-- its mode
+abbrev pub mode_of : List Text → Option Mode
+mode_of words = option_map (λ command. command.mode) (command_of words)

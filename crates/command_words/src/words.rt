@@ -15,7 +15,7 @@ use clap::{Arg, ArgAction, ArgMatches};
 use league_core::OutOfMemory;
 use std::alloc::Global;
 
-/// The command of the words, where they fit. The first is the program's own name.
+/// The command of the words, if they fit. The first is the program's own name.
 pub fn command_of(alloc: Global, words: &[String]) -> Result<Option<Command>, OutOfMemory>
     ensures value { IfOk result (λ command. command ≡ command_of (map string_bytes words.now)) }
     ensures workers { IfOk result (λ found. IfSome found (λ command.
@@ -27,7 +27,7 @@ pub fn command_of(alloc: Global, words: &[String]) -> Result<Option<Command>, Ou
     }
 }
 
-// The matches of the words, where clap takes them.
+// The matches of the words, if clap takes them.
 fn matched<'a>(alloc: Global, words: &'a [String]) -> Result<Option<ArgMatches<'a>>, OutOfMemory>
     ensures { IfOk result (λ found. option_map (λ matches. rows_of (found_of matches)) found
         ≡ rows_taken (map string_bytes words.entry.now)) }
@@ -68,26 +68,25 @@ fn command_in(matches: &ArgMatches<'_>) -> Option<Command>
 {
     let mode = mode_in(matches)?;
     let workers = option_number(matches, "workers", 4, 1, 8)?;
-    let seed = option_number(matches, "seed", 1, 0, u64::MAX)?;
     Some(Command {
         mode,
-        proofs: has_proofs(matches),
         workers: workers as u8,
-        seed,
     })
 }
 
 fn mode_in(matches: &ArgMatches<'_>) -> Option<Mode>
     ensures { result ≡ mode_in (rows_of (found_of matches.now)) }
 {
-    mode_named(text_of(matches, "mode")?)
+    let seed = option_number(matches, "seed", 1, 0, u64::MAX)?;
+    let word = text_of(matches, "mode")?;
+    mode_named(word, has_proofs(matches), seed)
 }
 
-fn mode_named(word: &str) -> Option<Mode>
-    ensures { result ≡ mode_named word.now }
+fn mode_named(word: &str, proofs: bool, seed: u64) -> Option<Mode>
+    ensures { result ≡ mode_named word.now proofs seed }
 {
     if word == "verdicts" {
-        Some(Mode::Verdicts)
+        Some(Mode::Verdicts { proofs })
     } else if word == "table" {
         Some(Mode::Table)
     } else if word == "scores" {
@@ -95,7 +94,7 @@ fn mode_named(word: &str) -> Option<Mode>
     } else if word == "check" {
         Some(Mode::Check)
     } else if word == "sample" {
-        Some(Mode::Sample)
+        Some(Mode::Sample { seed })
     } else {
         None
     }
@@ -110,7 +109,7 @@ fn has_proofs(matches: &ArgMatches<'_>) -> bool
     }
 }
 
-// The number of an option, `absent` where it is not given.
+// The number of an option, `absent` if it is not given.
 fn option_number(
     matches: &ArgMatches<'_>,
     id: &str,

@@ -172,7 +172,7 @@ copies by view copy foreign list other newest state ruled at = record {
       (at_snoc (set state.views by view) copy it j there);
 }
 
--- a seat's view becomes one that fits where both fit, and the other seat is spent
+-- a seat's view becomes one that fits if both fit, and the other seat is spent
 joins : (by : ℕ) (view : View) (other : ℕ) (from both : View)
     → ((seat : ℕ) (log : List Event) → FitsLog seat log by view → FitsLog seat log other from
     → FitsLog seat log by both)

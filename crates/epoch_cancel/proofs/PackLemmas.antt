@@ -89,7 +89,7 @@ last_code-at (first ∷ next ∷ later) event zero many is = absurd (omega (arit
 last_code-at (first ∷ next ∷ later) event (suc place) many is =
     last_code-at (next ∷ later) event place (omega (arith, many)) is
 
--- the same, where the last place is one less than the length
+-- the same, if the last place is one less than the length
 pub last_code-get : (log : List Event) (event : Event)
     → slice_get log (length log - 1) ≡ Some event → last_code log ≡ code_of event
 last_code-get [] event is = absurd cc

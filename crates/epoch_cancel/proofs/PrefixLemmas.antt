@@ -13,7 +13,7 @@ module _ {A : Type 0} where
   pub prefix_nothing : (xs : List A) → IsPrefix [] xs
   prefix_nothing xs = (xs, refl)
 
-  -- a beginning of a list begins what is longer
+  -- a prefix of a list is one of what is longer
   pub prefix_more : (xs ys more : List A) → IsPrefix xs ys → IsPrefix xs (ys ++ more)
   prefix_more xs ys more begins =
       (begins.0 ++ more, sym (append_assoc xs begins.0 more) ∙ ap (λ zs. zs ++ more) begins.1)

@@ -22,7 +22,7 @@ owns_nothing owns foreign own = absurd (true≢false (sym own ∙ foreign))
 
 -- ---- many views
 
--- where one view is put, and the others fit, all fit
+-- if one view is put, and the others fit, all fit
 pub fits_set : (seat : ℕ) (log : List Event) (views : List View) (by : ℕ) (view : View)
     → ((at : ℕ) (other : View) → at ≢ by → get_elem? views at ≡ some other
     → FitsLog seat log at other)
@@ -61,7 +61,7 @@ others_told seat log event at view apart fits = record {
   newest = omega (arith, fits.newest, length-append log (event ∷ []));
 }
 
--- the owner's view fits it, where it is longer too
+-- the owner's view fits it, if it is longer too
 pub owner_told : (seat : ℕ) (log : List Event) (event : Event) (by : ℕ) (view : View)
     → by ≡ seat → view.list ≡ log → FitsLog seat log by view
     → FitsLog seat (log ++ event ∷ []) by (view_told view event)
@@ -128,13 +128,13 @@ beside_fits seat log by at view from fits theirs = record {
 
 -- ---- the longer of two lists
 
--- the other, where it is longer
+-- the other, if it is longer
 pub longer_of-longer : (list other : List Event) → length list < length other
     → longer_of list other ≡ other
 longer_of-longer list other less =
     ap (λ which. if which then other else list) (lt-ltb (length list) (length other) less)
 
--- the other, where the first begins it
+-- the other, if the first begins it
 pub longer_of-begins : (list other : List Event) → IsPrefix list other
     → longer_of list other ≡ other
 longer_of-begins list other begins = either (nat_lt (length list) (length other)) refl

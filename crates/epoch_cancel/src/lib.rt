@@ -1,5 +1,5 @@
 //! The word of the epoch: threads read without a lock which event was the last, and what any of
-//! them knows is a beginning of all events that there were.
+//! them knows is a prefix of all events that there were.
 //!
 //! Read `specs/inside/Packs.antt` first: the word. `specs/inside/Seats.antt` says what contracts
 //! see of a seat, and `specs/inside/Rule.antt` what every step keeps.

@@ -17,8 +17,8 @@ pub fn look(word: &EpochWord, eye: &mut Eye) -> u64
     word.table.shared.load::<Look>(&mut eye.seat, 0) / EPOCH
 }
 
-/// Loads the word once. Where its epoch is greater than the one given, work of the given one is out
-/// of date, and the answer is the word's epoch.
+/// Loads the word once. If its epoch is greater than the one given, work of the given one is out of
+/// date, and the answer is the word's epoch.
 pub fn cancelled(word: &EpochWord, eye: &mut Eye, epoch: u64) -> Option<u64>
     requires seat { eye.old.table ≡ word.now }
     ensures moves { Looks eye.old eye.new }

@@ -31,7 +31,7 @@ pub fn tell(word: &EpochWord, owner: &mut Owner, front: &mut Front, event: &Even
     shared.load::<Compare>(&mut front.seat, 0);
 }
 
-/// Lets a worker know all events that there were. What it knew was a beginning of them.
+/// Brings a worker up to all events that there were. What it knew was a prefix of them.
 pub fn seen(word: &EpochWord, owner: &mut Owner, eye: &mut Eye)
     requires seats { (owner.old.table ≡ word.now) × (eye.old.table ≡ word.now) }
     ensures begins { IsPrefix eye.old.list owner.old.list }

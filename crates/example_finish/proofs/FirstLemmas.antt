@@ -16,8 +16,9 @@ use Rattle.league_core.proofs.OutcomeLemmas.{outcome_cases}
 use Rattle.league_core.proofs.OptionLemmas.{has_score-first}
 use Rattle.league_core.proofs.ProposalLemmas.{option_order_total, first_option_of}
 use Rattle.score_box.specs.declared.cell.Cell.{Cell}
-use Rattle.score_box.specs.declared.cell.goals.GoalRange.{GoalRange}
-use Rattle.score_box.specs.inside.Cells.{keeps_outcome, IsAllowed, AllowsNone, IsBetween, IsSpanOf}
+use Rattle.score_box.specs.declared.cell.goals.ScoreRange.{ScoreRange}
+use Rattle.score_box.specs.inside.Cells.{keeps_outcome, IsAllowed, AllowsNone, IsBetween}
+use Rattle.score_box.specs.inside.Cells.{IsScoreRangeOf}
 use Rattle.score_box.specs.inside.Cells.{IsCellOf}
 use Rattle.score_box.proofs.CellLemmas.{IsInRanges, ranges_of, allows_from}
 use Rattle.example_finish.specs.inside.Firsts.{IsFirstScore, IsFirstAmong, is_any, is_win}
@@ -54,49 +55,49 @@ away_win_kept cell score loses =
     ∙ ap (λ b. cond b cell.draw cell.away_win) (no_draw score loses)
 
 -- so a home win between the ends is one of the cell's
-home_win_between : (cell : Cell) (goals : GoalRange) (score : Score)
-    → IsSpanOf cell is_home_win goals
+home_win_between : (cell : Cell) (goals : ScoreRange) (score : Score)
+    → IsScoreRangeOf cell is_home_win goals
     → IsBetween goals score → is_home_win score ≡ true → IsAllowed cell is_home_win score
-home_win_between cell goals score span between wins =
-    let one = ranges_of cell span.home_least.0 span.home_least.1.allowed in
-    let two = ranges_of cell span.home_most.0 span.home_most.1.allowed in
-    let three = ranges_of cell span.away_least.0 span.away_least.1.allowed in
-    let four = ranges_of cell span.away_most.0 span.away_most.1.allowed in
-    let first : IsInRanges cell span.home_least.0 = one.0 in
-    let second : IsInRanges cell span.home_most.0 = two.0 in
-    let third : IsInRanges cell span.away_least.0 = three.0 in
-    let fourth : IsInRanges cell span.away_most.0 = four.0 in
-    let home_low : span.home_least.0.home ≡ goals.home_least = span.home_least.2 in
-    let home_high : span.home_most.0.home ≡ goals.home_most = span.home_most.2 in
-    let away_low : span.away_least.0.away ≡ goals.away_least = span.away_least.2 in
-    let away_high : span.away_most.0.away ≡ goals.away_most = span.away_most.2 in
+home_win_between cell goals score range between wins =
+    let one = ranges_of cell range.home_least.0 range.home_least.1.allowed in
+    let two = ranges_of cell range.home_most.0 range.home_most.1.allowed in
+    let three = ranges_of cell range.away_least.0 range.away_least.1.allowed in
+    let four = ranges_of cell range.away_most.0 range.away_most.1.allowed in
+    let first : IsInRanges cell range.home_least.0 = one.0 in
+    let second : IsInRanges cell range.home_most.0 = two.0 in
+    let third : IsInRanges cell range.away_least.0 = three.0 in
+    let fourth : IsInRanges cell range.away_most.0 = four.0 in
+    let home_low : range.home_least.0.home ≡ goals.home_least = range.home_least.2 in
+    let home_high : range.home_most.0.home ≡ goals.home_most = range.home_most.2 in
+    let away_low : range.away_least.0.away ≡ goals.away_least = range.away_least.2 in
+    let away_high : range.away_most.0.away ≡ goals.away_most = range.away_most.2 in
     record {
       allowed = allows_from cell score (record {
         home_least = omega arith;
         home_most = omega arith;
         away_least = omega arith;
         away_most = omega arith;
-      }) (keeps_home_win cell score span.home_least.0 wins span.home_least.1.passed one.1);
+      }) (keeps_home_win cell score range.home_least.0 wins range.home_least.1.passed one.1);
       passed = wins;
     }
 
 -- so is an away win
-away_win_between : (cell : Cell) (goals : GoalRange) (score : Score)
-    → IsSpanOf cell is_away_win goals
+away_win_between : (cell : Cell) (goals : ScoreRange) (score : Score)
+    → IsScoreRangeOf cell is_away_win goals
     → IsBetween goals score → is_away_win score ≡ true → IsAllowed cell is_away_win score
-away_win_between cell goals score span between loses =
-    let one = ranges_of cell span.home_least.0 span.home_least.1.allowed in
-    let two = ranges_of cell span.home_most.0 span.home_most.1.allowed in
-    let three = ranges_of cell span.away_least.0 span.away_least.1.allowed in
-    let four = ranges_of cell span.away_most.0 span.away_most.1.allowed in
-    let first : IsInRanges cell span.home_least.0 = one.0 in
-    let second : IsInRanges cell span.home_most.0 = two.0 in
-    let third : IsInRanges cell span.away_least.0 = three.0 in
-    let fourth : IsInRanges cell span.away_most.0 = four.0 in
-    let home_low : span.home_least.0.home ≡ goals.home_least = span.home_least.2 in
-    let home_high : span.home_most.0.home ≡ goals.home_most = span.home_most.2 in
-    let away_low : span.away_least.0.away ≡ goals.away_least = span.away_least.2 in
-    let away_high : span.away_most.0.away ≡ goals.away_most = span.away_most.2 in
+away_win_between cell goals score range between loses =
+    let one = ranges_of cell range.home_least.0 range.home_least.1.allowed in
+    let two = ranges_of cell range.home_most.0 range.home_most.1.allowed in
+    let three = ranges_of cell range.away_least.0 range.away_least.1.allowed in
+    let four = ranges_of cell range.away_most.0 range.away_most.1.allowed in
+    let first : IsInRanges cell range.home_least.0 = one.0 in
+    let second : IsInRanges cell range.home_most.0 = two.0 in
+    let third : IsInRanges cell range.away_least.0 = three.0 in
+    let fourth : IsInRanges cell range.away_most.0 = four.0 in
+    let home_low : range.home_least.0.home ≡ goals.home_least = range.home_least.2 in
+    let home_high : range.home_most.0.home ≡ goals.home_most = range.home_most.2 in
+    let away_low : range.away_least.0.away ≡ goals.away_least = range.away_least.2 in
+    let away_high : range.away_most.0.away ≡ goals.away_most = range.away_most.2 in
     record {
       allowed = allows_from cell score (record {
         home_least = omega arith;
@@ -104,13 +105,13 @@ away_win_between cell goals score span between loses =
         away_least = omega arith;
         away_most = omega arith;
       }) (away_win_kept cell score loses
-          ∙ sym (away_win_kept cell span.home_least.0 span.home_least.1.passed) ∙ one.1);
+          ∙ sym (away_win_kept cell range.home_least.0 range.home_least.1.passed) ∙ one.1);
       passed = loses;
     }
 
 -- ---- the order within an outcome
 
--- what decides where the points are the same
+-- what decides if the points are the same
 abbrev rest_of : Bool → Bool → Score → List ℤ
 rest_of home away score =
     weighed_together goal_difference home away score
@@ -163,14 +164,14 @@ fewer score other home away =
     ]
 
 -- the least draw is the first
-pub draw_is_first : (cell : Cell) (goals : GoalRange) (home away : Bool)
-    → IsSpanOf cell is_draw goals
+pub draw_is_first : (cell : Cell) (goals : ScoreRange) (home away : Bool)
+    → IsScoreRangeOf cell is_draw goals
     → IsAllowed cell is_draw (score_of goals.home_least goals.away_least)
     → IsFirstScore cell is_draw home away (score_of goals.home_least goals.away_least)
-draw_is_first cell goals home away span allowed = record {
+draw_is_first cell goals home away range allowed = record {
   one = allowed;
   first = λ other is.
-      let between = span.within other is in
+      let between = range.within other is in
       let level : other.home ≡ other.away = eqb-true other.home other.away is.passed in
       let even : goals.home_least ≡ goals.away_least =
       eqb-true goals.home_least goals.away_least allowed.passed in
@@ -183,29 +184,29 @@ draw_is_first cell goals home away span allowed = record {
 }
 
 -- of sides with one wish the home win with the fewest goals is the first
-pub small_home_win_is_first : (cell : Cell) (goals : GoalRange) (wish : Bool)
-    → IsSpanOf cell is_home_win goals
+pub small_home_win_is_first : (cell : Cell) (goals : ScoreRange) (wish : Bool)
+    → IsScoreRangeOf cell is_home_win goals
     → IsFirstScore cell is_home_win wish wish (score_of goals.home_least goals.away_least)
-small_home_win_is_first cell goals wish span =
+small_home_win_is_first cell goals wish range =
     let least = score_of goals.home_least goals.away_least in
-    let lowest = span.within span.home_least.0 span.home_least.1 in
-    let low : span.home_least.0.home ≡ goals.home_least = span.home_least.2 in
-    let won : span.home_least.0.away < span.home_least.0.home =
-    ltb-true span.home_least.0.away span.home_least.0.home span.home_least.1.passed in
-    let top = span.within span.home_most.0 span.home_most.1 in
-    let high : span.home_most.0.home ≡ goals.home_most = span.home_most.2 in
-    let tall = span.within span.away_most.0 span.away_most.1 in
-    let away_high : span.away_most.0.away ≡ goals.away_most = span.away_most.2 in
+    let lowest = range.within range.home_least.0 range.home_least.1 in
+    let low : range.home_least.0.home ≡ goals.home_least = range.home_least.2 in
+    let won : range.home_least.0.away < range.home_least.0.home =
+    ltb-true range.home_least.0.away range.home_least.0.home range.home_least.1.passed in
+    let top = range.within range.home_most.0 range.home_most.1 in
+    let high : range.home_most.0.home ≡ goals.home_most = range.home_most.2 in
+    let tall = range.within range.away_most.0 range.away_most.1 in
+    let away_high : range.away_most.0.away ≡ goals.away_most = range.away_most.2 in
     let wins : is_home_win least ≡ true = lt-ltb goals.away_least goals.home_least (omega arith) in
     record {
-      one = home_win_between cell goals least span (record {
+      one = home_win_between cell goals least range (record {
         home_least = omega arith;
         home_most = omega arith;
         away_least = omega arith;
         away_most = omega arith;
       }) wins;
       first = λ other is.
-          let between = span.within other is in
+          let between = range.within other is in
           home_win_later wish wish least other wins is.passed
           (inr (
             margin_alike wish other ∙ sym (margin_alike wish least),
@@ -213,29 +214,29 @@ small_home_win_is_first cell goals wish span =
           ));
     }
 
-pub small_away_win_is_first : (cell : Cell) (goals : GoalRange) (wish : Bool)
-    → IsSpanOf cell is_away_win goals
+pub small_away_win_is_first : (cell : Cell) (goals : ScoreRange) (wish : Bool)
+    → IsScoreRangeOf cell is_away_win goals
     → IsFirstScore cell is_away_win wish wish (score_of goals.home_least goals.away_least)
-small_away_win_is_first cell goals wish span =
+small_away_win_is_first cell goals wish range =
     let least = score_of goals.home_least goals.away_least in
-    let lowest = span.within span.away_least.0 span.away_least.1 in
-    let low : span.away_least.0.away ≡ goals.away_least = span.away_least.2 in
-    let lost : span.away_least.0.home < span.away_least.0.away =
-    ltb-true span.away_least.0.home span.away_least.0.away span.away_least.1.passed in
-    let top = span.within span.home_most.0 span.home_most.1 in
-    let high : span.home_most.0.home ≡ goals.home_most = span.home_most.2 in
-    let tall = span.within span.away_most.0 span.away_most.1 in
-    let away_high : span.away_most.0.away ≡ goals.away_most = span.away_most.2 in
+    let lowest = range.within range.away_least.0 range.away_least.1 in
+    let low : range.away_least.0.away ≡ goals.away_least = range.away_least.2 in
+    let lost : range.away_least.0.home < range.away_least.0.away =
+    ltb-true range.away_least.0.home range.away_least.0.away range.away_least.1.passed in
+    let top = range.within range.home_most.0 range.home_most.1 in
+    let high : range.home_most.0.home ≡ goals.home_most = range.home_most.2 in
+    let tall = range.within range.away_most.0 range.away_most.1 in
+    let away_high : range.away_most.0.away ≡ goals.away_most = range.away_most.2 in
     let loses : is_away_win least ≡ true = lt-ltb goals.home_least goals.away_least (omega arith) in
     record {
-      one = away_win_between cell goals least span (record {
+      one = away_win_between cell goals least range (record {
         home_least = omega arith;
         home_most = omega arith;
         away_least = omega arith;
         away_most = omega arith;
       }) loses;
       first = λ other is.
-          let between = span.within other is in
+          let between = range.within other is in
           away_win_later wish wish least other loses is.passed
           (inr (
             margin_alike wish other ∙ sym (margin_alike wish least),
@@ -244,13 +245,14 @@ small_away_win_is_first cell goals wish span =
     }
 
 -- of sides of which the home side alone is wished points, the widest home win is the first
-pub wide_home_win_is_first : (cell : Cell) (goals : GoalRange) → IsSpanOf cell is_home_win goals
+pub wide_home_win_is_first : (cell : Cell) (goals : ScoreRange)
+    → IsScoreRangeOf cell is_home_win goals
     → IsAllowed cell is_home_win (score_of goals.home_most goals.away_least)
     → IsFirstScore cell is_home_win true false (score_of goals.home_most goals.away_least)
-wide_home_win_is_first cell goals span allowed = record {
+wide_home_win_is_first cell goals range allowed = record {
   one = allowed;
   first = λ other is.
-      let between = span.within other is in
+      let between = range.within other is in
       home_win_later true false (score_of goals.home_most goals.away_least) other allowed.passed
       is.passed (wider other between.home_most between.away_least);
 }
@@ -267,13 +269,14 @@ wide_home_win_is_first cell goals span allowed = record {
               inr (omega (arith, ints), inr (omega (arith, ints), inr (omega (arith, ints), tt)))
         ]
 
-pub wide_away_win_is_first : (cell : Cell) (goals : GoalRange) → IsSpanOf cell is_away_win goals
+pub wide_away_win_is_first : (cell : Cell) (goals : ScoreRange)
+    → IsScoreRangeOf cell is_away_win goals
     → IsAllowed cell is_away_win (score_of goals.home_least goals.away_most)
     → IsFirstScore cell is_away_win false true (score_of goals.home_least goals.away_most)
-wide_away_win_is_first cell goals span allowed = record {
+wide_away_win_is_first cell goals range allowed = record {
   one = allowed;
   first = λ other is.
-      let between = span.within other is in
+      let between = range.within other is in
       away_win_later false true (score_of goals.home_least goals.away_most) other allowed.passed
       is.passed (wider other between.home_least between.away_most);
 }
@@ -292,27 +295,27 @@ wide_away_win_is_first cell goals span allowed = record {
 
 -- of sides of which the away side alone is wished points, the narrowest home win with the fewest
 -- goals is the first
-pub narrow_home_win_is_first : (cell : Cell) (goals : GoalRange) (away : ℕ)
-    → IsSpanOf cell is_home_win goals → away ≡ min goals.away_most (goals.home_least - 1)
+pub narrow_home_win_is_first : (cell : Cell) (goals : ScoreRange) (away : ℕ)
+    → IsScoreRangeOf cell is_home_win goals → away ≡ min goals.away_most (goals.home_least - 1)
     → IsFirstScore cell is_home_win false true (score_of goals.home_least away)
-narrow_home_win_is_first cell goals away span is_min =
+narrow_home_win_is_first cell goals away range is_min =
     let best = score_of goals.home_least away in
-    let lowest = span.within span.home_least.0 span.home_least.1 in
-    let low : span.home_least.0.home ≡ goals.home_least = span.home_least.2 in
-    let won : span.home_least.0.away < span.home_least.0.home =
-    ltb-true span.home_least.0.away span.home_least.0.home span.home_least.1.passed in
-    let tall = span.within span.away_most.0 span.away_most.1 in
-    let away_high : span.away_most.0.away ≡ goals.away_most = span.away_most.2 in
+    let lowest = range.within range.home_least.0 range.home_least.1 in
+    let low : range.home_least.0.home ≡ goals.home_least = range.home_least.2 in
+    let won : range.home_least.0.away < range.home_least.0.home =
+    ltb-true range.home_least.0.away range.home_least.0.home range.home_least.1.passed in
+    let tall = range.within range.away_most.0 range.away_most.1 in
+    let away_high : range.away_most.0.away ≡ goals.away_most = range.away_most.2 in
     let wins : is_home_win best ≡ true = lt-ltb away goals.home_least (omega arith) in
     record {
-      one = home_win_between cell goals best span (record {
+      one = home_win_between cell goals best range (record {
         home_least = omega arith;
         home_most = omega arith;
         away_least = omega arith;
         away_most = omega arith;
       }) wins;
       first = λ other is.
-          let between = span.within other is in
+          let between = range.within other is in
           let more : other.away < other.home = ltb-true other.away other.home is.passed in
           home_win_later false true best other wins is.passed
           (narrower other between.home_least (omega arith));
@@ -340,27 +343,27 @@ narrow_home_win_is_first cell goals away span is_min =
               ]
         ]
 
-pub narrow_away_win_is_first : (cell : Cell) (goals : GoalRange) (home : ℕ)
-    → IsSpanOf cell is_away_win goals → home ≡ min goals.home_most (goals.away_least - 1)
+pub narrow_away_win_is_first : (cell : Cell) (goals : ScoreRange) (home : ℕ)
+    → IsScoreRangeOf cell is_away_win goals → home ≡ min goals.home_most (goals.away_least - 1)
     → IsFirstScore cell is_away_win true false (score_of home goals.away_least)
-narrow_away_win_is_first cell goals home span is_min =
+narrow_away_win_is_first cell goals home range is_min =
     let best = score_of home goals.away_least in
-    let lowest = span.within span.away_least.0 span.away_least.1 in
-    let low : span.away_least.0.away ≡ goals.away_least = span.away_least.2 in
-    let lost : span.away_least.0.home < span.away_least.0.away =
-    ltb-true span.away_least.0.home span.away_least.0.away span.away_least.1.passed in
-    let tall = span.within span.home_most.0 span.home_most.1 in
-    let home_high : span.home_most.0.home ≡ goals.home_most = span.home_most.2 in
+    let lowest = range.within range.away_least.0 range.away_least.1 in
+    let low : range.away_least.0.away ≡ goals.away_least = range.away_least.2 in
+    let lost : range.away_least.0.home < range.away_least.0.away =
+    ltb-true range.away_least.0.home range.away_least.0.away range.away_least.1.passed in
+    let tall = range.within range.home_most.0 range.home_most.1 in
+    let home_high : range.home_most.0.home ≡ goals.home_most = range.home_most.2 in
     let loses : is_away_win best ≡ true = lt-ltb home goals.away_least (omega arith) in
     record {
-      one = away_win_between cell goals best span (record {
+      one = away_win_between cell goals best range (record {
         home_least = omega arith;
         home_most = omega arith;
         away_least = omega arith;
         away_most = omega arith;
       }) loses;
       first = λ other is.
-          let between = span.within other is in
+          let between = range.within other is in
           let more : other.home < other.away = ltb-true other.home other.away is.passed in
           away_win_later true false best other loses is.passed
           (narrower other between.away_least (omega arith));
@@ -390,7 +393,7 @@ narrow_away_win_is_first cell goals home span is_min =
 
 -- ---- several outcomes together
 
--- the first of some scores stays the first where those that come in are not taken before it
+-- the first of some scores stays the first if those that come in are not taken before it
 pub first_stays : (cell : Cell) (test added whole : Score → Bool) (home away : Bool) (score : Score)
     → IsFirstScore cell test home away score → whole score ≡ true
     → ((other : Score) → whole other ≡ true → (test other ≡ true) ⊎ (added other ≡ true))
@@ -405,7 +408,7 @@ first_stays cell test added whole home away score is in_whole parts later = reco
       ];
 }
 
--- where there are none of some scores, the first of the others is the first
+-- if there are none of some scores, the first of the others is the first
 pub others_first : (cell : Cell) (test added whole : Score → Bool) (home away : Bool)
     (found : Option Score) → AllowsNone cell test → IsFirstAmong cell added home away found
     → ((other : Score) → whole other ≡ true → (test other ≡ true) ⊎ (added other ≡ true))
@@ -632,7 +635,7 @@ first_of_both cell test added whole home away score other one two behind in_whol
       ];
 }
 
--- of both wins the away win, where it has fewer goals
+-- of both wins the away win, if it has fewer goals
 pub away_win_of_both : (cell : Cell) (wish : Bool) (win loss : Score)
     → IsFirstScore cell is_home_win wish wish win → IsFirstScore cell is_away_win wish wish loss
     → loss.home + loss.away < win.home + win.away → IsFirstScore cell is_win wish wish loss
@@ -647,7 +650,7 @@ away_win_of_both cell wish win loss one two less =
     either third (inl home) = inr home
     either third (inr away) = inl away
 
--- of both wins the home win, where it has no more goals
+-- of both wins the home win, if it has no more goals
 pub home_win_of_both : (cell : Cell) (wish : Bool) (win loss : Score)
     → IsFirstScore cell is_home_win wish wish win → IsFirstScore cell is_away_win wish wish loss
     → win.home + win.away ≤ loss.home + loss.away → IsFirstScore cell is_win wish wish win
@@ -657,7 +660,7 @@ home_win_of_both cell wish win loss one two less =
     (or_left (is_home_win win) (is_away_win win) one.one.passed)
     (λ third is. or_cases (is_home_win third) (is_away_win third) is)
 
--- of one side's wins the first, where the other side has none
+-- of one side's wins the first, if the other side has none
 pub win_of_one : (cell : Cell) (wish : Bool) (found other : Option Score)
     → IsFirstAmong cell is_home_win wish wish found → found ≡ None
     → IsFirstAmong cell is_away_win wish wish other → IsFirstAmong cell is_win wish wish other

@@ -19,7 +19,7 @@ use Rattle.league_core.proofs.ProposalLemmas.{first_option_is}
 use Rattle.league_core.proofs.OptionTestLemmas.{any_gives}
 use Rattle.example_finish.proofs.OrderLemmas.{home_win_points, draw_points, away_win_points}
 
--- where none passes, no option does
+-- if none passes, no option does
 none_passes : (test : Score → Bool) (options : List Score) (score : Score)
     → list_any test options ≡ false → has_score options score ≡ true → test score ≢ true
 none_passes test [] score none has = absurd (false≢true has)
@@ -80,7 +80,7 @@ not_taken : (test : Score → Bool) (home away : Bool) (options : List Score) (s
 not_taken test home away options score none is =
     none_passes test options score none (is_option home away options score is)
 
--- a home win is taken where it brings the most points
+-- a home win is taken if it brings the most points
 home_win_brings : (home away : Bool) (options : List Score) (score : Score)
     → list_any is_home_win options ≡ true → first_option home away options ≡ Some score
     → (weighed home (pos 3) +ℤ weighed away (pos 0))
@@ -171,7 +171,7 @@ draw_first-draw options score some is =
     (λ loses. absurd (let mine = away_win_points false false score loses in
     omega (arith, ints, most, mine)))
 
--- both are: a draw is not taken where there is a win
+-- both are: a draw is not taken if there is a win
 pub win_first-home_win : (options : List Score) (score : Score)
     → list_any is_home_win options ≡ true → list_any is_away_win options ≡ false
     → first_option true true options ≡ Some score → is_home_win score ≡ true
@@ -193,7 +193,7 @@ win_first-away_win options score none some is =
     omega (arith, ints, most, mine)))
     (λ loses. loses)
 
--- where two outcomes are not left the first option has the third
+-- if two outcomes are not left the first option has the third
 pub home_win_alone : (home away : Bool) (options : List Score) (score : Score)
     → list_any is_draw options ≡ false → list_any is_away_win options ≡ false
     → first_option home away options ≡ Some score → is_home_win score ≡ true

@@ -24,7 +24,7 @@ use Rattle.league_core.specs.game.Ahead.{standing_in}
 use Rattle.league_core.specs.game.Ranking.{tied_group_of}
 use Rattle.league_core.specs.inside.LotsFor.{order_without_lots}
 use Rattle.league_core.proofs.OrderingLemmas.{then_agree}
-use Rattle.league_core.proofs.StandingLemmas.{by_head_to_head_total, by_first_sums_total}
+use Rattle.league_core.proofs.StandingLemmas.{by_head_to_head_total}
 use Rattle.league_core.proofs.StandingLemmas.{lead_within_total}
 use Rattle.league_core.proofs.StandingLemmas.{level_with-tied, level_overall-tied}
 use Rattle.league_core.proofs.TimesLemmas.{lead_in-again, level_with-le}
@@ -189,7 +189,7 @@ few_by_record sheet season group club standing is =
     let fewer = level_with-le sheet season (clubs_in group) club in
     omega arith
 
--- who leads is told by the record in the group, and by what decides after it
+-- the record in the group, and what decides after it, say who leads
 lead_is : (sheet : Sheet) (season : Results) (group : ClubSet) (club : ℕ) (standing : Standing)
     → IsStandingOf (by_head_to_head sheet season (clubs_in group)) (clubs_in group) club standing
     → (x : ℕ) → has_club (clubs_in group) x ≡ true
@@ -207,7 +207,7 @@ lead_is sheet season group club standing is x has =
     ∙ sym (level_by_record sheet season group club standing is) in
     ap (λ xs. next_after (length xs == length all) sheet season xs x club) same)
 
--- so where the record and what decides after it tell how a club stands, it stands so by who leads
+-- so if the record and what decides after it say how a club stands, it stands so by who leads
 pub standing_in_lead : (sheet : Sheet) (season : Results) (group : ClubSet) (club : ℕ)
     (outer inner : Standing) (ahead : ClubSet)
     → IsStandingOf (by_head_to_head sheet season (clubs_in group)) (clubs_in group) club outer
@@ -233,14 +233,6 @@ itself_by_record sheet season group club standing has is =
     level_itself (by_head_to_head sheet season (clubs_in group))
     (by_head_to_head_total sheet season (clubs_in group)) (clubs_in group) club standing has is
 
-pub itself_by_first_sums : (sheet : Sheet) (season : Results) (group : ClubSet) (club : ℕ)
-    (standing : Standing) → has_club (clubs_in group) club ≡ true
-    → IsStandingOf (by_first_sums sheet season) (clubs_in group) club standing
-    → has_club (clubs_in standing.level) club ≡ true
-itself_by_first_sums sheet season group club standing has is =
-    level_itself (by_first_sums sheet season) (by_first_sums_total sheet season) (clubs_in group)
-    club standing has is
-
 pub itself_by_points : (sheet : Sheet) (season : Results) (club : ℕ) (standing : Standing)
     → club < length sheet.clubs
     → IsStandingOf (by_points sheet season) (clubs_of sheet) club standing
@@ -256,7 +248,7 @@ pub level_in_group : (order : ℕ → ℕ → Ordering) (group : List ℕ) (club
 level_in_group order group club standing is x has =
     (and_parts (has_club group x) (is_eq (order x club)) (sym (is.level x) ∙ has)).0
 
--- where difference and goals over all matches come first, and then who leads among the clubs that
+-- if difference and goals over all matches come first, and then who leads among the clubs that
 -- share them
 pub standing_overall_first : (sheet : Sheet) (season : Results) (group : ClubSet) (club : ℕ)
     (outer inner : Standing) (ahead : ClubSet)

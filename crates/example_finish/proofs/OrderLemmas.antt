@@ -29,7 +29,7 @@ IsNoGreater (number ∷ numbers) [] = Unit {0}
 IsNoGreater (number ∷ numbers) (other ∷ others) =
     (number <ℤ other) ⊎ ((number ≡ other) × IsNoGreater numbers others)
 
--- so it is not taken first, where both are as long
+-- so it is not taken first, if both are as long
 pub by_first_difference-no_greater : (a b c d e f g h : ℤ)
     → IsNoGreater (a ∷ b ∷ c ∷ d ∷ []) (e ∷ f ∷ g ∷ h ∷ [])
     → by_first_difference (a ∷ b ∷ c ∷ d ∷ []) (e ∷ f ∷ g ∷ h ∷ []) ≢ Less

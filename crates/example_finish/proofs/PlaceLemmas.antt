@@ -26,7 +26,7 @@ use Rattle.final_rank.proofs.SpanLemmas.{best_place_of-around, worst_place_of-ar
 use Rattle.example_finish.specs.declared.standing.Standing.{Standing}
 use Rattle.example_finish.specs.inside.GroupStandings.{IsStandingOf, by_points_in}
 
--- first in the lots a club comes right behind the clubs ahead of it
+-- first in the lots a club comes right after the clubs ahead of it
 pub place_inside : (sheet : Sheet) (season : Results) (club : ℕ) (standing : Standing)
     → IsWithinLimits sheet
     → IsStandingOf (order_without_lots sheet season) (clubs_of sheet) club standing
@@ -38,7 +38,7 @@ place_inside sheet season club standing limits is =
     (record { ahead = standing.ahead; level = standing.level }) (omega arith)
     (record { ahead = is.ahead; level = is.level })
 
--- last in the lots it comes behind these and all others that are level with it
+-- last in the lots it comes after these and all others that are level with it
 pub place_outside : (sheet : Sheet) (season : Results) (club : ℕ) (standing : Standing)
     (both : ClubSet) → IsWithinLimits sheet → club < length sheet.clubs
     → IsStandingOf (order_without_lots sheet season) (clubs_of sheet) club standing
@@ -67,7 +67,7 @@ count_fewer p q (suc clubs) within =
     one true true sub = omega arith
     one true false sub = absurd (false≢true (sub refl))
 
--- and fewer, where it misses one of them
+-- and fewer, if it misses one of them
 count_misses : (p q : ℕ → Bool) (clubs club : ℕ) → club < clubs
     → ((x : ℕ) → p x ≡ true → q x ≡ true) → p club ≡ false → q club ≡ true
     → count_by p (range_with_len 0 clubs) + 1 ≤ count_by q (range_with_len 0 clubs)

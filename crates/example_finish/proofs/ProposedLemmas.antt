@@ -33,7 +33,7 @@ use Rattle.example_finish.specs.inside.FirstOutcomes.{IsOutcomeOf, HasOutcome}
 use Rattle.example_finish.specs.inside.Wished.{has_wish, AreWishesOf}
 use Rattle.example_finish.proofs.UnplayedLemmas.{each_fixture}
 
--- where the zone has a finish each fixture has an option
+-- if the zone has a finish each fixture has an option
 has_option-at : (sheet : Sheet) (season : Results) (zone : List Literal) (k : ℕ)
     → has_finish sheet season zone ≡ true → k < length season.scores
     → has_option (get_or (options_in sheet season zone) k []) ≡ true
@@ -79,7 +79,7 @@ option_is_score sheet season zone k home away score limits results within is =
 abbrev pub no_sides : Fixture
 no_sides = record { home = 0; away = 0 }
 
--- what a fixture takes, where its sides are these
+-- what a fixture takes, if its sides are these
 abbrev pub option_at : Wishes → Sheet → Results → List Literal → ℕ → Fixture → Option Score
 option_at wishes sheet season zone k sides =
     first_option (has_wish wishes.near sides.home wishes.claim)
@@ -112,7 +112,7 @@ played_is_taken wishes sheet season zone k some played =
     found.1 ∙ sym (ap (first_option (has_wish wishes.near sides.home wishes.claim)
     (has_wish wishes.near sides.away wishes.claim)) found.2)
 
--- where one takes its own, the others stay as they are
+-- if one takes its own, the others stay as they are
 keeps_taken : (wishes : Wishes) (sheet : Sheet) (season : Results) (zone : List Literal)
     (finish : Results) (k other : ℕ) (score : Score) → k < length finish.scores
     → option_at wishes sheet season zone k (get_or sheet.fixtures k no_sides) ≡ Some score
@@ -184,7 +184,7 @@ length-first_options wished (match ∷ matches) [] same = absurd (omega arith)
 length-first_options wished (match ∷ matches) (one ∷ options) same =
     ap suc (length-first_options wished matches options (omega arith))
 
--- where all have, that is the proposed finish
+-- if all have, that is the proposed finish
 pub all_have_taken : (wishes : Wishes) (sheet : Sheet) (season : Results) (zone : List Literal)
     (question : Question) (finish : Results) → IsSeasonOf sheet season
     → HaveTaken wishes sheet season zone finish (length (unplayed_in season.scores))

@@ -114,15 +114,6 @@ pub record ArePointsWith (asked : ProposedView) (matches : List ℕ) (i : ℕ) (
         +ℤ total_of (points_proposed asked club) (take i matches))
     pub near : ArePointsNear (200000 + 3 * i) points
 
--- with none of them
-pub with_no_match : (asked : ProposedView) (matches : List ℕ) (points : List ℤ)
-    → ArePointsOver (sheet_asked asked) (season_asked asked) points → ArePointsNear 200000 points
-    → ArePointsWith asked matches 0 points
-with_no_match asked matches points are near = record {
-  sums = λ club below. let here = are club below in omega (arith, ints, here);
-  near = near;
-}
-
 -- with one match more
 pub with_one_match : (asked : ProposedView) (matches : List ℕ) (i k : ℕ) (old new : List ℤ)
     → i < length matches → k ≡ get_or matches i 0 → ArePointsWith asked matches i old
@@ -177,7 +168,7 @@ pub no_points_near : (bound : ℕ) (points : List ℤ) → ((club : ℕ) → end
 no_points_near bound points none club =
     let here = none club in (omega (arith, ints, here), omega (arith, ints, here))
 
--- points that are put at a club's place, where the clubs before it have theirs
+-- points that are put at a club's place, if the clubs before it have theirs
 pub put_points : (sheet : Sheet) (season : Results) (points : List ℤ) (club : ℕ) (value : ℤ)
     → club < length points → value ≡ points_of sheet season club
     → ((x : ℕ) → x < club → end_at points x ≡ points_of sheet season x)
@@ -193,7 +184,7 @@ put_points sheet season points club value within is before x below =
           ∙ before x earlier
     ]
 
--- where all others are near zero, and these too
+-- if all others are near zero, and these too
 pub put_near : (bound : ℕ) (points : List ℤ) (club : ℕ) (value : ℤ) → club < length points
     → ArePointsNear bound points → (neg_ℤ (pos bound) ≤ℤ value) × (value ≤ℤ pos bound)
     → ArePointsNear bound (set points club value)

@@ -2,9 +2,9 @@
 -- matches that are not.
 use Rattle.std.proofs.Common.{◌≡◌, ℕ, zero, suc, ◌+◌, ◌*◌, ◌<◌, ◌≤◌, ℤ, pos, ◌+ℤ◌}
 use Rattle.std.proofs.Common.{◌&&◌, ◌==◌, Bool, true}
-use Rattle.std.proofs.Common.{false, cond, List, [], ◌∷◌, length, get_or, take, Option, Some}
+use Rattle.std.proofs.Common.{false, List, [], ◌∷◌, length, get_or, take, Option}
 use Rattle.std.proofs.Common.{None, inl, inr, refl, sym, ap, ◌∙◌, subst, arith}
-use Rattle.std.proofs.lemmas.Bool.{true≢false, cases_Bool, ne_eqb}
+use Rattle.std.proofs.lemmas.Bool.{true≢false, cases_Bool}
 use Rattle.std.specs.List.{range_with_len}
 use Rattle.tie_criteria.specs.inside.Groups.{IsGroupOf}
 use Rattle.std.proofs.lemmas.Int.{ints}
@@ -15,7 +15,7 @@ use Rattle.league_core.specs.declared.season.Score.{Score}
 use Rattle.league_core.specs.game.Results.{Results}
 use Rattle.league_core.specs.game.Seasons.{IsSeasonOf}
 use Rattle.league_core.specs.game.Sheets.{IsWithinLimits, clubs_of}
-use Rattle.league_core.specs.game.Sums.{Worth, has_club, worth_to, worth_among, if_played, sum_over}
+use Rattle.league_core.specs.game.Sums.{Worth, has_club, worth_among, sum_over}
 use Rattle.league_core.specs.game.Sums.{sum_of, sum_among}
 use Rattle.league_core.specs.search.PointRanges.{total_of}
 use Rattle.league_core.specs.search.Options.{options_in, has_finish}
@@ -30,7 +30,7 @@ use Rattle.score_box.specs.inside.Totals.{Column, worth_in, total_in, AreTotals,
 use Rattle.score_box.specs.inside.Totals.{totals_at, no_totals, AreTogether, TotalsGrowBy}
 use Rattle.score_box.specs.inside.Unplayed.{is_unplayed, unplayed_in}
 use Rattle.score_box.proofs.SplitLemmas.{sum_split, keeps_played, worth_at_fixture}
-use Rattle.score_box.proofs.TotalLemmas.{same_totals, near_none, near_together, near_wider}
+use Rattle.score_box.proofs.TotalLemmas.{near_none, near_together, near_wider}
 use Rattle.score_box.proofs.TotalLemmas.{each_column}
 use Rattle.example_finish.specs.inside.ProposalViews.{ProposedView, sheet_asked, season_asked}
 use Rattle.example_finish.specs.inside.ProposalViews.{finish_asked}
@@ -141,72 +141,6 @@ with_all asked group rows i table of_sheet some past all club has column =
     (season_asked asked) club +ℤ total_of (λ k. worth_proposed asked group club k (worth_in column))
     ks) (take_all i (unplayed_in (season_asked asked).scores) past)
     ∙ sym (sum_proposed asked of_sheet some (worth_among group (worth_in column) club))
-
--- a match without both its sides in the group adds nothing
-pub none_added : (asked : ProposedView) (group : List ℕ) (club k : ℕ) (sides : Fixture)
-    (totals : Totals)
-    → sides ≡ get_or (sheet_asked asked).fixtures k (record { home = 0; away = 0 })
-    → (has_club group sides.home && has_club group sides.away) ≡ false
-    → TotalsGrowBy (worth_proposed asked group club k) totals totals
-none_added asked group club k sides totals is out =
-    subst (λ (value : Worth → ℤ). TotalsGrowBy value totals totals)
-    (λ i worth. (sym (nothing worth (get_or (finish_asked asked).scores k None))
-    ∙ ap (λ (match : Fixture). if_played (worth_among group worth club) match
-    (get_or (finish_asked asked).scores k None)) is) i)
-    (same_totals totals)
-  where
-    nothing : (worth : Worth) (score : Option Score)
-        → if_played (worth_among group worth club) sides score ≡ pos 0
-    nothing worth None = refl
-    nothing worth (Some score) = ap (λ b. cond b (worth_to worth club sides score) (pos 0)) out
-
--- a match of which neither side is one of some clubs adds nothing to theirs
-pub none_passed : (asked : ProposedView) (group rows : List ℕ) (club k : ℕ) (sides : Fixture)
-    (totals : Totals)
-    → sides ≡ get_or (sheet_asked asked).fixtures k (record { home = 0; away = 0 })
-    → has_club rows club ≡ true → has_club rows sides.home ≡ false
-    → has_club rows sides.away ≡ false
-    → TotalsGrowBy (worth_proposed asked group club k) totals totals
-none_passed asked group rows club k sides totals is has home away =
-    subst (λ (value : Worth → ℤ). TotalsGrowBy value totals totals)
-    (λ i worth. (sym (nothing worth (get_or (finish_asked asked).scores k None))
-    ∙ ap (λ (match : Fixture). if_played (worth_among group worth club) match
-    (get_or (finish_asked asked).scores k None)) is) i)
-    (same_totals totals)
-  where
-    apart : (side : ℕ) → has_club rows side ≡ false → (side == club) ≡ false
-    apart side out = ne_eqb side club (λ same. true≢false (sym has ∙ ap (has_club rows) (sym same)
-        ∙ out))
-
-    none_either_way : (b : Bool) → cond b (pos 0) (pos 0) ≡ pos 0
-    none_either_way true = refl
-    none_either_way false = refl
-
-    nothing : (worth : Worth) (score : Option Score)
-        → if_played (worth_among group worth club) sides score ≡ pos 0
-    nothing worth None = refl
-    nothing worth (Some score) =
-        let both = has_club group sides.home && has_club group sides.away in
-        ap (λ b. cond both (cond b (worth score.home score.away false) (cond (sides.away == club)
-        (worth score.away score.home true) (pos 0))) (pos 0)) (apart sides.home home)
-        ∙ ap (λ b. cond both (cond b (worth score.away score.home true) (pos 0)) (pos 0))
-        (apart sides.away away)
-        ∙ none_either_way both
-
--- another adds what it is worth
-pub one_added : (asked : ProposedView) (group : List ℕ) (club k : ℕ) (sides : Fixture)
-    (score : Score)
-    (old new : Totals)
-    → sides ≡ get_or (sheet_asked asked).fixtures k (record { home = 0; away = 0 })
-    → get_or (finish_asked asked).scores k None ≡ Some score
-    → (has_club group sides.home && has_club group sides.away) ≡ true
-    → TotalsGrowBy (λ worth. worth_to worth club sides score) old new
-    → TotalsGrowBy (worth_proposed asked group club k) old new
-one_added asked group club k sides score old new is taken both grows =
-    subst (λ (value : Worth → ℤ). TotalsGrowBy value old new)
-    (λ i worth. (sym (ap (λ b. cond b (worth_to worth club sides score) (pos 0)) both)
-    ∙ (λ j. if_played (worth_among group worth club) (is j) (sym taken j))) i)
-    grows
 
 -- the totals over all matches are those among all clubs
 among_all : (sheet : Sheet) (season : Results) (worth : Worth) (club : ℕ)

@@ -30,7 +30,7 @@ pub struct Comparison<'a> {
 }
 
 impl<'a> Comparison<'a> {
-    /// `Less` where the club comes before the other.
+    /// `Less` if the club comes before the other.
     pub fn order(&self, club: u8, other: u8) -> Ordering
         ensures { result ≡ by_criterion self.now.criterion self.now.sheet.now
             self.now.season.now self.now.table.now club other }

@@ -8,7 +8,7 @@ ghost use Rattle.league_core.specs.inside.LotsFor.{lots_for_claim};
 ghost use Rattle.league_core.specs.game.Ranking.{are_lots, is_inside};
 ghost use Rattle.league_core.specs.game.Sums.{points_of};
 ghost use Rattle.league_core.specs.search.Proposals.{proposed_finish};
-ghost use Rattle.score_box.specs.inside.Settings.{HasFinish};
+ghost use Rattle.score_box.specs.inside.ZoneBoxViews.{HasFinish};
 ghost use Rattle.example_finish.specs.inside.ProposalViews.{sheet_asked, finish_asked};
 ghost use Rattle.example_finish.specs.inside.ProposedPoints.{ArePointsOver, ArePointsNear};
 
@@ -19,8 +19,8 @@ use league_core::{Claim, Finish, Lots, OutOfMemory, Question, Season, Sheet};
 use score_box::ZoneBox;
 use std::alloc::Global;
 
-/// Lots with which the question holds at the finish; none exactly where it holds with no lots.
-/// The lots that favour the claim are tried: no others can do better.
+/// Lots with which the question holds at the finish; none exactly when it holds with no lots. The
+/// lots that favour the claim are tried: no others can do better.
 pub fn try_example(
     alloc: Global,
     sheet: &Sheet,
@@ -104,7 +104,7 @@ fn has_points_in_window(proposed: &Proposed, points: &[i32]) -> bool
     question.is_in_window(points[question.club as usize])
 }
 
-// The club is inside the line, with the lots that favour the claim. Where its points alone say so,
+// The club is inside the line, with the lots that favour the claim. If its points alone say so,
 // nothing else is looked at.
 fn is_inside(proposed: &Proposed, points: &[i32]) -> bool
     requires long { length points.now ≡ 24 }

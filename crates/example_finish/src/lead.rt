@@ -32,7 +32,7 @@ pub fn stand_by_points(proposed: &Proposed, points: &[i32]) -> Standing
 }
 
 /// Among the clubs of the group, by the criteria in the sheet's order. The sums over all matches
-/// are made where they are asked for alone.
+/// are made only when they are asked for.
 pub fn stand_in(proposed: &Proposed, group: ClubSet, club: u8) -> Standing
     requires of_group { IsGroupOf (sheet_asked proposed.now) (clubs_in group) }
     requires among { IsTrue (has_club (clubs_in group) club) }
@@ -73,8 +73,8 @@ fn lead(proposed: &Proposed, group: ClubSet, club: u8) -> Standing
     outer.then(inner)
 }
 
-// Among the clubs that the record leaves level: by the sums over all matches where these are the
-// whole group, else by their own record.
+// Among the clubs that the record leaves level: by the sums over all matches if these are the whole
+// group, else by their own record.
 #[cycle(lead)]
 fn after_record(proposed: &Proposed, group: ClubSet, level: ClubSet, club: u8) -> Standing
     requires of_group { IsGroupOf (sheet_asked proposed.now) (clubs_in level) }

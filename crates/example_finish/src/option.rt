@@ -16,9 +16,9 @@ use crate::wins::{
 use league_core::Score;
 use score_box::Cell;
 
-/// The first of the scores that the cell has left; none where it has none. `home` and `away` say
-/// which side is wished points, and the first score is by them: by points, then by margins, then by
-/// few goals, then by many of them at home. At most three scores are looked at.
+/// The first of the scores that the cell has left; none if it has none. `home` and `away` say which
+/// side is wished points, and the first score is by them: by points, then by margins, then by few
+/// goals, then by many of them at home. At most three scores are looked at.
 pub fn first_option(cell: &Cell, home: bool, away: bool) -> Option<Score>
     ensures { (options : List Score) → IsCellOf cell.now options
         → result ≡ first_option home away options }

@@ -1,4 +1,4 @@
-//! The outcome of the option that a fixture takes. Mostly the outcomes that are left tell it, and
+//! The outcome of the option that a fixture takes. Mostly the outcomes that are left decide it, and
 //! no goals are worked out.
 
 ghost use Rattle.std.specs.Prelude.{◌≡◌, ◌≤ℤ◌, Bool, true, false, pos, List, Some};
@@ -63,7 +63,7 @@ impl Outcome {
 }
 
 /// The outcome of the first option of a cell that has these outcomes left. The goals are looked at
-/// only where both sides can win, both are wished alike and one of them does win.
+/// only if both sides can win, both are wished alike and one of them does win.
 pub fn first_outcome(cell: &Cell, left: OutcomesLeft, home: bool, away: bool) -> Outcome
     ensures { (options : List Score) (score : Score) → IsCellOf cell.now options
         → AreOutcomesAmong options left → first_option home away options ≡ Some score
@@ -133,7 +133,7 @@ fn draw_or_win(cell: &Cell, left: OutcomesLeft) -> Outcome
     }
 }
 
-// By the first option itself, where both sides are wished alike.
+// By the first option itself, if both sides are wished alike.
 fn of_first(cell: &Cell, wish: bool) -> Outcome
     ensures { (options : List Score) (score : Score) → IsCellOf cell.now options
         → first_option wish wish options ≡ Some score → IsOutcomeOf result score }

@@ -4,7 +4,7 @@ ghost use Rattle.std.specs.Prelude.{◌≡◌, ◌<◌, [], IfOk, Some, length, 
 ghost use Rattle.league_core.specs.declared.question.Question.{Question};
 ghost use Rattle.league_core.specs.search.Options.{options_in};
 ghost use Rattle.league_core.specs.search.Proposals.{first_option, proposed_finish};
-ghost use Rattle.score_box.specs.inside.Settings.{HasFinish};
+ghost use Rattle.score_box.specs.inside.ZoneBoxViews.{HasFinish};
 ghost use Rattle.example_finish.specs.inside.Wished.{AreWishesOf, has_wish};
 
 use crate::option::first_option;

@@ -3,7 +3,7 @@
 ghost use Rattle.std.specs.Prelude.{◌≡◌, ◌<◌, Some, None, length, slice_index_or};
 ghost use Rattle.league_core.specs.game.Seasons.{IsSeasonOf};
 ghost use Rattle.league_core.specs.game.Sheets.{IsWithinLimits};
-ghost use Rattle.score_box.specs.inside.Settings.{HasFinish};
+ghost use Rattle.score_box.specs.inside.ZoneBoxViews.{HasFinish};
 ghost use Rattle.score_box.specs.inside.Ends.{IsMatch};
 ghost use Rattle.example_finish.specs.inside.FirstOutcomes.{HasOutcome};
 ghost use Rattle.example_finish.specs.inside.ProposalViews.{sheet_asked, season_asked};

@@ -41,7 +41,7 @@ impl<'a> Proposed<'a> {
     }
 
     // Adds to the rows of some clubs of a group the matches among the group's clubs that are not
-    // played. Where neither side is one of those clubs, a match is passed over.
+    // played. If neither side is one of those clubs, a match is passed over.
     fn add_proposed(&self, table: &mut [Totals], group: ClubSet, rows: ClubSet)
         requires of_group { IsGroupOf (sheet_asked self.now) (clubs_in group) }
         requires long { length table.old ≡ 24 }

@@ -19,7 +19,7 @@ pub fn least_draw(cell: &Cell) -> Option<Score>
     })
 }
 
-/// The first of the home wins where both sides are wished points, or neither is.
+/// The first of the home wins if both sides are wished points, or neither is.
 pub fn small_home_win(cell: &Cell) -> Option<Score>
     ensures { (wish : Bool) → IsFirstAmong cell.now is_home_win wish wish result }
 {
@@ -30,7 +30,7 @@ pub fn small_home_win(cell: &Cell) -> Option<Score>
     })
 }
 
-/// The first of the home wins where the home side alone is wished points.
+/// The first of the home wins if the home side alone is wished points.
 pub fn wide_home_win(cell: &Cell) -> Option<Score>
     ensures { IsFirstAmong cell.now is_home_win true false result }
 {
@@ -41,7 +41,7 @@ pub fn wide_home_win(cell: &Cell) -> Option<Score>
     })
 }
 
-/// The first of the home wins where the away side alone is wished points.
+/// The first of the home wins if the away side alone is wished points.
 pub fn narrow_home_win(cell: &Cell) -> Option<Score>
     ensures { IsFirstAmong cell.now is_home_win false true result }
 {
@@ -52,7 +52,7 @@ pub fn narrow_home_win(cell: &Cell) -> Option<Score>
     })
 }
 
-/// The first of the away wins where both sides are wished points, or neither is.
+/// The first of the away wins if both sides are wished points, or neither is.
 pub fn small_away_win(cell: &Cell) -> Option<Score>
     ensures { (wish : Bool) → IsFirstAmong cell.now is_away_win wish wish result }
 {
@@ -63,7 +63,7 @@ pub fn small_away_win(cell: &Cell) -> Option<Score>
     })
 }
 
-/// The first of the away wins where the away side alone is wished points.
+/// The first of the away wins if the away side alone is wished points.
 pub fn wide_away_win(cell: &Cell) -> Option<Score>
     ensures { IsFirstAmong cell.now is_away_win false true result }
 {
@@ -74,7 +74,7 @@ pub fn wide_away_win(cell: &Cell) -> Option<Score>
     })
 }
 
-/// The first of the away wins where the home side alone is wished points.
+/// The first of the away wins if the home side alone is wished points.
 pub fn narrow_away_win(cell: &Cell) -> Option<Score>
     ensures { IsFirstAmong cell.now is_away_win true false result }
 {

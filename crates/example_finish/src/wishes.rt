@@ -43,7 +43,7 @@ impl Wishes {
 }
 
 impl Wishes {
-    /// Whether the club of each number, from 0, is wished points: a look, where many matches ask.
+    /// Whether the club of each number, from 0, is wished points: a table, since many matches ask.
     pub fn table(self) -> [bool; 24]
         ensures { AreWished self result }
     {

@@ -10,7 +10,7 @@ use Rattle.std.proofs.lemmas.List.Sums.{prefix_len-le-length}
 use mir.Val.{bool_byte}
 use Rattle.league_core.specs.search.Zones.{others_of}
 
--- of one club more, all but the one are the others so far, and this club where it is another
+-- of one club more, all but the one are the others so far, and this club if it is another
 pub others_of-suc : (clubs club : ℕ)
     → others_of (clubs + 1) club ≡ others_of clubs club ++ cond (not (eqb clubs club)) (clubs ∷ [])
     []
@@ -19,7 +19,7 @@ others_of-suc clubs club =
     clubs clubs (omega arith) in
     rw (map-id, map-id) at more
 
--- where a place is found it is the first, and where none is the length stands for it
+-- if a place is found it is the first, and if none is the length stands for it
 pub unwrap_or-position : (p : ℕ → Bool) (xs : List ℕ)
     → unwrap_or (position p xs) (length xs) ≡ position_or_len p xs
 unwrap_or-position p xs = by_place (cases_lt (position_or_len p xs) (length xs)) where

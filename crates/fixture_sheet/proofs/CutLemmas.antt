@@ -9,7 +9,7 @@ use Rattle.fixture_sheet.specs.inside.PlainLines.{between_commas, with_prefix}
 use Rattle.fixture_sheet.proofs.CommaLemmas.{between_commas-some, front-byte, front-comma}
 
 module _ {A : Type 0} (bytes_of : A → List ℕ) (text : List ℕ) where
-  -- the copies, and then the fields of the rest, the bytes since the last comma at the front
+  -- the copies, and then the fields of the rest, with the bytes since the last comma before them
   abbrev pub cut : List A → ℕ → ℕ → List (List ℕ)
   cut copies start place =
       map bytes_of copies

@@ -27,7 +27,7 @@ without_padding-field (first ∷ fields) field some =
     ap (with_field first) (without_padding-field fields field some)
     ∙ with_field-some first field fields
 
--- a field is blank where it has no bytes
+-- a field is blank if it has no bytes
 pub is_blank-length : (field : List ℕ) → (length field == 0) ≡ is_blank field
 is_blank-length [] = refl
 is_blank-length (byte ∷ bytes) = grind (arith, nat_tests)

@@ -6,7 +6,6 @@ pub mod ReadingLemmas
 pub mod LineLemmas
 pub mod WorkedSheets
 pub mod PassedLemmas
-pub mod GivenLemmas
 pub mod CommaLemmas
 pub mod PaddingLemmas
 pub mod CutLemmas

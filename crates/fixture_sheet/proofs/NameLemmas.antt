@@ -12,7 +12,7 @@ pub list_any-map : {A B : Type 0} (f : A → B) (p : B → Bool) (xs : List A)
 list_any-map f p [] = refl
 list_any-map f p (x ∷ xs) = rw (list_any-map f p xs) refl
 
--- how many images pass from the front on
+-- how many images pass from the start on
 prefix_len-map : {A B : Type 0} (f : A → B) (p : B → Bool) (xs : List A)
     → prefix_len p (map f xs) ≡ prefix_len (λ x. p (f x)) xs
 prefix_len-map f p [] = refl

@@ -81,7 +81,7 @@ unless_empty-some : (fields : List (List ℕ)) → with_prefix [] fields ≡ fie
 unless_empty-some [] some = absurd (cc)
 unless_empty-some (field ∷ fields) some = refl
 
--- the fields of what is left, where something is
+-- the fields of what is left, if something is
 some-left : (left : List ℕ) → is_blank left ≡ false
     → unless_empty (fields_left left) ≡ Some (between_commas left)
 some-left [] some = absurd (cc)
@@ -127,7 +127,7 @@ without_commas-byte [] byte other = rw other refl
 without_commas-byte (first ∷ text) byte other =
     ap (with_byte first) (without_commas-byte text byte other) ∙ with_byte-more first text byte
 
--- what stays of the front of a text, with one comma more
+-- what stays of the prefix of a text, with one comma more
 pub kept-comma : (text : List ℕ) (place kept before : ℕ) → place < length text
     → get_or text place 0 ≡ 44 → kept ≡ before
     → take before text ≡ without_commas (take place text)

@@ -29,7 +29,7 @@ with_lines-push lines number text rest =
     ap (λ all. record { lines = all; ending = rest.ending })
     (sym (append_assoc lines ((number, text) ∷ []) rest.lines))
 
--- the same where the contents are told
+-- the same if the contents are known
 told-push : (lines : List (ℕ × List ℕ)) (number : ℕ) (text : List ℕ) (after : Option Contents)
     → option_map (with_lines lines) (option_map (with_line number text) after)
     ≡ option_map (with_lines (lines ++ (number, text) ∷ [])) after

@@ -12,7 +12,7 @@ use Rattle.std.proofs.Math.Nat.{pow-le-pow_right}
 use Rattle.fixture_sheet.specs.Texts.{is_number}
 use Rattle.league_core.proofs.PlainLemmas.{list_all-at}
 
--- the front of a list that passes passes
+-- a prefix of a list that passes passes
 list_all-take : {X : Type 0} (p : X → Bool) (i : ℕ) (xs : List X) → list_all p xs ≡ true
     → list_all p (take i xs) ≡ true
 list_all-take p zero xs all = refl

@@ -50,7 +50,7 @@ sheet_begun name goal_limit budget order =
       order = order;
     }
 
--- the node budget: 1 to 50,000, or 2,000 where the record does not name one
+-- the node budget: 1 to 50,000, or 2,000 if the record does not name one
 abbrev pub budget_of : List (List ℕ) → Option ℕ
 budget_of fields =
     if length fields == 3 then Some 2000 else number_within 1 most_budget (field 3 fields)
@@ -62,7 +62,7 @@ order_named word =
     else if bytes_eq word (codes "overall_first") then Some OverallFirst
     else None
 
--- the order of the criteria: the head-to-head record first where the record does not name one
+-- the order of the criteria: the head-to-head record first if the record does not name one
 abbrev pub order_in : List (List ℕ) → Option Order
 order_in fields = if nat_lt (length fields) 5 then Some HeadFirst else order_named
     (field 4 fields)
@@ -88,7 +88,7 @@ league_taken fields =
 
 -- ---- club,NAME,RANK
 
--- the number of the club that a field names, where it names one; what is not UTF-8 names none
+-- the number of the club that a field names, if it names one; what is not UTF-8 names none
 abbrev pub club_named : Sheet → List ℕ → Option ℕ
 club_named sheet field =
     option_and_then (λ name. position (bytes_eq name) (names_of sheet)) (text_of field)
@@ -108,7 +108,7 @@ club_of fields =
     (number_within 1 most_rank (field 2 fields)))
     (name_of (field 1 fields))
 
--- a new club, where there is room
+-- a new club, if there is room
 abbrev pub club_added : Sheet → Club → Result Sheet SheetFault
 club_added sheet club =
     if has_name sheet club.name then Err ClubTwice
@@ -135,7 +135,7 @@ fixture_of sheet fields =
     (club_named sheet (field 2 fields)))
     (club_named sheet (field 1 fields))
 
--- a fixture of two different clubs, where there is room
+-- a fixture of two different clubs, if there is room
 abbrev pub fixture_added : Sheet → Fixture → Result Sheet SheetFault
 fixture_added sheet fixture =
     if fixture.home == fixture.away then Err SelfMatch
@@ -151,7 +151,7 @@ match_taken sheet fields =
 
 -- ---- line,K
 
--- a new line that leaves a club on each side, where there is room
+-- a new line that leaves a club on each side, if there is room
 abbrev pub line_added : Sheet → ℕ → Result Sheet SheetFault
 line_added sheet line =
     if not (is_line (length sheet.clubs) line) then Err LineRange
@@ -201,7 +201,7 @@ abbrev pub record_taken : Option Sheet → List (List ℕ) → Result Progress S
 record_taken None fields = and_then so_far (league_taken fields)
 record_taken (Some sheet) fields = later_taken sheet fields
 
--- a record, where a line has one: a line of empty fields changes nothing
+-- a record, if a line has one: a line of empty fields changes nothing
 abbrev pub record_taken_if : Option Sheet → Option (List (List ℕ)) → Result Progress SheetFault
 record_taken_if draft None = Ok (SoFar draft)
 record_taken_if draft (Some fields) = record_taken draft fields

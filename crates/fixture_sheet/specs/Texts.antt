@@ -7,7 +7,7 @@ use Rattle.std.specs.Str.{is_utf8}
 use Rattle.std.specs.Str.Parse.{digits_value}
 use Rattle.league_core.specs.game.Sheets.{is_name}
 
--- the value, where the test says so
+-- the value, if the test says so
 abbrev pub only_if : {A : Type 0} → Bool → A → Option A
 only_if test value = if test then Some value else None
 
@@ -15,7 +15,7 @@ only_if test value = if test then Some value else None
 abbrev pub is_number : List ℕ → Bool
 is_number text = nat_le 1 (length text) && nat_le (length text) 6 && list_all is_ascii_digit text
 
--- the number that a text writes, where it writes one
+-- the number that a text writes, if it writes one
 abbrev pub number_written : List ℕ → Option ℕ
 number_written text = only_if (is_number text) (digits_value 10 text)
 
@@ -23,14 +23,14 @@ number_written text = only_if (is_number text) (digits_value 10 text)
 abbrev pub if_within : ℕ → ℕ → ℕ → Option ℕ
 if_within least most number = only_if (nat_le least number && nat_le number most) number
 
--- the number that a text writes, where it writes one in the range
+-- the number that a text writes, if it writes one in the range
 abbrev pub number_within : ℕ → ℕ → List ℕ → Option ℕ
 number_within least most text = option_and_then (if_within least most) (number_written text)
 
--- the text that bytes are, where they are UTF-8
+-- the text that bytes are, if they are UTF-8
 abbrev pub text_of : List ℕ → Option (List ℕ)
 text_of bytes = only_if (is_utf8 bytes) bytes
 
--- the name that bytes are, where they are one: as many and such as a name has to have, and UTF-8
+-- the name that bytes are, if they are one: as many and such as a name has to have, and UTF-8
 abbrev pub name_of : List ℕ → Option (List ℕ)
 name_of bytes = if is_name bytes then text_of bytes else None

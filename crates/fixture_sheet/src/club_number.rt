@@ -8,7 +8,7 @@ ghost use Rattle.fixture_sheet.specs.Records.{club_named, has_name};
 use crate::name::text_of;
 use league_core::{Club, Sheet};
 
-/// The number of the club that a field names, from 0; none where no club has that name.
+/// The number of the club that a field names, from 0; none if no club has that name.
 pub fn club_named(sheet: &Sheet, field: &[u8]) -> Option<u8>
     requires { length sheet.now.clubs ≤ 255 }
     ensures place { result ≡ club_named sheet.now field.now }

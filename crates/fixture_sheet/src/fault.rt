@@ -16,7 +16,7 @@ pub enum SheetFault {
     /// A name is no name, a number is no number, or it is out of its range.
     #[error("bad_field")]
     BadField,
-    /// A club of this name stands already.
+    /// There is a club of this name already.
     #[error("club_twice")]
     ClubTwice,
     /// A match names a club that is not there.
@@ -40,7 +40,7 @@ pub enum SheetFault {
     /// A record with too few or too many fields.
     #[error("wrong_width")]
     WrongWidth,
-    /// This line stands already.
+    /// There is this line already.
     #[error("line_twice")]
     LineTwice,
     /// The input ends before `season`.
@@ -73,7 +73,7 @@ impl SheetFault {
 /// Why a line has no fields.
 #[derive(Clone, Copy, PartialEq, Eq, Debug)]
 pub enum FieldsStop {
-    /// A CR stands in the text.
+    /// There is a CR in the text.
     InnerReturn,
     OutOfMemory,
 }

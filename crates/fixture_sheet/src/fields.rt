@@ -38,7 +38,7 @@ impl Fields {
         self.list.len()
     }
 
-    /// The field at a place, from 0; empty where there is none.
+    /// The field at a place, from 0; empty if there is none.
     pub fn at(&self, place: usize) -> &[u8]
         ensures { result.now ≡ field place self.now }
     {
@@ -56,7 +56,7 @@ impl Fields {
     }
 }
 
-/// The fields of a line's content, without the empty ones at their end; none exactly where no field
+/// The fields of a line's content, without the empty ones at their end; none exactly when no field
 /// is left.
 pub fn fields_of(alloc: Global, text: &[u8]) -> Result<Option<Fields>, FieldsStop>
     ensures record { IfOk result (λ fields. fields ≡ record_of text.now) }
@@ -96,7 +96,7 @@ fn record_by_csv(alloc: Global, text: &[u8]) -> Result<Option<Fields>, OutOfMemo
     Ok(Some(copied(alloc, &row)?))
 }
 
-// csv says nothing of when its reader fails over a text in memory, so any failure is want of
+// csv says nothing of when its reader fails over a text in memory, so any failure counts as out of
 // memory.
 fn csv_record(alloc: Global, text: &[u8]) -> Result<Option<ByteRecord>, OutOfMemory>
     ensures { IfOk result (λ row. option_map row_fields row ≡ csv_record text.now) }

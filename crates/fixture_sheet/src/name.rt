@@ -7,14 +7,14 @@ ghost use Rattle.fixture_sheet.specs.Texts.{name_of, text_of};
 
 use league_core::limits::MOST_NAME_BYTES;
 
-/// The field as a name, where it is one: 1 to 40 bytes of UTF-8, none below 32 and none of 127.
+/// The field as a name, if it is one: 1 to 40 bytes of UTF-8, none below 32 and none of 127.
 pub fn name_of(text: &[u8]) -> Option<&str>
     ensures { option_map (λ name. name.now) result ≡ name_of text.now }
 {
     if is_name(text) { text_of(text) } else { None }
 }
 
-/// The field as text, where it is UTF-8.
+/// The field as text, if it is UTF-8.
 pub fn text_of(bytes: &[u8]) -> Option<&str>
     ensures { option_map (λ text. text.now) result ≡ text_of bytes.now }
 {

@@ -6,7 +6,7 @@ ghost use Rattle.std.specs.Char.{is_ascii_digit};
 ghost use Rattle.std.specs.Str.Parse.{digits_value};
 ghost use Rattle.fixture_sheet.specs.Texts.{is_number, number_written, number_within};
 
-/// The number that a field of 1 to 6 digits writes, where it is one from `least` to `most`; leading
+/// The number that a field of 1 to 6 digits writes, if it is one from `least` to `most`; leading
 /// zeros are taken.
 pub fn number_within(least: u32, most: u32, text: &[u8]) -> Option<u32>
     ensures value { result ≡ number_within least most text.now }
@@ -20,7 +20,7 @@ pub fn number_within(least: u32, most: u32, text: &[u8]) -> Option<u32>
     }
 }
 
-/// The number that a field writes, where it has 1 to 6 ASCII digits; leading zeros are taken.
+/// The number that a field writes, if it has 1 to 6 ASCII digits; leading zeros are taken.
 pub fn number_written(text: &[u8]) -> Option<u32>
     ensures { result ≡ number_written text.now }
 {

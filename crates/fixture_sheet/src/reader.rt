@@ -18,15 +18,15 @@ use league_core::Sheet;
 use port_core::{Line, LineReader, Source};
 use std::alloc::Global;
 
-/// Reads up to and with the record `season`. After an answer the reader stands at the next line:
-/// the feed's first one, or the one after the refused line. Each stop lets the sheet so far go, a
-/// read fault too: a later call begins a new sheet with the lines that are left.
+/// Reads up to and with the record `season`. On return the reader is at the next line: the feed's
+/// first one, or the one after the refused line. On any stop, a read fault too, the sheet so far is
+/// dropped: a later call begins a new sheet with the lines that are left.
 pub fn read_sheet<S: Source>(
     alloc: Global,
     reader: &mut LineReader,
     source: &mut S,
 ) -> Result<Sheet, SheetStop>
-    // Where the source tells its bytes: what was still to come, and what is.
+    // If the source shows its bytes: what was still to come, and what is.
     ensures reads { ReadsSheet (contents_to_come reader.old (S.left source.old))
         (contents_to_come reader.new (S.left source.new)) result }
     ensures limits { IfOk result IsWithinLimits }
@@ -89,7 +89,7 @@ fn next_record<S: Source>(
     }
 }
 
-/// Why a sheet is refused whose input ends here.
+/// Why a sheet is refused if its input ends here.
 pub fn fault_at_end(draft: &Option<Draft>) -> SheetFault
     ensures { result ≡ fault_at_end draft.now }
 {

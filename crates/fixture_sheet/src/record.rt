@@ -25,8 +25,8 @@ pub enum Progress {
     Whole(Sheet),
 }
 
-/// Takes the content of a line. A content of empty fields changes nothing. A refusal, and want of
-/// memory, let the sheet so far go.
+/// Takes the content of a line. A content of empty fields changes nothing. On a refusal, and if
+/// memory runs out, the sheet so far is dropped.
 pub fn take_content(
     alloc: Global,
     draft: Option<Draft>,
@@ -52,8 +52,8 @@ fn refusal_of_no_record(draft: &Option<Draft>) -> SheetFault
     }
 }
 
-/// Takes a record. Its first refusal is answered, in the order of the tests. A refusal, and want of
-/// memory, let the sheet so far go.
+/// Takes a record. Its first refusal is returned, in the order of the tests. On a refusal, and if
+/// memory runs out, the sheet so far is dropped.
 pub fn take_record(
     alloc: Global,
     draft: Option<Draft>,

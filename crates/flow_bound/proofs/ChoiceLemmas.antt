@@ -1,4 +1,4 @@
--- What is answered for the rest is an answer for all the clubs.
+-- What is found for the rest is an answer for all the clubs.
 use Rattle.std.proofs.Common.{◌≡◌, ◌≢◌, ℕ, List, [], ℤ, Bool, Option, Some, None, inr}
 use Rattle.std.proofs.Common.{arith}
 use Rattle.std.proofs.lemmas.Int.{ints}

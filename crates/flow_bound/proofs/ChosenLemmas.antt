@@ -190,7 +190,7 @@ only_club club other among =
       | inr none ↦ absurd (false≢true none)
     ]
 
--- the clubs that are answered are in each set of greatest excess
+-- the clubs that are found are in each set of greatest excess
 in_each_greatest : (table : List ℤ) (pairs : List Pair) (rivals : ClubSet) (marked : ℕ → Bool)
     (excess : List ℕ → ℤ) (set : ClubSet) → GivesExcess table pairs rivals marked excess
     → IsAnsweredSet table pairs (side_of rivals) set → IsInEachGreatest marked excess set

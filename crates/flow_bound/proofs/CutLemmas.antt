@@ -1,4 +1,4 @@
--- A set of marked clubs with an excess is a cut, and where none has an excess there is no cut.
+-- A set of marked clubs with an excess is a cut, and if none has an excess there is no cut.
 use Rattle.std.proofs.Common.{◌≡◌, ℕ, suc, ℤ, pos, ◌+ℤ◌, ◌-ℤ◌, ◌*ℤ◌}
 use Rattle.std.proofs.Common.{◌≤ℤ◌, ◌<ℤ◌, Bool, true, false, ◌&&◌, List, [], ◌∷◌}
 use Rattle.std.proofs.Common.{length, Option, Some, None, refl, sym, ap, ◌∙◌, inl, inr}
@@ -45,7 +45,7 @@ answer_exceeds table pairs rivals marked excess set gives (inr (none, best)) = (
   omega (arith, ints, best.exceeds, gives.sums set best.part),
 )
 
--- where the parts have no excess no set of marked clubs has
+-- if the parts have no excess no set of marked clubs has
 pub none_exceeds : (table : List ℤ) (pairs : List Pair) (rivals : ClubSet) (marked : ℕ → Bool)
     (excess : List ℕ → ℤ) (set : ClubSet) → GivesExcess table pairs rivals marked excess
     → HasNoExcess table pairs (side_of rivals) → AreMarked marked set
@@ -143,7 +143,7 @@ no_reason true false all over none = refl
 no_reason true true false over none = refl
 no_reason true true true over none = none refl
 
--- where no set of marked clubs has an excess, none has the reason
+-- if no set of marked clubs has an excess, none has the reason
 pub floor_fails : (sheet : Sheet) (season : Results) (question : Question) (zone : List Literal)
     (set : ClubSet) → (AreMarked (marked_after zone) set
     → low_excess sheet season question zone (clubs_in set) ≤ℤ pos 0)
@@ -202,7 +202,7 @@ ceiling_found sheet season question zone table pairs rivals (Some set) gives fin
     zone) set gives over.0 over.1)
     over.0 over.1
 
--- where none is found no set of marked clubs has an excess
+-- if none is found no set of marked clubs has an excess
 pub nothing_exceeds : (table : List ℤ) (pairs : List Pair) (rivals : ClubSet) (marked : ℕ → Bool)
     (excess : List ℕ → ℤ) (chosen : Option ClubSet) → GivesExcess table pairs rivals marked excess
     → MatchOption chosen (HasNoExcess table pairs (side_of rivals))
@@ -232,7 +232,7 @@ no_set_of_marked true over marked [] none = refl
 no_set_of_marked true over marked (club ∷ clubs) none =
     ap (λ b. (b && list_all marked clubs) && over) (none club)
 
--- where no club is marked no set has the reason
+-- if no club is marked no set has the reason
 pub floor_unmarked : (sheet : Sheet) (season : Results) (question : Question) (zone : List Literal)
     (set : ClubSet) → ((club : ℕ) → marked_after zone club ≡ false)
     → has_reason sheet season question zone (Low set) ≡ false

@@ -1,12 +1,11 @@
 -- What a fixture adds to the excess of a side, and that all fixtures together add the whole.
 use Rattle.std.proofs.Common.{◌≡◌, ◌≢◌, ℕ, zero, suc, ◌+◌, ◌<◌, ◌≤◌, ℤ, pos, ◌+ℤ◌, ◌-ℤ◌}
-use Rattle.std.proofs.Common.{◌*ℤ◌, Bool, true, false, not, ◌&&◌, ◌==◌, nat_lt, cond}
+use Rattle.std.proofs.Common.{◌*ℤ◌, true, not, ◌&&◌, ◌==◌, nat_lt, cond}
 use Rattle.std.proofs.Common.{List, [], ◌∷◌, length, get_or, slice_index}
 use Rattle.std.proofs.Common.{refl, sym, ap, ◌∙◌, arith, add-one}
 use Rattle.std.proofs.lemmas.Int.{ints}
 use Rattle.std.specs.List.{list_all}
-use Rattle.std.proofs.lemmas.Bool.{false≢true, and_parts, and_from, ltb-true, ne_eqb}
-use Rattle.std.proofs.lemmas.Bool.{false_from_ne_true}
+use Rattle.std.proofs.lemmas.Bool.{false≢true, and_parts, ltb-true, ne_eqb}
 use Rattle.std.proofs.lemmas.List.{get_or_past}
 use Rattle.std.proofs.Math.IntN.{suc_ℤ-*ℤ}
 use Rattle.league_core.specs.declared.sheet.Sheet.{Sheet}
@@ -20,7 +19,7 @@ use Rattle.league_core.specs.game.Sums.{has_club}
 use Rattle.league_core.specs.game.ClubSets.{clubs_below, clubs_in}
 use Rattle.league_core.specs.search.Options.{options_in, has_finish}
 use Rattle.league_core.specs.search.PointRanges.{Range, one_value, added, range_of, total_of}
-use Rattle.league_core.specs.search.PointRanges.{range_from, points_of_sides, points_together}
+use Rattle.league_core.specs.search.PointRanges.{range_from, points_together}
 use Rattle.league_core.specs.search.PointRanges.{deducted_from}
 use Rattle.league_core.specs.search.Reasons.{times}
 use Rattle.league_core.proofs.ClubSetLemmas.{clubs_below-none}
@@ -35,7 +34,7 @@ use Rattle.flow_bound.specs.declared.cut.Cut.TheVariants.{Floor, Ceiling}
 use Rattle.flow_bound.specs.declared.tally.Pair.{Pair}
 use Rattle.flow_bound.specs.inside.Fixtures.{MatchWorth}
 use Rattle.flow_bound.specs.inside.Parts.{sum_below, entry, sum_of_side, sum_of_pairs, has_both}
-use Rattle.flow_bound.specs.inside.Parts.{excess_in, IsPartOf, side_of}
+use Rattle.flow_bound.specs.inside.Parts.{excess_in, side_of}
 use Rattle.score_box.specs.inside.Unplayed.{unplayed_in}
 use Rattle.score_box.specs.inside.Ends.{alone_over}
 use Rattle.score_box.proofs.SplitLemmas.{IsEnd, set_split, keeps_played, beyond_at}
@@ -230,40 +229,6 @@ surplus_is cut cell options worth set match apart is of_cell =
     ∙ ap (λ n. cond h worth.home (pos 0) +ℤ cond a worth.away (pos 0) +ℤ n)
     (sym (cond_pos (h && a) worth.surplus)))
     ∙ cond_pos (side_of set match.home && side_of set match.away) worth.surplus
-
--- where a set has not both clubs, nothing is added
-pub surplus_none : (cut : Cut) (options : List Score) (set : ClubSet) (match : Fixture)
-    → match.home ≢ match.away → (side_of set match.home && side_of set match.away) ≡ false
-    → beyond_in cut (clubs_in set) match options ≡ pos 0
-surplus_none cut options set match apart none =
-    let home = at true false in
-    let away = at false true in
-    beyond_of_sides (end_of cut) set.bits match options home away (at true true -ℤ home -ℤ away)
-    apart come
-    ∙ ap (λ b. cond b (at true true -ℤ home -ℤ away) (pos 0)) none
-  where
-    at : Bool → Bool → ℤ
-    at h a = end_of cut (range_of (points_of_sides h a) options)
-
-    come : (h a : Bool) → end_of cut (range_of (points_of_sides h a) options)
-        ≡ cond h (end_of cut (range_of (points_of_sides true false) options)) (pos 0)
-        +ℤ cond a (end_of cut (range_of (points_of_sides false true) options)) (pos 0)
-        +ℤ cond (h && a) (end_of cut (range_of (points_of_sides true true) options)
-        -ℤ end_of cut (range_of (points_of_sides true false) options)
-        -ℤ end_of cut (range_of (points_of_sides false true) options)) (pos 0)
-    come true true = omega (arith, ints)
-    come true false = omega (arith, ints)
-    come false true = omega (arith, ints)
-    come false false = ap (end_of cut) (range_of-none options) ∙ (is_end cut).none
-
--- a part of a side has both clubs of a match only where the side has
-pub part_of_both : (part whole : ℕ → Bool) (home away : ℕ) → IsPartOf part whole
-    → (whole home && whole away) ≡ false → (part home && part away) ≡ false
-part_of_both part whole home away inside none =
-    false_from_ne_true (part home && part away) (λ both.
-    let parts = and_parts (part home) (part away) both in
-    false≢true (sym none ∙ and_from (whole home) (whole away) (inside home parts.0)
-    (inside away parts.1)))
 
 -- one match more
 pub pair_more : (cut : Cut) (set : ClubSet) (matches : List Fixture) (options : List (List Score))

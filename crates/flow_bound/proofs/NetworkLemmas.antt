@@ -1,6 +1,5 @@
 -- The network: what a cut takes from the positive weights is the excess of its source side, and so
--- the
--- least cut has the least best side.
+-- the least cut has the least best side.
 use Rattle.std.proofs.Common.{◌≡◌, ℕ, ◌+◌, ◌<◌, ◌≤◌, ℤ, pos, ◌+ℤ◌, Bool, true, false, not, ◌&&◌}
 use Rattle.std.proofs.Common.{◌||◌, eqb, ltb, cond, List, [], ◌∷◌, length, slice_index, refl, sym}
 use Rattle.std.proofs.Common.{ap, ◌∙◌, arith}
@@ -125,7 +124,7 @@ cut_is table pairs rest places part arcs total numbered network inside =
     (in_part rest places part numbered inside) in
     omega (arith, ints)
 
--- where the least cut takes all, no part has an excess
+-- if the least cut takes all, no part has an excess
 pub no_excess_at_cut : (table : List ℤ) (pairs : List Pair) (rest : ClubSet) (places : List ℕ)
     (side : ℕ → Bool) (arcs : List Arc) (total value : ℕ) → IsNumbering rest places
     → IsNetworkOf table pairs rest places arcs total
@@ -137,7 +136,7 @@ no_excess_at_cut table pairs rest places side arcs total value numbered network 
     let none_less = least.none_less (with_source rest part) (cut_of_part rest part) in
     omega (arith, ints)
 
--- where it takes less, the clubs on the source's side are the least best part
+-- if it takes less, the clubs on the source's side are the least best part
 pub best_at_cut : (table : List ℤ) (pairs : List Pair) (rest : ClubSet) (places : List ℕ)
     (side best : ℕ → Bool) (arcs : List Arc) (total value : ℕ) → IsNumbering rest places
     → IsNetworkOf table pairs rest places arcs total

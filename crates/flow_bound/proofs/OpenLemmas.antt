@@ -15,7 +15,7 @@ use Rattle.league_core.proofs.OptionLemmas.{length-options_from}
 use Rattle.league_core.proofs.PointRangeLemmas.{least_reached, greatest_reached, range_bounds}
 use Rattle.league_core.proofs.PointRangeLemmas.{range_of-same}
 use Rattle.score_box.specs.inside.Ends.{alone_in}
-use Rattle.score_box.specs.inside.Settings.{HasFinish, ZoneBoxView}
+use Rattle.score_box.specs.inside.ZoneBoxViews.{HasFinish, ZoneBoxView}
 use Rattle.score_box.specs.inside.Unplayed.{unplayed_in}
 use Rattle.score_box.proofs.EndLemmas.{alone_sides}
 use Rattle.score_box.proofs.SplitLemmas.{end_at_fixture, greatest_end, keeps_played, least_end}

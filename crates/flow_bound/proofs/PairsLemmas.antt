@@ -21,7 +21,7 @@ use Rattle.league_core.proofs.LiteralLemmas.{option_at}
 use Rattle.league_core.proofs.FixtureLemmas.{fixture_of_sheet}
 use Rattle.score_box.specs.declared.cell.Cell.{Cell}
 use Rattle.score_box.specs.inside.Cells.{IsCellOf}
-use Rattle.score_box.specs.inside.Settings.{HasFinish, ZoneBoxView}
+use Rattle.score_box.specs.inside.ZoneBoxViews.{HasFinish, ZoneBoxView}
 use Rattle.score_box.specs.inside.Unplayed.{unplayed_in}
 use Rattle.score_box.proofs.SplitLemmas.{beyond_alone, beyond_at, beyond_of_sides, no_match}
 use Rattle.score_box.proofs.SplitLemmas.{unplayed_in_range}
@@ -80,7 +80,7 @@ worth_surplus cut cell options worth is of_cell =
     omega (arith, ints, both, home, away) in
     ap above_nothing beyond
 
--- a match adds to a set what its sides come to beyond, where the set has both clubs
+-- a match adds to a set what its sides come to beyond, if the set has both clubs
 beyond_is : (cut : Cut) (options : List Score) (set : ClubSet) (match : Fixture)
     → match.home ≢ match.away
     → beyond_alone (end_of cut) (clubs_in set) match options

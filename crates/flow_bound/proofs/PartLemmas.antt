@@ -3,12 +3,12 @@ use Rattle.std.proofs.Common.{◌≡◌, ◌≢◌, ◌⊎◌, ℕ, zero, suc, �
 use Rattle.std.proofs.Common.{Bool, true, false, ◌&&◌, cond, eqb, List, [], ◌∷◌, ◌++◌, length, set}
 use Rattle.std.proofs.Common.{refl, sym, ap, ◌∙◌, subst, inl, inr, arith, add-one}
 use Rattle.std.proofs.lemmas.Int.{ints}
-use Rattle.std.proofs.lemmas.Bool.{false≢true, false_from_ne_true, cases_eq, eq-eqb, ne_eqb}
+use Rattle.std.proofs.lemmas.Bool.{false≢true, cases_eq, eq-eqb, ne_eqb}
 use Rattle.std.proofs.lemmas.List.{length-set, get_or-set_same, get_or-set_other}
-use Rattle.std.proofs.lemmas.List.Sums.{sum_by-cons, sum_by_push}
+use Rattle.std.proofs.lemmas.List.Sums.{sum_by-cons}
 use Rattle.flow_bound.specs.declared.tally.Pair.{Pair}
 use Rattle.flow_bound.specs.inside.Parts.{sum_below, entry, sum_of_side, sum_of_pairs, has_both}
-use Rattle.flow_bound.specs.inside.Parts.{excess_in, ArePairs, IsPartOf, IsClubTable}
+use Rattle.flow_bound.specs.inside.Parts.{excess_in, ArePairs, IsClubTable}
 use Rattle.flow_bound.specs.inside.Network.{has_home_in, has_away_in}
 
 -- values that agree below a count have one sum
@@ -183,16 +183,6 @@ IsClubTable-credited credits table club amount is within least most = record {
     bounds true = (least, most)
     bounds false = (omega (arith, ints), omega (arith, ints))
 
--- room for more credits is no loss
-pub IsClubTable-more : (credits more : ℕ) (table : List ℤ) → credits ≤ more
-    → IsClubTable credits table
-    → IsClubTable more table
-IsClubTable-more credits more table le is = record {
-  long = is.long;
-  least = λ club. omega (arith, ints, is.least club);
-  most = λ club. omega (arith, ints, is.most club);
-}
-
 -- sides that agree have one excess
 pub excess_in-same : (table : List ℤ) (pairs : List Pair) (side other : ℕ → Bool)
     → ((club : ℕ) → side club ≡ other club) → excess_in table pairs side ≡ excess_in table pairs
@@ -200,7 +190,7 @@ pub excess_in-same : (table : List ℤ) (pairs : List Pair) (side other : ℕ �
 excess_in-same table pairs side other same =
     ap (λ (s : ℕ → Bool). excess_in table pairs s) (λ i club. same club i)
 
--- the first of some pairs adds its surplus where it passes
+-- the first of some pairs adds its surplus if it passes
 pub sum_of_pairs-cons : (test : Pair → Bool) (pair : Pair) (pairs : List Pair)
     → sum_of_pairs test (pair ∷ pairs) ≡ cond (test pair) pair.surplus 0 + sum_of_pairs test pairs
 sum_of_pairs-cons test pair pairs = sum_by-cons (λ (p : Pair). cond (test p) p.surplus 0) pair pairs
@@ -283,18 +273,6 @@ pub sum_below-next : (count : ℕ) (value : ℕ → ℤ)
 unfolding sum_below
 sum_below-next count value = ap (λ n. sum_below n value) (add-one count)
 
--- one pair more at the end
-pub sum_of_pairs-push : (test : Pair → Bool) (pairs : List Pair) (pair : Pair)
-    → sum_of_pairs test (pairs ++ pair ∷ [])
-    ≡ sum_of_pairs test pairs + cond (test pair) pair.surplus 0
-sum_of_pairs-push test pairs pair = sum_by_push (λ (p : Pair). cond (test p) p.surplus 0) pairs pair
-
--- what is not of the whole is of no part
-pub not_part : (part whole : ℕ → Bool) (club : ℕ) → IsPartOf part whole → whole club ≡ false
-    → part club ≡ false
-not_part part whole club inside out =
-    false_from_ne_true (part club) (λ among. false≢true (sym out ∙ inside club among))
-
 -- an entry that was written, and any other
 pub entry_written : (table : List ℤ) (club other : ℕ) (value : ℤ) → club < length table → other ≡
     club
@@ -306,22 +284,7 @@ pub entry_kept : (table : List ℤ) (club other : ℕ) (value : ℤ) → other �
     → entry (set table club value) other ≡ entry table other
 entry_kept table club other value apart = get_or-set_other table club other value (pos 0) apart
 
--- a table stays one after a small amount is added
-pub IsClubTable-amount : (credits : ℕ) (table new : List ℤ) (club : ℕ) (amount : ℤ)
-    → IsClubTable credits table → club < 32 → neg_ℤ (pos 3) ≤ℤ amount → amount ≤ℤ pos 3
-    → new ≡ credited table club amount → IsClubTable (credits + 1) new
-IsClubTable-amount credits table new club amount is low least most new_is =
-    subst (λ (t : List ℤ). IsClubTable (credits + 1) t) (sym new_is)
-    (IsClubTable-credited credits table club amount is low least most)
-
--- no pair is in an empty list, and room for more is no loss
-pub ArePairs-none : (pairs : List Pair) → pairs ≡ [] → ArePairs 0 pairs
-ArePairs-none pairs none = subst (ArePairs 0) (sym none) (record {
-  apart = λ k d within. absurd (omega arith);
-  few = omega arith;
-  small = λ k d within. absurd (omega arith);
-})
-
+-- room for more is no loss
 pub ArePairs-more : (fixtures more : ℕ) (pairs : List Pair) → fixtures ≤ more
     → ArePairs fixtures pairs → ArePairs more pairs
 ArePairs-more fixtures more pairs le are = record {
@@ -329,12 +292,3 @@ ArePairs-more fixtures more pairs le are = record {
   few = omega (arith, are.few);
   small = are.small;
 }
-
--- without a pair the excess is that of the entries
-pub excess_in-none : (table : List ℤ) (pairs : List Pair) (side : ℕ → Bool) → pairs ≡ []
-    → excess_in table pairs side ≡ sum_of_side table side
-excess_in-none table pairs side none =
-    ap (λ (ps : List Pair). excess_in table ps side) none ∙ zero_more (sum_of_side table side)
-  where
-    zero_more : (n : ℤ) → n +ℤ pos 0 ≡ n
-    zero_more n = omega (arith, ints)

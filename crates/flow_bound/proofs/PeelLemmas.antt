@@ -133,7 +133,7 @@ KeepsExcess-next table reach pairs whole rest next keeps reaches is_next = recor
       omega (arith, ints);
 }
 
--- where none is left no part has an excess
+-- if none is left no part has an excess
 pub none_left : (table : List ℤ) (pairs : List Pair) (whole rest : ℕ → Bool)
     → KeepsExcess table pairs whole rest → ((club : ℕ) → rest club ≡ false)
     → HasNoExcess table pairs whole
@@ -150,7 +150,7 @@ none_left table pairs whole rest keeps none side part =
 in_rest : (side rest : ℕ → Bool) → IsPartOf (in_both side rest) rest
 in_rest side rest club among = (and_parts (side club) (rest club) among).1
 
--- where no part of the rest has an excess, none of the whole has
+-- if no part of the rest has an excess, none of the whole has
 pub no_excess_of_all : (table : List ℤ) (pairs : List Pair) (whole rest : ℕ → Bool)
     → KeepsExcess table pairs whole rest → HasNoExcess table pairs rest
     → HasNoExcess table pairs whole
@@ -197,7 +197,7 @@ sum_of_side-one table club within =
         ap (λ b. cond b (entry table x) (pos 0)) (ne_eqb club x apart)
         ∙ sym (ap (λ b. cond b (entry table club) (pos 0)) (ne_eqb club x apart))
 
--- where a round drops no club, each adds something
+-- if a round drops no club, each adds something
 pub EachAdds-kept : (table reach : List ℤ) (pairs : List Pair) (rest next : ℕ → Bool)
     → ((part : ℕ → Bool) → sum_of_side reach part ≡ sum_of_side table part
     +ℤ pos (sum_of_pairs (has_home_in rest part) pairs)

@@ -45,7 +45,7 @@ found_all found set test at past is club = is club ∙ by_place (cases_lt club a
 pub no_club_left : (set : ClubSet) → clubs_in set ≡ [] → (club : ℕ) → side_of set club ≡ false
 no_club_left set empty club = ap (λ clubs. has_club clubs club) empty
 
--- where all of a list pass, each of them does, and the other way round
+-- if all of a list pass, each of them does, and the other way round
 pub each_marked : (marked : ℕ → Bool) (clubs : List ℕ) → list_all marked clubs ≡ true
     → IsPartOf (has_club clubs) marked
 each_marked marked [] all club has = absurd (false≢true has)
@@ -69,7 +69,7 @@ all_marked marked (first ∷ clubs) part =
     or_right true b h = refl
     or_right false b h = h
 
--- a part of a set has no more clubs, and where it has as many it has all
+-- a part of a set has no more clubs, and if it has as many it has all
 pub length-part : (set whole : ClubSet) → IsPartOf (side_of set) (side_of whole)
     → length (clubs_in set) ≤ length (clubs_in whole)
 length-part set whole part =

@@ -83,7 +83,7 @@ pairs_by_club end part side low (pair ∷ pairs) =
         omega (arith, ints, sum)
     split x false = omega (arith, ints)
 
--- what a club adds at most where only clubs of a part are taken: its own entry, and all its pairs
+-- what a club adds at most if only clubs of a part are taken: its own entry, and all its pairs
 abbrev pub most_added : List ℤ → List Pair → (ℕ → Bool) → ℕ → ℤ
 most_added table pairs part x =
     entry table x +ℤ pos (sum_of_pairs (has_home_in part (λ club. eqb club x)) pairs)
@@ -167,7 +167,7 @@ KeepsExcess-both table pairs whole some rest first second = record {
     at true false false inside = refl
     at false m r inside = refl
 
--- where the clubs that are left out have no entry above 0
+-- if the clubs that are left out have no entry above 0
 abbrev AreLow : List ℤ → (ℕ → Bool) → (ℕ → Bool) → Type 0
 AreLow table whole some =
     (club : ℕ) → whole club ≡ true → some club ≡ false → entry table club ≤ℤ pos 0

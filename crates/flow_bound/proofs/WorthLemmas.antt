@@ -184,7 +184,7 @@ ceiling_is cell home away both worth at_home on_tour together adds home_is away_
     value options is false true = omega (arith, ints, on_tour.most options is, away_is)
     value options is false false = no_side Ceiling options false false refl refl
 
--- the same where the kind of cut is known
+-- the same if the kind of cut is known
 pub floor_worth : (cut : Cut) (cell : Cell) (home away both : MatchPoints) (worth : MatchWorth)
     → cut ≡ Floor → IsPointsOf cell true false home → IsPointsOf cell false true away
     → IsPointsOf cell true true both → ¬ IsEmptyCell cell → worth.home ≡ pos home.least

@@ -1,7 +1,7 @@
-//! Which set is answered: a club alone where one is enough, otherwise the least best set.
+//! Which set is found: a club alone if one is enough, otherwise the least best set.
 
 ghost use Rattle.std.specs.Prelude.{◌≡◌, ℕ, pos, ◌≤ℤ◌, MatchOption, IfOk, OnErr};
-ghost use Rattle.score_box.specs.inside.Settings.{HasFinish};
+ghost use Rattle.score_box.specs.inside.ZoneBoxViews.{HasFinish};
 ghost use Rattle.flow_bound.specs.inside.Parts.{HasNoExcess, IsAnsweredSet, IsClubTable};
 ghost use Rattle.flow_bound.specs.inside.Parts.{IsFirstOver, IsLeftOpenIn, NoneOver, most_credits};
 ghost use Rattle.flow_bound.specs.inside.Parts.{side_of};
@@ -18,8 +18,8 @@ use league_core::{ClubSet, OutOfMemory};
 use score_box::ZoneBox;
 use std::alloc::Global;
 
-/// A set of marked clubs that has an excess, or none where no set has. Takes memory only where
-/// the clubs alone and the peel leave it open.
+/// A set of marked clubs that has an excess, or none if no set has. Takes memory only if the clubs
+/// alone and the peel leave it open.
 pub fn choose(
     alloc: Global,
     zone_box: &ZoneBox,

@@ -7,7 +7,7 @@ ghost use Rattle.league_core.specs.declared.club_set.ClubSet.{ClubSet};
 ghost use Rattle.league_core.specs.declared.zone.Reason.TheVariants.{Low, High};
 ghost use Rattle.league_core.specs.game.Limits.{most_points};
 ghost use Rattle.score_box.specs.inside.Points.{most_taken_off};
-ghost use Rattle.score_box.specs.inside.Settings.{HasFinish, HasReason};
+ghost use Rattle.score_box.specs.inside.ZoneBoxViews.{HasFinish, HasReason};
 ghost use Rattle.league_core.specs.search.PointRanges.{own_least, own_most};
 ghost use Rattle.league_core.specs.search.Reasons.{has_reason};
 ghost use Rattle.league_core.specs.search.Zones.{marked_after, marked_before};
@@ -30,12 +30,12 @@ pub enum Cut {
     Ceiling,
 }
 
-/// A set of rivals that makes a floor cut of the box, or none where no set does.
+/// A set of rivals that makes a floor cut of the box, or none if no set does.
 ///
-/// Where rivals make one alone, the first of them in the sheet is answered. Otherwise the set is
+/// If a rival makes one alone, the first such rival in the sheet is returned. Otherwise the set is
 /// the least of those with the greatest excess. Either way each set of greatest excess has its
-/// clubs. Memory is wanted only where neither a rival alone decides, nor that rivals which add
-/// nothing are dropped.
+/// clubs. Memory is needed only if neither a rival alone nor dropping the rivals that add nothing
+/// decides.
 pub fn low_cut(
     alloc: Global,
     zone_box: &ZoneBox,
@@ -87,7 +87,7 @@ pub fn low_cut_from(
     Ok(chosen)
 }
 
-/// A set of rivals that makes a ceiling cut of the box, or none where no set does; chosen as in
+/// A set of rivals that makes a ceiling cut of the box, or none if no set does; chosen as in
 /// [`low_cut`].
 pub fn high_cut(
     alloc: Global,

@@ -25,8 +25,8 @@ impl FlowKeep {
 }
 
 /// The greatest flow of a network between two nodes, with its least cut. It is sought from the kept
-/// flow if that is one of this network too, and then the network is kept. Out of memory, what was
-/// kept stays.
+/// flow if that is one of this network too, and then the network is kept. If memory runs out, what
+/// was kept stays.
 pub fn max_flow_from(
     alloc: Global,
     net: Net,
@@ -49,7 +49,7 @@ pub fn max_flow_from(
     Ok(flow)
 }
 
-// Lets a network hold the kept flow, if that is one between its two nodes.
+// Makes a network hold the kept flow, if that is one between its two nodes.
 fn start(net: &mut Net, source: u16, sink: u16, keep: &FlowKeep)
     requires source_in_range { source < net.old.nodes }
     requires sink_in_range { sink < net.old.nodes }

@@ -6,8 +6,7 @@
 //! same way: the excess of a set is what its clubs add alone, and what each two of them that still
 //! meet add beyond that (`tally`). Clubs that no set needs are dropped, first by their own points
 //! (`prefilter_by_points`), then by their matches (`peel`), and the rest is one minimum cut
-//! (`network`). Read
-//! `specs/inside/Excess.antt` first.
+//! (`network`). Read `specs/inside/Excess.antt` first.
 #![tactic(auto)]
 
 mod choice;

@@ -1,10 +1,10 @@
-//! The matches that add something where both clubs are of a set: found in one walk, so that a part
-//! of the set is looked at by them alone.
+//! The matches that add something if both clubs are of a set: found in one walk, so that a part of
+//! the set is looked at by them alone.
 
 ghost use Rattle.std.specs.Prelude.{◌≡◌, ℕ, ◌+◌, ◌<◌, ◌≤◌, Bool, true, if◌then◌else◌, length, take};
 ghost use Rattle.std.specs.Prelude.{slice_index_or};
 ghost use Rattle.league_core.specs.game.Limits.{most_fixtures};
-ghost use Rattle.score_box.specs.inside.Settings.{HasFinish};
+ghost use Rattle.score_box.specs.inside.ZoneBoxViews.{HasFinish};
 ghost use Rattle.flow_bound.specs.declared.tally.Pair.{Pair};
 ghost use Rattle.flow_bound.specs.inside.Fixtures.{pair_at, pairs_in, sum_at};
 ghost use Rattle.flow_bound.specs.inside.Parts.{sum_of_pairs, side_of};
@@ -15,7 +15,7 @@ use crate::tally::pair_within;
 use league_core::ClubSet;
 use score_box::ZoneBox;
 
-/// Puts the numbers of these matches to the front of the others; how many they are.
+/// Puts the numbers of these matches before the others; how many they are.
 pub fn hold_meetings(held: &mut [u16], zone_box: &ZoneBox, cut: Cut, set: ClubSet) -> usize
     requires has_finish { HasFinish zone_box.now }
     requires room { length held.old ≡ most_fixtures }
@@ -36,7 +36,7 @@ pub fn hold_meetings(held: &mut [u16], zone_box: &ZoneBox, cut: Cut, set: ClubSe
     count
 }
 
-// Puts the number after so many, where its match is one of these; how many they are then.
+// Puts the number after so many, if its match is one of these; how many they are then.
 fn hold_if(
     held: &mut [u16],
     count: usize,

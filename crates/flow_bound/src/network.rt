@@ -1,9 +1,9 @@
 //! The least set of greatest excess, by one minimum cut.
 //!
 //! Each club that is left is a node. A pair is an arc from its home club to its away club, and its
-//! surplus is
-//! put to the home club's weight: a side that has the home club alone cuts the arc and so loses it
-//! again. A club of positive weight hangs on the source, one of negative weight on the sink:
+//! surplus is put to the home club's weight: a side that has the home club alone cuts the arc and
+//! so loses it again. A club of positive weight hangs on the source, one of negative weight on the
+//! sink:
 //!
 //!     source --weight--> club --surplus--> club --(-weight)--> sink
 //!
@@ -29,7 +29,7 @@ use league_core::limits::SET_WIDTH;
 use league_core::{ClubSet, OutOfMemory};
 use std::alloc::Global;
 
-/// The least of the sets of greatest excess among these clubs, or none where no set has any.
+/// The least of the sets of greatest excess among these clubs, or none if no set has any.
 pub fn greatest(
     alloc: Global,
     alone: &Table,
@@ -62,7 +62,7 @@ pub fn greatest(
     }
 }
 
-// Each club's own entry with the surplus of its pairs at home, where only clubs of `rest` count.
+// Each club's own entry with the surplus of its pairs at home, if only clubs of `rest` count.
 fn weights_of(alone: &Table, pairs: &[Pair], rest: ClubSet) -> Table
     requires sized { IsClubTable most_credits alone.now }
     requires pairs { ArePairs most_fixtures pairs.now }
@@ -94,8 +94,7 @@ fn credit_home(table: &mut Table, pair: Pair, set: ClubSet)
     credit(table, pair.home, i64::from(pair.surplus));
 }
 
-// Adds an arc for each club of the set, and answers the positive weights together. The source
-// comes
+// Adds an arc for each club of the set, and returns the positive weights together. The source comes
 // after the clubs, and the sink after the source.
 fn add_clubs(net: &mut Net, weights: &Table, set: ClubSet, places: &Places, source: u16) -> u64
     requires empty { length net.old.arcs ≡ 0 }
@@ -120,8 +119,8 @@ fn add_clubs(net: &mut Net, weights: &Table, set: ClubSet, places: &Places, sour
     total
 }
 
-// Adds the arc of a club of the set, from the source or to the sink, and answers its weight where
-// that is positive.
+// Adds the arc of a club of the set, from the source or to the sink, and returns its weight if that
+// is positive.
 fn add_club(net: &mut Net, set: ClubSet, club: u8, node: u16, source: u16, weight: i64) -> u64
     requires room { length net.old.arcs < net.old.room }
     requires nodes { net.old.nodes ≡ source + 2 }
@@ -165,7 +164,7 @@ fn add_pairs(net: &mut Net, pairs: &[Pair], set: ClubSet, places: &Places)
     }
 }
 
-// Adds the arc of a pair, where it is in the set.
+// Adds the arc of a pair, if it is in the set.
 fn add_pair(net: &mut Net, pair: Pair, set: ClubSet, places: &Places)
     requires room { length net.old.arcs < net.old.room }
     requires nodes { net.old.nodes ≡ length (clubs_in set) + 2 }

@@ -1,14 +1,14 @@
-//! Clubs that no set of greatest excess needs are dropped, while that goes on.
+//! Repeatedly drops clubs that no set of greatest excess needs.
 //!
 //! A club whose own entry and all its pairs together add nothing is no loss to any set. Without it
-//! others may add nothing. Where none is left no set has an excess, and no flow is needed. The
-//! matches of the clubs are found once and held on the stack, so that no memory is taken.
+//! others may add nothing. If none is left no set has an excess, and no flow is needed. The matches
+//! of the clubs are found once and held on the stack, so that no memory is taken.
 
 ghost use Rattle.std.specs.Prelude.{◌≡◌, ℕ, ◌+◌, ◌*◌, ◌<◌, ◌≤◌, ◌+ℤ◌, ◌&&◌, if◌then◌else◌, pos};
 ghost use Rattle.std.specs.Prelude.{int_lt, Bool, IsTrue, length, take, slice_index_or, ◌↔◌};
 ghost use Rattle.league_core.specs.game.ClubSets.{clubs_in};
 ghost use Rattle.league_core.specs.game.Limits.{most_fixtures};
-ghost use Rattle.score_box.specs.inside.Settings.{HasFinish};
+ghost use Rattle.score_box.specs.inside.ZoneBoxViews.{HasFinish};
 ghost use Rattle.flow_bound.specs.inside.Parts.{most_credits, EachAdds, IsClubTable, KeepsExcess};
 ghost use Rattle.flow_bound.specs.inside.Parts.{entry, side_of, sum_of_side};
 ghost use Rattle.flow_bound.specs.inside.Network.{has_away_in, has_home_in};
@@ -56,8 +56,8 @@ fn are_as_many(set: ClubSet, other: ClubSet) -> bool
     set.len() == other.len()
 }
 
-// What each club can add at most where only clubs of `rest` are taken: its own entry, and all
-// its pairs there, of the matches whose numbers are held at the front.
+// What each club can add at most if only clubs of `rest` are taken: its own entry, and all its
+// pairs there, of the matches whose numbers are held first.
 fn upper_bounds(
     zone_box: &ZoneBox,
     cut: Cut,
@@ -84,7 +84,7 @@ fn upper_bounds(
     reach
 }
 
-// Adds the surplus of a match to the entries of both its clubs, where both are in the set.
+// Adds the surplus of a match to the entries of both its clubs, if both are in the set.
 fn credit_match(table: &mut Table, zone_box: &ZoneBox, cut: Cut, number: u16, set: ClubSet)
     requires has_finish { HasFinish zone_box.now }
     requires in_range { number < length zone_box.now.season.scores }

@@ -1,13 +1,13 @@
 //! Clubs whose points alone show that no set needs them.
 //!
-//! In a match a club adds to a set no more than what the match leaves open for it. So where its own
+//! In a match a club adds to a set no more than what the match leaves open for it. So if its own
 //! entry and all that its matches leave open come to nothing, it is no loss to any set. Both ends
 //! of its points are kept in the box: no match is looked at.
 
 ghost use Rattle.std.specs.Prelude.{◌≡◌, ℕ, ◌<◌, ◌≤ℤ◌, ◌+ℤ◌, ◌&&◌, true, false, pos, neg_ℤ};
 ghost use Rattle.std.specs.Prelude.{int_lt};
 ghost use Rattle.league_core.specs.game.Limits.{set_width};
-ghost use Rattle.score_box.specs.inside.Settings.{HasFinish};
+ghost use Rattle.score_box.specs.inside.ZoneBoxViews.{HasFinish};
 ghost use Rattle.flow_bound.specs.declared.cut.Cut.{Cut};
 ghost use Rattle.flow_bound.specs.inside.Parts.{IsClubTable, KeepsExcess, entry, most_credits};
 ghost use Rattle.flow_bound.specs.inside.Parts.{side_of};

@@ -4,7 +4,7 @@ ghost use Rattle.std.specs.Prelude.{◌≡◌, ℕ, ◌^◌, ◌<◌, ◌+ℤ◌
 ghost use Rattle.std.specs.Prelude.{slice_set, length};
 ghost use Rattle.league_core.specs.game.Limits.{set_width};
 ghost use Rattle.score_box.specs.inside.Points.{most_taken_off};
-ghost use Rattle.score_box.specs.inside.Settings.{HasFinish};
+ghost use Rattle.score_box.specs.inside.ZoneBoxViews.{HasFinish};
 ghost use Rattle.flow_bound.specs.inside.Parts.{IsClubTable, entry, least_entry, most_credits};
 ghost use Rattle.flow_bound.specs.inside.Parts.{most_entry};
 ghost use Rattle.flow_bound.specs.inside.Fixtures.{own_end};

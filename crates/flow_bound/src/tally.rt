@@ -1,5 +1,5 @@
 //! The parts of the excess of every set: what each club adds alone, and what each two clubs that
-//! still meet add beyond that where both are in the set.
+//! still meet add beyond that if both are in the set.
 
 ghost use Rattle.std.specs.Prelude.{◌≡◌, ◌≢◌, ◌⊎◌, ℕ, ◌+◌, ◌^◌, ◌<◌, ◌≤◌, ◌+ℤ◌, ◌≤ℤ◌, pos, neg_ℤ};
 ghost use Rattle.std.specs.Prelude.{Bool};
@@ -10,7 +10,7 @@ ghost use Rattle.league_core.specs.declared.club_set.ClubSet.{ClubSet};
 ghost use Rattle.league_core.specs.game.ClubSets.{clubs_in};
 ghost use Rattle.league_core.specs.game.Limits.{most_fixtures};
 ghost use Rattle.score_box.specs.inside.Points.{most_taken_off};
-ghost use Rattle.score_box.specs.inside.Settings.{HasFinish};
+ghost use Rattle.score_box.specs.inside.ZoneBoxViews.{HasFinish};
 ghost use Rattle.flow_bound.specs.inside.Parts.{ArePairs, IsPartOf, IsClubTable, excess_in};
 ghost use Rattle.flow_bound.specs.inside.Parts.{most_credits, has_both, side_of, sum_of_pairs};
 ghost use Rattle.flow_bound.specs.inside.Fixtures.{excess_over, pair_at, pairs_in};
@@ -22,8 +22,8 @@ use league_core::{ClubSet, Fixture, OutOfMemory};
 use score_box::ZoneBox;
 use std::alloc::Global;
 
-/// Two clubs that still meet, and what their match adds where both are in the set, beyond what it
-/// adds to each alone.
+/// Two clubs that still meet, and what their match adds if both are in the set, beyond what it adds
+/// to each alone.
 #[derive(Clone, Copy, Default)]
 pub struct Pair {
     pub home: u8,
@@ -49,8 +49,7 @@ pub fn own_entries(zone_box: &ZoneBox, cut: Cut, level: i64) -> Table
     own_excess_table(zone_box, cut, level)
 }
 
-/// The pair of a match that is not played, where both its clubs are in the set and it has a
-/// surplus.
+/// The pair of a match that is not played, if both its clubs are in the set and it has a surplus.
 pub fn pair_within(zone_box: &ZoneBox, cut: Cut, number: u16, set: ClubSet) -> Option<Pair>
     requires has_finish { HasFinish zone_box.now }
     requires in_range { number < length zone_box.now.season.scores }
@@ -107,7 +106,7 @@ pub fn pairs_of(
     Ok(pairs)
 }
 
-// Adds the pair of a match, where both its clubs are in the set.
+// Adds the pair of a match, if both its clubs are in the set.
 fn push_pair(
     pairs: &mut Vec<Pair>,
     zone_box: &ZoneBox,

@@ -21,7 +21,7 @@ pub fn surplus_of(left: OutcomesLeft, cut: Cut) -> u8
     }
 }
 
-// Where all three outcomes are left: least points come by draws, most points by wins.
+// If all three outcomes are left: least points come by draws, most points by wins.
 fn surplus_of_all(cut: Cut) -> u8
     ensures value { result ≡ surplus_of_all cut }
     ensures small { result ≤ 3 }

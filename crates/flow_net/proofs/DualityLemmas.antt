@@ -151,7 +151,7 @@ module _ (arcs : List Arc) (source sink : ℕ) (flow : List ℕ)
   IsFlow-from_whole value apart sent =
       record { whole = whole; sent = sent; received = omega (arith, sent, arrives apart) }
 
-  -- where no step with room leads out of the marks, their cut is full and nothing comes back
+  -- if no step with room leads out of the marks, their cut is full and nothing comes back
   pub sent_closed : (marks : List Bool) → IsClosed arcs flow source sink marks
       → carried (leaves source) arcs flow ≡ carried (enters source) arcs flow + capacity_of
       (marked marks) arcs

@@ -1,5 +1,5 @@
 -- What a search has reached stays reached as it goes on.
-use Rattle.std.proofs.Common.{◌≡◌, ℕ, ◌-◌, ◌<◌, Bool, true, List, get_or, ap, ◌∙◌, refl, subst, inl}
+use Rattle.std.proofs.Common.{◌≡◌, ℕ, ◌-◌, ◌<◌, Bool, true, List, get_or, ap, ◌∙◌, subst, inl}
 use Rattle.std.proofs.Common.{inr, arith}
 use Rattle.std.proofs.lemmas.Bool.{cases_eq, cases_lt}
 use Rattle.flow_net.specs.declared.arcs.Arc.{Arc}
@@ -10,17 +10,6 @@ use Rattle.flow_net.specs.inside.Cut.{marked}
 use Rattle.flow_net.specs.inside.Direction.{head_of, room_of}
 use Rattle.flow_net.specs.inside.Lists.{IsNewest}
 use Rattle.flow_net.specs.inside.Search.{IsGrown, IsScanned, IsSized}
-
--- a search that has done nothing lost nothing
-pub IsGrown-refl : (search : Search) → IsGrown search search
-IsGrown-refl search = record {
-  nodes = refl;
-  marks = λ node h. h;
-  longer = omega arith;
-  entries =
-      λ place h. refl;
-  capacity = omega arith;
-}
 
 -- two times nothing lost is nothing lost
 pub IsGrown-trans : (old between new : Search) → IsGrown old between → IsGrown between new

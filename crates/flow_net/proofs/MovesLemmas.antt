@@ -1,6 +1,6 @@
 -- What one step over an arc does to what leaves and enters each node.
 use Rattle.std.proofs.Common.{◌≡◌, ◌==◌, ℕ, zero, suc, ◌+◌, ◌-◌, ◌<◌, ◌≤◌, Bool, List, [], ◌∷◌}
-use Rattle.std.proofs.Common.{length, get_or, set, sym, ap, ◌∙◌, refl, subst, inl, inr, arith}
+use Rattle.std.proofs.Common.{length, get_or, set, sym, ap, ◌∙◌, subst, inl, inr, arith}
 use Rattle.std.proofs.Common.{get_or-set_same, get_or-set_other}
 use Rattle.std.proofs.lemmas.Bool.{cases_eq}
 use Rattle.std.proofs.lemmas.List.{length-set}
@@ -58,11 +58,6 @@ IsMoved-step Against arcs flow arc amount below same room = record {
         ap (share to) left,
       );
 }
-
--- a flow that is not changed is moved from a node to itself
-pub IsMoved-refl : (arcs : List Arc) (flow : List ℕ) (node amount : ℕ)
-    → IsMoved arcs flow flow node node amount
-IsMoved-refl arcs flow node amount = record { balance = λ at. refl }
 
 -- what is moved on from where it came from is moved the whole way
 pub IsMoved-trans : (arcs : List Arc) (old between new : List ℕ) (from through to amount : ℕ)

@@ -33,7 +33,7 @@ mark_count-set marks node below free =
     let change = sum_by-set one_if marks node true false below in
     omega (arith, change, ap one_if free)
 
--- where a node is free there are fewer marks than nodes
+-- if a node is free there are fewer marks than nodes
 pub mark_count-lt : (marks : List Bool) (node : ℕ) → node < length marks → marked marks node ≡ false
     → mark_count marks < length marks
 mark_count-lt marks node below free =

@@ -20,7 +20,7 @@ pub share-le : (chosen : Bool) (x y : ℕ) → x ≤ y → share chosen x ≤ sh
 share-le true x y h = h
 share-le false x y h = omega arith
 
--- amounts that are the same where they count have the same share
+-- amounts that are the same if they count have the same share
 pub share-same : (chosen : Bool) (x y : ℕ) → (chosen ≡ true → x ≡ y)
     → share chosen x ≡ share chosen y
 share-same true x y h = h refl
@@ -30,8 +30,3 @@ share-same false x y h = refl
 pub share_whole : (chosen : Bool) (x : ℕ) → chosen ≡ true → share chosen x ≡ x
 share_whole true x h = refl
 share_whole false x h = cc
-
--- the share of what does not count is nothing
-pub share_none : (chosen : Bool) (x : ℕ) → chosen ≡ false → share chosen x ≡ 0
-share_none true x h = cc
-share_none false x h = refl

@@ -48,7 +48,7 @@ module _ (side : ℕ → Bool) where
       (λ node below on_side. ap (λ b. share b amount) (ne_eqb at node (λ same. omega arith)))
       ∙ over-zero nodes
 
-  -- an amount at one node counts where the side has the node
+  -- an amount at one node counts if the side has the node
   pub over-one : (nodes at amount : ℕ) → at < nodes
       → over nodes side (λ node. share (at == node) amount) ≡ share (side at) amount
   over-one zero at amount below = omega arith

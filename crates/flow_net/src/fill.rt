@@ -44,7 +44,7 @@ fn fill(graph: &Graph, flow: &mut [u32], search: &mut Search, source: u16, sink:
     }
 }
 
-/// Raises the flow to the greatest, and says its value. The search is left with the least cut.
+/// Raises the flow to the greatest, and returns its value. The search is left with the least cut.
 pub fn greatest(
     graph: &Graph,
     held: Option<Ends>,

@@ -148,8 +148,8 @@ impl Net {
 
     /// Sends as much as can be sent from the source to the sink, and finds the least cut.
     ///
-    /// A flow that the net holds for the same two nodes stays as it is where it is greatest
-    /// already. The net then holds what was found; if memory runs out it is as before.
+    /// A flow that the net holds for the same two nodes stays as it is if it is greatest already.
+    /// The net then holds what was found; if memory runs out it is as before.
     pub fn max_flow(&mut self, alloc: Global, source: u16, sink: u16) -> Result<Flow, OutOfMemory>
         requires source_in_range { source < self.old.nodes }
         requires sink_in_range { sink < self.old.nodes }

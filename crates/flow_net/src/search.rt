@@ -67,8 +67,8 @@ impl Search {
         self.queue.push(start).unwrap();
     }
 
-    // Reaches the far end of an arc from a place of the queue, if there is room and it is new.
-    // True where this is the sink.
+    // Reaches the far end of an arc from a place of the queue, if there is room and it is new. True
+    // if this is the sink.
     #[inline]
     fn step(
         &mut self,
@@ -114,7 +114,7 @@ impl Search {
         node == sink
     }
 
-    // Looks at the arcs of one way from a place of the queue. True where the sink was reached.
+    // Looks at the arcs of one way from a place of the queue. True if the sink was reached.
     fn scan(&mut self, graph: &Graph, flow: &[u32], way: Direction, place: usize, sink: u16) -> bool
         requires graph { IsGraph graph.now }
         requires within { IsWithinArcs graph.now.arcs.items flow.now }
@@ -141,8 +141,8 @@ impl Search {
         false
     }
 
-    /// Searches for a way from the source to the sink. True where there is one; the queue then
-    /// ends with the sink.
+    /// Searches for a way from the source to the sink. True if there is one; the queue then ends
+    /// with the sink.
     pub fn find(&mut self, graph: &Graph, flow: &[u32], source: u16, sink: u16) -> bool
         requires graph { IsGraph graph.now }
         requires within { IsWithinArcs graph.now.arcs.items flow.now }
@@ -170,7 +170,8 @@ impl Search {
         false
     }
 
-    /// Sends as much to the last node reached as the whole way to it can take, and says how much.
+    /// Sends as much to the last node reached as the whole way to it can take, and returns how
+    /// much.
     pub fn send(&self, graph: &Graph, flow: &mut [u32]) -> u32
         requires within { IsWithinArcs graph.now.arcs.items flow.old }
         requires search { IsSearchOf graph.now flow.old self.now }

@@ -1,7 +1,7 @@
 -- Each ask of a course has an answer: what was played there is a season of a sheet within the
 -- limits, and each such season has one, whatever is answered.
 use Rattle.std.proofs.Common.{◌≡◌, ℕ, ◌<◌, Bool, true, false, eqb, List, [], ◌∷◌, ◌++◌, length, map}
-use Rattle.std.proofs.Common.{None, Result, Ok, Err, refl, sym, ◌∙◌, subst, arith}
+use Rattle.std.proofs.Common.{Option, None, Some, Result, Ok, Err, refl, ap, sym, ◌∙◌, subst, arith}
 use Rattle.std.specs.Prelude.{All}
 use Rattle.std.specs.List.{range_with_len}
 use Rattle.std.proofs.lemmas.Bool.{or_left, or_right, eq-eqb}
@@ -11,39 +11,44 @@ use Rattle.league_core.specs.declared.season.Event.{Event}
 use Rattle.league_core.specs.declared.question.Claim.TheVariants.{Inside}
 use Rattle.league_core.specs.game.Results.{Results, are_results}
 use Rattle.league_core.specs.game.Sheets.{IsWithinLimits, clubs_of}
-use Rattle.league_core.specs.game.Seasons.{AreEventsOf, IsEventOf, IsLeague, unplayed_season}
+use Rattle.league_core.specs.game.Seasons.{AreEventsOf, IsEventOf, IsLeague, epoch_of}
+use Rattle.league_core.specs.game.Seasons.{season_after, unplayed_season}
 use Rattle.league_core.specs.game.Sums.{has_club, points_of, sum_of, goal_difference, goals}
 use Rattle.league_core.specs.inside.LotsFor.{best_place_of, worst_place_of}
 use Rattle.league_core.specs.game.Ranking.{are_lots}
 use Rattle.league_core.proofs.LotsLemmas.{lots_for_claim-are_lots}
-use Rattle.league_core.proofs.LogLemmas.{season_after_of, season_after_results}
-use Rattle.port_core.specs.Contents.{Contents}
+use Rattle.league_core.proofs.LogLemmas.{AreEventsOf-push, season_after_of, season_after_results}
+use Rattle.port_core.specs.declared.line.ReadStop.{ReadStop}
+use Rattle.port_core.specs.Contents.{Contents, ended, with_line}
 use Rattle.fixture_sheet.specs.declared.fault.SheetStop.{SheetStop}
 use Rattle.fixture_sheet.specs.Sheets.{sheet_reading_of}
 use Rattle.result_log.specs.declared.entry.Entry.{Entry}
 use Rattle.result_log.specs.declared.entry.Entry.TheVariants.{Change, Ask, Proofs, End}
-use Rattle.result_log.specs.Feeds.{feed_of}
-use Rattle.result_log.specs.inside.FeedParts.{events_after}
-use Rattle.result_log.proofs.FeedLemmas.{feed_of-log}
+use Rattle.result_log.specs.declared.fault.FeedFault.{FeedFault}
+use Rattle.result_log.proofs.FeedLemmas.{contents_may_come}
+use Rattle.result_log.specs.inside.FeedParts.{EntryReading, entry_reading_by}
 use Rattle.cert_text.specs.ExampleLines.{text_of_proof_lines}
 use Rattle.final_rank.proofs.PlaceLemmas.{best_is, worst_is}
 use Rattle.final_rank.proofs.TierLemmas.{below_clubs}
-use Rattle.verdict_run.specs.Items.{AnswerRow}
-use Rattle.answer_laws.specs.inside.SeasonAnswers.{AnswerItem, IsKnownItem}
-use Rattle.answer_laws.proofs.AnswerLemmas.{season_answered}
+use Rattle.answer_rows.specs.Items.{AnswerRow}
+use Rattle.verdict_run.specs.inside.SeasonAnswers.{AnswerItem, IsKnownItem}
+use Rattle.verdict_run.proofs.AnswerLemmas.{season_answered}
 use Rattle.qual_scores.proofs.SeasonScoreLemmas.{scores_there}
-use Rattle.answer_laws.proofs.TableLemmas.{table_there}
-use Rattle.ask_answers.specs.declared.table_row.TableRow.{TableRow}
-use Rattle.output_rows.specs.Parts.{IsMadeOf, club_name}
-use Rattle.output_rows.specs.Rows.{ask_row}
-use Rattle.ask_answers.specs.Rows.{place_row, verdict_row}
-use Rattle.ask_answers.specs.Tables.{IsPlaceRow, IsTableRow, IsTableText, count_played}
-use Rattle.ask_answers.proofs.TableLemmas.{first_lots-range}
-use Rattle.score_answers.specs.ScoreTexts.{text_of_scores}
-use Rattle.futmax_main.specs.declared.session.Answering.{Answering}
-use Rattle.futmax_main.specs.declared.session.Answering.TheVariants.{Verdicts, Table, Scores}
-use Rattle.futmax_main.specs.Plays.{Played, played_after}
-use Rattle.futmax_main.specs.Courses.{asks_in, course_after, course_of}
+use Rattle.verdict_run.proofs.TableLemmas.{table_there}
+use Rattle.answer_rows.specs.declared.table_row.TableRow.{TableRow}
+use Rattle.answer_rows.specs.Parts.{IsMadeOf, club_name}
+use Rattle.answer_rows.specs.Rows.{ask_row}
+use Rattle.answer_rows.specs.Rows.{place_row, verdict_row}
+use Rattle.answer_rows.specs.Tables.{IsPlaceRow, IsTableRow, IsTableText, count_played}
+use Rattle.answer_rows.proofs.TableLemmas.{first_lots-range}
+use Rattle.answer_rows.specs.ScoreTexts.{text_of_scores}
+use Rattle.command_words.specs.declared.command.Mode.{Mode}
+use Rattle.command_words.specs.declared.command.Mode.TheVariants.{Verdicts, Table, Scores, Check}
+use Rattle.command_words.specs.declared.command.Mode.TheVariants.{Sample}
+use Rattle.futmax_main.specs.Plays.{Played}
+use Rattle.futmax_main.specs.Courses.{Course, Origin, asked_at, course_after, course_by, course_in}
+use Rattle.futmax_main.specs.Courses.{course_of}
+use Rattle.futmax_main.specs.inside.Progress.{line_after}
 use Rattle.futmax_main.specs.Answers.{IsAnswerTo, IsItemText, IsScoresText, IsVerdictsText}
 use Rattle.futmax_main.specs.Texts.{AreAnswers}
 use Rattle.futmax_main.proofs.LimitLemmas.{GivesLimits, sheet-limits}
@@ -140,79 +145,90 @@ scores-there sheet season epoch league results =
     (text_of_scores sheet epoch found.0, (found.0, found.1, refl))
 
 -- there is an answer to an ask of a league
-answer-there : (answering : Answering) (asked : Played) → IsLeague asked.sheet asked.season
-    → are_results asked.season ≡ true → (text : List ℕ) × IsAnswerTo answering asked text
+answer-there : (mode : Mode) (asked : Played) → IsLeague asked.sheet asked.season
+    → are_results asked.season ≡ true → (text : List ℕ) × IsAnswerTo mode asked text
 answer-there (Verdicts proofs) asked league results =
     verdicts-there proofs asked.sheet asked.season asked.epoch league results
 answer-there Table asked league results =
     table-there asked.sheet asked.season asked.epoch league.limits
 answer-there Scores asked league results =
     scores-there asked.sheet asked.season asked.epoch league results
+answer-there Check asked league results = ([], refl)
+answer-there (Sample seed) asked league results = ([], refl)
 
 -- ---- the asks of a course
 
 -- there are whole answers to these asks
-abbrev pub HasAnswers : Answering → List Played → Type 0
-HasAnswers answering asks = (text : List ℕ) × AreAnswers answering asks text
+abbrev pub HasAnswers : Mode → List Played → Type 0
+HasAnswers mode asks = (text : List ℕ) × AreAnswers mode asks text
 
 -- so there are to the last of them
-pub answers-behind : (answering : Answering) (asks others : List Played)
-    → HasAnswers answering (asks ++ others) → HasAnswers answering others
-answers-behind answering [] others all = all
-answers-behind answering (asked ∷ asks) others all =
-    answers-behind answering asks others (all.1.1, all.1.4)
+pub answers-behind : (mode : Mode) (asks others : List Played)
+    → HasAnswers mode (asks ++ others) → HasAnswers mode others
+answers-behind mode [] others all = all
+answers-behind mode (asked ∷ asks) others all =
+    answers-behind mode asks others (all.1.1, all.1.4)
 
--- what is true of all of a list is true of its prefix
-all-front : {A : Type 0} (P : A → Type 0) (front rest : List A) → All P (front ++ rest)
-    → All P front
-all-front P [] rest all = All-nil P
-all-front P (x ∷ front) rest all =
-    All-cons P x front (All-head P x (front ++ rest) all)
-    (all-front P front rest (All-tail P x (front ++ rest) all))
+-- a line's event may come after events of the sheet
+event-may_come : (mode : Mode) (sheet : Sheet) (events : List Event) (content : List ℕ)
+    (event : Event) → AreEventsOf sheet events
+    → line_after mode sheet events content ≡ Ok (Some (Change event))
+    → AreEventsOf sheet (events ++ event ∷ [])
+event-may_come mode sheet events content event of_sheet is =
+    let none : EntryReading = record { gives = Ok End; rest = ended (Ok 0) } in
+    AreEventsOf-push sheet events event of_sheet
+    (contents_may_come sheet (season_after sheet events) (epoch_of events) false
+    (with_line 0 content (ended (Ok 0))) (Change event) (season_after_of sheet events)
+    (ap (λ found. (entry_reading_by 0 (ended (Ok 0)) none found).gives) is)).0
 
--- the events before some entries are of the sheet where those after them are
-events-before : (sheet : Sheet) (entries : List Entry) (events : List Event)
-    → AreEventsOf sheet (events_after events entries) → AreEventsOf sheet events
-events-before sheet [] events of_sheet = of_sheet
-events-before sheet (Change event ∷ entries) events of_sheet =
-    all-front (IsEventOf (unplayed_season (length sheet.clubs) (length sheet.fixtures))) events
-    (event ∷ []) (events-before sheet entries (events ++ event ∷ []) of_sheet)
-events-before sheet (Ask ∷ entries) events of_sheet = events-before sheet entries events of_sheet
-events-before sheet (Proofs ∷ entries) events of_sheet =
-    events-before sheet entries events of_sheet
-events-before sheet (End ∷ entries) events of_sheet = events-before sheet entries events of_sheet
-
--- the asks of these entries have answers
-asks-there : (answering : Answering) (sheet : Sheet) (entries : List Entry) (events : List Event)
-    → IsWithinLimits sheet → AreEventsOf sheet (events_after events entries)
-    → HasAnswers answering (asks_in sheet entries events)
-asks-there answering sheet [] events limits of_sheet = ([], refl)
-asks-there answering sheet (Change event ∷ entries) events limits of_sheet =
-    asks-there answering sheet entries (events ++ event ∷ []) limits of_sheet
-asks-there answering sheet (Ask ∷ entries) events limits of_sheet =
-    let first = answer-there answering (played_after sheet events)
-    (record { limits = limits; of_sheet = season_after_of sheet events })
-    (season_after_results sheet events (events-before sheet entries events of_sheet)) in
-    let more = asks-there answering sheet entries events limits of_sheet in
+-- where lines have answers after any events of the sheet, a line before them has, by what it is
+line-there : (mode : Mode) (origin : Origin) (line : ℕ × List ℕ)
+    (onward : List Event → Course) (events : List Event) → IsWithinLimits origin.sheet
+    → AreEventsOf origin.sheet events
+    → ((next : List Event) → AreEventsOf origin.sheet next
+    → HasAnswers mode (onward next).asks)
+    → (found : Result (Option Entry) FeedFault)
+    → line_after mode origin.sheet events line.1 ≡ found
+    → HasAnswers mode (course_by mode origin line onward events found).asks
+line-there mode origin line onward events limits of_sheet behind (Ok None) is =
+    behind events of_sheet
+line-there mode origin line onward events limits of_sheet behind
+    (Ok (Some (Change event))) is =
+    behind (events ++ event ∷ [])
+    (event-may_come mode origin.sheet events line.1 event of_sheet is)
+line-there mode origin line onward events limits of_sheet behind (Ok (Some Ask)) is =
+    let first = answer-there mode (asked_at mode origin events line.1)
+    (record { limits = limits; of_sheet = season_after_of origin.sheet events })
+    (season_after_results origin.sheet events of_sheet) in
+    let more = behind events of_sheet in
     (first.0 ++ more.0, (first.0, more.0, refl, first.1, more.1))
-asks-there answering sheet (Proofs ∷ entries) events limits of_sheet =
-    asks-there answering sheet entries events limits of_sheet
-asks-there answering sheet (End ∷ entries) events limits of_sheet =
-    asks-there answering sheet entries events limits of_sheet
+line-there mode origin line onward events limits of_sheet behind (Ok (Some Proofs)) is =
+    ([], refl)
+line-there mode origin line onward events limits of_sheet behind (Ok (Some End)) is =
+    ([], refl)
+line-there mode origin line onward events limits of_sheet behind (Err fault) is = ([], refl)
+
+-- the asks of these lines have answers
+asks-there : (mode : Mode) (origin : Origin) (lines : List (ℕ × List ℕ))
+    (ending : Result ℕ ReadStop) (events : List Event) → IsWithinLimits origin.sheet
+    → AreEventsOf origin.sheet events
+    → HasAnswers mode (course_in mode origin lines ending events).asks
+asks-there mode origin [] ending events limits of_sheet = ([], refl)
+asks-there mode origin (line ∷ lines) ending events limits of_sheet =
+    line-there mode origin line (course_in mode origin lines ending) events limits
+    of_sheet (λ next are. asks-there mode origin lines ending next limits are)
+    (line_after mode origin.sheet events line.1) refl
 
 -- each ask of the course of any contents has an answer
-pub session-answered : (answering : Answering) (contents : Contents)
-    → HasAnswers answering (course_of contents).asks
-session-answered answering contents =
+pub session-answered : (mode : Mode) (contents : Contents)
+    → HasAnswers mode (course_of mode contents).asks
+session-answered mode contents =
     let reading = sheet_reading_of contents None in
     by_gives reading.gives reading.rest (sheet-limits contents)
   where
     by_gives : (gives : Result Sheet SheetStop) (rest : Contents) → GivesLimits gives
-        → HasAnswers answering (course_after gives rest).asks
+        → HasAnswers mode (course_after mode gives rest).asks
     by_gives (Ok sheet) rest limits =
-        let feed = feed_of sheet false rest [] in
-        let kept = feed_of-log sheet false rest []
+        asks-there mode (record { sheet = sheet }) rest.lines rest.ending [] limits
         (All-nil (IsEventOf (unplayed_season (length sheet.clubs) (length sheet.fixtures))))
-        (omega arith) in
-        asks-there answering sheet feed.entries [] limits kept.0
     by_gives (Err stop) rest limits = ([], refl)

@@ -4,9 +4,9 @@ use Rattle.std.proofs.Common.{◌∙◌}
 use Rattle.std.specs.Io.KnownBytes.{prepend_known, IsAtEnd}
 use Rattle.port_core.specs.Contents.{start, contents_of}
 use Rattle.port_core.specs.Readers.{LineReaderView, contents_to_come, TakesInput}
-use Rattle.check_run.specs.declared.outcome.CheckOutcome.{CheckOutcome}
-use Rattle.check_run.specs.declared.outcome.CheckOutcome.TheVariants as outcome
-use Rattle.check_run.specs.inside.Calls.{ChecksInput, LeavesCheck}
+use Rattle.cert_check.specs.declared.outcome.CheckOutcome.{CheckOutcome}
+use Rattle.cert_check.specs.declared.outcome.CheckOutcome.TheVariants as outcome
+use Rattle.cert_check.specs.inside.InputCalls.{ChecksInput, LeavesCheck}
 use Rattle.futmax_main.specs.declared.status.Status.{Status}
 use Rattle.futmax_main.specs.declared.status.Status.TheVariants.{Done, BadWords, BadSheet, BadFeed}
 use Rattle.futmax_main.specs.declared.status.Status.TheVariants.{ReadFault, WriteFault, OutOfMemory}
@@ -14,7 +14,7 @@ use Rattle.futmax_main.specs.declared.status.Status.TheVariants.{NotProved, TooL
 use Rattle.futmax_main.specs.Checks.{ComesTo, ServesCheck, check_row, status_of_check}
 use Rattle.futmax_main.specs.inside.Judging.{OutcomeEnds}
 use Rattle.futmax_main.proofs.TurnLemmas.{fresh-contents}
-use Rattle.output_rows.proofs.OutputLemmas.{append_known-nothing}
+use Rattle.answer_rows.proofs.OutputLemmas.{append_known-nothing}
 
 -- no outcome is a fault of the source
 not_a_fault : (outcome : CheckOutcome) → status_of_check outcome ≡ ReadFault → ⊥

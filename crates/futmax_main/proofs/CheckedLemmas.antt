@@ -6,11 +6,11 @@ use Rattle.csv.specs.Machine.{next_record}
 use Rattle.csv.specs.Reading.{strip_bom}
 use Rattle.fixture_sheet.specs.declared.fault.SheetFault.TheVariants.{NoLeague}
 use Rattle.result_log.specs.declared.fault.FeedFault.TheVariants.{UnknownRecord}
-use Rattle.check_run.specs.declared.outcome.ReportFault.TheVariants.{Short}
-use Rattle.check_run.specs.declared.outcome.CheckOutcome.TheVariants as outcome
+use Rattle.cert_check.specs.declared.outcome.ReportFault.TheVariants.{Short}
+use Rattle.cert_check.specs.declared.outcome.CheckOutcome.TheVariants as outcome
 use Rattle.futmax_main.specs.declared.status.Status.TheVariants.{Done, BadSheet, BadFeed}
 use Rattle.futmax_main.specs.declared.status.Status.TheVariants.{NotProved, TooLong}
-use Rattle.futmax_main.specs.Services.{IsChecked}
+use Rattle.futmax_main.specs.Modes.{IsChecked}
 
 -- a line of these words
 abbrev pub ended_line : List ℕ → List ℕ

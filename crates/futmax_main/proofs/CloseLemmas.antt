@@ -1,126 +1,96 @@
--- A round that is over: where the turn after it leads, by what ended the round.
-use Rattle.std.proofs.Common.{◌≡◌, ℕ, Bool, List, Option, Some, Err, sym, ◌∙◌, subst}
+-- A turn after a round, or after the sheet: where it leads, by what ended the round, or came in
+-- place of a sheet.
+use Rattle.std.proofs.Common.{◌≡◌, ℕ, Bool, List, Option, Err, refl, sym, ◌∙◌, subst}
 use Rattle.league_core.specs.declared.sheet.Sheet.{Sheet}
-use Rattle.league_core.specs.declared.season.Event.{Event}
 use Rattle.port_core.specs.declared.line.ReadStop.TheVariants as read_stop
-use Rattle.port_core.specs.Readers.{LineReaderView, stream_of}
+use Rattle.port_core.specs.Readers.{LineReaderView, TakesInput, stream_of}
+use Rattle.fixture_sheet.specs.declared.fault.SheetStop.{SheetStop}
+use Rattle.fixture_sheet.specs.declared.fault.SheetStop.TheVariants as sheet_stop
+use Rattle.fixture_sheet.specs.LastReads.{ReadsOnWay}
+use Rattle.fixture_sheet.specs.inside.Calls.{CountsSheet}
+use Rattle.fixture_sheet.specs.inside.SheetReads.{StopsAtSheet}
 use Rattle.result_log.specs.declared.fault.FeedStop.{FeedStop}
 use Rattle.result_log.specs.declared.fault.FeedStop.TheVariants as feed_stop
 use Rattle.result_log.specs.inside.Calls.{CountsEntry, MovesToEntry}
+use Rattle.result_log.specs.inside.Rounds.{EndsRound, Spot}
+use Rattle.result_log.specs.inside.LastReads.{GivesEvents, StopsAtClose}
 use Rattle.branch_pool.specs.inside.States.{PoolView}
 use Rattle.worker_gate.specs.declared.round.RoundEnd.{RoundEnd}
 use Rattle.worker_gate.specs.declared.round.RoundEnd.TheVariants.{Ask, End, Stop}
-use Rattle.worker_gate.specs.inside.Rounds.{EndsRound, Spot, close_of}
-use Rattle.worker_gate.specs.inside.LastReads.{StopsAtClose}
+use Rattle.worker_gate.specs.inside.Rounds.{close_of}
 use Rattle.futmax_main.specs.declared.status.Status.{Status}
 use Rattle.futmax_main.specs.declared.status.Status.TheVariants.{Done, BadWords, BadSheet, BadFeed}
 use Rattle.futmax_main.specs.declared.status.Status.TheVariants.{ReadFault, WriteFault, OutOfMemory}
 use Rattle.futmax_main.specs.declared.status.Status.TheVariants.{NotProved, TooLong}
-use Rattle.futmax_main.specs.declared.session.Answering.{Answering}
-use Rattle.futmax_main.specs.declared.turn.Step.{Step}
-use Rattle.futmax_main.specs.declared.turn.Step.TheVariants.{GoesOn, Ends}
-use Rattle.futmax_main.specs.LastReads.{StopsSession}
-use Rattle.futmax_main.specs.inside.TurnReads.{HasComeTo, TurnStops}
-use Rattle.futmax_main.specs.inside.Progress.{Path}
-use Rattle.futmax_main.specs.Top.{Serves}
-use Rattle.futmax_main.specs.inside.Turns.{CloseGives, CountsClose, CountsEnd, CountsStop}
-use Rattle.futmax_main.specs.inside.Turns.{CountsTurn, StopEnds, TurnCounts, TurnGives}
-use Rattle.futmax_main.specs.inside.Turns.{TurnKeepsSheet, TurnMovesOn}
-use Rattle.futmax_main.proofs.LastReadLemmas.{round-goes_on, round-stops}
-use Rattle.futmax_main.proofs.RoundLemmas.{round-ask, round-end, round-fails, round-long_input}
-use Rattle.futmax_main.proofs.RoundLemmas.{round-long_line, round-refused, turn-starved}
+use Rattle.command_words.specs.declared.command.Mode.{Mode}
+use Rattle.futmax_main.specs.declared.session.Step.{Step}
+use Rattle.futmax_main.specs.declared.session.Step.TheVariants.{GoesOn, Ends}
+use Rattle.futmax_main.specs.LastReads.{StopsSession, fresh_reader}
+use Rattle.futmax_main.specs.inside.TurnReads.{HasComeToPool, TurnStops}
+use Rattle.futmax_main.specs.inside.Progress.{IsOriginOf, PathToPool, line_after}
+use Rattle.futmax_main.specs.inside.Stops.{CountsEnd, CountsStop, StopEnds, stop_of_feed}
+use Rattle.futmax_main.specs.inside.Stops.{stop_of_sheet}
+use Rattle.futmax_main.specs.inside.Turns.{CloseGives, CountsClose, CountsTurn, TurnCounts}
+use Rattle.futmax_main.specs.inside.Turns.{TurnGives, TurnGoesOn, TurnIsLive}
+use Rattle.futmax_main.proofs.LastReadLemmas.{round-goes_on, round-stops, sheet-ends}
+use Rattle.futmax_main.proofs.RoundLemmas.{round-ask, round-end, round-stop}
 
 -- ---- the way
 
--- a stop of the feed
-stop-serves : (answering : Answering) (input : Option (List ℕ)) (told0 : Bool) (sheet : Sheet)
-    (log log' : List Event) (from to : Spot) (stop : FeedStop) (old now0 now1 : Option (List ℕ))
-    (status : Status) → EndsRound sheet log log' from to (Err stop)
-    → Path answering input told0 (stream_of from.reader from.left) from.ended from.reader.position
-    sheet log old now0
-    → StopEnds stop now0 now1 status
-    → Serves (Some answering) input to.left to.ended old now1 status
-stop-serves answering input told0 sheet log log' from to (feed_stop.Fault number fault) old now0
-    now1 status ends path stops =
-    round-refused answering input told0 sheet log log' from to number fault old now0 now1 status
-    ends path stops
-stop-serves answering input told0 sheet log log' from to (feed_stop.Read read_stop.ReadFault) old
-    now0 now1 status ends path stops =
-    let P : Status → Type 0 = λ s. Serves (Some answering) input to.left to.ended old now1 s in
-    let Q : Option (List ℕ) → Type 0 =
-    λ now. Serves (Some answering) input to.left to.ended old now ReadFault in
-    subst P (sym stops.0) (subst Q (sym stops.1)
-    (round-fails answering input told0 sheet log log' from to old now0 ends path))
-stop-serves answering input told0 sheet log log' from to
-    (feed_stop.Read (read_stop.LineTooLong number)) old now0 now1 status ends path stops =
-    round-long_line answering input told0 sheet log log' from to number old now0 now1 status ends
-    path stops
-stop-serves answering input told0 sheet log log' from to
-    (feed_stop.Read (read_stop.InputTooLong number)) old now0 now1 status ends path stops =
-    round-long_input answering input told0 sheet log log' from to number old now0 now1 status ends
-    path stops
-stop-serves answering input told0 sheet log log' from to feed_stop.OutOfMemory old now0 now1 status
-    ends path stops =
-    let P : Status → Type 0 = λ s. Serves (Some answering) input to.left to.ended old now1 s in
-    let Q : Option (List ℕ) → Type 0 =
-    λ now. Serves (Some answering) input to.left to.ended old now OutOfMemory in
-    subst P (sym stops.0) (subst Q (sym stops.1)
-    (turn-starved answering input told0 (stream_of from.reader from.left) from.ended
-    from.reader.position sheet log to.left to.ended old now0 path))
+module _ (mode : Mode) (input : Option (List ℕ)) (told0 : Bool) (pool next : PoolView)
+    (from to : Spot) (old now0 now1 : Option (List ℕ))
+    (path : PathToPool mode input told0 (stream_of from.reader from.left) from.ended
+    from.reader.position pool old now0) where
+  -- whatever ended the round, from the origin of the way
+  origin-gives : (end : RoundEnd) (turn : Step)
+      → EndsRound (line_after mode path.0.sheet) pool.log next.log from to (close_of end)
+      → IsOriginOf path.0 next
+      → CloseGives mode next end now0 now1 turn
+      → TurnGives mode input told0 (stream_of to.reader to.left) to.ended to.reader.position
+      to.left old now1 turn
+  origin-gives Ask turn ends of_pool gives =
+      round-ask mode input told0 path.0 pool.log next.log from to old now0 path.2 next now1
+      turn ends refl of_pool gives
+  origin-gives End (GoesOn other) ends of_pool gives = absurd gives
+  origin-gives End (Ends status) ends of_pool gives =
+      round-end mode input told0 path.0 pool.log next.log from to old now0 path.2 now1 status
+      ends gives.0 gives.1
+  origin-gives (Stop stop) (GoesOn other) ends of_pool gives = absurd gives
+  origin-gives (Stop stop) (Ends status) ends of_pool gives =
+      round-stop mode input told0 path.0 pool.log next.log from to old now0 path.2 stop now1
+      status ends gives
 
--- whatever ended the round
-pub close-gives : (answering : Answering) (input : Option (List ℕ)) (told0 : Bool) (sheet : Sheet)
-    (log : List Event) (pool : PoolView) (from to : Spot) (end : RoundEnd)
-    (old now0 now1 : Option (List ℕ)) (turn : Step)
-    → EndsRound sheet log pool.log from to (close_of end) → pool.sheet ≡ sheet
-    → Path answering input told0 (stream_of from.reader from.left) from.ended from.reader.position
-    sheet log old now0
-    → CloseGives answering pool end now0 now1 turn
-    → TurnGives answering input told0 (stream_of to.reader to.left) to.ended to.reader.position
-    to.left old now1 turn
-close-gives answering input told0 sheet log pool from to Ask old now0 now1 turn ends same path gives
-    =
-    round-ask answering input told0 sheet log pool from to old now0 now1 turn ends same path gives
-close-gives answering input told0 sheet log pool from to End old now0 now1 (GoesOn next) ends same
-    path gives = absurd gives
-close-gives answering input told0 sheet log pool from to End old now0 now1 (Ends status) ends same
-    path gives =
-    let P : Status → Type 0 = λ s. Serves (Some answering) input to.left to.ended old now1 s in
-    let Q : Option (List ℕ) → Type 0 =
-    λ now. Serves (Some answering) input to.left to.ended old now Done in
-    subst P (sym gives.0) (subst Q (sym gives.1)
-    (round-end answering input told0 sheet log pool.log from to old now0 ends path))
-close-gives answering input told0 sheet log pool from to (Stop stop) old now0 now1 (GoesOn next)
-    ends same path gives = absurd gives
-close-gives answering input told0 sheet log pool from to (Stop stop) old now0 now1 (Ends status)
-    ends same path gives =
-    stop-serves answering input told0 sheet log pool.log from to stop old now0 now1 status ends path
-    gives
+  -- from the pool before it
+  pub close-gives : (end : RoundEnd) (turn : Step)
+      → EndsRound (line_after mode pool.sheet) pool.log next.log from to (close_of end)
+      → next.sheet ≡ pool.sheet
+      → CloseGives mode next end now0 now1 turn
+      → TurnGives mode input told0 (stream_of to.reader to.left) to.ended to.reader.position
+      to.left old now1 turn
+  close-gives end turn ends same gives =
+      let P : Sheet → Type 0 =
+      λ s. EndsRound (line_after mode s) pool.log next.log from to (close_of end) in
+      origin-gives end turn (subst P (sym path.1) ends) (path.1 ∙ sym same) gives
 
--- ---- what is kept
+-- ---- how it goes on
 
--- the sheet
-pub close-keeps : (answering : Answering) (pool : PoolView) (end : RoundEnd)
-    (old now : Option (List ℕ)) (turn : Step) (sheet : Sheet) → pool.sheet ≡ sheet
-    → CloseGives answering pool end old now turn → TurnKeepsSheet sheet turn
-close-keeps answering pool Ask old now (GoesOn next) sheet same gives = gives.0.0 ∙ same
-close-keeps answering pool End old now (GoesOn next) sheet same gives = absurd gives
-close-keeps answering pool (Stop stop) old now (GoesOn next) sheet same gives = absurd gives
-close-keeps answering pool end old now (Ends status) sheet same gives = tt
-
--- an ask moves the reader on
-pub close-moves : (answering : Answering) (pool : PoolView) (end : RoundEnd)
-    (old now : Option (List ℕ)) (turn : Step) (reader new : LineReaderView)
-    → MovesToEntry reader new (close_of end) → CloseGives answering pool end old now turn
-    → TurnMovesOn reader.position.bytes new.position.bytes turn
-close-moves answering pool Ask old now (GoesOn next) reader new moves gives = moves
-close-moves answering pool End old now (GoesOn next) reader new moves gives = absurd gives
-close-moves answering pool (Stop stop) old now (GoesOn next) reader new moves gives = absurd gives
-close-moves answering pool end old now (Ends status) reader new moves gives = tt
+-- an ask keeps the sheet, and moves the reader on
+pub close-goes_on : (mode : Mode) (pool : PoolView) (end : RoundEnd) (old now : Option (List ℕ))
+    (turn : Step) (reader new : LineReaderView) (sheet : Sheet) → pool.sheet ≡ sheet
+    → MovesToEntry reader new (close_of end) → TurnIsLive mode turn
+    → CloseGives mode pool end old now turn
+    → TurnGoesOn mode sheet reader.position.bytes new.position.bytes turn
+close-goes_on mode pool Ask old now (GoesOn next) reader new sheet same moves live gives =
+    (live, gives.0.0 ∙ same, moves.0, moves.1)
+close-goes_on mode pool End old now (GoesOn next) reader new sheet same moves live gives =
+    absurd gives
+close-goes_on mode pool (Stop stop) old now (GoesOn next) reader new sheet same moves live gives =
+    absurd gives
+close-goes_on mode pool end old now (Ends status) reader new sheet same moves live gives = tt
 
 -- ---- the counts of faults
 
--- a run that ends, where the source did not fail
+-- a run that ends, if the source did not fail
 end-counts : (reads reads' writes writes' : ℕ) (status : Status) → reads' ≡ reads
     → CountsEnd writes writes' status → TurnCounts reads reads' writes writes' (Ends status)
 end-counts reads reads' writes writes' Done same counts = ((same, counts), tt)
@@ -142,12 +112,23 @@ ask-counts reads reads' writes writes' (Ends status) same counts =
 
 -- after a stop
 stop-counts : (reads reads' writes writes' : ℕ) (stop : FeedStop) (status : Status)
-    → CountsEntry reads reads' (Err stop) → CountsStop stop writes writes' status
+    → CountsEntry reads reads' (Err stop) → CountsStop (stop_of_feed stop) writes writes' status
     → TurnCounts reads reads' writes writes' (Ends status)
 stop-counts reads reads' writes writes' (feed_stop.Read read_stop.ReadFault) status rose counts =
     let P : Status → Type 0 = λ s. TurnCounts reads reads' writes writes' (Ends s) in
     subst P (sym counts.0) ((rose, counts.1), tt)
 stop-counts reads reads' writes writes' stop status same counts =
+    end-counts reads reads' writes writes' status same counts
+
+-- after a stop in place of a sheet
+pub sheet-counts : (reads reads' writes writes' : ℕ) (stop : SheetStop) (status : Status)
+    → CountsSheet {A = Sheet} reads reads' (Err stop)
+    → CountsStop (stop_of_sheet stop) writes writes' status
+    → TurnCounts reads reads' writes writes' (Ends status)
+sheet-counts reads reads' writes writes' (sheet_stop.Read read_stop.ReadFault) status rose counts =
+    let P : Status → Type 0 = λ s. TurnCounts reads reads' writes writes' (Ends s) in
+    subst P (sym counts.0) ((rose, counts.1), tt)
+sheet-counts reads reads' writes writes' stop status same counts =
     end-counts reads reads' writes writes' status same counts
 
 -- whatever ended the round
@@ -167,34 +148,90 @@ close-counts reads reads' writes writes' (Stop stop) (Ends status) cause counts 
 -- ---- the last read
 
 module _ {S : Type 0} (left : S → Option (List ℕ)) (reads : S → List ℕ → S → Type 0) (first : S)
-    (reader new : LineReaderView) (before after : S) (sheet : Sheet) (log : List Event)
-    (come : HasComeTo left reads first reader before sheet log) where
+    (reader new : LineReaderView) (before after : S) (mode : Mode) (pool : PoolView)
+    (come : HasComeToPool left reads mode first reader before pool) where
+  -- whatever was read of a round from the origin of the way
+  origin-stops : (status : Status)
+      → ReadsOnWay left reads (GivesEvents (line_after mode come.0.sheet) pool.log) reader new
+      before after
+      → StopsSession left reads mode first after status
+  origin-stops status ways =
+      round-stops left reads first reader new before after mode come.0 pool.log come.2 ways
+      status
+
   -- a stop of the feed
   stop-last : (stop : FeedStop) (old now : Option (List ℕ)) (status : Status)
-      → StopsAtClose left reads sheet log reader new before after (Err stop)
-      → StopEnds stop old now status → StopsSession left reads first after status
+      → StopsAtClose left reads (line_after mode come.0.sheet) pool.log reader new before after
+      (Err stop)
+      → StopEnds (stop_of_feed stop) old now status
+      → StopsSession left reads mode first after status
   stop-last (feed_stop.Read read_stop.ReadFault) old now status ways stops =
-      let P : Status → Type 0 = λ s. StopsSession left reads first after s in
+      let P : Status → Type 0 = λ s. StopsSession left reads mode first after s in
       subst P (sym stops.0) tt
-  stop-last stop old now status ways stops =
-      round-stops left reads first reader new before after sheet log come ways status
+  stop-last stop old now status ways stops = origin-stops status ways
 
   -- whatever ended the round
-  pub close-last : (answering : Answering) (pool : PoolView) (end : RoundEnd)
-      (old now : Option (List ℕ)) (turn : Step) (x y : Bool) (m n : ℕ)
-      → EndsRound sheet log pool.log
+  origin-last : (next : PoolView) (end : RoundEnd) (old now : Option (List ℕ)) (turn : Step)
+      (x y : Bool) (m n : ℕ)
+      → EndsRound (line_after mode come.0.sheet) pool.log next.log
       (record { reader = reader; left = left before; ended = x; faults = m })
       (record { reader = new; left = left after; ended = y; faults = n }) (close_of end)
-      → StopsAtClose left reads sheet log reader new before after (close_of end)
-      → pool.sheet ≡ sheet → CloseGives answering pool end old now turn
-      → TurnStops left reads first new after turn
-  close-last answering pool Ask old now turn x y m n ends ways same gives =
-      round-goes_on left reads first reader new before after sheet log come ways answering pool old
-      now turn x y m n ends same gives
-  close-last answering pool End old now (GoesOn next) x y m n ends ways same gives = absurd gives
-  close-last answering pool End old now (Ends status) x y m n ends ways same gives =
-      round-stops left reads first reader new before after sheet log come ways status
-  close-last answering pool (Stop stop) old now (GoesOn next) x y m n ends ways same gives =
+      → StopsAtClose left reads (line_after mode come.0.sheet) pool.log reader new before after
+      (close_of end)
+      → IsOriginOf come.0 next → CloseGives mode next end old now turn
+      → TurnStops left reads mode first new after turn
+  origin-last next Ask old now turn x y m n ends ways of_pool gives =
+      round-goes_on left reads first reader new before after mode come.0 pool.log come.2 ways
+      next old now turn x y m n ends of_pool gives
+  origin-last next End old now (GoesOn other) x y m n ends ways of_pool gives = absurd gives
+  origin-last next End old now (Ends status) x y m n ends ways of_pool gives =
+      origin-stops status ways
+  origin-last next (Stop stop) old now (GoesOn other) x y m n ends ways of_pool gives =
       absurd gives
-  close-last answering pool (Stop stop) old now (Ends status) x y m n ends ways same gives =
+  origin-last next (Stop stop) old now (Ends status) x y m n ends ways of_pool gives =
       stop-last stop old now status ways gives
+
+  -- from the pool before it
+  pub close-last : (next : PoolView) (end : RoundEnd) (old now : Option (List ℕ)) (turn : Step)
+      (x y : Bool) (m n : ℕ)
+      → EndsRound (line_after mode pool.sheet) pool.log next.log
+      (record { reader = reader; left = left before; ended = x; faults = m })
+      (record { reader = new; left = left after; ended = y; faults = n }) (close_of end)
+      → StopsAtClose left reads (line_after mode pool.sheet) pool.log reader new before after
+      (close_of end)
+      → next.sheet ≡ pool.sheet → CloseGives mode next end old now turn
+      → TurnStops left reads mode first new after turn
+  close-last next end old now turn x y m n ends ways same gives =
+      let P : Sheet → Type 0 =
+      λ s. EndsRound (line_after mode s) pool.log next.log
+      (record { reader = reader; left = left before; ended = x; faults = m })
+      (record { reader = new; left = left after; ended = y; faults = n }) (close_of end) in
+      let Q : Sheet → Type 0 =
+      λ s. StopsAtClose left reads (line_after mode s) pool.log reader new before after
+      (close_of end) in
+      origin-last next end old now turn x y m n (subst P (sym come.1) ends)
+      (subst Q (sym come.1) ways) (come.1 ∙ sym same) gives
+
+  -- where no memory was found
+  pub starved-last : ReadsOnWay left reads (GivesEvents (line_after mode pool.sheet) pool.log)
+      reader new before after
+      → (status : Status) → StopsSession left reads mode first after status
+  starved-last ways status =
+      let P : Sheet → Type 0 =
+      λ s. ReadsOnWay left reads (GivesEvents (line_after mode s) pool.log) reader new before
+      after in
+      origin-stops status (subst P (sym come.1) ways)
+
+module _ {S : Type 0} (left : S → Option (List ℕ)) (reads : S → List ℕ → S → Type 0)
+    (mode : Mode) (reader new : LineReaderView) (before after : S) (fresh : reader ≡ fresh_reader)
+    (takes : TakesInput reader new (left before) (left after)) where
+  -- a stop in place of a sheet
+  pub sheet-last : (stop : SheetStop) (old now : Option (List ℕ)) (status : Status)
+      → StopsAtSheet left reads reader new before after (Err stop)
+      → StopEnds (stop_of_sheet stop) old now status
+      → StopsSession left reads mode before after status
+  sheet-last (sheet_stop.Read read_stop.ReadFault) old now status ways stops =
+      let P : Status → Type 0 = λ s. StopsSession left reads mode before after s in
+      subst P (sym stops.0) tt
+  sheet-last stop old now status ways stops =
+      sheet-ends left reads mode reader new before after fresh takes status ways

@@ -1,82 +1,137 @@
--- Courses of a feed, line by line: lines that tell events, an ask, a refused line, the end.
+-- Courses line by line: lines that tell events, an ask, a refused line; and that the course of any
+-- contents is that of their sheet and their feed.
 use Rattle.std.proofs.Common.{◌≡◌, ℕ, false, List, [], ◌∷◌, ◌++◌, Option, Some, None, Result, Ok}
 use Rattle.std.proofs.Common.{Err}
 use Rattle.std.proofs.Common.{refl, ap, sym}
 use Rattle.league_core.specs.declared.sheet.Sheet.{Sheet}
 use Rattle.league_core.specs.declared.season.Event.{Event}
+use Rattle.league_core.specs.game.Seasons.{epoch_of, season_after}
 use Rattle.port_core.specs.declared.line.ReadStop.{ReadStop}
-use Rattle.port_core.specs.Contents.{Contents, ended, with_line, with_lines}
+use Rattle.port_core.specs.Contents.{Contents, with_line, with_lines}
+use Rattle.fixture_sheet.specs.declared.fault.SheetStop.{SheetStop}
+use Rattle.fixture_sheet.specs.Sheets.{sheet_reading_of}
 use Rattle.result_log.specs.declared.entry.Entry.{Entry}
 use Rattle.result_log.specs.declared.entry.Entry.TheVariants.{Change, Ask, Proofs, End}
 use Rattle.result_log.specs.declared.fault.FeedFault.{FeedFault}
 use Rattle.result_log.specs.Feeds.{feed_by, feed_from}
-use Rattle.worker_gate.specs.inside.Rounds.{ReadsEvents, live_entry, read_on}
-use Rattle.futmax_main.specs.declared.session.Cause.TheVariants as cause
-use Rattle.futmax_main.specs.declared.session.RunEnd.TheVariants.{Complete, Refused}
-use Rattle.futmax_main.specs.Plays.{played_after}
-use Rattle.futmax_main.specs.Courses.{Course, course_ended, course_from, course_of_feed, with_asks}
-use Rattle.futmax_main.specs.Courses.{outcome_at_stop}
+use Rattle.result_log.specs.inside.Rounds.{ReadsEvents, read_on}
+use Rattle.command_words.specs.declared.command.Mode.{Mode}
+use Rattle.futmax_main.specs.declared.run_end.Cause.TheVariants as cause
+use Rattle.futmax_main.specs.declared.run_end.RunEnd.TheVariants.{Refused}
+use Rattle.futmax_main.specs.Courses.{Course, Origin, asked_at, course_after, course_by}
+use Rattle.futmax_main.specs.Courses.{course_ended, course_from, course_in, course_of, line_of}
+use Rattle.futmax_main.specs.Courses.{with_asks}
+use Rattle.futmax_main.specs.inside.FeedCourses.{course_of_feed, course_with_feed}
+use Rattle.futmax_main.specs.inside.Progress.{line_after}
+
+-- ---- line by line
 
 -- the course after a line that tells an event, or holds no record, is that of what comes after it
-told-course : (sheet : Sheet) (log : List Event) (number : ℕ) (lines : List (ℕ × List ℕ))
-    (ending : Result ℕ ReadStop) (onward : List Event → Type 0) (whole : Course)
-    → ((next : List Event) → onward next
-    → course_of_feed sheet next (feed_from sheet false lines ending next) ≡ whole)
+told-course : (mode : Mode) (origin : Origin) (log : List Event) (line : ℕ × List ℕ)
+    (after : List Event → Course) (onward : List Event → Type 0) (whole : Course)
+    → ((next : List Event) → onward next → after next ≡ whole)
     → (found : Result (Option Entry) FeedFault) → read_on found onward log
-    → course_of_feed sheet log (feed_by number (record { lines = lines; ending = ending })
-    (feed_from sheet false lines ending) log found) ≡ whole
-told-course sheet log number lines ending onward whole behind (Ok None) told = behind log told
-told-course sheet log number lines ending onward whole behind (Ok (Some (Change event))) told =
+    → course_by mode origin line after log found ≡ whole
+told-course mode origin log line after onward whole behind (Ok None) told = behind log told
+told-course mode origin log line after onward whole behind (Ok (Some (Change event))) told =
     behind _ told
-told-course sheet log number lines ending onward whole behind (Ok (Some Ask)) told = absurd told
-told-course sheet log number lines ending onward whole behind (Ok (Some Proofs)) told = absurd told
-told-course sheet log number lines ending onward whole behind (Ok (Some End)) told = absurd told
-told-course sheet log number lines ending onward whole behind (Err fault) told = absurd told
+told-course mode origin log line after onward whole behind (Ok (Some Ask)) told = absurd told
+told-course mode origin log line after onward whole behind (Ok (Some Proofs)) told =
+    absurd told
+told-course mode origin log line after onward whole behind (Ok (Some End)) told = absurd told
+told-course mode origin log line after onward whole behind (Err fault) told = absurd told
 
 -- so is that after all lines of a round
-tells-course : (sheet : Sheet) (log log' : List Event) (lines more : List (ℕ × List ℕ))
-    (ending : Result ℕ ReadStop) → ReadsEvents sheet log lines log'
-    → course_of_feed sheet log (feed_from sheet false (lines ++ more) ending log)
-    ≡ course_of_feed sheet log' (feed_from sheet false more ending log')
-tells-course sheet log log' [] more ending told =
-    ap (λ l. course_of_feed sheet l (feed_from sheet false more ending l)) (sym told)
-tells-course sheet log log' (line ∷ lines) more ending told =
-    told-course sheet log line.0 (lines ++ more) ending
-    (λ next. ReadsEvents sheet next lines log')
-    (course_of_feed sheet log' (feed_from sheet false more ending log'))
-    (λ next telling. tells-course sheet next log' lines more ending telling)
-    (live_entry sheet log line.1) told
+tells-course : (mode : Mode) (origin : Origin) (log log' : List Event)
+    (lines more : List (ℕ × List ℕ)) (ending : Result ℕ ReadStop)
+    → ReadsEvents (line_after mode origin.sheet) log lines log'
+    → course_in mode origin (lines ++ more) ending log
+    ≡ course_in mode origin more ending log'
+tells-course mode origin log log' [] more ending told =
+    ap (course_in mode origin more ending) (sym told)
+tells-course mode origin log log' (line ∷ lines) more ending told =
+    told-course mode origin log line (course_in mode origin (lines ++ more) ending)
+    (λ next. ReadsEvents (line_after mode origin.sheet) next lines log')
+    (course_in mode origin more ending log')
+    (λ next telling. tells-course mode origin next log' lines more ending telling)
+    (line_after mode origin.sheet log line.1) told
 
-pub course-told : (sheet : Sheet) (log log' : List Event) (lines : List (ℕ × List ℕ))
-    (rest : Contents) → ReadsEvents sheet log lines log'
-    → course_from sheet log (with_lines lines rest) ≡ course_from sheet log' rest
-course-told sheet log log' lines rest told =
-    tells-course sheet log log' lines rest.lines rest.ending told
+pub course-told : (mode : Mode) (origin : Origin) (log log' : List Event)
+    (lines : List (ℕ × List ℕ)) (rest : Contents)
+    → ReadsEvents (line_after mode origin.sheet) log lines log'
+    → course_from mode origin log (with_lines lines rest)
+    ≡ course_from mode origin log' rest
+course-told mode origin log log' lines rest told =
+    tells-course mode origin log log' lines rest.lines rest.ending told
 
--- an ask stands before what comes after it
-pub course-ask : (sheet : Sheet) (log : List Event) (number : ℕ) (text : List ℕ) (rest : Contents)
-    → live_entry sheet log text ≡ Ok (Some Ask)
-    → course_from sheet log (with_line number text rest)
-    ≡ with_asks (played_after sheet log ∷ []) (course_from sheet log rest)
-course-ask sheet log number text rest is =
-    ap (λ found. course_of_feed sheet log (feed_by number rest
-    (feed_from sheet false rest.lines rest.ending) log found)) is
+module _ (mode : Mode) (origin : Origin) (log : List Event) (number : ℕ)
+    (text : List ℕ) (rest : Contents) where
+  -- the course from a line on is what the line makes of the course after it
+  course-line : (found : Result (Option Entry) FeedFault)
+      → line_after mode origin.sheet log text ≡ found
+      → course_from mode origin log (with_line number text rest)
+      ≡ course_by mode origin (number, text)
+      (course_in mode origin rest.lines rest.ending) log found
+  course-line found is =
+      ap (course_by mode origin (number, text)
+      (course_in mode origin rest.lines rest.ending) log) is
 
--- a refused line ends it
-pub course-refused : (sheet : Sheet) (log : List Event) (number : ℕ) (text : List ℕ)
-    (rest : Contents) (fault : FeedFault) → live_entry sheet log text ≡ Err fault
-    → course_from sheet log (with_line number text rest)
-    ≡ course_ended (Refused (record { number = number; cause = cause.Feed fault }))
-course-refused sheet log number text rest fault is =
-    ap (λ found. course_of_feed sheet log (feed_by number rest
-    (feed_from sheet false rest.lines rest.ending) log found)) is
+  -- an ask stands before what comes after it
+  pub course-ask : line_after mode origin.sheet log text ≡ Ok (Some Ask)
+      → course_from mode origin log (with_line number text rest)
+      ≡ with_asks (asked_at mode origin log text ∷ [])
+      (course_from mode origin log rest)
+  course-ask is = course-line (Ok (Some Ask)) is
 
--- so does the end of the input
-pub course-end : (sheet : Sheet) (log : List Event) (number : ℕ)
-    → course_from sheet log (ended (Ok number)) ≡ course_ended Complete
-course-end sheet log number = refl
+  -- a refused line ends it
+  pub course-refused : (fault : FeedFault)
+      → line_after mode origin.sheet log text ≡ Err fault
+      → course_from mode origin log (with_line number text rest)
+      ≡ course_ended (Refused (record { number = number; cause = cause.Feed fault }))
+  course-refused fault is = course-line (Err fault) is
 
--- and so does a stop
-pub course-stop : (sheet : Sheet) (log : List Event) (stop : ReadStop)
-    → course_from sheet log (ended (Err stop)) ≡ course_ended (outcome_at_stop stop)
-course-stop sheet log stop = refl
+-- ---- the course of a feed
+
+-- a line more
+feed-by : (mode : Mode) (sheet : Sheet) (line : ℕ × List ℕ)
+    (lines : List (ℕ × List ℕ)) (ending : Result ℕ ReadStop)
+    → ((events : List Event) → course_in mode (record { sheet = sheet }) lines ending events
+    ≡ course_of_feed sheet events (feed_from sheet false lines ending events))
+    → (events : List Event) (found : Result (Option Entry) FeedFault)
+    → course_by mode (record { sheet = sheet }) line
+    (course_in mode (record { sheet = sheet }) lines ending) events found
+    ≡ course_of_feed sheet events (feed_by line.0 (record { lines = lines; ending = ending })
+    (feed_from sheet false lines ending) events found)
+feed-by mode sheet line lines ending behind events (Ok None) = behind events
+feed-by mode sheet line lines ending behind events (Ok (Some (Change event))) =
+    behind (events ++ event ∷ [])
+feed-by mode sheet line lines ending behind events (Ok (Some Ask)) =
+    ap (with_asks (asked_at mode (record { sheet = sheet }) events line.1 ∷ []))
+    (behind events)
+feed-by mode sheet line lines ending behind events (Ok (Some Proofs)) = refl
+feed-by mode sheet line lines ending behind events (Ok (Some End)) = refl
+feed-by mode sheet line lines ending behind events (Err fault) = refl
+
+-- the course of lines is that of the feed that they are
+feed-from : (mode : Mode) (sheet : Sheet) (lines : List (ℕ × List ℕ))
+    (ending : Result ℕ ReadStop) (events : List Event)
+    → course_in mode (record { sheet = sheet }) lines ending events
+    ≡ course_of_feed sheet events (feed_from sheet false lines ending events)
+feed-from mode sheet [] (Ok number) events = refl
+feed-from mode sheet [] (Err stop) events = refl
+feed-from mode sheet (line ∷ lines) ending events =
+    feed-by mode sheet line lines ending (feed-from mode sheet lines ending) events
+    (line_of mode sheet (season_after sheet events) (epoch_of events) line.1)
+
+-- so is that of any contents, after what came of the sheet
+feed-after : (mode : Mode) (gives : Result Sheet SheetStop) (rest : Contents)
+    → course_after mode gives rest ≡ course_with_feed gives rest
+feed-after mode (Ok sheet) rest = feed-from mode sheet rest.lines rest.ending []
+feed-after mode (Err stop) rest = refl
+
+pub course-of_feed : (mode : Mode) (contents : Contents)
+    → course_of mode contents
+    ≡ course_with_feed (sheet_reading_of contents None).gives (sheet_reading_of contents None).rest
+course-of_feed mode contents =
+    let reading = sheet_reading_of contents None in
+    feed-after mode reading.gives reading.rest

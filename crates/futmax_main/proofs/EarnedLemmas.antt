@@ -10,7 +10,7 @@ use Rattle.futmax_main.specs.declared.status.Status.{Status}
 use Rattle.futmax_main.specs.declared.status.Status.TheVariants.{Done, BadWords, BadSheet, BadFeed}
 use Rattle.futmax_main.specs.declared.status.Status.TheVariants.{ReadFault, WriteFault, OutOfMemory}
 use Rattle.futmax_main.specs.declared.status.Status.TheVariants.{NotProved, TooLong}
-use Rattle.futmax_main.specs.declared.session.Answering.{Answering}
+use Rattle.command_words.specs.declared.command.Mode.{Mode}
 use Rattle.futmax_main.specs.Top.{session_status, IsSettled, Serves}
 use Rattle.futmax_main.specs.inside.Turns.{MayEndSession}
 
@@ -25,52 +25,53 @@ two_clubs =
     ++ line (codes "season")))
 
 -- it is an input that ends well
-earned-done : session_status two_clubs ≡ Done
+earned-done : (mode : Mode) → session_status mode two_clubs ≡ Done
 unfolding line two_clubs next_record strip_bom is_utf8 chars encode
-earned-done = refl
+earned-done mode = refl
 
 -- no sheet stands in an empty input
-earned-bad_sheet : session_status [] ≡ BadSheet
-earned-bad_sheet = refl
+earned-bad_sheet : (mode : Mode) → session_status mode [] ≡ BadSheet
+earned-bad_sheet mode = refl
 
 -- a word that no feed has
-earned-bad_feed : session_status (two_clubs ++ line (codes "x")) ≡ BadFeed
+earned-bad_feed : (mode : Mode)
+    → session_status mode (two_clubs ++ line (codes "x")) ≡ BadFeed
 unfolding line two_clubs next_record strip_bom is_utf8 chars encode
-earned-bad_feed = refl
+earned-bad_feed mode = refl
 
 -- a line of 1025 bytes
-earned-too_long : session_status (replicate 1025 97) ≡ TooLong
-earned-too_long = refl
+earned-too_long : (mode : Mode) → session_status mode (replicate 1025 97) ≡ TooLong
+earned-too_long mode = refl
 
 -- the status of a run in which no device failed
-pub settled : (answering : Answering) (input left : Option (List ℕ)) (told : Bool)
+pub settled : (mode : Mode) (input left : Option (List ℕ)) (told : Bool)
     (old new : Option (List ℕ)) (status : Status)
-    → Serves (Some answering) input left told old new status → MayEndSession status
-    → status ≢ ReadFault → status ≢ WriteFault → IsSettled (Some answering) input status
-settled answering None left told old new Done serves may read write =
-    inl (two_clubs, earned-done)
-settled answering None left told old new BadWords serves may read write = absurd may
-settled answering None left told old new BadSheet serves may read write =
-    inl ([], earned-bad_sheet)
-settled answering None left told old new BadFeed serves may read write =
-    inl (two_clubs ++ line (codes "x"), earned-bad_feed)
-settled answering None left told old new ReadFault serves may read write = absurd (read refl)
-settled answering None left told old new WriteFault serves may read write = absurd (write refl)
-settled answering None left told old new OutOfMemory serves may read write = inr refl
-settled answering None left told old new NotProved serves may read write = absurd may
-settled answering None left told old new TooLong serves may read write =
-    inl (replicate 1025 97, earned-too_long)
-settled answering (Some input) left told old new Done serves may read write = inl (sym serves.2.0.0)
-settled answering (Some input) left told old new BadWords serves may read write = absurd may
-settled answering (Some input) left told old new BadSheet serves may read write =
+    → Serves mode input left told old new status → MayEndSession status
+    → status ≢ ReadFault → status ≢ WriteFault → IsSettled mode input status
+settled mode None left told old new Done serves may read write =
+    inl (two_clubs, earned-done mode)
+settled mode None left told old new BadWords serves may read write = absurd may
+settled mode None left told old new BadSheet serves may read write =
+    inl ([], earned-bad_sheet mode)
+settled mode None left told old new BadFeed serves may read write =
+    inl (two_clubs ++ line (codes "x"), earned-bad_feed mode)
+settled mode None left told old new ReadFault serves may read write = absurd (read refl)
+settled mode None left told old new WriteFault serves may read write = absurd (write refl)
+settled mode None left told old new OutOfMemory serves may read write = inr refl
+settled mode None left told old new NotProved serves may read write = absurd may
+settled mode None left told old new TooLong serves may read write =
+    inl (replicate 1025 97, earned-too_long mode)
+settled mode (Some input) left told old new Done serves may read write = inl (sym serves.2.0.0)
+settled mode (Some input) left told old new BadWords serves may read write = absurd may
+settled mode (Some input) left told old new BadSheet serves may read write =
     inl (sym serves.2.0)
-settled answering (Some input) left told old new BadFeed serves may read write =
+settled mode (Some input) left told old new BadFeed serves may read write =
     inl (sym serves.2.0)
-settled answering (Some input) left told old new ReadFault serves may read write =
+settled mode (Some input) left told old new ReadFault serves may read write =
     absurd (read refl)
-settled answering (Some input) left told old new WriteFault serves may read write =
+settled mode (Some input) left told old new WriteFault serves may read write =
     absurd (write refl)
-settled answering (Some input) left told old new OutOfMemory serves may read write = inr refl
-settled answering (Some input) left told old new NotProved serves may read write = absurd may
-settled answering (Some input) left told old new TooLong serves may read write =
+settled mode (Some input) left told old new OutOfMemory serves may read write = inr refl
+settled mode (Some input) left told old new NotProved serves may read write = absurd may
+settled mode (Some input) left told old new TooLong serves may read write =
     inl (sym serves.2.0)

@@ -9,18 +9,19 @@ use Rattle.futmax_main.specs.declared.status.Status.{Status}
 use Rattle.futmax_main.specs.declared.status.Status.TheVariants.{Done, BadWords, BadSheet, BadFeed}
 use Rattle.futmax_main.specs.declared.status.Status.TheVariants.{ReadFault, WriteFault, OutOfMemory}
 use Rattle.futmax_main.specs.declared.status.Status.TheVariants.{NotProved, TooLong}
-use Rattle.futmax_main.specs.declared.session.Answering.{Answering}
-use Rattle.futmax_main.specs.declared.session.Cause.{Cause}
-use Rattle.futmax_main.specs.declared.session.Cause.TheVariants as cause
-use Rattle.futmax_main.specs.declared.session.Fault.{Fault}
-use Rattle.futmax_main.specs.declared.session.RunEnd.TheVariants.{Complete, Refused}
+use Rattle.command_words.specs.declared.command.Mode.{Mode}
+use Rattle.futmax_main.specs.declared.run_end.Cause.{Cause}
+use Rattle.futmax_main.specs.declared.run_end.Cause.TheVariants as cause
+use Rattle.futmax_main.specs.declared.run_end.Fault.{Fault}
+use Rattle.futmax_main.specs.declared.run_end.RunEnd.TheVariants.{Complete, Refused}
 use Rattle.futmax_main.specs.Plays.{Played}
 use Rattle.futmax_main.specs.Courses.{Course, course_ended, with_asks}
 use Rattle.futmax_main.specs.Rows.{fault_row}
 use Rattle.futmax_main.specs.Answers.{IsAnswerTo}
 use Rattle.futmax_main.specs.Texts.{IsPrefixOf, status_of_cause}
 use Rattle.futmax_main.specs.Top.{IsWholeText, Serves}
-use Rattle.futmax_main.specs.inside.Turns.{FaultEnds, AskEnds}
+use Rattle.futmax_main.specs.inside.Stops.{FaultEnds}
+use Rattle.futmax_main.specs.inside.Turns.{AskEnds}
 use Rattle.futmax_main.proofs.AnsweredLemmas.{answers-behind}
 use Rattle.futmax_main.proofs.TextLemmas.{Reached, front-answer, front-last, reached-answered}
 use Rattle.futmax_main.proofs.TextLemmas.{reached-front, reached-so_far, reached-status}
@@ -49,145 +50,145 @@ written-more old now later written part first second =
     ∙ append_known-append_known old written part
 
 -- a fault of the input comes after what was written
-abbrev pub Stopped : Answering → List ℕ → List ℕ → Fault → Type 0
-Stopped answering input written fault =
-    Reached answering input written (course_ended (Refused fault))
+abbrev pub Stopped : Mode → List ℕ → List ℕ → Fault → Type 0
+Stopped mode input written fault =
+    Reached mode input written (course_ended (Refused fault))
 
 -- its whole text
-whole : (answering : Answering) (input written : List ℕ) (fault : Fault) (status : Status)
-    → Stopped answering input written fault → status_of_cause fault.cause ≡ status
-    → IsWholeText answering input status (written ++ fault_row fault)
-whole answering input written fault status stopped is = (
-  reached-status answering input written (Refused fault) stopped ∙ is,
-  reached-text answering input written (Refused fault) stopped,
+whole : (mode : Mode) (input written : List ℕ) (fault : Fault) (status : Status)
+    → Stopped mode input written fault → status_of_cause fault.cause ≡ status
+    → IsWholeText mode input status (written ++ fault_row fault)
+whole mode input written fault status stopped is = (
+  reached-status mode input written (Refused fault) stopped ∙ is,
+  reached-text mode input written (Refused fault) stopped,
 )
 
 -- a fault of the input serves
-pub fault-serves : (answering : Answering) (input written : List ℕ) (left : Option (List ℕ))
+pub fault-serves : (mode : Mode) (input written : List ℕ) (left : Option (List ℕ))
     (told' : Bool) (old now0 now1 : Option (List ℕ)) (fault : Fault) (status : Status)
-    → Stopped answering input written fault → now0 ≡ append_known old written
+    → Stopped mode input written fault → now0 ≡ append_known old written
     → FaultEnds fault now0 now1 status
-    → Serves (Some answering) (Some input) left told' old now1 status
-fault-serves answering input written left told' old now0 now1 fault Done stopped before ends =
+    → Serves mode (Some input) left told' old now1 status
+fault-serves mode input written left told' old now0 now1 fault Done stopped before ends =
     absurd (not_done fault.cause ends.0)
-fault-serves answering input written left told' old now0 now1 fault BadWords stopped before ends = (
+fault-serves mode input written left told' old now0 now1 fault BadWords stopped before ends = (
   written ++ fault_row fault,
   written-more old now0 now1 written (fault_row fault) before ends.1,
-  whole answering input written fault BadWords stopped ends.0,
+  whole mode input written fault BadWords stopped ends.0,
 )
-fault-serves answering input written left told' old now0 now1 fault BadSheet stopped before ends = (
+fault-serves mode input written left told' old now0 now1 fault BadSheet stopped before ends = (
   written ++ fault_row fault,
   written-more old now0 now1 written (fault_row fault) before ends.1,
-  whole answering input written fault BadSheet stopped ends.0,
+  whole mode input written fault BadSheet stopped ends.0,
 )
-fault-serves answering input written left told' old now0 now1 fault BadFeed stopped before ends = (
+fault-serves mode input written left told' old now0 now1 fault BadFeed stopped before ends = (
   written ++ fault_row fault,
   written-more old now0 now1 written (fault_row fault) before ends.1,
-  whole answering input written fault BadFeed stopped ends.0,
+  whole mode input written fault BadFeed stopped ends.0,
 )
-fault-serves answering input written left told' old now0 now1 fault ReadFault stopped before ends =
+fault-serves mode input written left told' old now0 now1 fault ReadFault stopped before ends =
     absurd (not_read fault.cause ends.0)
-fault-serves answering input written left told' old now0 now1 fault WriteFault stopped before ends
+fault-serves mode input written left told' old now0 now1 fault WriteFault stopped before ends
     = (
       written ++ ends.0,
       written-more old now0 now1 written ends.0 before ends.2,
-      reached-front answering input written (course_ended (Refused fault)) ends.0 stopped
-          (front-last answering (Refused fault) ends.0 ends.1),
+      reached-front mode input written (course_ended (Refused fault)) ends.0 stopped
+          (front-last mode (Refused fault) ends.0 ends.1),
     )
-fault-serves answering input written left told' old now0 now1 fault OutOfMemory stopped before ends
+fault-serves mode input written left told' old now0 now1 fault OutOfMemory stopped before ends
     = (
       written,
       ends ∙ before,
-      reached-so_far answering input written (course_ended (Refused fault)) stopped,
+      reached-so_far mode input written (course_ended (Refused fault)) stopped,
     )
-fault-serves answering input written left told' old now0 now1 fault NotProved stopped before ends
+fault-serves mode input written left told' old now0 now1 fault NotProved stopped before ends
     = (
       written ++ fault_row fault,
       written-more old now0 now1 written (fault_row fault) before ends.1,
-      whole answering input written fault NotProved stopped ends.0,
+      whole mode input written fault NotProved stopped ends.0,
     )
-fault-serves answering input written left told' old now0 now1 fault TooLong stopped before ends = (
+fault-serves mode input written left told' old now0 now1 fault TooLong stopped before ends = (
   written ++ fault_row fault,
   written-more old now0 now1 written (fault_row fault) before ends.1,
-  whole answering input written fault TooLong stopped ends.0,
+  whole mode input written fault TooLong stopped ends.0,
 )
 
 -- running out of memory serves, and leaves what was written
-pub memory-serves : (answering : Answering) (input written : List ℕ) (left : Option (List ℕ))
+pub memory-serves : (mode : Mode) (input written : List ℕ) (left : Option (List ℕ))
     (told' : Bool) (old now : Option (List ℕ)) (behind : Course)
-    → Reached answering input written behind → now ≡ append_known old written
-    → Serves (Some answering) (Some input) left told' old now OutOfMemory
-memory-serves answering input written left told' old now behind there known =
-    (written, known, reached-so_far answering input written behind there)
+    → Reached mode input written behind → now ≡ append_known old written
+    → Serves mode (Some input) left told' old now OutOfMemory
+memory-serves mode input written left told' old now behind there known =
+    (written, known, reached-so_far mode input written behind there)
 
 -- the end of the input serves
-pub end-serves : (answering : Answering) (input written : List ℕ) (left : Option (List ℕ))
+pub end-serves : (mode : Mode) (input written : List ℕ) (left : Option (List ℕ))
     (told' : Bool) (old now : Option (List ℕ))
-    → Reached answering input written (course_ended Complete) → now ≡ append_known old written
-    → left ≡ Some [] → Serves (Some answering) (Some input) left told' old now Done
-end-serves answering input written left told' old now there known none =
-    let P : List ℕ → Type 0 = λ t. IsWholeText answering input Done t in (
+    → Reached mode input written (course_ended Complete) → now ≡ append_known old written
+    → left ≡ Some [] → Serves mode (Some input) left told' old now Done
+end-serves mode input written left told' old now there known none =
+    let P : List ℕ → Type 0 = λ t. IsWholeText mode input Done t in (
       written,
       known,
       (
         subst P (append-nil written) (
-          reached-status answering input written Complete there,
-          reached-text answering input written Complete there,
+          reached-status mode input written Complete there,
+          reached-text mode input written Complete there,
         ),
         none,
       ),
     )
 
 -- a prefix of an answer is one of the course from its ask on
-asked-front : (answering : Answering) (input written : List ℕ) (asked : Played)
+asked-front : (mode : Mode) (input written : List ℕ) (asked : Played)
     (behind : Course) (answer part : List ℕ)
-    → Reached answering input written (with_asks (asked ∷ []) behind)
-    → IsAnswerTo answering asked answer → IsBytePrefix part answer
-    → IsPrefixOf answering (with_asks (asked ∷ []) behind) part
-asked-front answering input written asked behind answer part there is front =
-    front-answer answering asked behind answer part is front
-    (answers-behind answering (asked ∷ []) behind.asks
-    (reached-answered answering input written (with_asks (asked ∷ []) behind) there))
+    → Reached mode input written (with_asks (asked ∷ []) behind)
+    → IsAnswerTo mode asked answer → IsBytePrefix part answer
+    → IsPrefixOf mode (with_asks (asked ∷ []) behind) part
+asked-front mode input written asked behind answer part there is front =
+    front-answer mode asked behind answer part is front
+    (answers-behind mode (asked ∷ []) behind.asks
+    (reached-answered mode input written (with_asks (asked ∷ []) behind) there))
 
 -- an ask that ends the run serves
-pub ask-serves : (answering : Answering) (input written : List ℕ) (asked : Played)
+pub ask-serves : (mode : Mode) (input written : List ℕ) (asked : Played)
     (behind : Course) (left : Option (List ℕ)) (told' : Bool)
     (old now0 now1 : Option (List ℕ)) (status : Status)
-    → Reached answering input written (with_asks (asked ∷ []) behind)
-    → now0 ≡ append_known old written → AskEnds answering asked now0 now1 status
-    → Serves (Some answering) (Some input) left told' old now1 status
-ask-serves answering input written asked behind left told' old now0 now1 Done there before ends =
+    → Reached mode input written (with_asks (asked ∷ []) behind)
+    → now0 ≡ append_known old written → AskEnds mode asked now0 now1 status
+    → Serves mode (Some input) left told' old now1 status
+ask-serves mode input written asked behind left told' old now0 now1 Done there before ends =
     absurd ends
-ask-serves answering input written asked behind left told' old now0 now1 BadWords there before ends
+ask-serves mode input written asked behind left told' old now0 now1 BadWords there before ends
     = absurd ends
-ask-serves answering input written asked behind left told' old now0 now1 BadSheet there before ends
+ask-serves mode input written asked behind left told' old now0 now1 BadSheet there before ends
     = absurd ends
-ask-serves answering input written asked behind left told' old now0 now1 BadFeed there before ends =
+ask-serves mode input written asked behind left told' old now0 now1 BadFeed there before ends =
     absurd ends
-ask-serves answering input written asked behind left told' old now0 now1 ReadFault there before ends
+ask-serves mode input written asked behind left told' old now0 now1 ReadFault there before ends
     = absurd ends
-ask-serves answering input written asked behind left told' old now0 now1 WriteFault there before
+ask-serves mode input written asked behind left told' old now0 now1 WriteFault there before
     ends =
     let front = ends.2 in (
       written ++ front.0,
       written-more old now0 now1 written front.0 before front.2,
-      reached-front answering input written (with_asks (asked ∷ []) behind) front.0 there
-          (asked-front answering input written asked behind ends.0 front.0 there ends.1 front.1),
+      reached-front mode input written (with_asks (asked ∷ []) behind) front.0 there
+          (asked-front mode input written asked behind ends.0 front.0 there ends.1 front.1),
     )
-ask-serves answering input written asked behind left told' old now0 now1 OutOfMemory there before
+ask-serves mode input written asked behind left told' old now0 now1 OutOfMemory there before
     ends = elim ends [
       | inl same ↦
-          memory-serves answering input written left told' old now1
+          memory-serves mode input written left told' old now1
           (with_asks (asked ∷ []) behind) there (same ∙ before)
       | inr more ↦ let front = more.2 in (
         written ++ front.0,
         written-more old now0 now1 written front.0 before front.2,
-        reached-front answering input written (with_asks (asked ∷ []) behind) front.0 there
-            (asked-front answering input written asked behind more.0 front.0 there more.1
+        reached-front mode input written (with_asks (asked ∷ []) behind) front.0 there
+            (asked-front mode input written asked behind more.0 front.0 there more.1
             front.1),
       )
     ]
-ask-serves answering input written asked behind left told' old now0 now1 NotProved there before ends
+ask-serves mode input written asked behind left told' old now0 now1 NotProved there before ends
     = absurd ends
-ask-serves answering input written asked behind left told' old now0 now1 TooLong there before ends =
+ask-serves mode input written asked behind left told' old now0 now1 TooLong there before ends =
     absurd ends

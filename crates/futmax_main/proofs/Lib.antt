@@ -13,4 +13,4 @@ pub mod CloseLemmas
 pub mod EarnedLemmas
 pub mod CheckLemmas
 pub mod CheckedLemmas
-pub mod ServiceLemmas
+pub mod ModeLemmas

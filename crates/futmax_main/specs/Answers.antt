@@ -1,20 +1,21 @@
--- The answer of an ask, by what is answered.
-use Rattle.std.specs.Prelude.{◌≡◌, ℕ, Bool, List, ◌++◌}
+-- The answer of an ask, by the mode.
+use Rattle.std.specs.Prelude.{◌≡◌, ℕ, Bool, List, [], ◌++◌}
 use Rattle.league_core.specs.declared.sheet.Sheet.{Sheet}
 use Rattle.league_core.specs.game.Results.{Results}
 use Rattle.cert_text.specs.declared.proof_line.ProofLine.{ProofLine}
 use Rattle.cert_text.specs.ExampleLines.{text_of_proof_lines}
-use Rattle.verdict_run.specs.declared.word.Word.{Word}
-use Rattle.verdict_run.specs.Items.{AnswerRow, IsItemShown, answer_rows}
-use Rattle.output_rows.specs.Parts.{IsMadeOf, club_name}
-use Rattle.output_rows.specs.Rows.{ask_row}
-use Rattle.ask_answers.specs.Rows.{verdict_row}
-use Rattle.ask_answers.specs.Tables.{IsTableText}
-use Rattle.score_answers.specs.declared.bound.ClubScores.{ClubScores}
-use Rattle.score_answers.specs.ScoreTexts.{text_of_scores}
+use Rattle.answer_rows.specs.declared.word.Word.{Word}
+use Rattle.answer_rows.specs.Items.{AnswerRow, IsItemShown, answer_rows}
+use Rattle.answer_rows.specs.Parts.{IsMadeOf, club_name}
+use Rattle.answer_rows.specs.Rows.{ask_row}
+use Rattle.answer_rows.specs.Rows.{verdict_row}
+use Rattle.answer_rows.specs.Tables.{IsTableText}
+use Rattle.answer_rows.specs.declared.bound.ClubScores.{ClubScores}
+use Rattle.answer_rows.specs.ScoreTexts.{text_of_scores}
 use Rattle.qual_scores.specs.AllScores.{AreScoresOf}
-use Rattle.futmax_main.specs.declared.session.Answering.{Answering}
-use Rattle.futmax_main.specs.declared.session.Answering.TheVariants.{Verdicts, Table, Scores}
+use Rattle.command_words.specs.declared.command.Mode.{Mode}
+use Rattle.command_words.specs.declared.command.Mode.TheVariants.{Verdicts, Table, Scores, Check}
+use Rattle.command_words.specs.declared.command.Mode.TheVariants.{Sample}
 use Rattle.futmax_main.specs.Plays.{Played}
 
 -- the item of a line and a club: the row of a word that is right, and then lines that show it,
@@ -26,7 +27,7 @@ IsItemText proofs sheet season about text =
     × (text ≡ verdict_row about.line (club_name sheet about.club) word
     ++ text_of_proof_lines lines)
 
--- the verdicts of a season, which so many events told: the row of the ask, then an item for each
+-- the verdicts of a season after so many events: the row of the ask, then an item for each
 -- line and club in the sheet's order, with proofs or without
 abbrev pub IsVerdictsText : Bool → Sheet → Results → ℕ → List ℕ → Type 0
 IsVerdictsText proofs sheet season epoch text =
@@ -39,14 +40,16 @@ IsScoresText sheet season epoch text =
     (scores : List ClubScores) × AreScoresOf sheet season scores
     × (text ≡ text_of_scores sheet epoch scores)
 
--- the text answers from a season that so many events told
-abbrev pub IsAnswerFrom : Answering → Sheet → Results → ℕ → List ℕ → Type 0
+-- the text answers from a season after so many events; the modes without asks answer nothing
+abbrev pub IsAnswerFrom : Mode → Sheet → Results → ℕ → List ℕ → Type 0
 IsAnswerFrom (Verdicts proofs) sheet season epoch text =
     IsVerdictsText proofs sheet season epoch text
 IsAnswerFrom Table sheet season epoch text = IsTableText sheet season epoch text
 IsAnswerFrom Scores sheet season epoch text = IsScoresText sheet season epoch text
+IsAnswerFrom Check sheet season epoch text = text ≡ []
+IsAnswerFrom (Sample seed) sheet season epoch text = text ≡ []
 
 -- the text answers an ask, from what was played there
-abbrev pub IsAnswerTo : Answering → Played → List ℕ → Type 0
-IsAnswerTo answering played text =
-    IsAnswerFrom answering played.sheet played.season played.epoch text
+abbrev pub IsAnswerTo : Mode → Played → List ℕ → Type 0
+IsAnswerTo mode played text =
+    IsAnswerFrom mode played.sheet played.season played.epoch text

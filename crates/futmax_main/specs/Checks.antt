@@ -5,15 +5,15 @@ use Rattle.std.specs.Io.KnownBytes.{append_known}
 use Rattle.port_core.specs.Ports.{IsBytePrefix}
 use Rattle.port_core.specs.Contents.{contents_of}
 use Rattle.cert_text.specs.Rows.{text_of_row}
-use Rattle.check_run.specs.declared.outcome.ReportFault.{ReportFault}
-use Rattle.check_run.specs.declared.outcome.CheckOutcome.{CheckOutcome}
-use Rattle.check_run.specs.declared.outcome.CheckOutcome.TheVariants.{Accepted, Refused, BadSheet}
-use Rattle.check_run.specs.declared.outcome.CheckOutcome.TheVariants.{BadFeed, LineTooLong}
-use Rattle.check_run.specs.declared.outcome.CheckOutcome.TheVariants.{InputTooLong}
-use Rattle.check_run.specs.Outcomes.{outcome_of, report_code_of}
+use Rattle.cert_check.specs.declared.outcome.ReportFault.{ReportFault}
+use Rattle.cert_check.specs.declared.outcome.CheckOutcome.{CheckOutcome}
+use Rattle.cert_check.specs.declared.outcome.CheckOutcome.TheVariants.{Accepted, Refused, BadSheet}
+use Rattle.cert_check.specs.declared.outcome.CheckOutcome.TheVariants.{BadFeed, LineTooLong}
+use Rattle.cert_check.specs.declared.outcome.CheckOutcome.TheVariants.{InputTooLong}
+use Rattle.cert_check.specs.Outcomes.{outcome_of, report_code_of}
 use Rattle.futmax_main.specs.declared.status.Status.{Status}
 use Rattle.futmax_main.specs.declared.status.Status.TheVariants as status
-use Rattle.futmax_main.specs.declared.session.Cause.TheVariants as cause
+use Rattle.futmax_main.specs.declared.run_end.Cause.TheVariants as cause
 use Rattle.futmax_main.specs.Courses.{input_fault, line_fault}
 use Rattle.futmax_main.specs.Rows.{fault_row}
 
@@ -59,8 +59,8 @@ IsCheckText input status text =
     (outcome : CheckOutcome) × ComesTo input outcome × (status_of_check outcome ≡ status)
     × (text ≡ check_row outcome)
 
--- what was written where a check of this input ends with this status, by what the source has left:
--- nothing where the source failed, or memory ran out
+-- what was written if a check of this input ends with this status, by what the source has left:
+-- nothing if the source failed, or memory ran out
 abbrev pub CheckEnds : List ℕ → Option (List ℕ) → Status → List ℕ → Type 0
 CheckEnds input left status.Done text = IsCheckText input status.Done text × (left ≡ Some [])
 CheckEnds input left status.ReadFault text = text ≡ []
@@ -70,7 +70,7 @@ CheckEnds input left status.OutOfMemory text = text ≡ []
 CheckEnds input left status text = IsCheckText input status text
 
 -- the sink's bytes before and after a check, by what the source had left and has left; nothing is
--- said where it does not tell its bytes
+-- said if the source exposes none
 abbrev pub ServesCheck : Option (List ℕ) → Option (List ℕ) → Option (List ℕ) → Option (List ℕ)
     → Status → Type 0
 ServesCheck None left old new status = Unit {0}

@@ -1,8 +1,12 @@
 -- The course of an input: what is asked on the way through it, and how it ends. The sheet comes
--- first, and then the feed, each read as its own crate says.
-use Rattle.std.specs.Prelude.{ℕ, false, List, [], ◌∷◌, ◌++◌, None, Result, Ok, Err}
+-- first, and then line after line, each read in the season of the events before it. The mode and
+-- the text of an ask are handed along; no course depends on them yet, as each mode reads the same
+-- lines.
+use Rattle.std.specs.Prelude.{ℕ, false, List, [], ◌∷◌, ◌++◌, Option, None, Some, Result, Ok, Err}
 use Rattle.league_core.specs.declared.sheet.Sheet.{Sheet}
 use Rattle.league_core.specs.declared.season.Event.{Event}
+use Rattle.league_core.specs.game.Results.{Results}
+use Rattle.league_core.specs.game.Seasons.{epoch_of, season_after}
 use Rattle.port_core.specs.declared.line.ReadStop.{ReadStop}
 use Rattle.port_core.specs.declared.line.ReadStop.TheVariants as stop
 use Rattle.port_core.specs.Contents.{Contents}
@@ -11,13 +15,13 @@ use Rattle.fixture_sheet.specs.declared.fault.SheetStop.TheVariants as sheet_sto
 use Rattle.fixture_sheet.specs.Sheets.{SheetReading, sheet_reading_of}
 use Rattle.result_log.specs.declared.entry.Entry.{Entry}
 use Rattle.result_log.specs.declared.entry.Entry.TheVariants as entry
-use Rattle.result_log.specs.declared.fault.FeedStop.{FeedStop}
-use Rattle.result_log.specs.declared.fault.FeedStop.TheVariants as feed_stop
-use Rattle.result_log.specs.Feeds.{Feed, feed_of}
-use Rattle.futmax_main.specs.declared.session.Cause.TheVariants as cause
-use Rattle.futmax_main.specs.declared.session.Fault.{Fault}
-use Rattle.futmax_main.specs.declared.session.RunEnd.{RunEnd}
-use Rattle.futmax_main.specs.declared.session.RunEnd.TheVariants.{Complete, Refused}
+use Rattle.result_log.specs.declared.fault.FeedFault.{FeedFault}
+use Rattle.result_log.specs.Feeds.{entry_in}
+use Rattle.command_words.specs.declared.command.Mode.{Mode}
+use Rattle.futmax_main.specs.declared.run_end.Cause.TheVariants as cause
+use Rattle.futmax_main.specs.declared.run_end.Fault.{Fault}
+use Rattle.futmax_main.specs.declared.run_end.RunEnd.{RunEnd}
+use Rattle.futmax_main.specs.declared.run_end.RunEnd.TheVariants.{Complete, Refused}
 use Rattle.futmax_main.specs.Plays.{Played, played_after}
 
 -- ---- how an input ends
@@ -44,15 +48,25 @@ outcome_at_sheet (sheet_stop.Fault number fault) =
 outcome_at_sheet (sheet_stop.Read stop) = outcome_at_stop stop
 outcome_at_sheet sheet_stop.OutOfMemory = Complete
 
--- where the feed ends: it may end anywhere
-abbrev pub outcome_at_feed : Result Entry FeedStop → RunEnd
-outcome_at_feed (Ok entry) = Complete
-outcome_at_feed (Err (feed_stop.Fault number fault)) =
-    Refused (record { number = number; cause = cause.Feed fault })
-outcome_at_feed (Err (feed_stop.Read stop)) = outcome_at_stop stop
-outcome_at_feed (Err feed_stop.OutOfMemory) = Complete
+-- where its lines end: after the sheet it may end anywhere
+abbrev pub outcome_at_ending : Result ℕ ReadStop → RunEnd
+outcome_at_ending (Ok number) = Complete
+outcome_at_ending (Err stop) = outcome_at_stop stop
 
 -- ---- what is asked
+
+-- what the course of the lines after a sheet goes out from
+pub record Origin : Type 0 where
+  pub sheet : Sheet
+
+-- what the content of such a line is, in this season and after so many events: an entry of a feed
+-- that no proofs follow, or a refusal
+abbrev pub line_of : Mode → Sheet → Results → ℕ → List ℕ → Result (Option Entry) FeedFault
+line_of mode sheet season events content = entry_in sheet season events false content
+
+-- what a line with this content asks after these events, if it is an ask
+abbrev pub asked_at : Mode → Origin → List Event → List ℕ → Played
+asked_at mode origin events content = played_after origin.sheet events
 
 -- what was played at each ask, in their order, and how the input ends
 pub record Course : Type 0 where
@@ -67,38 +81,43 @@ course_ended outcome = record { asks = []; outcome = outcome }
 abbrev pub with_asks : List Played → Course → Course
 with_asks asks course = record course { asks = asks ++ course.asks }
 
--- what an entry asks after these events; `onward` is what the entries after it ask, by the events
--- before them
-abbrev pub asks_by : Sheet → List Event → (List Event → List Played) → Entry → List Played
-asks_by sheet events onward (entry.Change event) = onward (events ++ event ∷ [])
-asks_by sheet events onward entry.Ask = played_after sheet events ∷ onward events
-asks_by sheet events onward entry.Proofs = onward events
-asks_by sheet events onward entry.End = onward events
+-- the course from a line on, after these events, by what the line is; `onward` is the course of the
+-- lines after it, by the events before them; proofs and the end come of no line of such a feed
+abbrev pub course_by : Mode → Origin → ℕ × List ℕ → (List Event → Course) → List Event
+    → Result (Option Entry) FeedFault → Course
+course_by mode origin line onward events (Ok None) = onward events
+course_by mode origin line onward events (Ok (Some (entry.Change event))) =
+    onward (events ++ event ∷ [])
+course_by mode origin line onward events (Ok (Some entry.Ask)) =
+    with_asks (asked_at mode origin events line.1 ∷ []) (onward events)
+course_by mode origin line onward events (Ok (Some entry.Proofs)) = course_ended Complete
+course_by mode origin line onward events (Ok (Some entry.End)) = course_ended Complete
+course_by mode origin line onward events (Err fault) =
+    course_ended (Refused (record { number = line.0; cause = cause.Feed fault }))
 
--- what these entries ask, after these events
-abbrev pub asks_in : Sheet → List Entry → List Event → List Played
-asks_in sheet [] events = []
-asks_in sheet (entry ∷ entries) events = asks_by sheet events (asks_in sheet entries) entry
+-- the course of these lines and this ending, after these events: each line is read in the season
+-- of the events before it
+abbrev pub course_in : Mode → Origin → List (ℕ × List ℕ) → Result ℕ ReadStop → List Event
+    → Course
+course_in mode origin [] ending events = course_ended (outcome_at_ending ending)
+course_in mode origin (line ∷ lines) ending events =
+    course_by mode origin line (course_in mode origin lines ending) events
+    (line_of mode origin.sheet (season_after origin.sheet events) (epoch_of events) line.1)
 
--- the course of a feed after these events
-abbrev pub course_of_feed : Sheet → List Event → Feed → Course
-course_of_feed sheet events feed =
-    record { asks = asks_in sheet feed.entries events; outcome = outcome_at_feed feed.close }
-
--- the course of contents after the sheet and these events; no proofs follow such a feed
-abbrev pub course_from : Sheet → List Event → Contents → Course
-course_from sheet events contents =
-    course_of_feed sheet events (feed_of sheet false contents events)
+-- the course of contents after a sheet and these events
+abbrev pub course_from : Mode → Origin → List Event → Contents → Course
+course_from mode origin events contents =
+    course_in mode origin contents.lines contents.ending events
 
 -- the course after what came of the sheet
-abbrev pub course_after : Result Sheet SheetStop → Contents → Course
-course_after (Ok sheet) rest = course_from sheet [] rest
-course_after (Err stop) rest = course_ended (outcome_at_sheet stop)
+abbrev pub course_after : Mode → Result Sheet SheetStop → Contents → Course
+course_after mode (Ok sheet) rest = course_from mode (record { sheet = sheet }) [] rest
+course_after mode (Err stop) rest = course_ended (outcome_at_sheet stop)
 
 -- the course of a reading of a sheet, and of what comes after it
-abbrev pub course_of_reading : SheetReading → Course
-course_of_reading reading = course_after reading.gives reading.rest
+abbrev pub course_of_reading : Mode → SheetReading → Course
+course_of_reading mode reading = course_after mode reading.gives reading.rest
 
 -- the course of all contents of an input
-abbrev pub course_of : Contents → Course
-course_of contents = course_of_reading (sheet_reading_of contents None)
+abbrev pub course_of : Mode → Contents → Course
+course_of mode contents = course_of_reading mode (sheet_reading_of contents None)

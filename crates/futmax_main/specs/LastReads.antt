@@ -9,10 +9,10 @@ use Rattle.fixture_sheet.specs.LastReads.{ReadsOnWay}
 use Rattle.fixture_sheet.specs.Sheets.{sheet_reading_of}
 use Rattle.futmax_main.specs.declared.status.Status.{Status}
 use Rattle.futmax_main.specs.declared.status.Status.TheVariants.{ReadFault}
-use Rattle.futmax_main.specs.declared.session.Service.{Service}
-use Rattle.futmax_main.specs.declared.session.Service.TheVariants.{Answers, Checks, Samples}
+use Rattle.command_words.specs.declared.command.Mode.{Mode}
+use Rattle.command_words.specs.declared.command.Mode.TheVariants.{Check, Sample}
 use Rattle.futmax_main.specs.Plays.{Played}
-use Rattle.futmax_main.specs.Courses.{course_from, course_of, with_asks}
+use Rattle.futmax_main.specs.Courses.{Origin, course_from, course_of, with_asks}
 
 -- a reader that has given nothing
 abbrev pub fresh_reader : LineReaderView
@@ -25,37 +25,39 @@ LeadToDraft lines =
     × ((rest : Contents)
     → sheet_reading_of (with_lines lines rest) None ≡ sheet_reading_of rest draft)
 
--- lines lead after a sheet and these events, whatever follows them: the course is some asks, and
--- then what follows from there on
-abbrev pub LeadToFeed : List (ℕ × List ℕ) → Sheet → List Event → Type 0
-LeadToFeed lines sheet events =
+-- lines lead on from an origin, after these events, whatever follows them: the course is some asks,
+-- and then what follows from there on
+abbrev pub LeadToFeed : Mode → List (ℕ × List ℕ) → Origin → List Event → Type 0
+LeadToFeed mode lines origin events =
     (asks : List Played)
     × ((rest : Contents)
-    → course_of (with_lines lines rest) ≡ with_asks asks (course_from sheet events rest))
+    → course_of mode (with_lines lines rest)
+    ≡ with_asks asks (course_from mode origin events rest))
 
--- lines were given that lead a session on, and do not end it; nothing is said where they are not
--- told
-abbrev pub IsOnCourse : Option Contents → Option Contents → Type 0
-IsOnCourse None after = Unit {0}
-IsOnCourse (Some before) None = ⊥
-IsOnCourse (Some before) (Some after) =
+-- lines were given that lead a session on, and do not end it; nothing is said if the source shows
+-- none
+abbrev pub IsOnCourse : Mode → Option Contents → Option Contents → Type 0
+IsOnCourse mode None after = Unit {0}
+IsOnCourse mode (Some before) None = ⊥
+IsOnCourse mode (Some before) (Some after) =
     (lines : List (ℕ × List ℕ)) × (before ≡ with_lines lines after)
     × (LeadToDraft lines
-    ⊎ ((sheet : Sheet) × (events : List Event) × LeadToFeed lines sheet events))
+    ⊎ ((origin : Origin) × (events : List Event) × LeadToFeed mode lines origin events))
 
 -- reading stops at the read that completes the line at which the session ends, unless the source
 -- failed
 abbrev pub StopsSession : {S : Type 0} → (S → Option (List ℕ)) → (S → List ℕ → S → Type 0)
-    → S → S → Status → Type 0
-StopsSession left reads before after ReadFault = Unit {0}
-StopsSession left reads before after _ =
-    (reader : LineReaderView) × ReadsOnWay left reads IsOnCourse fresh_reader reader before after
+    → Mode → S → S → Status → Type 0
+StopsSession left reads mode before after ReadFault = Unit {0}
+StopsSession left reads mode before after _ =
+    (reader : LineReaderView)
+    × ReadsOnWay left reads (IsOnCourse mode) fresh_reader reader before after
 
 -- the same by what the words ask for: of a session that answers asks
 abbrev pub StopsAs : {S : Type 0} → (S → Option (List ℕ)) → (S → List ℕ → S → Type 0)
-    → Option Service → S → S → Status → Type 0
+    → Option Mode → S → S → Status → Type 0
 StopsAs left reads None before after status = Unit {0}
-StopsAs left reads (Some (Answers answering)) before after status =
-    StopsSession left reads before after status
-StopsAs left reads (Some Checks) before after status = Unit {0}
-StopsAs left reads (Some (Samples seed)) before after status = Unit {0}
+StopsAs left reads (Some Check) before after status = Unit {0}
+StopsAs left reads (Some (Sample seed)) before after status = Unit {0}
+StopsAs left reads (Some mode) before after status =
+    StopsSession left reads mode before after status

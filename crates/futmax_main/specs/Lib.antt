@@ -1,5 +1,5 @@
--- Read in this order: it is the order in which the notions rest on each other. Services has them by
--- what the words of a command ask for.
+-- Read in this order: it is the order in which the notions rest on each other. Modes has them by
+-- the mode of a command.
 pub mod Plays
 pub mod Courses
 pub mod Rows
@@ -9,5 +9,5 @@ pub mod Top
 pub mod Checks
 pub mod SampleRows
 pub mod LastReads
-pub mod Services
+pub mod Modes
 pub mod inside

@@ -5,7 +5,7 @@ use Rattle.league_core.specs.declared.season.Event.{Event}
 use Rattle.league_core.specs.game.Results.{Results}
 use Rattle.league_core.specs.game.Seasons.{epoch_of, season_after}
 
--- a whole sheet, what was played so far, and how many events told so
+-- a whole sheet, what was played so far, and how many events there were
 pub record Played : Type 0 where
   pub sheet : Sheet
   pub season : Results

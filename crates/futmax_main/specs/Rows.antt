@@ -3,11 +3,11 @@ use Rattle.std.specs.Prelude.{ℕ, List, [], ◌∷◌, codes, decimal}
 use Rattle.cert_text.specs.Rows.{text_of_row}
 use Rattle.fixture_sheet.specs.Faults.{sheet_code_of}
 use Rattle.result_log.specs.Faults.{feed_code_of}
-use Rattle.futmax_main.specs.declared.session.Cause.{Cause}
-use Rattle.futmax_main.specs.declared.session.Cause.TheVariants as cause
-use Rattle.futmax_main.specs.declared.session.Fault.{Fault}
-use Rattle.futmax_main.specs.declared.session.RunEnd.{RunEnd}
-use Rattle.futmax_main.specs.declared.session.RunEnd.TheVariants.{Complete, Refused}
+use Rattle.futmax_main.specs.declared.run_end.Cause.{Cause}
+use Rattle.futmax_main.specs.declared.run_end.Cause.TheVariants as cause
+use Rattle.futmax_main.specs.declared.run_end.Fault.{Fault}
+use Rattle.futmax_main.specs.declared.run_end.RunEnd.{RunEnd}
+use Rattle.futmax_main.specs.declared.run_end.RunEnd.TheVariants.{Complete, Refused}
 
 -- `usage,..`, for words that fit no mode
 abbrev pub usage_row : List ℕ
@@ -26,7 +26,7 @@ abbrev pub fault_row : Fault → List ℕ
 fault_row fault =
     text_of_row (codes "fault" ∷ decimal fault.number ∷ cause_text fault.cause ∷ [])
 
--- what is written last where a session ends so: nothing where it is complete
+-- what is written last if a session ends so: nothing if it is complete
 abbrev pub last_row : RunEnd → List ℕ
 last_row Complete = []
 last_row (Refused fault) = fault_row fault

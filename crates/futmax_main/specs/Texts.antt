@@ -2,14 +2,14 @@
 use Rattle.std.specs.Prelude.{◌≡◌, ℕ, ◌⊎◌, List, ◌++◌}
 use Rattle.port_core.specs.Ports.{IsBytePrefix}
 use Rattle.fixture_sheet.specs.declared.fault.SheetFault.{SheetFault}
-use Rattle.output_rows.specs.Parts.{IsMadeOf}
+use Rattle.answer_rows.specs.Parts.{IsMadeOf}
 use Rattle.futmax_main.specs.declared.status.Status.{Status}
 use Rattle.futmax_main.specs.declared.status.Status.TheVariants.{Done, BadSheet, BadFeed, TooLong}
-use Rattle.futmax_main.specs.declared.session.Answering.{Answering}
-use Rattle.futmax_main.specs.declared.session.Cause.{Cause}
-use Rattle.futmax_main.specs.declared.session.Cause.TheVariants as cause
-use Rattle.futmax_main.specs.declared.session.RunEnd.{RunEnd}
-use Rattle.futmax_main.specs.declared.session.RunEnd.TheVariants.{Complete, Refused}
+use Rattle.command_words.specs.declared.command.Mode.{Mode}
+use Rattle.futmax_main.specs.declared.run_end.Cause.{Cause}
+use Rattle.futmax_main.specs.declared.run_end.Cause.TheVariants as cause
+use Rattle.futmax_main.specs.declared.run_end.RunEnd.{RunEnd}
+use Rattle.futmax_main.specs.declared.run_end.RunEnd.TheVariants.{Complete, Refused}
 use Rattle.futmax_main.specs.Plays.{Played}
 use Rattle.futmax_main.specs.Courses.{Course}
 use Rattle.futmax_main.specs.Rows.{last_row}
@@ -32,21 +32,21 @@ status_of_outcome (Refused fault) = status_of_cause fault.cause
 -- ---- the texts
 
 -- whole answers to these asks, in their order
-abbrev pub AreAnswers : Answering → List Played → List ℕ → Type 0
-AreAnswers answering asks text = IsMadeOf (IsAnswerTo answering) asks text
+abbrev pub AreAnswers : Mode → List Played → List ℕ → Type 0
+AreAnswers mode asks text = IsMadeOf (IsAnswerTo mode) asks text
 
 -- the text is one that a session of this course writes
-abbrev pub IsTextOf : Answering → Course → List ℕ → Type 0
-IsTextOf answering course text =
-    (answers : List ℕ) × AreAnswers answering course.asks answers
+abbrev pub IsTextOf : Mode → Course → List ℕ → Type 0
+IsTextOf mode course text =
+    (answers : List ℕ) × AreAnswers mode course.asks answers
     × (text ≡ answers ++ last_row course.outcome)
 
 -- the text is a prefix of one that a session of this course writes
-abbrev pub IsPrefixOf : Answering → Course → List ℕ → Type 0
-IsPrefixOf answering course text =
-    (whole : List ℕ) × IsTextOf answering course whole × IsBytePrefix text whole
+abbrev pub IsPrefixOf : Mode → Course → List ℕ → Type 0
+IsPrefixOf mode course text =
+    (whole : List ℕ) × IsTextOf mode course whole × IsBytePrefix text whole
 
--- no line is refused where the input ends at this number: it is complete there, or its sheet is not
+-- no line is refused if the input ends at this number: it is complete there, or its sheet is not
 abbrev pub IsRefusedAtEnd : ℕ → RunEnd → Type 0
 IsRefusedAtEnd number outcome =
     (outcome ≡ Complete)
@@ -54,6 +54,6 @@ IsRefusedAtEnd number outcome =
     × (outcome ≡ Refused (record { number = number; cause = cause.Sheet fault })))
 
 -- the text is the answers of all asks of this course, whose input ends at this number
-abbrev pub AreAllAnswers : Answering → ℕ → Course → List ℕ → Type 0
-AreAllAnswers answering number course text =
-    AreAnswers answering course.asks text × IsRefusedAtEnd number course.outcome
+abbrev pub AreAllAnswers : Mode → ℕ → Course → List ℕ → Type 0
+AreAllAnswers mode number course text =
+    AreAnswers mode course.asks text × IsRefusedAtEnd number course.outcome

@@ -4,98 +4,93 @@ ghost use Rattle.std.specs.Prelude.{◌≡◌, ◌≤◌, [], All, IfOk, length}
 ghost use Rattle.league_core.specs.game.Questions.{IsQuestionOf};
 ghost use Rattle.league_core.specs.game.Sheets.{IsWithinLimits};
 ghost use Rattle.verdict_run.specs.inside.Working.{AreSettled};
-ghost use Rattle.output_rows.specs.inside.Outputs.{CountsPut};
-ghost use Rattle.futmax_main.specs.declared.session.Answering.TheVariants.{Verdicts, Table, Scores};
+ghost use Rattle.answer_rows.specs.inside.Outputs.{CountsPut};
+ghost use Rattle.command_words.specs.declared.command.Mode.TheVariants.{Verdicts, Table, Scores};
 ghost use Rattle.futmax_main.specs.inside.Turns.{AnswersAsk, IsLive, IsReportedSame, IsWorkedOut};
 ghost use Rattle.futmax_main.specs.inside.Turns.{PutsAnswer, asked_by};
 
-use crate::session::Answering;
-use ask_answers::{put_verdicts, table_rows};
+use answer_rows::{OutputStop, put_scores, put_table, put_verdicts, table_rows};
 use branch_pool::Pool;
+use command_words::Mode;
 use league_core::{OutOfMemory, Question, Sheet};
-use output_rows::{OutputStop, put_text};
 use port_core::Sink;
 use qual_scores::all_scores;
-use score_answers::put_scores;
 use std::alloc::Global;
 use verdict_run::{finish, questions, verdicts};
 
 /// The pool of a session whose sheet is whole, before the first event.
-pub fn begin_pool(alloc: Global, answering: Answering, sheet: Sheet) -> Result<Pool, OutOfMemory>
+pub fn begin_pool(alloc: Global, mode: Mode, sheet: Sheet) -> Result<Pool, OutOfMemory>
     requires { IsWithinLimits sheet }
-    ensures live { IfOk result (IsLive answering) }
+    ensures live { IfOk result (IsLive mode) }
     ensures sheet { IfOk result (λ pool. pool.sheet ≡ sheet) }
     ensures log { IfOk result (λ pool. pool.log ≡ []) }
 {
-    let asked = questions_for(alloc, answering, &sheet)?;
+    let asked = questions_for(alloc, mode, &sheet)?;
     Pool::begin(alloc, sheet, asked)
 }
 
-fn questions_for(
-    alloc: Global,
-    answering: Answering,
-    sheet: &Sheet,
-) -> Result<Vec<Question>, OutOfMemory>
+fn questions_for(alloc: Global, mode: Mode, sheet: &Sheet) -> Result<Vec<Question>, OutOfMemory>
     requires { IsWithinLimits sheet.now }
-    ensures value { IfOk result (λ asked. asked.items ≡ asked_by answering sheet.now) }
+    ensures value { IfOk result (λ asked. asked.items ≡ asked_by mode sheet.now) }
     ensures of_sheet { IfOk result (λ asked. All (IsQuestionOf sheet.now) asked.items) }
     ensures few { IfOk result (λ asked. length asked.items ≤ 192) }
 {
-    match answering {
-        Answering::Verdicts { proofs: _ } => questions(alloc, sheet),
-        Answering::Table | Answering::Scores => Ok(Vec::new(alloc)),
+    match mode {
+        Mode::Verdicts { .. } => questions(alloc, sheet),
+        Mode::Table | Mode::Scores | Mode::Check | Mode::Sample { .. } => Ok(Vec::new(alloc)),
     }
 }
 
 /// Writes the answer of an ask, and gives back the pool, which may know more then.
 pub fn put_answer<K: Sink>(
     alloc: Global,
-    answering: Answering,
+    mode: Mode,
     pool: Pool,
     sink: &mut K,
 ) -> Result<Pool, OutputStop>
-    requires { IsLive answering pool }
-    ensures answer { AnswersAsk answering pool (K.holds sink.old) (K.holds sink.new) result }
-    ensures live { IfOk result (IsLive answering) }
+    requires { IsLive mode pool }
+    ensures answer { AnswersAsk mode pool (K.holds sink.old) (K.holds sink.new) result }
+    ensures live { IfOk result (IsLive mode) }
     ensures counts { CountsPut (K.faults sink.old) (K.faults sink.new) result }
 {
-    let Ok(pool) = work_out(alloc, answering, pool) else {
+    let Ok(pool) = work_out(alloc, mode, pool) else {
         return Err(OutputStop::OutOfMemory);
     };
-    match put_worked(alloc, answering, &pool, sink) {
+    match put_worked(alloc, mode, &pool, sink) {
         Ok(()) => Ok(pool),
         Err(stop) => Err(stop),
     }
 }
 
 // What is open is worked on before verdicts, as far as the budget goes.
-fn work_out(alloc: Global, answering: Answering, pool: Pool) -> Result<Pool, OutOfMemory>
-    requires { IsLive answering pool }
+fn work_out(alloc: Global, mode: Mode, pool: Pool) -> Result<Pool, OutOfMemory>
+    requires { IsLive mode pool }
     ensures same { IfOk result (IsReportedSame pool) }
-    ensures live { IfOk result (IsLive answering) }
-    ensures worked { IfOk result (IsWorkedOut answering) }
+    ensures live { IfOk result (IsLive mode) }
+    ensures worked { IfOk result (IsWorkedOut mode) }
 {
-    match answering {
-        Answering::Verdicts { proofs: _ } => finish(alloc, pool),
-        Answering::Table | Answering::Scores => Ok(pool),
+    match mode {
+        Mode::Verdicts { .. } => finish(alloc, pool),
+        Mode::Table | Mode::Scores | Mode::Check | Mode::Sample { .. } => Ok(pool),
     }
 }
 
 fn put_worked<K: Sink>(
     alloc: Global,
-    answering: Answering,
+    mode: Mode,
     pool: &Pool,
     sink: &mut K,
 ) -> Result<(), OutputStop>
-    requires live { IsLive answering pool.now }
-    requires worked { IsWorkedOut answering pool.now }
-    ensures answer { PutsAnswer answering pool.now (K.holds sink.old) (K.holds sink.new) result }
+    requires live { IsLive mode pool.now }
+    requires worked { IsWorkedOut mode pool.now }
+    ensures answer { PutsAnswer mode pool.now (K.holds sink.old) (K.holds sink.new) result }
     ensures counts { CountsPut (K.faults sink.old) (K.faults sink.new) result }
 {
-    match answering {
-        Answering::Verdicts { proofs } => put_found(alloc, proofs, pool, sink),
-        Answering::Table => put_table(alloc, pool, sink),
-        Answering::Scores => put_numbers(alloc, pool, sink),
+    match mode {
+        Mode::Verdicts { proofs } => put_found(alloc, proofs, pool, sink),
+        Mode::Table => put_order(alloc, pool, sink),
+        Mode::Scores => put_numbers(alloc, pool, sink),
+        Mode::Check | Mode::Sample { .. } => Ok(()),
     }
 }
 
@@ -124,15 +119,15 @@ fn put_found<K: Sink>(
     )
 }
 
-fn put_table<K: Sink>(alloc: Global, pool: &Pool, sink: &mut K) -> Result<(), OutputStop>
+fn put_order<K: Sink>(alloc: Global, pool: &Pool, sink: &mut K) -> Result<(), OutputStop>
     requires { IsLive Table pool.now }
     ensures answer { PutsAnswer Table pool.now (K.holds sink.old) (K.holds sink.new) result }
     ensures counts { CountsPut (K.faults sink.old) (K.faults sink.new) result }
 {
-    let Ok(rows) = table_rows(alloc, pool.sheet(), pool.season(), pool.epoch()) else {
+    let Ok(rows) = table_rows(alloc, pool.sheet(), pool.season()) else {
         return Err(OutputStop::OutOfMemory);
     };
-    put_text(sink, rows.as_slice())
+    put_table(alloc, pool.epoch(), pool.sheet(), rows.as_slice(), sink)
 }
 
 fn put_numbers<K: Sink>(alloc: Global, pool: &Pool, sink: &mut K) -> Result<(), OutputStop>

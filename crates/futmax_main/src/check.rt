@@ -7,12 +7,12 @@ ghost use Rattle.futmax_main.specs.inside.Judging.{CountsJudged, OutcomeEnds};
 ghost use Rattle.futmax_main.specs.Top.{Counts};
 
 use crate::rows::fault_row;
-use crate::session::{Cause, Fault};
+use crate::run_end::{Cause, Fault};
 use crate::status::Status;
+use answer_rows::{number_field, put_row, text_field};
+use cert_check::{CheckFailure, CheckOutcome, ReportFault, check_input};
 use cert_text::write_row;
-use check_run::{CheckFailure, CheckOutcome, ReportFault, check_input};
 use league_core::OutOfMemory;
-use output_rows::{number_field, put_rows, text_field};
 use port_core::{LineReader, Sink, Source};
 use std::alloc::Global;
 
@@ -41,7 +41,7 @@ fn put_outcome<K: Sink>(alloc: Global, outcome: CheckOutcome, sink: &mut K) -> S
     let Ok(row) = check_row(alloc, outcome) else {
         return Status::OutOfMemory;
     };
-    match put_rows(sink, row.as_slice()) {
+    match put_row(sink, row.as_slice()) {
         Ok(()) => status_of_check(outcome),
         Err(_) => Status::WriteFault,
     }

@@ -1,25 +1,27 @@
 //! The top call: an input's bytes in, the answers' bytes out, and one status.
 //!
 //! `specs/Top.antt` says what the call promises. It rests on the course of an input, which
-//! `specs/Courses.antt` takes from the readings of its sheet and its feed, and on the answers of
-//! `specs/Answers.antt`: verdicts from scratch, or the table; `specs/Checks.antt` and
-//! `specs/SampleRows.antt` say what the modes without asks write.
+//! `specs/Courses.antt` reads line by line after its sheet, and on the answers of
+//! `specs/Answers.antt`: verdicts from scratch, the table, or the two scores; `specs/Checks.antt`
+//! and `specs/SampleRows.antt` say what the modes without asks write.
 #![tactic(auto)]
 
 mod answer;
 mod check;
-mod rounds;
+mod command;
+mod laws;
+mod refuse;
 mod rows;
-mod run;
+mod run_end;
 mod sample;
-mod service;
 mod session;
+mod setup;
 mod status;
-mod stop;
-mod top;
-mod turn;
 
-pub use session::{Answering, Cause, Fault, RunEnd, Service};
+pub use command::futmax;
+pub use laws::a_course_is_read_line_by_line;
+pub use refuse::InputStop;
+pub use run_end::{Cause, Fault, RunEnd};
+pub use session::Step;
+pub use setup::Setup;
 pub use status::Status;
-pub use top::futmax;
-pub use turn::Step;

@@ -4,10 +4,10 @@ ghost use Rattle.std.specs.Prelude.{◌≡◌, ◌∷◌, [], IfOk, codes, decim
 ghost use Rattle.cert_text.specs.Rows.{text_of_row};
 ghost use Rattle.futmax_main.specs.Rows.{cause_text, fault_row, usage_row};
 
-use crate::session::{Cause, Fault};
+use crate::run_end::{Cause, Fault};
+use answer_rows::{number_field, text_field};
 use cert_text::write_row;
 use league_core::OutOfMemory;
-use output_rows::{number_field, text_field};
 use std::alloc::Global;
 
 /// `fault,LINE,CODE`, alone.

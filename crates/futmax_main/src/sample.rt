@@ -5,12 +5,12 @@ ghost use Rattle.futmax_main.specs.SampleRows.{CountsSample, IsSampleText, Serve
 ghost use Rattle.futmax_main.specs.SampleRows.{sample_row};
 
 use crate::status::Status;
+use answer_rows::{number_field, put_row, text_field};
 use cert_text::write_row;
 use league_core::OutOfMemory;
-use output_rows::{number_field, put_rows, text_field};
 use port_core::Sink;
-use sample_counts::{Counts, count_sample};
 use std::alloc::Global;
+use verdict_run::{Counts, count_sample};
 
 /// Works on the league of a number, and writes one row of counts.
 pub fn run_sample<K: Sink>(alloc: Global, seed: u64, sink: &mut K) -> Status
@@ -20,7 +20,7 @@ pub fn run_sample<K: Sink>(alloc: Global, seed: u64, sink: &mut K) -> Status
     let Ok(row) = counted_row(alloc, seed) else {
         return Status::OutOfMemory;
     };
-    match put_rows(sink, row.as_slice()) {
+    match put_row(sink, row.as_slice()) {
         Ok(()) => Status::Done,
         Err(_) => Status::WriteFault,
     }

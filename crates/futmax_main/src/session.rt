@@ -1,58 +1,229 @@
-//! What the program does for a command, what a session answers, and how it ends.
+//! A session: the sheet, and then round after round of the feed, each with the answer of its ask.
 
-use fixture_sheet::SheetFault;
-use result_log::FeedFault;
+ghost use Rattle.std.specs.Prelude.{◌≡◌, ℕ, Bool, List, [], IfOk, OnErr, Option};
+ghost use Rattle.league_core.specs.game.Sheets.{IsWithinLimits};
+ghost use Rattle.port_core.specs.Contents.{start};
+ghost use Rattle.port_core.specs.Readers.{stream_of};
+ghost use Rattle.fixture_sheet.specs.LastReads.{ReadsOnWay};
+ghost use Rattle.result_log.specs.inside.LastReads.{GivesEvents, StopsAtClose};
+ghost use Rattle.result_log.specs.inside.Rounds.{EndsRound, spot_of};
+ghost use Rattle.worker_gate.specs.inside.Rounds.{close_of};
+ghost use Rattle.futmax_main.specs.LastReads.{StopsSession};
+ghost use Rattle.futmax_main.specs.Top.{Counts, Serves};
+ghost use Rattle.futmax_main.specs.inside.Progress.{PathToPool, line_after};
+ghost use Rattle.futmax_main.specs.inside.TurnReads.{RoundStops, RoundsStop, TurnStops};
+ghost use Rattle.futmax_main.specs.inside.Turns.{AskGives, CloseGives, CountsClose, CountsTurn};
+ghost use Rattle.futmax_main.specs.inside.Turns.{IsLive, MayEndSession, TurnCounts, TurnGives};
+ghost use Rattle.futmax_main.specs.inside.Turns.{TurnBegins, TurnGoesOn, TurnIsLive};
 
-/// What the program does for a command.
-#[derive(Clone, Copy, Debug, PartialEq, Eq)]
-pub enum Service {
-    /// The asks of an input are answered.
-    Answers(Answering),
-    /// A report is checked.
-    Checks,
-    /// The verdicts of the league that this number gives are counted. No input is read.
-    Samples(u64),
+use crate::answer::{begin_pool, put_answer};
+use crate::refuse::{end_at_stop, stop_of_feed, stop_of_sheet};
+use crate::setup::Setup;
+use crate::status::Status;
+use answer_rows::OutputStop;
+use branch_pool::Pool;
+use command_words::Mode;
+use fixture_sheet::read_sheet;
+use league_core::{OutOfMemory, Sheet};
+use port_core::{LineReader, Sink, Source};
+use std::alloc::Global;
+use std::sync::Wait;
+use std::thread::Threads;
+use worker_gate::{Gate, Round, RoundEnd, read_round, run_round};
+
+/// What came of a turn.
+#[derive(Drop)]
+pub enum Step {
+    /// The session goes on, with the pool that it keeps.
+    GoesOn(Pool),
+    Ends(Status),
 }
 
-/// What is answered at each ask.
-#[derive(Clone, Copy, Debug, PartialEq, Eq)]
-pub enum Answering {
-    /// The verdict of every club for every line; with `proofs`, refutations after those that they
-    /// show.
-    Verdicts { proofs: bool },
-    /// The table of the matches played so far.
-    Table,
-    /// For every line and club, how few points can still do, and how many are enough.
-    Scores,
+/// Reads the source to its end, or to what ends the run before.
+pub fn run_session<R: Threads + Wait + Sync, S: Source + Send, K: Sink, G: Gate + Sync>(
+    setup: &Setup<'_, R, G>,
+    source: &mut S,
+    sink: &mut K,
+) -> Status
+    ensures serves { Serves setup.now.mode (S.left source.old) (S.left source.new)
+        (S.ended source.new) (K.holds sink.old) (K.holds sink.new) result }
+    ensures last { StopsSession S.left S.reads setup.now.mode source.old source.new result }
+    ensures counts { Counts (S.faults source.old) (S.faults source.new)
+        (K.faults sink.old) (K.faults sink.new) result }
+    ensures status { MayEndSession result }
+{
+    let Ok(mut reader) = LineReader::new(setup.alloc) else {
+        return Status::OutOfMemory;
+    };
+    match take_sheet(setup.alloc, setup.mode, &mut reader, source, sink) {
+        Step::GoesOn(pool) => run_rounds(setup, pool, &mut reader, source, sink),
+        Step::Ends(status) => status,
+    }
 }
 
-/// Why a line is refused.
-#[derive(Clone, Copy, Debug, PartialEq, Eq)]
-pub enum Cause {
-    /// The line, or the end of the input, is none of a sheet here.
-    Sheet(SheetFault),
-    /// The line is none of a feed here.
-    Feed(FeedFault),
-    /// The line has more bytes than a line may have.
-    LineTooLong,
-    /// The input has more bytes than an input may have, and the first one too many stands in the
-    /// line.
-    InputTooLong,
+fn take_sheet<S: Source, K: Sink>(
+    alloc: Global,
+    mode: Mode,
+    reader: &mut LineReader,
+    source: &mut S,
+    sink: &mut K,
+) -> Step
+    requires { reader.old ≡ record { held = []; text = []; position = start } }
+    ensures way { TurnGives mode (S.left source.old) (S.ended source.old)
+        (stream_of reader.new (S.left source.new)) (S.ended source.new) reader.new.position
+        (S.left source.new) (K.holds sink.old) (K.holds sink.new) result }
+    ensures last { TurnStops S.left S.reads mode source.old reader.new source.new result }
+    ensures live { TurnIsLive mode result }
+    ensures counts { TurnCounts (S.faults source.old) (S.faults source.new)
+        (K.faults sink.old) (K.faults sink.new) result }
+{
+    match read_sheet(alloc, reader, source) {
+        Ok(sheet) => begin_feed(alloc, mode, sheet),
+        Err(stop) => Step::Ends(end_at_stop(alloc, stop_of_sheet(stop), sink)),
+    }
 }
 
-/// A refused line, by its number from 1, or the end of the input, by the number after the last
-/// line's.
-#[derive(Clone, Copy, Debug, PartialEq, Eq)]
-pub struct Fault {
-    pub number: u64,
-    pub cause: Cause,
+fn begin_feed(alloc: Global, mode: Mode, sheet: Sheet) -> Step
+    requires { IsWithinLimits sheet }
+    ensures begins { TurnBegins sheet result }
+    ensures live { TurnIsLive mode result }
+{
+    match begin_pool(alloc, mode, sheet) {
+        Ok(pool) => Step::GoesOn(pool),
+        Err(_) => Step::Ends(Status::OutOfMemory),
+    }
 }
 
-/// How a session ends, by its input.
-#[derive(Clone, Copy, Debug, PartialEq, Eq)]
-pub enum RunEnd {
-    /// The input is read to its end.
-    Complete,
-    /// A line of it, or its end, is refused.
-    Refused(Fault),
+// Reads the feed to its end, or to what ends the run before. The pool is kept from round to round.
+fn run_rounds<R: Threads + Wait + Sync, S: Source + Send, K: Sink, G: Gate + Sync>(
+    setup: &Setup<'_, R, G>,
+    pool: Pool,
+    reader: &mut LineReader,
+    source: &mut S,
+    sink: &mut K,
+) -> Status
+    requires { IsLive setup.now.mode pool }
+    ensures serves { (input : Option (List ℕ)) (ended : Bool) (old : Option (List ℕ))
+        → PathToPool setup.now.mode input ended (stream_of reader.old (S.left source.old))
+        (S.ended source.old) reader.old.position pool old (K.holds sink.old)
+        → Serves setup.now.mode input (S.left source.new) (S.ended source.new) old
+        (K.holds sink.new) result }
+    ensures last { RoundsStop S.left S.reads setup.now.mode pool reader.old source.old
+        source.new result }
+    ensures counts { Counts (S.faults source.old) (S.faults source.new)
+        (K.faults sink.old) (K.faults sink.new) result }
+    ensures status { MayEndSession result }
+{
+    let Ok(sheet) = pool.sheet().copy(setup.alloc) else {
+        return Status::OutOfMemory;
+    };
+    let mut live = pool;
+    'rounds: loop {
+        match take_round(setup, &sheet, live, reader, source, sink) {
+            Step::GoesOn(next) => live = next,
+            Step::Ends(status) => return status,
+        }
+    }
+}
+
+// Reads the feed on to the next ask, which it answers, or to the end.
+fn take_round<R: Threads + Wait + Sync, S: Source + Send, K: Sink, G: Gate + Sync>(
+    setup: &Setup<'_, R, G>,
+    sheet: &Sheet,
+    pool: Pool,
+    reader: &mut LineReader,
+    source: &mut S,
+    sink: &mut K,
+) -> Step
+    requires live { IsLive setup.now.mode pool }
+    requires of_pool { sheet.now ≡ pool.sheet }
+    ensures way { (input : Option (List ℕ)) (ended : Bool) (old : Option (List ℕ))
+        → PathToPool setup.now.mode input ended (stream_of reader.old (S.left source.old))
+        (S.ended source.old) reader.old.position pool old (K.holds sink.old)
+        → TurnGives setup.now.mode input ended (stream_of reader.new (S.left source.new))
+        (S.ended source.new) reader.new.position (S.left source.new) old (K.holds sink.new)
+        result }
+    ensures last { RoundStops S.left S.reads setup.now.mode pool reader.old reader.new
+        source.old source.new result }
+    ensures goes_on { TurnGoesOn setup.now.mode pool.sheet reader.old.position.bytes
+        reader.new.position.bytes result }
+    ensures counts { TurnCounts (S.faults source.old) (S.faults source.new)
+        (K.faults sink.old) (K.faults sink.new) result }
+{
+    match next_round(setup, sheet, pool, reader, source) {
+        Ok(Round { pool, end }) => close_round(setup.alloc, setup.mode, pool, end, sink),
+        Err(_) => Step::Ends(Status::OutOfMemory),
+    }
+}
+
+// Reads the feed on to the next ask, its end or a stop. In the mode `verdicts` workers work on the
+// pool meanwhile.
+fn next_round<R: Threads + Wait + Sync, S: Source + Send, G: Gate + Sync>(
+    setup: &Setup<'_, R, G>,
+    sheet: &Sheet,
+    pool: Pool,
+    reader: &mut LineReader,
+    source: &mut S,
+) -> Result<Round, OutOfMemory>
+    requires live { IsLive setup.now.mode pool }
+    requires of_pool { sheet.now ≡ pool.sheet }
+    ensures live { IfOk result (λ round. IsLive setup.now.mode round.pool) }
+    ensures sheet { IfOk result (λ round. round.pool.sheet ≡ pool.sheet) }
+    ensures ends { IfOk result (λ round. EndsRound (line_after setup.now.mode pool.sheet)
+        pool.log round.pool.log
+        (spot_of reader.old (S.left source.old) (S.ended source.old) (S.faults source.old))
+        (spot_of reader.new (S.left source.new) (S.ended source.new) (S.faults source.new))
+        (close_of round.end)) }
+    ensures last { IfOk result (λ round. StopsAtClose S.left S.reads
+        (line_after setup.now.mode pool.sheet) pool.log reader.old reader.new source.old
+        source.new (close_of round.end)) }
+    ensures err { OnErr result ((S.faults source.new ≡ S.faults source.old)
+        × ReadsOnWay S.left S.reads
+        (GivesEvents (line_after setup.now.mode pool.sheet) pool.log) reader.old reader.new
+        source.old source.new) }
+{
+    match setup.mode {
+        Mode::Verdicts { .. } => {
+            run_round(
+                setup.rt,
+                setup.alloc,
+                sheet,
+                pool,
+                reader,
+                source,
+                setup.workers,
+                setup.gate,
+            )
+        }
+        Mode::Table | Mode::Scores | Mode::Check | Mode::Sample { .. } => {
+            read_round(setup.alloc, pool, reader, source)
+        }
+    }
+}
+
+// An ask is answered, the end or a stop ends the run.
+fn close_round<K: Sink>(alloc: Global, mode: Mode, pool: Pool, end: RoundEnd, sink: &mut K) -> Step
+    requires { IsLive mode pool }
+    ensures gives { CloseGives mode pool end (K.holds sink.old) (K.holds sink.new) result }
+    ensures live { TurnIsLive mode result }
+    ensures counts { CountsClose end (K.faults sink.old) (K.faults sink.new) result }
+{
+    match end {
+        RoundEnd::Ask => take_ask(alloc, mode, pool, sink),
+        RoundEnd::End => Step::Ends(Status::Done),
+        RoundEnd::Stop(stop) => Step::Ends(end_at_stop(alloc, stop_of_feed(stop), sink)),
+    }
+}
+
+fn take_ask<K: Sink>(alloc: Global, mode: Mode, pool: Pool, sink: &mut K) -> Step
+    requires { IsLive mode pool }
+    ensures answer { AskGives mode pool (K.holds sink.old) (K.holds sink.new) result }
+    ensures live { TurnIsLive mode result }
+    ensures counts { CountsTurn (K.faults sink.old) (K.faults sink.new) result }
+{
+    match put_answer(alloc, mode, pool, sink) {
+        Ok(pool) => Step::GoesOn(pool),
+        Err(OutputStop::WriteFault) => Step::Ends(Status::WriteFault),
+        Err(OutputStop::OutOfMemory) => Step::Ends(Status::OutOfMemory),
+    }
 }

@@ -11,9 +11,9 @@ use std::sync::Wait;
 use std::thread::Threads;
 use worker_gate::OpenGate;
 
-/// Prints the status and the rows; where a trouble is run with several numbers, the rows of the run
-/// without it, and then how much of them each run wrote; where the input is cut, the rows of each.
-/// A row that lacks its LF is printed with a backslash.
+/// Prints the status and the rows; if a trouble is run with several numbers, the rows of the run
+/// without it, and then how much of them each run wrote; if the input is cut, the rows of each. A
+/// row that lacks its LF is printed with a backslash.
 pub fn print_answer(
     rt: &(impl Threads + Wait + Print + Sync + Alloc<A = Global>),
     case: &Case,
@@ -134,7 +134,7 @@ fn run(
     Ok((status, sink.bytes().to_vec(alloc)?))
 }
 
-// The input, up to the line of this number where it is cut.
+// The input, up to the line of this number if it is cut.
 fn input_of(alloc: Global, case: &Case, trouble: Trouble, number: u64) -> io::Result<Vec<u8>> {
     let last = if trouble == Trouble::Cut {
         number

@@ -70,7 +70,7 @@ impl Case {
         add_span(&mut self.input, whole, span)
     }
 
-    // None where the option has another form.
+    // None if the option has another form.
     fn set_option(&mut self, option: &str) -> Option<()> {
         match option {
             "" => return Some(()),

@@ -16,7 +16,7 @@ pub fn is_set(mark: &AtomicU64) -> bool {
     mark.load(Ordering::SeqCst) != 0
 }
 
-/// Waits for a mark, and sets the other one where it did not come.
+/// Waits for a mark, and sets the other one if it did not come.
 pub fn await_mark(mark: &AtomicU64, missed: &AtomicU64) {
     for _ in 0..TURNS {
         if is_set(mark) {
@@ -27,7 +27,7 @@ pub fn await_mark(mark: &AtomicU64, missed: &AtomicU64) {
     set(missed);
 }
 
-/// Waits for the mark of a run's end, and ends the test where none comes within forty seconds.
+/// Waits for the mark of a run's end, and ends the test if none comes within forty seconds.
 pub fn watch<R: Clock + Abort>(rt: &R, ended: &AtomicU64) {
     for _ in 0..4000 {
         if is_set(ended) {

@@ -16,7 +16,7 @@ use worker_gate::OpenGate;
 const CORRECTED: &[u8] = b"league,Tiny,1\nclub,A,1\nclub,B,2\nmatch,A,B\nline,1\nseason\n\
     result,1,1,1\nask\nfix,1,1,0\nask\n";
 
-// Gives a byte at a time, and counts them where the sink can see it.
+// Gives a byte at a time, and counts them if the sink can see it.
 #[derive(Drop)]
 struct Counted<'a> {
     bytes: &'a [u8],

@@ -181,7 +181,7 @@ fn two_rounds_read<R: Threads + Wait + Sync>(rt: &R, alloc: Global) -> Result<Se
     two_rounds_from(rt, alloc, &mut first)
 }
 
-// The same, which fails the test where it does not end.
+// The same, which fails the test if it does not end.
 fn two_rounds_watched<R: Threads + Wait + Clock + Abort + Sync + Alloc<A = Global>>(
     rt: &R,
 ) -> Result<Settled, Fail> {

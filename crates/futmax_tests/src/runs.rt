@@ -16,7 +16,7 @@ use worker_gate::Gate;
 /// Two clubs and one match, which is open.
 pub const TWO_CLUBS: &[u8] = b"league,Tiny,1\nclub,A,1\nclub,B,2\nmatch,A,B\nline,1\nseason\nask\n";
 
-/// The same, where the match ended 0:0, so that the fixed rank decides.
+/// The same, if the match ended 0:0, so that the fixed rank decides.
 pub const DRAWN: &[u8] =
     b"league,Tiny,1\nclub,A,1\nclub,B,2\nmatch,A,B\nline,1\nseason\nresult,1,0,0\nask\n";
 

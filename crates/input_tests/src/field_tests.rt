@@ -77,7 +77,7 @@ fn drafted(alloc: Global) -> Result<Option<Draft>, Fail> {
     taken(alloc, same, b"club,B,2")
 }
 
-// How many clubs a whole sheet has; none where it is not whole.
+// How many clubs a whole sheet has; none if it is not whole.
 fn clubs_in(progress: &Result<Progress, RecordStop>) -> Option<usize> {
     match progress {
         Ok(Progress::Whole(sheet)) => Some(sheet.clubs.len()),

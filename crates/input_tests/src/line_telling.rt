@@ -18,12 +18,12 @@ pub fn memory(alloc: Global, input: &[u8], piece: usize, fail: &[u64]) -> Result
     Ok(MemSource::new(bytes, piece, fail))
 }
 
-/// Tells a mark and a number.
+/// Prints a mark and a number.
 pub fn tell_number(mark: &str, number: u64, out: &mut Vec<u8>) -> Result<(), Fail> {
     Ok(write!(out, "{mark}{number}")?)
 }
 
-/// Tells why a source gave no line.
+/// Says why a source gave no line.
 pub fn tell_read_stop(stop: ReadStop, out: &mut Vec<u8>) -> Result<(), Fail> {
     match stop {
         ReadStop::ReadFault => Ok(out.push(b'!')?),
@@ -55,7 +55,7 @@ fn ends(answer: Result<Line, ReadStop>) -> bool {
     !matches!(answer, Ok(Line::Text { .. }) | Err(ReadStop::ReadFault))
 }
 
-/// All that a reader answers, up to and with the second answer that nothing more comes.
+/// All that a reader returns, up to and with the second answer that nothing more comes.
 pub fn answers<S: Source>(alloc: Global, source: &mut S) -> Result<Vec<u8>, Fail> {
     let mut reader = LineReader::new(alloc)?;
     answers_of(alloc, &mut reader, source)

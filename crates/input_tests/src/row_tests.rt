@@ -51,7 +51,7 @@ fn a_row_goes_out_whole_or_leaves_a_prefix(rt: HostRuntime) -> Result<(), Fail> 
     Ok(())
 }
 
-// A writer that keeps bytes back until it is flushed, as a buffer does; its flush fails where it is
+// A writer that keeps bytes back until it is flushed, as a buffer does; its flush fails if it is
 // told to.
 #[derive(Drop)]
 struct Late {
@@ -86,7 +86,7 @@ fn has_row(late: &Late) -> bool {
     late.out.as_slice() == b"row\n".as_slice()
 }
 
-// A row goes out at once, and none where the flush fails.
+// A row goes out at once, and none if the flush fails.
 fn check_late(rt: &impl Abort, late: &mut Late) {
     let put = puts(late, b"row\n");
     assert!(rt; put == Ok(()) && has_row(late));

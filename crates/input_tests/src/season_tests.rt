@@ -1,4 +1,4 @@
-//! Seasons that are told, sheets that are copied, finishes that are kept.
+//! Seasons that take events, sheets that are copied, finishes that are kept.
 
 ghost use Rattle.std.specs.Prelude.{◌≡◌};
 ghost use Rattle.league_core.specs.game.Seasons.{unplayed_season};
@@ -15,8 +15,8 @@ const PAIR: &[u8] = b"league,Pair,2\nclub,A,1\nclub,B,2\nmatch,A,B\nmatch,B,A\ns
 
 const WON: Score = Score { home: 2, away: 1 };
 
-/// How many fixtures a season has; the first one's score once it is told, and whether the season is
-/// as before then; whether it is once the score is annulled.
+/// How many fixtures a season has; the first one's score once it is reported, and whether the
+/// season is as before then; whether it is once the score is annulled.
 type Annulled = (usize, Option<Score>, bool, bool);
 
 fn annulled(season: &mut Season, before: &Season) -> Annulled

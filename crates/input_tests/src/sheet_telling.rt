@@ -12,7 +12,7 @@ use std::alloc::Global;
 use std::io::Write;
 use std::test::Fail;
 
-/// What `read_sheet` answers to this input, and what comes after it.
+/// What `read_sheet` returns for this input, and what comes after it.
 pub fn told(alloc: Global, input: &[u8], piece: usize, fail: &[u64]) -> Result<Vec<u8>, Fail>
     requires { 0 < piece }
 {

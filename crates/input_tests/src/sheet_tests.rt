@@ -23,7 +23,7 @@ const SHEETS: &[u8] = b"league,Tiny,1\nclub,A,1\nclub,B,2\nmatch,A,B\nline,1\nse
     league,T,1,9,overall_first\nclub,A,1\nclub,B,2\nseason~T 1 9|overall|A 1;B 2;|| .5@\
     league,T,1,9,head_first,\nclub,A,1\nclub,B,2\nseason~T 1 9|A 1;B 2;|| .5";
 
-// An input that is refused, what is answered, and what comes then.
+// An input that is refused, what is returned, and what comes then.
 const REFUSED: &[u8] = b"# none\n\n,,\n~4,no_league .4@\
     club,A,1\nx~1,no_league 2:x@\
     lea\rgue,T,1~1,no_league .2@\

@@ -54,7 +54,7 @@ count_by-range_suc p clubs =
     ∙ sum_by-append (λ x. cond (p x) 1 0) (range_with_len 0 clubs) (clubs ∷ [])
     ∙ ap (λ n. count_by p (range_with_len 0 clubs) + n) (zero-add (cond (p clubs) 1 0))
 
--- the same, where the number is a successor
+-- the same, if the number is a successor
 pub count_suc : (p : ℕ → Bool) (clubs : ℕ)
     → count_by p (range_with_len 0 (suc clubs))
     ≡ count_by p (range_with_len 0 clubs) + cond (p clubs) 1 0

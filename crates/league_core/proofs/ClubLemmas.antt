@@ -140,7 +140,7 @@ has_member-not_empty [] is_empty says = ap not (says.1 refl)
 has_member-not_empty (club ∷ clubs) true says = absurd (let e = says.0 refl in cc)
 has_member-not_empty (club ∷ clubs) false says = refl
 
--- the rest of a list after those that pass a test is empty exactly where all pass it
+-- the rest of a list after those that pass a test is empty exactly when all pass it
 pub list_all-rest_empty : (test : ℕ → Bool) (clubs rest : List ℕ) (is_empty : Bool)
     → ((club : ℕ) → has_club rest club ≡ (has_club clubs club && not (test club)))
     → (IsTrue is_empty ↔ (rest ≡ [])) → is_empty ≡ list_all test clubs

@@ -29,7 +29,7 @@ and_comm true false = refl
 and_comm false true = refl
 and_comm false false = refl
 
--- a run of numbers from a on has a number exactly where it is among them
+-- a run of numbers from a on has a number exactly when it is among them
 pub has_club-range_from : (from count x : ℕ)
     → has_club (range_with_len from count) x ≡ (not (ltb x from) && ltb x (from + count))
 has_club-range_from from zero x = grind (arith, nat_tests)
@@ -40,7 +40,7 @@ has_club-range_from from (suc count) x = grind
 pub has_club-range : (count x : ℕ) → has_club (range_with_len 0 count) x ≡ ltb x count
 has_club-range count x = grind (arith, nat_tests, has_club-range_from 0 count x)
 
--- of the clubs that pass a test, a club is one exactly where it is one of all and passes
+-- of the clubs that pass a test, a club is one exactly when it is one of all and passes
 pub has_club-filter : (p : ℕ → Bool) (xs : List ℕ) (x : ℕ)
     → has_club (filter p xs) x ≡ (has_club xs x && p x)
 has_club-filter p xs x =
@@ -70,7 +70,7 @@ filter-filter p q (y ∷ ys) =
     filter_cond p (q y) y (filter q ys)
     ∙ ap (λ rest. cond (q y && p y) (y ∷ rest) rest) (filter-filter p q ys)
 
--- a set has a club below its width exactly where the club's bit is set
+-- a set has a club below its width exactly when the club's bit is set
 pub has_club-clubs_below : (count bits x : ℕ)
     → has_club (clubs_below count bits) x ≡ (ltb x count && eqb (bit_at bits x) 1)
 unfolding clubs_below
@@ -78,7 +78,7 @@ has_club-clubs_below count bits x =
     has_club-filter (λ club. eqb (bit_at bits club) 1) (range_with_len 0 count) x
     ∙ ap (λ b. b && eqb (bit_at bits x) 1) (has_club-range count x)
 
--- where a set has those clubs of another that pass a test, its list is the filtered list
+-- if a set has those clubs of another that pass a test, its list is the filtered list
 pub clubs_below-filter : (count bits group : ℕ) (p : ℕ → Bool)
     → ((x : ℕ) → has_club (clubs_below count bits) x ≡
     (has_club (clubs_below count group) x && p x))
@@ -103,16 +103,7 @@ pub filter_true : (xs : List ℕ) → filter (λ _. true) xs ≡ xs
 filter_true [] = refl
 filter_true (x ∷ xs) = ap (λ ys. x ∷ ys) (filter_true xs)
 
--- two sets with the same clubs have one list
-pub clubs_below-same : (count bits other : ℕ)
-    → ((x : ℕ) → has_club (clubs_below count bits) x ≡ has_club (clubs_below count other) x)
-    → clubs_below count bits ≡ clubs_below count other
-clubs_below-same count bits other same =
-    clubs_below-filter count bits other (λ _. true)
-    (λ x. same x ∙ sym (and-true (has_club (clubs_below count other) x)))
-    ∙ filter_true (clubs_below count other)
-
--- of a run of numbers, those below a limit are its prefix
+-- of a run of numbers, those below a limit are the first ones
 filter-range_below : (limit from count : ℕ)
     → filter (λ x. ltb x limit) (range_with_len from count) ≡ range_with_len from
     (min count (limit - from))

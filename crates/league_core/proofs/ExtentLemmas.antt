@@ -67,7 +67,7 @@ negated_extent allowed value other range turned extent =
       greatest = (low.0, low.1, turned low.0 ∙ ap neg_ℤ low.2);
     }
 
--- where all values are near zero, so are the ends
+-- if all values are near zero, so are the ends
 pub extent_near : (bound : ℕ) (allowed : Score → Bool) (value : Score → ℤ) (range : Range)
     → IsExtent allowed value range
     → ((score : Score) → allowed score ≡ true → IsNearZero bound (value score))

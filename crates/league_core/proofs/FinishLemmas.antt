@@ -81,7 +81,7 @@ played_only_finish sheet season finish played h =
     let scores = may_all_end-played sheet.goal_limit season.scores finish.scores played h.scores in
     λ i. record { scores = scores i; deductions = h.deductions i }
 
--- a season ends as it may exactly where each of its fixtures does
+-- a season ends as it may exactly when each of its fixtures does
 pub may_all_end-each : (limit : ℕ) (season finish : List (Option Score))
     → length season ≡ length finish
     → ((k : ℕ) → k < length season
@@ -140,7 +140,7 @@ pub finish_is_played : (sheet : Sheet) (season finish : Results)
 finish_is_played sheet season finish is =
     may_all_end-is_some sheet.goal_limit season.scores finish.scores is.scores
 
--- and is one of the sheet where the season is
+-- and is one of the sheet if the season is
 pub finish_is_of : (sheet : Sheet) (season finish : Results) → IsSeasonOf sheet season
     → IsFinishOf sheet season finish → IsSeasonOf sheet finish
 finish_is_of sheet season finish of_sheet is = record {

@@ -28,7 +28,7 @@ none_anywhere sheet season question zone none finish lots member holds =
     none finish lots
     (record { is_finish = member.is_finish; is_drawn = member.is_drawn; holds = holds })
 
--- a question holds nowhere in a zone exactly if no member of the zone is an example
+-- a question holds nowhere in a zone exactly when no member of the zone is an example
 pub nowhere_without_example : (sheet : Sheet) (season : Results) (question : Question)
     (zone : List Literal) → HoldsNowhereIn sheet season question zone
     ↔ ((finish : Results) (lots : List ℕ)

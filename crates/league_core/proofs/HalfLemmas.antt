@@ -64,7 +64,7 @@ no_fixture (HomeMost fixture most) rival i of_rival = absurd (false≢true of_ri
 no_fixture (AwayMost fixture most) rival i of_rival = absurd (false≢true of_rival)
 no_fixture (Rival club) rival i of_rival = refl
 
--- a test of a rival leaves all options, so it leaves a finish exactly where there was one
+-- a test of a rival leaves all options, so it leaves a finish exactly when there was one
 pub options_kept : (sheet : Sheet) (season : Results) (zone : List Literal) (test : Test)
     (holds : Bool) (rival : ℕ) → is_of_rival rival test ≡ true
     → options_in sheet season (with_test zone test holds) ≡ options_in sheet season zone
@@ -114,7 +114,7 @@ half_has_finish sheet season question zone (AwayMost fixture most) holds some pr
 half_has_finish sheet season question zone (Rival club) holds some proper =
     rival_has_finish sheet season zone (Rival club) holds club (eq-eqb club club refl) ∙ some
 
--- so where all splits are proper, each node's zone has a finish
+-- so if all splits are proper, each node's zone has a finish
 pub nodes_have_finish : (sheet : Sheet) (season : Results) (question : Question) (tree : Tree)
     (zone : List Literal) → has_finish sheet season zone ≡ true
     → NodesMeet (IsProperNode sheet season question) zone tree

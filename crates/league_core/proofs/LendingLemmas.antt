@@ -52,7 +52,7 @@ times_lent-le number (refuted_leaf reason fresh) = omega arith
 times_lent-le number (branch test fresh yes_half no_half) =
     omega (arith, times_lent-le number yes_half, times_lent-le number no_half)
 
--- where no number is lent no leaf is
+-- if no number is lent no leaf is
 pub lent_count-none : (tree : Tree) → ((number : ℕ) → times_lent number tree ≡ 0)
     → lent_count tree ≡ 0
 lent_count-none open_leaf none = refl
@@ -141,7 +141,7 @@ zones_from-all_opened (branch test fresh yes_half no_half) zone =
     ∙ ap (λ zones. zones_from (with_test zone test true) yes_half ++ zones)
     (zones_from-all_opened no_half (with_test zone test false))
 
--- it is refuted exactly where it was, and its leaves are open where they were open or lent
+-- it is refuted exactly when it was, and its leaves are open where they were open or lent
 pub is_refuted-all_opened : (tree : Tree) → is_refuted (all_opened tree) ≡ is_refuted tree
 is_refuted-all_opened open_leaf = refl
 is_refuted-all_opened (lent_leaf number) = refl

@@ -1,4 +1,4 @@
--- Logs: what stays true of a season that is told events, one or many.
+-- Logs: what stays true of a season that takes events, one or many.
 use Rattle.std.proofs.Common.{◌≡◌, ◌+◌, ◌<◌, ◌≤◌, ℕ, true, nat_le, IsTrue, get_or, List, [], ◌∷◌}
 use Rattle.std.proofs.Common.{◌++◌, All, length, fold, None, Some, refl, sym, ◌∙◌, subst, arith}
 use Rattle.std.proofs.Common.{length-set, nat_lt}
@@ -46,7 +46,7 @@ are_results-applied season (Deduct club points) results may_be =
     are_results-deduct season.scores season.deductions club points
     (le-leb points most_deduction may_be.1) results
 
--- all seasons of a sheet may be told the same events
+-- all seasons of a sheet may take the same events
 pub IsEventOf-same : (sheet : Sheet) (season other : Results) (event : Event)
     → IsSeasonOf sheet season → IsSeasonOf sheet other → IsEventOf season event
     → IsEventOf other event
@@ -62,7 +62,7 @@ below : (number many all most : ℕ) → number < many → many ≡ all → all 
     → nat_lt number most ≡ true
 below number many all most inside same few = lt-ltb number most (omega arith)
 
--- what a season of a sheet within the limits may be told has a code
+-- what a season of a sheet within the limits may take has a code
 pub has_code-told : (sheet : Sheet) (season : Results) (event : Event) → IsLeague sheet season
     → IsEventOf season event → IsTrue (has_code event)
 has_code-told sheet season (Set fixture score) league may_be =
@@ -128,7 +128,7 @@ season_after_results sheet events events_of =
     (unplayed_of sheet)
     (are_results-unplayed _ _ (length sheet.fixtures) (length sheet.clubs) refl refl) events_of
 
--- an event that the season may be told is one more of the sheet
+-- an event that the season may take is one more of the sheet
 pub AreEventsOf-push : (sheet : Sheet) (events : List Event) (event : Event)
     → AreEventsOf sheet events → IsEventOf (season_after sheet events) event
     → AreEventsOf sheet (events ++ event ∷ [])

@@ -127,7 +127,7 @@ drawn_before clubs done later drawn other names has =
         ∙ or_right (has_club done other) (has_club (drawn ∷ []) other)
         (or_left (drawn == other) false (eq-eqb drawn other same))) has
 
--- so where each comparison is the one by the lots, each club ranks before all that are drawn later
+-- so if each comparison is the one by the lots, each club ranks before all that are drawn later
 ranked_from : (clubs : ℕ) (order : ℕ → ℕ → Ordering) (lots done rest : List ℕ)
     → lots ≡ done ++ rest → NameEach clubs (done ++ rest)
     → ((club other : ℕ) → club < clubs → other < clubs

@@ -1,4 +1,4 @@
--- Facts of all nodes of a tree, where its leaves are lent, replaced, or opened again.
+-- Facts of all nodes of a tree, when its leaves are lent, replaced, or opened again.
 use Rattle.std.proofs.Common.{ℕ, Bool, true, false, ◌==◌, cond, List, [], ◌∷◌, ◌++◌, inl, inr}
 use Rattle.std.specs.List.{All}
 use Rattle.std.proofs.lemmas.Bool.{cases_Bool, eqb-true}
@@ -41,8 +41,8 @@ NodesMeet-put Fact number new (branch test fresh yes_half no_half) zone facts th
       NodesMeet-put Fact number new no_half (with_test zone test false) facts.2 parts.1,
     )
 
--- a fact of the tree with the leaves of a number open is one of the tree with them lent, where it
--- is no more to say of a lent leaf than of an open one
+-- a fact of the tree with the leaves of a number open is one of the tree with them lent, if it says
+-- no more of a lent leaf than of an open one
 pub NodesMeet-lend : (Fact : List Literal → TreeNode → Type 0) (number : ℕ) (tree : Tree)
     (zone : List Literal) → ((z : List Literal) (lent : ℕ) → Fact z Open → Fact z (Lent lent))
     → NodesMeet Fact zone (put number open_leaf tree) → NodesMeet Fact zone tree
@@ -81,8 +81,8 @@ NodesMeet-lent Fact number (branch test fresh yes_half no_half) zone facts =
     (NodesMeet-lent Fact number yes_half (with_test zone test true) facts.1)
     (NodesMeet-lent Fact number no_half (with_test zone test false) facts.2)
 
--- a fact stays where all lent leaves are opened, if it is no more to say of an open leaf than of a
--- lent one
+-- a fact stays when all lent leaves are opened, if it says no more of an open leaf than of a lent
+-- one
 pub NodesMeet-all_opened : (Fact : List Literal → TreeNode → Type 0) (tree : Tree)
     (zone : List Literal) → ((z : List Literal) (lent : ℕ) → Fact z (Lent lent) → Fact z Open)
     → NodesMeet Fact zone tree → NodesMeet Fact zone (all_opened tree)

@@ -13,7 +13,7 @@ pub has_option-some : (options : List Score) (score : Score) → has_score optio
 has_option-some [] score is = absurd (false≢true is)
 has_option-some (first ∷ options) score is = refl
 
--- where there is an option, there is one to show
+-- if there is an option, there is one to show
 pub first_shown : (options : List Score) → has_option options ≡ true
     → (score : Score) × (has_score options score ≡ true)
 first_shown [] some = absurd (false≢true some)
@@ -33,7 +33,7 @@ any_shows test (first ∷ options) score is passed =
           or_right (test first) (list_any test options) (any_shows test options score later passed)
     ]
 
--- where one passes, there is one that does
+-- if one passes, there is one that does
 pub any_gives : (test : Score → Bool) (options : List Score) → list_any test options ≡ true
     → (score : Score) × (has_score options score ≡ true) × (test score ≡ true)
 any_gives test [] some = absurd (false≢true some)

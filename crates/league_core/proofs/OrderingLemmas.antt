@@ -7,7 +7,7 @@ use Rattle.std.proofs.lemmas.Bool.{false≢true}
 use Rattle.std.proofs.lemmas.Bool.Decides.{nat_tests}
 use Rattle.league_core.specs.game.HeadToHead.{greater_first}
 
--- only where the first comparison does not decide need the next ones agree
+-- only if the first comparison does not decide need the next ones agree
 pub then_agree : (first next other : Ordering) → (first ≡ Equal → next ≡ other)
     → ordering_then first next ≡ ordering_then first other
 then_agree Less next other h = refl
@@ -42,7 +42,7 @@ then-three Equal Equal Less d = refl
 then-three Equal Equal Greater d = refl
 then-three Equal Equal Equal d = refl
 
--- two comparisons leave two alike only where each of them does
+-- two comparisons leave two alike only if each of them does
 pub then-equal : (a b : Ordering) → ordering_then a b ≡ Equal → (a ≡ Equal) × (b ≡ Equal)
 then-equal Less b h = absurd (let e : Less ≡ Equal = h in cc)
 then-equal Equal b h = (refl, h)

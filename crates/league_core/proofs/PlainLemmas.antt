@@ -13,7 +13,7 @@ use Rattle.std.proofs.lemmas.List.Sums.{AllPass-from_list_all}
 
 -- ---- truth values
 
--- where the one is not, the other is
+-- if the one is not, the other is
 pub or-other : (a b : Bool) → (a || b) ≡ true → a ≡ false → b ≡ true
 or-other true b either none = absurd (let e : true ≡ false = none in cc)
 or-other false b either none = either
@@ -41,9 +41,6 @@ int_lt-true a b h = grind (arith, ints)
 
 pub int_lt-false : (a b : ℤ) → int_lt a b ≡ false → b ≤ℤ a
 int_lt-false a b h = grind (arith, ints)
-
-pub lt-int_lt : (a b : ℤ) → a <ℤ b → int_lt a b ≡ true
-lt-int_lt a b h = grind (arith, ints)
 
 -- so many times a number, and once more
 pub times-suc : (n : ℕ) (number : ℤ)

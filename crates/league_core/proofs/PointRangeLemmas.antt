@@ -85,7 +85,7 @@ reaches_first : (value : Score → ℤ) (first : Score) (options : List Score) (
     → other ≡ value first → Reaches value (first ∷ options) other
 reaches_first value first options other same = (first, has_score-first first options, sym same)
 
--- where there is an option, one reaches the least value, and one the greatest
+-- if there is an option, one reaches the least value, and one the greatest
 pub least_reached : (value : Score → ℤ) (options : List Score) → has_option options ≡ true
     → Reaches value options (range_of value options).least
 least_reached value [] some = absurd (false≢true some)
@@ -165,7 +165,7 @@ total_of-cond : (value : ℕ → ℤ) (b : Bool) (club : ℕ)
 total_of-cond value true club = omega (arith, ints)
 total_of-cond value false club = refl
 
--- the next club adds its value where the set has it
+-- the next club adds its value if the set has it
 pub total_of-suc : (value : ℕ → ℤ) (count bits : ℕ)
     → total_of value (clubs_below (count + 1) bits) ≡ total_of value
     (clubs_below count bits) +ℤ cond (eqb (bit_at bits count) 1) (value count) (pos 0)
@@ -217,7 +217,7 @@ pub total_of-sum : (value other : ℕ → ℤ) (clubs : List ℕ)
 total_of-sum value other [] = refl
 total_of-sum value other (club ∷ clubs) = omega (arith, ints, total_of-sum value other clubs)
 
--- what one club is worth, a set has where it has the club
+-- what one club is worth, a set has if it has the club
 pub total_of-one : (x : ℕ) (number : ℤ) (count bits : ℕ)
     → total_of (λ club. cond (eqb x club) number (pos 0)) (clubs_below count bits) ≡ cond
     (ltb x count && eqb (bit_at bits x) 1) number (pos 0)

@@ -85,7 +85,7 @@ turned_up_to Less h = absurd (true≢false h)
 turned_up_to Equal h = refl
 turned_up_to Greater h = refl
 
--- what one of two is, the other where the test holds
+-- what one of two is, the other if the test holds
 of_two : (P : Score → Type 0) (test : Bool) (score other : Score) → (test ≡ true → P other)
     → (test ≡ false → P score) → P (if test then other else score)
 of_two P true score other changed kept = changed refl
@@ -242,7 +242,7 @@ first_option_of home away (first ∷ options) score is =
     ap Some (first_is_one home away (first ∷ options) (first_from home away first options) score
     (first_is home away first options) is)
 
--- there is one where there is an option
+-- there is one if there is an option
 pub is_some-first_option : (home away : Bool) (options : List Score)
     → is_some (first_option home away options) ≡ has_option options
 is_some-first_option home away [] = refl
@@ -265,7 +265,7 @@ first_option-same home away (score ∷ options) others same =
 
 -- ---- the proposed finish
 
--- where each fixture has an option, each takes one
+-- if each fixture has an option, each takes one
 first_options_taken : (wished : ℕ → Bool) (matches : List Fixture) (options : List (List Score))
     → length matches ≡ length options → list_all has_option options ≡ true
     → take_options options (first_options wished matches options) ≡ true

@@ -13,7 +13,7 @@ use Rattle.league_core.specs.search.PointRanges.{Range, one_value, added, widene
 use Rattle.league_core.specs.search.PointRanges.{range_from}
 use Rattle.league_core.proofs.PointRangeLemmas.{range_of-same}
 
--- ranges are one where both ends are
+-- ranges are one if both ends are
 pub same_range : (range other : Range) → range.least ≡ other.least → range.greatest ≡ other.greatest
     → range ≡ other
 same_range range other least greatest = λ j. record { least = least j; greatest = greatest j }

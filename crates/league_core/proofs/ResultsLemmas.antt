@@ -1,9 +1,8 @@
--- Lists of results: what stays true where a score is written, and where there is none.
+-- Lists of results: what stays true when a score is written, and when there is none.
 use Rattle.std.proofs.Common.{◌≡◌, ℕ, Bool, true, false, ◌&&◌, ◌==◌, List, set, replicate, Option}
-use Rattle.std.proofs.Common.{Some, None, refl, ap, ◌∙◌, leb}
+use Rattle.std.proofs.Common.{None, refl, ap, ◌∙◌, leb}
 use Rattle.std.specs.List.{list_all}
 use Rattle.std.specs.Bool.{Decides}
-use Rattle.std.specs.Option.{option_eq}
 use Rattle.std.proofs.lemmas.List.Elements.{All-set, All-replicate}
 use Rattle.std.proofs.lemmas.List.Sums.{AllPass-from_list_all, list_all-from_AllPass}
 use Rattle.std.proofs.lemmas.Bool.Decides.{Decides-eqb}
@@ -55,7 +54,7 @@ are_results-deduct scores deductions club points may_be all =
     let parts = both_of _ _ all in
     and_of _ _ parts.0 (list_all-set (λ n. leb n 99) deductions club points may_be parts.1)
 
--- two scores are equal exactly where their goals are
+-- two scores are equal exactly when their goals are
 pub scores_decided : (s t : Score) → Decides ((s.home == t.home) && (s.away == t.away)) (s ≡ t)
 scores_decided s t = (
   λ h. let parts = both_of (s.home == t.home) (s.away == t.away) h in
@@ -65,15 +64,6 @@ scores_decided s t = (
   λ e. and_of _ _ ((Decides-eqb s.home t.home).1 (ap (λ (u : Score). u.home) e))
       ((Decides-eqb s.away t.away).1 (ap (λ (u : Score). u.away) e)),
 )
-
--- an optional value is decided where the value is
-pub options_decided : {X : Type 0} (same : X → X → Bool) → ((x y : X) → Decides (same x y) (x ≡ y))
-    → (a b : Option X) → Decides (option_eq same a b) (a ≡ b)
-options_decided same decides None None = (λ _. refl, λ _. refl)
-options_decided same decides None (Some y) = (λ h. cc, λ e. cc)
-options_decided same decides (Some x) None = (λ h. cc, λ e. cc)
-options_decided same decides (Some x) (Some y) =
-    (λ h. ap Some ((decides x y).0 h), λ e. (decides x y).1 cc)
 
 -- no score, and no points taken off
 pub are_results-unplayed : (scores : List (Option Score)) (deductions : List ℕ)

@@ -1,4 +1,4 @@
--- Codes of scores: scores that may be have one code only where they are one, and codes stay in step
+-- Codes of scores: scores that may be have one code only if they are one, and codes stay in step
 -- with the scores.
 use Rattle.std.proofs.Common.{◌≡◌, ℕ, zero, suc, ◌≤◌, true, List, [], ◌∷◌, map, set, replicate}
 use Rattle.std.proofs.Common.{Option, Some, None, sym, ap, refl, ◌∙◌, arith, leb}
@@ -65,7 +65,7 @@ codes-set scores codes fixture score code in_step here =
     ∙ ap (set (map score_code scores) fixture) here
     ∙ sym (map-set score_code scores fixture score)
 
--- where nothing is played each code is that of none
+-- if nothing is played each code is that of none
 pub codes-unplayed : (scores : List (Option Score)) (codes : List ℕ) (fixtures code : ℕ)
     → scores ≡ replicate fixtures None → codes ≡ replicate fixtures code → code ≡ score_code None
     → codes ≡ map score_code scores

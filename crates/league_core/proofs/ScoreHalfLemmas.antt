@@ -106,7 +106,7 @@ one_half limit zone test tested at (played ∷ season) fixture some =
     on_rest true false c d first second some = absurd (false≢true second)
     on_rest false b c d first second some = absurd (false≢true first)
 
--- where a zone has a finish, one of its halves by the score of a fixture has one
+-- if a zone has a finish, one of its halves by the score of a fixture has one
 pub score_has_finish : (sheet : Sheet) (season : Results) (zone : List Literal) (test : Test)
     → is_of_score test ≡ true → has_finish sheet season zone ≡ true
     → (has_finish sheet season (with_test zone test true)

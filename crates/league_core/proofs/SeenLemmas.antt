@@ -53,7 +53,7 @@ passed_next passes seen found more at grows so_far club =
     either false passes true = refl
     either false passes false = refl
 
--- the same, where the next club was looked at by itself
+-- the same, if the next club was looked at by itself
 pub kept_next : (passes : ℕ → Bool) (seen found more : List ℕ) (at : ℕ) (test : Bool)
     → test ≡ passes at
     → ((club : ℕ) → has_club more club ≡ (has_club found club || (test && (at == club))))

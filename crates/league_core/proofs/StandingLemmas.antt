@@ -38,8 +38,8 @@ level_with-tied sheet season group club other tied =
     (λ third. ap is_eq
     (alike_right (by_head_to_head_total sheet season group) club other third tied)) group
 
--- the record in the group, then what decides after it: the sums over all matches where the group
--- does not get smaller, else the key in the smaller group
+-- the record in the group, then what decides after it: the sums over all matches if the group does
+-- not get smaller, else the key in the smaller group
 abbrev pub key_within : ℕ → Sheet → Results → List ℕ → ℕ → List ℤ
 key_within zero sheet season group club = []
 key_within (suc times) sheet season group club =
@@ -63,7 +63,7 @@ same_way false false here further a b c d e h k = k
 same_way true false here further a b c d e h k = absurd (true≢false e)
 same_way false true here further a b c d e h k = absurd (false≢true e)
 
--- who leads is told by the clubs' keys
+-- the clubs' keys say who leads
 pub lead_within-key : (times : ℕ) (sheet : Sheet) (season : Results) (group : List ℕ)
     (club other : ℕ) → lead_within times sheet season group club other
     ≡ by_first_difference (key_within times sheet season group club)

@@ -41,7 +41,7 @@ no_club : (group : List ℕ) (club : ℕ) → has_club group club ≡ true → l
 no_club [] club has none = false≢true has
 no_club (member ∷ group) club has none = omega arith
 
--- the standing that is met next: here where the group is whole, else further on
+-- the standing that is met next: here if the group is whole, else further on
 abbrev chosen : Bool → Ordering → Ordering → Ordering
 chosen whole here further = elim whole [ true ↦ here | false ↦ further ]
 

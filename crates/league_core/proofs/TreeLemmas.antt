@@ -34,19 +34,6 @@ NodesMeet-weaker Fact Other gives (branch test fresh yes_half no_half) zone fact
   NodesMeet-weaker Fact Other gives no_half (with_test zone test false) facts.2,
 )
 
--- two facts of each node are one fact of each
-pub NodesMeet-both : (Fact Other : List Literal → TreeNode → Type 0) (tree : Tree)
-    (zone : List Literal) → NodesMeet Fact zone tree → NodesMeet Other zone tree
-    → NodesMeet (λ z node. Fact z node × Other z node) zone tree
-NodesMeet-both Fact Other open_leaf zone facts others = (facts, others)
-NodesMeet-both Fact Other (lent_leaf number) zone facts others = (facts, others)
-NodesMeet-both Fact Other (refuted_leaf reason fresh) zone facts others = (facts, others)
-NodesMeet-both Fact Other (branch test fresh yes_half no_half) zone facts others = (
-  (facts.0, others.0),
-  NodesMeet-both Fact Other yes_half (with_test zone test true) facts.1 others.1,
-  NodesMeet-both Fact Other no_half (with_test zone test false) facts.2 others.2,
-)
-
 -- a fact of each node is one of each leaf
 pub leaves_meet : (Fact : List Literal → TreeNode → Type 0) (tree : Tree) (zone : List Literal)
     → NodesMeet Fact zone tree → All (λ leaf. Fact leaf.zone leaf.node) (leaves_from zone tree)
@@ -147,7 +134,7 @@ lent_zones-leaves_from number (branch test fresh yes_half no_half) zone =
     ∙ sym (map-append zone_of (filter lent yes_leaves) (filter lent no_leaves))
     ∙ ap (map zone_of) (sym (filter-append lent yes_leaves no_leaves))
 
--- a tree has an open leaf exactly where one of its leaves is open
+-- a tree has an open leaf exactly when one of its leaves is open
 pub has_open-leaves_from : (tree : Tree) (zone : List Literal)
     → has_open tree ≡ list_any (λ leaf. is_open_leaf leaf.node) (leaves_from zone tree)
 has_open-leaves_from open_leaf zone = refl
@@ -162,7 +149,7 @@ has_open-leaves_from (branch test fresh yes_half no_half) zone =
     (leaves_from (with_test zone test true) yes_half)
     (leaves_from (with_test zone test false) no_half))
 
--- it is refuted exactly where each of its leaves is
+-- it is refuted exactly when each of its leaves is
 pub is_refuted-leaves_from : (tree : Tree) (zone : List Literal)
     → is_refuted tree ≡ list_all (λ leaf. is_refuted_leaf leaf.node) (leaves_from zone tree)
 is_refuted-leaves_from open_leaf zone = refl

@@ -56,7 +56,7 @@ preorder-tree_of nodes tree is =
         ∙ back (first ∷ []) refl
     alone (Some (first ∷ second ∷ trees)) back one = absurd (none-some tree one)
 
--- a list is read as a tree exactly where it is the tree's list
+-- a list is read as a tree exactly when it is the tree's list
 pub reading_exact : (nodes : List TreeNode) (tree : Tree) → (tree_of nodes ≡ Some tree)
     ↔ (preorder tree ≡ nodes)
 reading_exact nodes tree =
@@ -67,7 +67,7 @@ pub preorder_injective : (tree other : Tree) → preorder tree ≡ preorder othe
 preorder_injective tree other same =
     same_Some tree other (sym (tree_of-preorder tree) ∙ ap tree_of same ∙ tree_of-preorder other)
 
--- nothing is read exactly where no tree has the list
+-- nothing is read exactly when no tree has the list
 pub unread_exact : (nodes : List TreeNode) → (tree_of nodes ≡ None)
     ↔ ((tree : Tree) → ¬ (preorder tree ≡ nodes))
 unread_exact nodes = (

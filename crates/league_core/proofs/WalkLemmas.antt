@@ -210,7 +210,7 @@ comes_to {clubs} {left} {rest} set seen club are steps next =
       few = omega (arith, few_members set, ap length list, length-append seen (club ∷ rest));
     }
 
--- where a walk has no club left it has seen all
+-- if a walk has no club left it has seen all
 pub all_seen : {clubs left : List ℕ} (set : ClubSet) (seen : List ℕ) → clubs ≡ clubs_in set
     → Yields (TakesFirst (λ (club : ℕ). club)) clubs seen left → left ≡ []
     → seen ≡ clubs_in set

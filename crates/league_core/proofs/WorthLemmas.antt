@@ -35,7 +35,7 @@ points_lost scored conceded away h =
     (le-ltb conceded scored (omega arith))
     ∙ ap (λ b. cond b (pos 1) (pos 0)) (ne_eqb scored conceded (λ e. absurd (omega arith)))
 
--- a win counts as one, and as one away from home where it is; nothing else counts as a win
+-- a win counts as one, and as one away from home if it is; nothing else counts as a win
 pub one_win : (scored conceded : ℕ) (away : Bool) → conceded < scored
     → wins scored conceded away ≡ pos 1
 one_win scored conceded away h = ap (λ b. cond b (pos 1) (pos 0)) (lt-ltb conceded scored h)
@@ -55,7 +55,7 @@ no_away_win scored conceded false h = refl
 
 -- ---- both sides together
 
--- two numbers, each where it counts
+-- two numbers, each if it counts
 both_sides : (home away : Bool) (x y : ℤ) (m n : ℕ) → x ≡ pos m → y ≡ pos n
     → (cond home x (pos 0) +ℤ cond away y (pos 0)) ≡ pos (cond home m 0 + cond away n 0)
 both_sides true true x y m n e f = omega (arith, ints)

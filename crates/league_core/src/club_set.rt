@@ -48,7 +48,7 @@ impl ClubSet {
         club < 32 && (self.bits >> club) & 1 == 1
     }
 
-    /// The set, and where `keep` is true the club too, by its number from 0, below 32.
+    /// The set, with the club too if `keep` is true; the club by its number from 0, below 32.
     pub fn with_if(self, keep: bool, club: u8) -> ClubSet
         requires { club < 32 }
         ensures { (other : ℕ) → has_club (clubs_in result) other

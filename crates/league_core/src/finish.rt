@@ -28,7 +28,7 @@ impl Model for Finish {
 }
 
 impl Finish {
-    /// The season as a finish. Where a fixture has no score the season is handed back.
+    /// The season as a finish. If a fixture has no score the season is handed back.
     pub fn of_season(season: Season) -> Result<Finish, Season>
         ensures ok { IfOk result (λ finish. finish ≡ season) }
         ensures err { IfErr result (λ back. back ≡ season) }

@@ -34,7 +34,7 @@ pub fn two_lots_suffice()
     ensures worst { WorstPlaceIsGreatest }
 {}
 
-/// Where every fixture has a score, nothing is left open: the season is its only finish.
+/// If every fixture has a score, nothing is left open: the season is its only finish.
 pub fn a_played_season_is_its_only_finish()
     ensures itself { PlayedSeasonFinishesItself }
     ensures only { PlayedSeasonIsItsOnlyFinish }
@@ -81,10 +81,10 @@ pub fn times_are_enough()
     ensures { TimesAreEnough }
 {}
 
-/// The standing in a group, in the words of the rule: the head-to-head record; among the clubs
-/// that it leaves level the same again, if these are fewer; and the sums over all matches, then the
-/// fixed rank, if they are not. Where the sheet puts the overall sums first: difference and goals
-/// over all matches, and then this rule among the clubs that share both.
+/// The standing in a group, in the words of the rule: the head-to-head record; among the clubs that
+/// it leaves level the same again, if these are fewer; and the sums over all matches, then the
+/// fixed rank, if they are not. If the sheet puts the overall sums first: difference and goals over
+/// all matches, and then this rule among the clubs that share both.
 pub fn standing_is_the_recursion()
     ensures { StandingIsByTheRule }
 {}

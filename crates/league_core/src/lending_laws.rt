@@ -14,7 +14,7 @@ ghost use Rattle.league_core.specs.laws.LendingLaws.{LendingKeepsFacts, FactsAre
 ghost use Rattle.league_core.specs.laws.LendingLaws.{OpeningKeepsFacts, OpeningTakesAllLoans};
 ghost use Rattle.league_core.specs.laws.LendingLaws.{OpeningKeepsTheTree, OpeningOpensLoans};
 
-/// Lent leaves by number and altogether. Where none is lent and none is open, all are refuted.
+/// Lent leaves by number and altogether. If none is lent and none is open, all are refuted.
 pub fn loans_are_counted()
     ensures zones { LoansAreAsManyAsZones }
     ensures among { NumbersAreLentAmongAll }
@@ -41,8 +41,8 @@ pub fn put_counts_what_it_brings()
     ensures open_leaf { PutOpensLeaves }
 {}
 
-/// Facts of all nodes stay where leaves are lent, come back as a tree with these facts, or are
-/// opened. They are said here of facts that a `bool` tells; the lemmas of
+/// Facts of all nodes stay when leaves are lent, come back as a tree with these facts, or are
+/// opened. They are said here of facts that a `bool` decides; the lemmas of
 /// `proofs/NodeFactLemmas.antt` say the same of any.
 pub fn loans_keep_facts()
     ensures put { PutKeepsFacts }

@@ -78,7 +78,7 @@ impl<T> Listing<T> {
         Ok(())
     }
 
-    /// Takes the last item off the list; `None` where there is none. It takes no memory.
+    /// Takes the last item off the list; `None` if there is none. It takes no memory.
     pub fn pop(&mut self) -> Option<T>
         ensures items { self.old ≡ self.new ++ option_to_list result }
         ensures none { IsNone result ↔ (self.old ≡ []) }
@@ -112,7 +112,7 @@ impl Model for Name {
 }
 
 impl Name {
-    /// The text as a name. Any text is taken, also one that no sheet within the limits has.
+    /// The text as a name. Any text is taken, even one that no sheet within the limits has.
     pub fn new(text: String) -> Name
         ensures { result ≡ string_bytes text }
     {

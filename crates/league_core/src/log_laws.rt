@@ -8,16 +8,16 @@ ghost use Rattle.league_core.specs.laws.LogLaws.{SeasonsTakeTheSameEvents, Event
 ghost use Rattle.league_core.specs.laws.LogLaws.{EventsAreCounted, EventsAreOfTheSheet};
 ghost use Rattle.league_core.specs.laws.LogLaws.{LogsAreOfTheSheet, LogsGiveResults, LogsHaveCodes};
 
-/// The season after an event is again a season of the sheet, with scores and deductions of at
-/// most 99, and all seasons of a sheet may be told the same events.
+/// The season after an event is again a season of the sheet, with scores and deductions of at most
+/// 99, and all seasons of a sheet may take the same events.
 pub fn events_keep_seasons()
     ensures sheet { EventsKeepTheSheet }
     ensures results { EventsKeepResults }
-    ensures told { SeasonsTakeTheSameEvents }
+    ensures same_events { SeasonsTakeTheSameEvents }
 {}
 
 /// The season of a log is a season of its sheet, with scores and deductions of at most 99, and the
-/// log may grow by an event that this season may be told. Each event is one epoch more.
+/// log may grow by an event that this season may take. Each event is one epoch more.
 pub fn logs_give_seasons()
     ensures sheet { LogsAreOfTheSheet }
     ensures results { LogsGiveResults }
@@ -25,7 +25,7 @@ pub fn logs_give_seasons()
     ensures epoch { EventsAreCounted }
 {}
 
-/// Every event that a season may be told has a code, where the sheet is within the limits.
+/// Every event that a season may take has a code, if the sheet is within the limits.
 pub fn events_have_codes()
     ensures event { EventsHaveCodes }
     ensures log { LogsHaveCodes }

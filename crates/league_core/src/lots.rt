@@ -1,4 +1,4 @@
-//! The drawing of lots: one order of all clubs, which decides where no criterion does.
+//! The drawing of lots: one order of all clubs, which decides if no criterion does.
 
 ghost use Rattle.std.specs.Prelude.{◌≡◌, ◌↔◌, length, IfOk, IfErr, IsTrue, is_ok};
 ghost use Rattle.std.specs.List.{list_all, range_with_len};
@@ -27,7 +27,7 @@ impl Model for Lots {
 }
 
 impl Lots {
-    /// The list as lots. Where it does not name each of the clubs from 0 to its length once, it is
+    /// The list as lots. If it does not name each of the clubs from 0 to its length once, it is
     /// handed back.
     pub fn new(order: Vec<u8>) -> Result<Lots, Vec<u8>>
         ensures ok { IfOk result (λ lots. lots ≡ order.items) }

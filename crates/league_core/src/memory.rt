@@ -1,7 +1,6 @@
 use std::alloc::{AllocError, AllocFailed};
 
-/// Running out of memory, the one answer that no clause ties to a cause. All crates answer this
-/// type.
+/// Out of memory: the one error whose cause no clause names. All crates return this type.
 #[derive(Clone, Copy, Debug, PartialEq, Eq)]
 pub struct OutOfMemory;
 

@@ -22,8 +22,7 @@ pub fn options_have_one_first()
     ensures set { FirstOptionIsOfTheSet }
 {}
 
-/// Where a zone has a finish, what is proposed is a finish, and meets all the zone's tests of
-/// scores.
+/// If a zone has a finish, what is proposed is a finish, and meets all the zone's tests of scores.
 pub fn proposed_finishes_are_finishes()
     ensures in_box { ProposedFinishIsInTheBox }
     ensures finish { ProposedFinishIsAFinish }

@@ -8,12 +8,12 @@ ghost use Rattle.league_core.specs.game.Questions.{is_in_window, is_on_side};
 pub enum Claim {
     /// The club ends among the first k.
     Inside,
-    /// The club ends behind the first k.
+    /// The club ends after the first k.
     Outside,
 }
 
 impl Claim {
-    /// A club that ends inside the line, or behind it, is on the side that is asked for.
+    /// A club that ends inside the line, or outside it, is on the side that is asked for.
     pub fn is_on_side(self, inside: bool) -> bool
         ensures { result ≡ is_on_side inside self }
     {

@@ -2,8 +2,7 @@
 //! no memory.
 //!
 //! Contracts see the items and the room, as `RoomyListView` of `specs/inside/Rooms.antt`. A type
-//! that keeps
-//! such a list may say in its own invariant how much room it always has.
+//! that keeps such a list may say in its own invariant how much room it always has.
 
 ghost use Rattle.std.specs.Prelude.{◌≡◌, ◌<◌, ◌≤◌, ◌+◌, [], ◌∷◌, ◌++◌, length, IsOk, OnOk, OnErr};
 ghost use Rattle.std.specs.Prelude.{slice_index_or, slice_set};
@@ -14,7 +13,7 @@ use std::alloc::Global;
 use std::marker::Model;
 use std::mem;
 
-/// A list that knows for how many items more it has room.
+/// A list that knows how many more items it has room for.
 #[derive(Drop)]
 pub struct RoomyList<T> {
     items: Vec<T>,
@@ -55,14 +54,14 @@ impl<T> RoomyList<T> {
         self.items.len()
     }
 
-    /// How many items more can be put in without taking memory.
+    /// How many more items can be put in without taking memory.
     pub fn room(&self) -> usize
         ensures { result ≡ self.now.room }
     {
         self.items.capacity() - self.items.len()
     }
 
-    /// Takes room for so many items more. After a refusal the list is as before.
+    /// Takes room for so many more items. After a refusal the list is as before.
     pub fn reserve(&mut self, more: usize) -> Result<(), OutOfMemory>
         ensures items { self.new.items ≡ self.old.items }
         ensures ok { OnOk result (more ≤ self.new.room) }

@@ -80,7 +80,7 @@ impl Season {
         })
     }
 
-    /// The scores in the order of the fixtures, `None` where a fixture is not played.
+    /// The scores in the order of the fixtures, `None` if a fixture is not played.
     pub fn scores(&self) -> &[Option<Score>]
         ensures scores { result.now ≡ self.now.scores }
         ensures within { IsTrue (are_results self.now) }
@@ -113,7 +113,7 @@ impl Season {
         self.deductions[club as usize]
     }
 
-    /// Takes one event: `Set` puts its score, also over another, `Clear` takes the score away,
+    /// Takes one event: `Set` puts its score, even over another, `Clear` takes the score away,
     /// `Deduct` puts its points in the place of the club's deduction.
     pub fn apply(&mut self, event: &Event)
         requires { IsEventOf self.old event.now }

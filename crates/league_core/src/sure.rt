@@ -1,4 +1,4 @@
-//! The four answers to who ranks before whom, where the scores are not all known.
+//! The four answers to who ranks before whom, when the scores are not all known.
 
 /// What is sure of a rival against a club in a zone whose outcomes are all fixed.
 #[derive(Clone, Copy, Debug, PartialEq, Eq)]

@@ -8,16 +8,15 @@ ghost use Rattle.league_core.specs.laws.TreeLaws.{OpenTreesHaveAnOpenLeaf, Facts
 ghost use Rattle.league_core.specs.laws.TreeLaws.{RefutedTreesHaveRefutedLeaves, ListsHaveEachNode};
 ghost use Rattle.league_core.specs.laws.TreeLaws.{LeavesAreOneMoreThanSplits, NewNodesAreNodes};
 ghost use Rattle.league_core.specs.laws.TreeLaws.{ReadingIsExact, UnreadListsHaveNoTree};
-ghost use Rattle.league_core.specs.laws.TreeLaws.{ListsTellTrees};
+ghost use Rattle.league_core.specs.laws.TreeLaws.{ListsDetermineTrees};
 ghost use Rattle.league_core.specs.laws.SplitLaws.{SeasonsHaveAFinish, ScoreTestsLeaveAFinish};
 ghost use Rattle.league_core.specs.laws.SplitLaws.{RivalTestsLeaveFinishes};
 ghost use Rattle.league_core.specs.laws.SplitLaws.{ProperHalvesHaveAFinish};
 ghost use Rattle.league_core.specs.laws.SplitLaws.{ProperTreesHaveFinishes};
 
-/// The list of its leaves, each with its zone and its kind, tells a tree's zones, which of them are
+/// The list of its leaves, each with its zone and its kind, gives a tree's zones, which of them are
 /// lent under a number, whether a leaf is open and whether all are refuted. A fact of all nodes
-/// that
-/// a `bool` tells is one of all leaves.
+/// that a `bool` decides is one of all leaves.
 pub fn leaves_tell_the_tree()
     ensures zones { ZonesAreOfLeaves }
     ensures lent { LentZonesAreOfLeaves }
@@ -37,7 +36,7 @@ pub fn nodes_are_counted()
 pub fn trees_are_their_lists()
     ensures read { ReadingIsExact }
     ensures unread { UnreadListsHaveNoTree }
-    ensures told { ListsTellTrees }
+    ensures one_tree { ListsDetermineTrees }
 {}
 
 /// A season has a finish, and no split loses the finishes of a zone; a proper one leaves some in

@@ -6,7 +6,7 @@ use std::sync::ledger::Share;
 
 /// Reports events to the lock of its job, of which it is the only front.
 ///
-/// Contracts see it as the list of the events that the pool has been told.
+/// Contracts see it as the list of the events that were reported to the pool.
 #[derive(Drop)]
 pub struct Front<J: Job> {
     pub(crate) inner: epoch_cancel::Front,

@@ -96,12 +96,13 @@ impl<J: Job> Guarded<J> {
         )
     }
 
-    // Takes from the pool, and shows the worker all that the pool has been told. While the one who
+    // Takes from the pool, and shows the worker all events of the pool. While the one who
     // reports is busy there is nothing to take.
     pub fn take(&mut self, word: &EpochWord, badge: &mut WorkBadge<J>) -> Took
         requires word { word.now ≡ J.table }
         ensures taking { self.old.feeder_busy ≡ false → Taking self.old.pool result self.new.pool }
-        ensures rest { self.old.feeder_busy ≡ true → (result ≡ took.Rest) × (self.new ≡ self.old) }
+        ensures unchanged { self.old.feeder_busy ≡ true
+            → (result ≡ took.Rest) × (self.new ≡ self.old) }
         ensures busy { self.new.feeder_busy ≡ self.old.feeder_busy }
         ensures work { TakesWorkAfter J.sheet badge.new.list result }
         ensures lent { TakesFrom J.sheet J.questions badge.new.list result }
@@ -121,7 +122,8 @@ impl<J: Job> Guarded<J> {
 
     pub fn take_next(&mut self, spare: &mut Option<Season>) -> Took
         ensures taking { self.old.feeder_busy ≡ false → Taking self.old.pool result self.new.pool }
-        ensures rest { self.old.feeder_busy ≡ true → (result ≡ took.Rest) × (self.new ≡ self.old) }
+        ensures unchanged { self.old.feeder_busy ≡ true
+            → (result ≡ took.Rest) × (self.new ≡ self.old) }
         ensures busy { self.new.feeder_busy ≡ self.old.feeder_busy }
         ensures fit { IsFitIfLent self.new.pool result }
         ensures log { self.new.pool.log ≡ self.old.pool.log }

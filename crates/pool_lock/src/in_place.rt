@@ -3,23 +3,21 @@
 ghost use Rattle.std.specs.Prelude.{◌≡◌, IfNone, IfSome, false, length};
 ghost use mathlib.Core.List.{IsPrefix};
 ghost use Rattle.league_core.specs.game.Seasons.{season_after};
-ghost use Rattle.reason_core.specs.inside.Dones.{IsTrueOf};
 ghost use Rattle.branch_pool.specs.inside.Runs.{TakesTurn};
-ghost use Rattle.pool_lock.specs.inside.Lends.{IsEpochSaidAfter};
 
 use crate::guarded::Guarded;
 use crate::job::Job;
 use crate::lock::PoolLock;
 use crate::work_badge::WorkBadge;
-use branch_pool::{Gave, Ticket, Turn};
+use branch_pool::Turn;
 use epoch_cancel::{EpochWord, seen};
-use reason_core::{Finding, Solver};
+use reason_core::Solver;
 use std::sync::Wait;
 
 impl<J: Job> Guarded<J> {
     // One turn of work in the pool, by a solver for the season that the badge has seen, after so
-    // many events; the badge is shown all that the pool has been told. Nothing where an event may
-    // come, or has come since.
+    // many events; the badge is shown all events of the pool. Nothing if an event may come, or has
+    // come since.
     pub fn work<W: Solver>(
         &mut self,
         word: &EpochWord,
@@ -51,32 +49,10 @@ impl<J: Job> Guarded<J> {
 }
 
 impl<J: Job> PoolLock<J> {
-    /// Gives a ticket back with what was found at its piece, as `swap` does, and takes none.
-    pub fn give<R: Wait>(
-        &self,
-        rt: &R,
-        badge: &mut WorkBadge<J>,
-        ticket: Ticket,
-        finding: Finding,
-    ) -> Gave
-        requires sound { IsTrueOf J.sheet ticket.piece finding }
-        ensures told { IsEpochSaidAfter badge.new.list ticket result }
-        ensures begins { IsPrefix badge.old.list badge.new.list }
-        ensures seen { badge.new ≡ record badge.old { list = badge.new.list } }
-    {
-        let (gave, _scraps, has_waiters) = {
-            let mut held = self.hold(rt);
-            let (gave, scraps) = held.give_found(&self.word, badge, ticket, finding);
-            (gave, scraps, held.take_waiters())
-        };
-        self.wake(has_waiters);
-        gave
-    }
-
     /// One turn of work in the pool itself, by a solver for the season that the badge has seen,
     /// which is that after so many events. All others wait for the lock meanwhile, so it is for a
-    /// worker that has no company. `None` where the feed is not shut, or where a newer event has
-    /// come: then nothing is worked on.
+    /// worker that is the only one. `None` if the feed is not shut, or if a newer event has come:
+    /// then nothing is worked on.
     pub fn work<R: Wait, W: Solver>(
         &self,
         rt: &R,

@@ -2,7 +2,7 @@
 
 use branch_pool::Ticket;
 
-/// What there is for a worker. A ticket cannot be dropped: `PoolLock::back` spends it.
+/// What there is for a worker. A ticket must be consumed by `PoolLock::give` or its like.
 pub enum LentOut {
     Work(Ticket),
     /// There is nothing to work on, nothing is out, and no event will come.

@@ -1,7 +1,7 @@
-//! The lock round the pool: workers take from it and give back to it, and one reporter tells it
+//! The lock round the pool: workers take from it and give back to it, and one reporter reports
 //! what changes.
 //!
-//! Read `specs/inside/Lends.antt` first: what is lent, and what is told of what comes back. `Job`
+//! Read `specs/inside/Lends.antt` first: what is lent, and what becomes of what comes back. `Job`
 //! names what all parts of one round have in common.
 #![tactic(auto)]
 

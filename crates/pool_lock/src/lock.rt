@@ -2,25 +2,21 @@
 
 ghost use Rattle.std.specs.Prelude.{◌≡◌, ◌↔◌, ◌++◌, ◌∷◌, [], length, All, Err, IfOk, OnOk, OnErr};
 ghost use mathlib.Core.List.{IsPrefix};
-ghost use Rattle.league_core.specs.declared.sheet.Sheet.{Sheet};
 ghost use Rattle.league_core.specs.game.Limits.{most_events};
 ghost use Rattle.league_core.specs.game.Seasons.{IsEventOf, season_after};
-ghost use Rattle.reason_core.specs.inside.Dones.{IsFor, IsTrueDone, IsTrueOf};
 ghost use Rattle.branch_pool.specs.inside.States.{out_count};
 ghost use Rattle.epoch_cancel.specs.inside.Seats.{IsCancelled, seat_of};
-ghost use Rattle.pool_lock.specs.inside.Badges.{LooksBy, badges_for, lends_over, says_over};
-ghost use Rattle.pool_lock.specs.inside.Lends.{LendsWorkAfter, TakesWorkAfter, IsEpochSaidAfter};
-ghost use Rattle.pool_lock.specs.inside.Lends.{IsEyeAfter, LendsFrom, TakesFrom};
+ghost use Rattle.pool_lock.specs.inside.Badges.{LooksBy, badges_for, lends_over};
+ghost use Rattle.pool_lock.specs.inside.Lends.{IsEyeAfter, LendsFrom, LendsWorkAfter};
 
 use crate::front::Front;
 use crate::guarded::Guarded;
 use crate::job::Job;
 use crate::lent_out::LentOut;
 use crate::work_badge::{WorkBadge, badges_of};
-use branch_pool::{ChangeStop, Gave, Pool, Ticket, Took};
+use branch_pool::{ChangeStop, Pool, Took};
 use epoch_cancel::{EpochWord, Eye, Owner, cancelled};
 use league_core::{Event, OutOfMemory};
-use reason_core::{Done, Finding, Piece};
 use std::alloc::Global;
 use std::hint::spin_loop;
 use std::sync::ledger::Blank;
@@ -81,7 +77,7 @@ impl<J: Job> PoolLock<J> {
 
     #[tactic(auto, using(crate::proofs::PrefixLemmas::prefix_onward))]
     /// Takes from the pool as soon as the one who reports rests and there is work, or all is over.
-    /// The badge has then seen all that the pool was told, and the ticket is work in the season
+    /// The badge has then seen all events of the pool, and the ticket is work in the season
     /// after that, by the number and the place that `take` gave it; if all is over the badge knows
     /// it. If memory runs out there is no ticket, and the badge may have seen more.
     pub fn lend<R: Wait>(&self, rt: &R, badge: &mut WorkBadge<J>) -> Result<LentOut, OutOfMemory>
@@ -109,63 +105,7 @@ impl<J: Job> PoolLock<J> {
         unreachable!()
     }
 
-    /// Gives a ticket back with what was done; where that is about another piece than the ticket's,
-    /// it counts as nothing done. What is kept is of the epoch of all events that the badge has
-    /// then seen, and what is stale is told that epoch.
-    pub fn back<R: Wait>(
-        &self,
-        rt: &R,
-        badge: &mut WorkBadge<J>,
-        ticket: Ticket,
-        done: Done,
-    ) -> Gave
-        requires sound { IsTrueDone J.sheet done }
-        ensures told { IsEpochSaidAfter badge.new.list ticket result }
-        ensures begins { IsPrefix badge.old.list badge.new.list }
-        ensures seen { badge.new ≡ record badge.old { list = badge.new.list } }
-    {
-        let done = fitting(done, &ticket.piece);
-        let (gave, left, has_waiters) = {
-            let mut held = self.hold(rt);
-            let (gave, left) = held.give(&self.word, badge, ticket, done);
-            (gave, left, held.take_waiters())
-        };
-        self.wake(has_waiters);
-        let _scraps = badge.keep(left);
-        gave
-    }
-
-    /// Gives a ticket back with what was found at its piece, and takes the next one, both in one
-    /// hold of the lock. What is told of the ticket, and what is lent, is by all events that the
-    /// badge has then seen; it knows whether all is over. Where there is no work now it does not
-    /// wait for some, as `lend` does.
-    pub fn swap<R: Wait>(
-        &self,
-        rt: &R,
-        badge: &mut WorkBadge<J>,
-        ticket: Ticket,
-        finding: Finding,
-    ) -> (Gave, Took)
-        requires sound { IsTrueOf J.sheet ticket.piece finding }
-        ensures told { IsEpochSaidAfter badge.new.list ticket result.0 }
-        ensures work { TakesWorkAfter J.sheet badge.new.list result.1 }
-        ensures lent { TakesFrom J.sheet J.questions badge.new.list result.1 }
-        ensures begins { IsPrefix badge.old.list badge.new.list }
-        ensures seen { badge.new ≡ record badge.old {
-          list = badge.new.list;
-          is_over = says_over result.1;
-        } }
-    {
-        let (gave, took, _scraps, has_waiters) = {
-            let mut held = self.hold(rt);
-            let (gave, took, scraps) = held.swap(&self.word, badge, ticket, finding);
-            (gave, took, scraps, held.take_waiters())
-        };
-        self.wake(has_waiters);
-        (gave, took)
-    }
-
-    // Wakes those who wait, where somebody may.
+    // Wakes those who wait, if somebody may.
     pub(crate) fn wake(&self, has_waiters: bool) {
         if has_waiters {
             self.moved.notify_all();
@@ -184,7 +124,7 @@ impl<J: Job> PoolLock<J> {
         self.held.lock(rt)
     }
 
-    /// Looks at the word once, without the lock: where an event came after this epoch, the answer
+    /// Looks at the word once, without the lock: if an event came after this epoch, the answer
     /// is the epoch by now.
     pub fn cancelled(&self, badge: &mut WorkBadge<J>, epoch: u64) -> Option<u64>
         ensures moves { LooksBy badge.old badge.new }
@@ -193,7 +133,8 @@ impl<J: Job> PoolLock<J> {
         cancelled(&self.word, &mut badge.eye, epoch)
     }
 
-    /// Reports an event, and answers the new epoch; nothing is lent then before `rest` or `shut`.
+    /// Reports an event, and returns the new epoch; nothing is lent then before `feeder_idle` or
+    /// `shut`.
     /// After a refusal pool, word and front are as before.
     pub fn report<R: Wait>(
         &self,
@@ -241,19 +182,5 @@ impl<J: Job> PoolLock<J> {
     {
         let held = self.held.into_inner();
         held.finish(self.word, front)
-    }
-}
-
-// What was done, where it is about the piece, or else nothing.
-fn fitting(done: Done, piece: &Piece) -> Done
-    ensures is_for { IsFor result piece.now }
-    ensures sound { (sheet : Sheet) → IsTrueDone sheet done → IsTrueDone sheet result }
-    ensures done { IsFor done piece.now → result ≡ done }
-    ensures undone { (IsFor done piece.now → ⊥) → result ≡ Done.Undone }
-{
-    if done.is_for(piece) {
-        done
-    } else {
-        Done::Undone
     }
 }

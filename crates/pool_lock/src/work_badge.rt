@@ -4,10 +4,9 @@ ghost use Rattle.std.specs.Prelude.{◌≡◌, All, IfOk};
 ghost use Rattle.pool_lock.specs.inside.Badges.{badges_for, says_over};
 
 use crate::job::Job;
-use branch_pool::{Discarded, Example, Loan, Took};
+use branch_pool::{Discarded, Took};
 use epoch_cancel::Eye;
-use league_core::{OutOfMemory, Season, Zone};
-use reason_core::Piece;
+use league_core::{OutOfMemory, Season};
 use std::alloc::Global;
 use std::marker::{Model, PhantomData};
 use std::mem;
@@ -22,7 +21,7 @@ pub struct WorkBadge<J: Job> {
     pub(crate) eye: Eye,
     // The season of the ticket given back last, for the next one.
     pub(crate) spare: Option<Season>,
-    is_alone: bool,
+    is_sole: bool,
     is_over: bool,
     of: PhantomData<J>,
 }
@@ -38,7 +37,7 @@ impl<J: Job> Model for WorkBadge<J> {
       list = badge.eye.list;
       loads = badge.eye.loads;
       newest = badge.eye.newest;
-      is_alone = badge.is_alone;
+      is_sole = badge.is_sole;
       is_over = badge.is_over;
     } };
 
@@ -46,11 +45,11 @@ impl<J: Job> Model for WorkBadge<J> {
 }
 
 impl<J: Job> WorkBadge<J> {
-    /// It is the only badge of its lock: its worker has no company.
-    pub fn is_alone(&self) -> bool
-        ensures { result ≡ self.now.is_alone }
+    /// It is the only badge of its lock.
+    pub fn is_sole(&self) -> bool
+        ensures { result ≡ self.now.is_sole }
     {
-        self.is_alone
+        self.is_sole
     }
 
     // Notes whether an answer to a taking says that all is over.
@@ -63,39 +62,14 @@ impl<J: Job> WorkBadge<J> {
         };
     }
 
-    // Keeps the season of what a ticket left, and answers the rest.
-    pub(crate) fn keep(&mut self, left: Discarded) -> DiscardedWork
+    // Keeps the season of what a ticket left, in exchange for the one that it kept before.
+    pub(crate) fn keep(&mut self, left: Discarded) -> Discarded
         ensures { self.new ≡ self.old }
     {
-        let Discarded {
-            piece,
-            done,
-            example,
-            loan,
-        } = left;
-        let Piece {
-            season,
-            question: _,
-            zone,
-        } = piece;
-        DiscardedWork {
-            season: mem::replace(&mut self.spare, Some(season)),
-            zone,
-            done,
-            example,
-            loan,
-        }
+        let mut left = left;
+        mem::swap(&mut self.spare, &mut left.season);
+        left
     }
-}
-
-/// What nobody has a use for once a ticket is back, to be dropped where nobody waits for it.
-#[derive(Drop)]
-pub struct DiscardedWork {
-    pub season: Option<Season>,
-    pub zone: Zone,
-    pub done: Option<Piece>,
-    pub example: Option<Example>,
-    pub loan: Option<Loan>,
 }
 
 // A badge for each eye, in their order.
@@ -103,13 +77,13 @@ pub fn badges_of<J: Job>(alloc: Global, eyes: Vec<Eye>) -> Result<Vec<WorkBadge<
     requires { All (λ eye. eye.table ≡ J.table) eyes.items }
     ensures { IfOk result (λ badges. badges.items ≡ badges_for eyes.items) }
 {
-    let is_alone = eyes.len() == 1;
+    let is_sole = eyes.len() == 1;
     let mut badges = Vec::new(alloc);
     for eye in eyes {
         badges.push(WorkBadge {
             eye,
             spare: None,
-            is_alone,
+            is_sole,
             is_over: false,
             of: PhantomData,
         })?;

@@ -6,7 +6,7 @@ use sample_leagues::Draws;
 use std::alloc::Global;
 use std::test::Fail;
 
-// The fixture by whose score a node is split; none of a leaf, or where a rival splits it.
+// The fixture by whose score a node is split; none for a leaf, or if a rival splits it.
 fn fixture_of(node: &TreeNode) -> Option<u16> {
     match node {
         TreeNode::Split { test, .. } => match test {
@@ -38,7 +38,7 @@ pub fn split_fixtures(alloc: Global, plain: &PlainPool) -> Result<Vec<u16>, Fail
     Ok(found)
 }
 
-/// A result of a fixture by which some tree is split; none where there is no such split.
+/// A result of a fixture by which some tree is split; none if there is no such split.
 pub fn drawn_result(draws: &mut Draws, split: &[u16]) -> Option<Event> {
     if split.is_empty() || 255 < split.len() {
         return None;

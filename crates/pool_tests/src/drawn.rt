@@ -63,7 +63,7 @@ fn drawn_event(draws: &mut Draws, season: &Season) -> Event {
     }
 }
 
-// One of the tickets; it stays to be given back once more where that is drawn.
+// One of the tickets; it stays to be given back once more if that is drawn.
 fn give_one(
     alloc: Global,
     draws: &mut Draws,
@@ -124,7 +124,7 @@ fn turn(alloc: Global, draws: &mut Draws, pair: &mut Pair) -> Result<(), Fail> {
     }
 }
 
-// Mostly a result of a fixture by which some tree is split, where there is one.
+// Mostly a result of a fixture by which some tree is split, if there is one.
 fn change_drawn(alloc: Global, draws: &mut Draws, pair: &mut Pair) -> Result<(), Fail> {
     if draws.below(4) > 0 {
         let split = split_fixtures(alloc, &pair.plain)?;
@@ -179,8 +179,7 @@ fn begin(alloc: Global, draws: &mut Draws, lists: &Lists, pair: &mut Pair) -> Re
     change_some(alloc, draws, pair)
 }
 
-// A pool that has been told up to six events; where it has worked before, one more, which decides
-// a split.
+// A pool that has taken up to six events; if it has worked before, one more, which decides a split.
 fn begun(alloc: Global, draws: &mut Draws, sheet: &Sheet, lists: &Lists) -> Result<Pair, Fail>
     requires { IsWithinLimits sheet.now }
 {
@@ -278,10 +277,10 @@ fn drawn_steps_with_more_units(rt: HostRuntime) -> Result<(), Fail> {
 }
 
 // Can A be first with just 8 points of six matches? What is proposed gives it 18. It can, by a win
-// and five draws, and then it is ahead of B, with 5: so no reason holds, neither at the root nor
-// where B ends behind. The root is split by B, and where B ends behind, all rivals are marked, so
-// the split is by a score: the first three pieces have one. So each of the two pools of a list
-// decides a split at least before its steps.
+// and five draws, and then it is ahead of B, with 5: so no reason holds, neither at the root nor if
+// B ends behind. The root is split by B, and if B ends behind, all rivals are marked, so the split
+// is by a score: the first three pieces have one. So each of the two pools of a list decides a
+// split at least before its steps.
 #[test]
 fn drawn_results_decide_splits(rt: HostRuntime) -> Result<(), Fail> {
     let lists = Lists {

@@ -16,7 +16,7 @@ use reason_core::{Done, Piece};
 use score_box::ZoneBox;
 use std::alloc::Global;
 
-/// What is found in a piece; nothing where it is none of the sheet.
+/// What is found in a piece; nothing if it is none of the sheet.
 pub fn done_of(alloc: Global, sheet: &Sheet, piece: &Piece) -> Result<Done, OutOfMemory>
     requires { IsWithinLimits sheet.now }
     ensures is_for { IfOk result (λ done. IsFor done piece.now) }

@@ -15,13 +15,13 @@ use std::alloc::Global;
 use std::test::Fail;
 use verdict_run::{finish, questions};
 
-/// The pool of a sheet and all that is asked of it, with nothing told.
+/// The pool of a sheet and all that is asked of it, with nothing reported.
 pub fn pool_of(alloc: Global, text: &[u8]) -> Result<Pool, Fail> {
     let sample = sample_of(alloc, text).ok_or("no league")?;
     pool_of_sheet(alloc, &sample.sheet)
 }
 
-/// The pool of a sheet and all that is asked of it, with nothing told.
+/// The pool of a sheet and all that is asked of it, with nothing reported.
 pub fn pool_of_sheet(alloc: Global, sheet: &Sheet) -> Result<Pool, Fail>
     requires { IsWithinLimits sheet.now }
 {
@@ -67,7 +67,7 @@ fn in_window(
     Ok(found)
 }
 
-/// Whether the season may be told the event.
+/// Whether the season may take the event.
 pub fn may_be(season: &Season, event: &Event) -> bool
     ensures { IsTrue result → IsEventOf season.now event.now }
 {
@@ -82,7 +82,7 @@ pub fn may_be(season: &Season, event: &Event) -> bool
     }
 }
 
-/// Tells the pool an event that its season may be told, and gives the new epoch.
+/// Reports to the pool an event that its season may take, and gives the new epoch.
 pub fn tell(pool: &mut Pool, event: Event) -> Result<u64, Fail> {
     if !may_be(pool.season(), &event) {
         return Err("no event of the season".into());
@@ -155,7 +155,7 @@ fn found_in(alloc: Global, pool: &Pool, ticket: &Ticket) -> Done
     }
 }
 
-/// How far the question at a place is; none where there is no question.
+/// How far the question at a place is; none if there is no question.
 pub fn answer_at(pool: &Pool, place: u16) -> Option<Answer> {
     if (place as usize) < pool.questions().len() {
         Some(pool.answer(place))

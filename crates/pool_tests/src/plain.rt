@@ -4,7 +4,7 @@
 use crate::held::{Found, Held};
 use branch_pool::{Answer, Gave};
 use league_core::{Listing, Literal, Question, Season};
-use reference_trees::BoxedTree;
+use reference_programs::BoxedTree;
 use std::alloc::Global;
 use std::test::Fail;
 
@@ -177,7 +177,7 @@ impl PlainPool {
         Ok(())
     }
 
-    /// Takes what was found, where the ticket is the pool's own and of the present epoch.
+    /// Takes what was found, if the ticket is the pool's own and of the present epoch.
     pub fn give(&mut self, held: &Held, found: Found) -> Result<Gave, Fail> {
         if self.takes(held) {
             self.keep(held, found)

@@ -7,7 +7,7 @@ use crate::eligibility::is_season_of;
 use crate::help::may_be;
 use crate::plain::{PlainPool, PlainSeat};
 use league_core::{Event, Question, Season, Sheet};
-use reference_trees::{BoxedTree, retarget_over};
+use reference_programs::{BoxedTree, retarget_over};
 use score_box::Played;
 use std::alloc::Global;
 use std::test::Fail;

@@ -60,8 +60,8 @@ fn four_worked(alloc: Global, pool: &mut Pool) -> Result<u32, Fail> {
     Ok(kept)
 }
 
-// How many of four pieces are kept where no event will come; whether nothing is left then, and
-// whether all questions are won.
+// How many of four pieces are kept if no event will come; whether nothing is left then, and whether
+// all questions are won.
 fn worked_until_over(alloc: Global, pool: &mut Pool) -> Result<(u32, bool, bool), Fail> {
     pool.shut();
     let kept = four_worked(alloc, pool)?;
@@ -156,7 +156,7 @@ fn what_is_out_when_a_result_comes_is_stale(rt: HostRuntime) -> Result<(), Fail>
     Ok(())
 }
 
-// Tells two results of 1:0.
+// Reports two results of 1:0.
 fn tell_two_wins(pool: &mut Pool) -> Result<(), Fail> {
     tell(pool, result(0, 1, 0))?;
     tell(pool, result(1, 1, 0))?;

@@ -100,7 +100,7 @@ gives-stop ReadFault before after text ends same = same
 gives-stop (LineTooLong number) before after text ends same = (ends, same)
 gives-stop (InputTooLong number) before after text ends same = (ends, same)
 
--- the reader with these bytes in hand answers the stop that they show, and stays
+-- the reader with these bytes in hand returns the stop that they show, and stays
 pub stop-gives : (before : Option Contents) (known left : Option (List ℕ))
     (mid new : LineReaderView) (stop : ReadStop) (result : Option (Result Line ReadStop))
     → before ≡ contents_after mid.position known → known ≡ prepend_known mid.held left

@@ -1,5 +1,5 @@
--- The line at the front of bytes in hand, whatever is left after them: one that ended there, and
--- one that is longer than a line may be.
+-- The first line of the bytes in hand, whatever is left after them: one that ended there, and one
+-- that is longer than a line may be.
 use Rattle.std.proofs.Common.{◌≡◌, ℕ, ◌+◌, ◌<◌, ◌≤◌, eqb, List, [], ◌∷◌, ◌++◌, length, take, drop}
 use Rattle.std.proofs.Common.{ap, sym, ◌∙◌, arith, append_assoc, length-append}
 use Rattle.std.proofs.lemmas.List.{take-append-drop, length-take-le}
@@ -39,7 +39,7 @@ length-text_of_line (byte ∷ bytes) =
     cond_both (eqb byte 10) [] (byte ∷ text_of_line bytes) P (λ is. omega arith)
     (λ is. omega (arith, length-text_of_line bytes))
 
--- too many bytes without LF are the front of a line that is too long, whatever follows
+-- too many bytes without LF are the start of a line that is too long, whatever follows
 pub HasLongLine-overlong : (held left : List ℕ) → IsOverlong held → HasLongLine (held ++ left)
 HasLongLine-overlong held left over =
     let front = take 1025 held in

@@ -1,4 +1,4 @@
--- An answer or a stop that is in hand: nothing is read, it stays in hand, and the stop is answered.
+-- An answer or a stop that is in hand: nothing is read, it stays in hand, and the stop is returned.
 use Rattle.std.proofs.Common.{◌≡◌, ◌≢◌, ℕ, ◌+◌, ◌<◌, ◌≤◌, Bool, true, false, if◌then◌else◌, nat_eq}
 use Rattle.std.proofs.Common.{leb, eqb-true, List, [], ◌∷◌, ◌++◌, length, take, drop, Option, Some}
 use Rattle.std.proofs.Common.{None, is_some, Result, Ok, Err, refl, ap, sym, ◌∙◌, subst, inl, inr}
@@ -31,7 +31,7 @@ stop-from : (found : Option ReadStop) (whole more : Bool) → whole ≡ false
 stop-from None whole more cut has = absurd cc
 stop-from (Some stop) whole more cut has = (stop, refl)
 
--- where an answer is in hand, a whole line is, or more bytes than a line may have, or the input's
+-- if an answer is in hand, a whole line is, or more bytes than a line may have, or the input's
 -- first one too many
 ready-line : (position : Position) (held : List ℕ) (lines : List (List ℕ)) → lines_of held ≡ lines
     → has_answer position lines ≡ true
@@ -61,30 +61,7 @@ ready-same position held most P has room ready full =
       | inr past ↦ full (omega arith)
     ]
 
--- nothing is read while a stop is in hand
-pub stop-same : (position : Position) (held : List ℕ) (most : ℕ) (P : Type 0) (stop : ReadStop)
-    → stop_due position (lines_of held) ≡ Some stop → position.bytes + most ≡ 67108865
-    → (IsReady held → P) → (most ≤ length held → P) → P
-stop-same position held most P stop is room ready full =
-    elim (stop-ready position held stop is) [
-      | inl long ↦ ready (inr long)
-      | inr past ↦ full (omega arith)
-    ]
-
--- a reader that had a stop in hand took nothing
-pub stop-stays : (held held' text : List ℕ) (position : Position) (entry : LineReaderView)
-    (most : ℕ)
-    (P : Type 0) → record { held = held; text = text; position = position } ≡ entry
-    → position.bytes + most ≡ 67108865 → (IsReady held → P × (held' ≡ held))
-    → (most ≤ length held → P × (held' ≡ held)) → (stop : ReadStop) → HasStop entry stop
-    → record { held = held'; text = text; position = position } ≡ entry
-stop-stays held held' text position entry most P is room ready full stop has =
-    let here : stop_due position (lines_of held) ≡ Some stop =
-    subst (λ (r : LineReaderView). HasStop r stop) (sym is) has in
-    ap (λ h. record { held = h; text = text; position = position })
-    (stop-same position held most (P × (held' ≡ held)) stop here room ready full).1 ∙ is
-
--- the bytes in hand show a stop or none, and a stop is answered
+-- the bytes in hand show a stop or none, and a stop is returned
 pub AnswersStop-by : (entry mid new : LineReaderView) (result : Option (Result Line ReadStop))
     (found : Option ReadStop) → ((stop : ReadStop) → HasStop entry stop → mid ≡ entry)
     → stop_due mid.position (lines_of mid.held) ≡ found
@@ -109,7 +86,7 @@ answer-same held held' text position entry most P is room ready full has =
       ap (λ h. record { held = h; text = text; position = position }) same.1 ∙ is,
     )
 
--- no answer is in hand where no whole line is, and neither limit is passed
+-- no answer is in hand if no whole line is, and neither limit is passed
 pub no_answer-open : (reading : LineReaderView) → IsPartial reading.held
     → reading.position.bytes + length reading.held ≤ 67108864 → HasAnswer reading → ⊥
 no_answer-open reading partial inside has =
@@ -189,7 +166,7 @@ Ended-keeps entry mid new at result ends answer same =
 some-same : (first second : ReadStop) → Some first ≡ Some second → first ≡ second
 some-same first second same = cc
 
--- bytes that show a stop: it is the one answered
+-- bytes that show a stop: it is the one returned
 pub stop-answers : (entry mid new : LineReaderView) (result : Option (Result Line ReadStop))
     (found : ReadStop) → ((stop : ReadStop) → HasStop entry stop → mid ≡ entry)
     → stop_due mid.position (lines_of mid.held) ≡ Some found

@@ -1,5 +1,5 @@
 -- Lemmas on lines, on pieces of bytes, on rows that go out in pieces; then on where an input stops
--- and what its first line adds to the contents; then on what a reader of lines answers, takes and
+-- and what its first line adds to the contents; then on what a reader of lines returns, takes and
 -- passes.
 pub mod LineLemmas
 pub mod PieceLemmas

@@ -1,5 +1,5 @@
--- Lines: what joining them gives, which lists of lines are those of an input, and the line at the
--- front of one.
+-- Lines: what joining them gives, which lists of lines are those of an input, and the first line of
+-- one.
 use Rattle.std.proofs.Common.{◌≡◌, ◌≢◌, ℕ, ◌<◌, Bool, false, eqb, if◌then◌else◌, List, [], ◌∷◌}
 use Rattle.std.proofs.Common.{◌++◌, length, refl, ap, sym, ◌∙◌, subst, inl, inr, arith}
 use Rattle.std.proofs.Common.{append_assoc, append-nil}
@@ -89,9 +89,9 @@ AreLines-lines_of (byte ∷ bytes) =
     ) (AreLines-lines_of bytes))
     (λ is. lines-onto byte (lines_of bytes) (grind (arith, is)) (AreLines-lines_of bytes))
 
--- ---- the line at the front
+-- ---- the first line
 
--- a text and its LF at the front of an input are its first line
+-- a text and its LF at the start of an input are its first line
 pub lines_of-ended : (text rest : List ℕ) → HasNoLineFeed text
     → lines_of (text ++ 10 ∷ rest) ≡ (text ++ 10 ∷ []) ∷ lines_of rest
 lines_of-ended [] rest none = refl

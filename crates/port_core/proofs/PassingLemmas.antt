@@ -27,7 +27,7 @@ use Rattle.port_core.proofs.AnswerLemmas.{match_bool}
 
 -- ---- none, and some after others
 
--- no line is passed where nothing changes
+-- no line is passed if nothing changes
 pub passes-none : (position : Position) (before after : Option (List ℕ)) (ended ended' : Bool)
     → before ≡ after → (ended' ≡ false → ended ≡ false)
     → PassesKnown position before ended position after ended' []
@@ -121,7 +121,7 @@ one-passes old new before after line ended ended' end behind result given first 
       told = λ unsaid. (whole unsaid).1;
     })
 
--- the same of bytes in hand and those left, where the source tells them
+-- the same of bytes in hand and those left, if the source shows them
 passes-given : (old new : LineReaderView) (left : Option (List ℕ)) (line : List ℕ)
     (ended ended' : Bool)
     (end behind : ℕ) (result : Option (Result Line ReadStop)) → GivesLine old new end behind result
@@ -143,7 +143,7 @@ passes-given old new (Some rest) line ended ended' end behind result given first
     ∙ ap (λ h. line ∷ lines_of (h ++ rest)) (sym (ap (λ r. r.held) given.2.1)))
     text-is size-is none whole
 
--- nothing is passed where the answer is a stop, or the end
+-- nothing is passed if the answer is a stop, or the end
 pub passes-stays : (old new : LineReaderView) (left : Option (List ℕ)) (ended ended' : Bool)
     (result : Option (Result Line ReadStop)) (answer : Result Line ReadStop)
     → given_there (Some answer) new.text ≡ [] → (result ≡ Some answer) × (new ≡ old)
@@ -193,7 +193,7 @@ last-first held left end none some rest told =
     ∙ append-nil (drop (length held) held) ∙ drop_all (length held) held (omega arith) in
     ap lines_of whole ∙ lines_of-open held none some ∙ ap (λ l. held ∷ lines_of l) (sym gone)
 
--- the input ended after the bytes in hand, and the end was told
+-- the input ended after the bytes in hand, and the end was seen
 pub Open-passes : (mid new : LineReaderView) (left : Option (List ℕ)) (ended ended' : Bool)
     (result : Option (Result Line ReadStop)) → IsPartial mid.held → IsAtEnd left
     → mid.position.bytes + length mid.held ≤ 67108864 → EndsInput mid new result → ended' ≡ true

@@ -1,4 +1,4 @@
--- Pieces of bytes: what moving one to the front leaves, where the first LF of a list stands, and
+-- Pieces of bytes: what moving one to the start leaves, where the first LF of a list stands, and
 -- what a read adds to a list.
 use Rattle.std.proofs.Common.{◌≡◌, ◌≢◌, ℕ, ◌+◌, ◌-◌, ◌<◌, ◌≤◌, min, List, [], ◌∷◌, ◌++◌, length}
 use Rattle.std.proofs.Common.{take, drop, slice_index, get_or, Option, Some, ap, sym, ◌∙◌, subst}
@@ -14,7 +14,7 @@ use Rattle.port_core.specs.declared.ports.Got.TheVariants.{Bytes}
 use Rattle.port_core.specs.Lines.{HasNoLineFeed}
 use Rattle.port_core.specs.inside.Buffers.{part, EndsAt, IsOverlong, ReadsAfter, Fills}
 
--- what is moved to the front stands there
+-- what is moved to the start stands there
 pub take-moved : (bytes : List ℕ) (from to : ℕ) → from ≤ to → to ≤ length bytes
     → take (to - from) (copy_within bytes from to 0) ≡ part from to bytes
 take-moved bytes from to order within =
@@ -41,7 +41,7 @@ EndsAt-first bytes place below none found =
     drop_more bytes place 0 below ∙ ap (λ b. b ∷ drop (place + 1) bytes) found in
     (none, sym (take-append-drop place bytes) ∙ ap (λ l. take place bytes ++ l) rest)
 
--- the first LF after the first bytes is the first of all, where those have none
+-- the first LF after the first bytes is the first of all, if those have none
 pub EndsAt-later : (bytes rest : List ℕ) (seen place : ℕ) → rest ≡ drop seen bytes
     → seen ≤ length bytes → HasNoLineFeed (take seen bytes)
     → place < length rest → HasNoLineFeed (take place rest) → slice_index rest place ≡ 10
@@ -97,7 +97,7 @@ Fills-behind left left' fact got n count end old before new whole is kept inside
 
 -- ---- a source over memory
 
--- a copied piece of the bytes left is the first of them, and it is empty only where none are left
+-- a copied piece of the bytes left is the first of them, and it is empty only if none are left
 pub Reads-piece : (bytes rest left into new : List ℕ) (at count most piece : ℕ)
     → left ≡ drop at bytes → rest ≡ drop at bytes
     → most ≡ min piece (length into) → count ≡ min most (length rest)

@@ -30,4 +30,4 @@ Writes-more start old new row rest done count within before is took = (
 pub AppendsPrefix-take : (start old new : Option (List ℕ)) (row : List ℕ) (done : ℕ)
     → old ≡ append_known start (take done row) → new ≡ old → AppendsPrefix start new row
 AppendsPrefix-take start old new row done before same =
-    (take done row, (drop done row, sym (take-append-drop done row)), same ∙ before)
+    (take done row, (drop done row, take-append-drop done row), same ∙ before)

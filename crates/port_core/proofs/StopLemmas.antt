@@ -37,7 +37,7 @@ stop-past position line past first = elim first [
   | inr late ↦ grind (arith, nat_tests)
 ]
 
--- where the input stops at the line that is due, it gives nothing more
+-- if the input stops at the line that is due, it gives nothing more
 contents-stop : (position : Position) (lines : List (List ℕ)) (stop : ReadStop)
     → stop_due position lines ≡ Some stop → contents_from position lines ≡ ended (Err stop)
 contents-stop position [] stop is = cc
@@ -46,7 +46,7 @@ contents-stop position (line ∷ lines) stop is =
     (content_at position (text_of_line line))
     (contents_from (position_after position (length line)) lines))) is
 
--- the same of bytes in hand and those left, where the source tells them
+-- the same of bytes in hand and those left, if the source shows them
 pub contents-stopped : (position : Position) (held : List ℕ) (known left : Option (List ℕ))
     (stop : ReadStop) → known ≡ prepend_known held left
     → ((rest : List ℕ) → stop_due position (lines_of (held ++ rest)) ≡ Some stop)
@@ -103,7 +103,7 @@ stop-full position held rest partial inside past =
     ∙ stop-past position (held ++ found.0) (omega (arith, length-append held found.0))
     (inr (omega (arith, partial.1)))
 
--- no stop is in hand where neither limit is passed
+-- no stop is in hand if neither limit is passed
 length-first : (bytes line : List ℕ) (lines : List (List ℕ)) → lines_of bytes ≡ line ∷ lines
     → length line ≤ length bytes
 length-first bytes line lines is =
@@ -134,7 +134,7 @@ stop-inside position held at ends within short inside =
     (omega (arith, ap length text, length-take-le at held (omega arith)))
     (omega (arith, length-ended held at within))
 
--- where a stop is in hand, more bytes are than a line may have, or the input's first one too many
+-- if a stop is in hand, more bytes are than a line may have, or the input's first one too many
 pub stop-ready : (position : Position) (held : List ℕ) (stop : ReadStop)
     → stop_due position (lines_of held) ≡ Some stop
     → (1024 < length held) ⊎ (67108865 ≤ position.bytes + length held)

@@ -34,7 +34,7 @@ use Rattle.port_core.proofs.PassingLemmas.{Ended-passes, Open-passes, passes-bef
 
 -- ---- what the bytes in hand show
 
--- the bytes in hand are within the input's limit where fewer are than may be
+-- the bytes in hand are within the input's limit if fewer are than may be
 within : (old mid : LineReaderView) (left left' : Option (List ℕ)) (due : Due)
     → Waits old mid left left' due
     → length mid.held < most_held mid → mid.position.bytes + length mid.held ≤ 67108864

@@ -36,11 +36,11 @@ number_at position = position.lines + 1
 abbrev pub byte_order_mark : List ℕ
 byte_order_mark = 0xEF ∷ 0xBB ∷ 0xBF ∷ []
 
--- a text without the byte order mark at its prefix, where it has one
+-- a text without the byte order mark at its start, if it has one
 abbrev pub without_mark : List ℕ → List ℕ
 without_mark text = if starts_with nat_eq text byte_order_mark then drop 3 text else text
 
--- a text without one CR at its end, where it has one
+-- a text without one CR at its end, if it has one
 abbrev pub without_return : List ℕ → List ℕ
 without_return text = if ends_with nat_eq text (13 ∷ []) then take (length text - 1) text else text
 
@@ -69,7 +69,7 @@ is_past_limit position line = nat_lt input_limit (position.bytes + length line)
 abbrev pub is_line_limit_first : Position → Bool
 is_line_limit_first position = nat_le (position.bytes + line_limit) input_limit
 
--- why the input stops at this line, where it does: of two bytes too many, the first one decides
+-- why the input stops at this line, if it does: of two bytes too many, the first one decides
 abbrev pub line_stop : Position → List ℕ → Option ReadStop
 line_stop position line =
     if is_long_line line && is_line_limit_first position then Some (LineTooLong (number_at
@@ -94,21 +94,21 @@ pub record Contents : Type 0 where
 abbrev pub ended : Result ℕ ReadStop → Contents
 ended ending = record { lines = []; ending = ending }
 
--- one more line at the front
+-- one more line before them
 abbrev pub with_line : ℕ → List ℕ → Contents → Contents
 with_line number content rest =
     record { lines = (number, content) ∷ rest.lines; ending = rest.ending }
 
--- these lines at the front
+-- these lines before them
 abbrev pub with_lines : List (ℕ × List ℕ) → Contents → Contents
 with_lines given rest = record { lines = given ++ rest.lines; ending = rest.ending }
 
--- what a content adds to what the lines after it give: nothing where its line is passed over
+-- what a content adds to what the lines after it give: nothing if its line is passed over
 abbrev pub with_content : ℕ → List ℕ → Contents → Contents
 with_content number content rest =
     if is_skipped content then rest else with_line number content rest
 
--- what a line and those after it give: nothing but the stop, where the input stops there
+-- what a line and those after it give: nothing but the stop, if the input stops there
 abbrev pub contents_by : Option ReadStop → Contents → Contents
 contents_by (Some stop) contents = ended (Err stop)
 contents_by None contents = contents

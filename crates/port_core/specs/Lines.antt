@@ -15,7 +15,7 @@ abbrev pub onto_first : ℕ → List (List ℕ) → List (List ℕ)
 onto_first byte [] = (byte ∷ []) ∷ []
 onto_first byte (line ∷ lines) = (byte ∷ line) ∷ lines
 
--- the lines of an input, each with its LF; what comes after the last LF is a line where it is not
+-- the lines of an input, each with its LF; what comes after the last LF is a line if it is not
 -- empty
 abbrev pub lines_of : List ℕ → List (List ℕ)
 lines_of [] = []

@@ -1,7 +1,8 @@
--- Sources and sinks: what a read or a write does to the bytes that a device tells, and to its count
+-- Sources and sinks: what a read or a write does to the bytes that a device shows, and to its count
 -- of faults.
 use Rattle.std.specs.Prelude.{◌≡◌, ℕ, ◌+◌, ◌-◌, ◌^◌, ◌<◌, ◌≤◌, ◌==◌, Bool, ◌||◌, min, List, ◌++◌}
 use Rattle.std.specs.Prelude.{length, take, Option}
+use mathlib.Core.List.{IsPrefix}
 use Rattle.std.specs.Io.KnownBytes.{prepend_known, append_known, IsAtEnd}
 use Rattle.port_core.specs.declared.ports.Got.{Got}
 use Rattle.port_core.specs.declared.ports.Got.TheVariants.{Bytes}
@@ -25,17 +26,17 @@ Reads old new (Bytes n) into =
     (n ≤ length into) × (old ≡ prepend_known (take n into) new) × (n ≡ 0 → IsAtEnd new)
 Reads old new got.Failed into = old ≡ new
 
--- a read fails only where the count of faults rose; one that does not fail leaves the count
+-- a read fails only if the count of faults rose; one that does not fail leaves the count
 abbrev pub CountsRead : ℕ → ℕ → Got → Type 0
 CountsRead before now (Bytes n) = now ≡ before
 CountsRead before now got.Failed = Rose before now
 
--- this holds of the bytes that a read gave, where it did not fail
+-- this holds of the bytes that a read gave, if it did not fail
 abbrev pub HoldsOfRead : (List ℕ → Type 0) → Got → List ℕ → Type 0
 HoldsOfRead fact (Bytes n) into = fact (take n into)
 HoldsOfRead fact got.Failed into = Unit {0}
 
--- the first read that gives no byte tells the end, and it stays told
+-- the first read that gives no byte marks the end, and it stays marked
 abbrev pub TellsEnd : Bool → Bool → Got → Type 0
 TellsEnd before now (Bytes n) = now ≡ (before || n == 0)
 TellsEnd before now got.Failed = now ≡ before
@@ -47,14 +48,14 @@ Writes old new (Took n) piece =
     (0 < n) × (n ≤ length piece) × (new ≡ append_known old (take n piece))
 Writes old new put.Failed piece = new ≡ old
 
--- a write fails only where the count of faults rose; one that does not fail leaves the count
+-- a write fails only if the count of faults rose; one that does not fail leaves the count
 abbrev pub CountsWrite : ℕ → ℕ → Put → Type 0
 CountsWrite before now (Took n) = now ≡ before
 CountsWrite before now put.Failed = Rose before now
 
 -- a text begins with these bytes
 abbrev pub IsBytePrefix : List ℕ → List ℕ → Type 0
-IsBytePrefix part text = (rest : List ℕ) × (text ≡ part ++ rest)
+IsBytePrefix part text = IsPrefix part text
 
 -- a sink took some prefix of a text, perhaps none of it
 abbrev pub AppendsPrefix : Option (List ℕ) → Option (List ℕ) → List ℕ → Type 0

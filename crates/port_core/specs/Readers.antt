@@ -11,15 +11,15 @@ pub record LineReaderView : Type 0 where
   pub text : List ℕ
   pub position : Position
 
--- what is still to come of an input, where the source tells it: the bytes in hand, then those left
+-- what is still to come of an input, if the source shows it: the bytes in hand, then those left
 abbrev pub stream_of : LineReaderView → Option (List ℕ) → Option (List ℕ)
 stream_of reader left = prepend_known reader.held left
 
--- what these bytes give from a position on, where they are told
+-- what these bytes give from a position on, if they are known
 abbrev pub contents_after : Position → Option (List ℕ) → Option Contents
 contents_after position known = option_map (λ bytes. contents_from position (lines_of bytes)) known
 
--- the contents still to come, where the source tells its bytes
+-- the contents still to come, if the source shows its bytes
 abbrev pub contents_to_come : LineReaderView → Option (List ℕ) → Option Contents
 contents_to_come reader left = contents_after reader.position (stream_of reader left)
 

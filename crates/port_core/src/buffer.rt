@@ -1,8 +1,8 @@
 //! The bytes that were read and not yet given, and the wait for the end of a line.
 //!
 //! They stand in a room of fixed size, so no call takes memory. What is in hand of a line is moved
-//! to the front once, before the first read for it, and each byte is looked at once however many
-//! reads the line takes.
+//! to the start of the room once, before the first read for it, and each byte is looked at once
+//! however many reads the line takes.
 
 ghost use Rattle.std.specs.Prelude.{◌≡◌, ◌+◌, ◌<◌, ◌≤◌, [], IfOk, MatchOption, drop, length, take};
 ghost use Rattle.std.specs.Io.KnownBytes.{prepend_known};
@@ -72,7 +72,7 @@ impl Buffer {
         &self.bytes[self.from..self.to]
     }
 
-    /// Lets go of the first bytes.
+    /// Drops the first bytes.
     pub fn drop_prefix(&mut self, count: usize)
         requires { count ≤ length self.old }
         ensures { self.new ≡ drop count self.old }
@@ -80,7 +80,7 @@ impl Buffer {
         self.from += count;
     }
 
-    /// One read after the bytes in hand, of which there are at most `most` then.
+    /// One read, whose bytes come after those in hand; there are at most `most` in hand then.
     pub fn fill<S: Source>(&mut self, source: &mut S, most: usize) -> Got
         requires short { length self.old ≤ LINE_LIMIT }
         requires some { length self.old < most }
@@ -126,8 +126,8 @@ pub fn line_end(bytes: &[u8], seen: usize) -> Option<usize>
     }
 }
 
-/// Reads until the line that is due is whole, is too long, or cannot go on. No more than `most`
-/// bytes come in hand.
+/// Reads until the line that is due is whole, is too long, or cannot go on. At most `most` bytes
+/// are in hand then.
 pub fn await_line<S: Source>(held: &mut Buffer, most: usize, source: &mut S) -> Due
     ensures stream { prepend_known held.old (S.left source.old)
         ≡ prepend_known held.new (S.left source.new) }

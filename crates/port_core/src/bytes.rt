@@ -5,7 +5,7 @@ ghost use Rattle.std.specs.Prelude.{◌≡◌, ◌-◌, ◌<◌, ◌≤◌, IfNo
 ghost use Rattle.port_core.specs.Lines.{HasNoLineFeed, line_feed};
 ghost use Rattle.port_core.specs.inside.Buffers.{part};
 
-/// Puts `text` at the front.
+/// Puts `text` at the start.
 pub fn copy_to_start(into: &mut [u8], text: &[u8])
     requires { length text.now ≤ length into.old }
     ensures { take (length text.now) into.new ≡ text.now }
@@ -13,7 +13,7 @@ pub fn copy_to_start(into: &mut [u8], text: &[u8])
     into[..text.len()].copy_from_slice(text);
 }
 
-/// Moves the bytes from one place up to another to the front.
+/// Moves the bytes from one place up to another to the start.
 pub fn move_to_start(bytes: &mut [u8], from: usize, to: usize)
     requires order { from ≤ to }
     requires within { to ≤ length bytes.old }

@@ -3,7 +3,7 @@
 ghost use Rattle.std.specs.Prelude.{◌≡◌, ◌≤◌, ◌==◌, length, if◌then◌else◌};
 ghost use Rattle.port_core.specs.Contents.{is_skipped, without_mark, without_return};
 
-/// The text without one CR at its end and, where it begins the input, without the byte order mark.
+/// The text without one CR at its end and, if it begins the input, without the byte order mark.
 pub fn content_of(text: &[u8], is_first: bool) -> &[u8]
     ensures value { result.now
         ≡ (if is_first then without_mark (without_return text.now) else without_return text.now) }

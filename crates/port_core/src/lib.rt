@@ -1,9 +1,9 @@
 //! The ends of a run: sources and sinks whose calls may fail, lines read from one, rows put into
 //! the other.
 //!
-//! A device is seen as the bytes that it tells, where it tells them, and a count of faults. What a
+//! A device is seen as the bytes that it shows, if it shows them, and a count of faults. What a
 //! call promises is in `specs/Ports.antt`; what a line is, in `specs/Lines.antt`; which lines
-//! count, in `specs/Contents.antt`; what a reader of lines answers, in
+//! count, in `specs/Contents.antt`; what a reader of lines returns, in
 //! `specs/inside/ReaderCalls.antt`.
 #![tactic(auto)]
 

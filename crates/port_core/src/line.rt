@@ -1,4 +1,4 @@
-//! What reading a line and writing a row answer.
+//! What reading a line and writing a row return.
 
 /// The most bytes that a line may have before its LF.
 pub const LINE_LIMIT: usize = 1024;
@@ -19,11 +19,11 @@ pub enum Line {
 pub enum ReadStop {
     /// The source failed. What was read is kept, and a later call reads on.
     ReadFault,
-    /// The line that is due has more than 1,024 bytes before its LF. Each later call answers the
+    /// The line that is due has more than 1,024 bytes before its LF. Each later call returns the
     /// same.
     LineTooLong { number: u64 },
     /// The input has more than 67,108,864 bytes, and the first one too many stands in the line that
-    /// is due. Each later call answers the same.
+    /// is due. Each later call returns the same.
     InputTooLong { number: u64 },
 }
 

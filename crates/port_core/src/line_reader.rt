@@ -5,7 +5,7 @@
 //!
 //! The reader reads only while no answer is in hand, so it never waits for more input than its
 //! line. A fault loses nothing: what was read stays in hand. A line costs a look at each of its
-//! bytes, and a copy of its content where it is given.
+//! bytes, and a copy of its content if it is given.
 
 ghost use Rattle.std.specs.Prelude.{◌≡◌, ◌+◌, ◌-◌, ◌<◌, ◌≤◌, [], IfOk, Ok, length, option_map};
 ghost use Rattle.std.specs.Prelude.{take};
@@ -88,9 +88,9 @@ impl LineReader {
     }
 
     /// Gives the next content. After a fault a later call reads on; after `LineTooLong` and
-    /// `InputTooLong` it answers the same for good.
+    /// `InputTooLong` it returns the same for good.
     pub fn next<S: Source>(&mut self, source: &mut S) -> Result<Line, ReadStop>
-        // Where the source tells its bytes: what was still to come, and what is.
+        // If the source shows its bytes: what was still to come, and what is.
         ensures gives { NextGives (contents_to_come self.old (S.left source.old))
             (contents_to_come self.new (S.left source.new)) self.new.text result }
         ensures leaves { LeavesReader self.new (S.left source.new) result }
@@ -108,7 +108,7 @@ impl LineReader {
         ensures ready { HasAnswer self.old → source.new ≡ source.old }
         ensures last { StopsAtAnswer S.left S.reads self.old self.new source.old source.new result }
 
-        // A fault only where the source counted one, and a stop for good.
+        // A fault only if the source counted one, and a stop for good.
         ensures cause { CountsNext (S.faults source.old) (S.faults source.new) result }
         ensures stopped { StaysStopped self.old self.new result }
     {
@@ -119,7 +119,7 @@ impl LineReader {
         }
     }
 
-    // The next answer, or none where the line that was due is passed over.
+    // The next answer, or none if the line that was due is passed over.
     fn take_line<S: Source>(&mut self, source: &mut S) -> Option<Result<Line, ReadStop>>
         ensures gives { LineGives (contents_to_come self.old (S.left source.old))
             (contents_to_come self.new (S.left source.new)) self.new.text result }
@@ -200,7 +200,7 @@ impl LineReader {
         given(self.pass(place, place + 1))
     }
 
-    // The input ends behind the bytes in hand.
+    // The input ends after the bytes in hand.
     fn end_input(&mut self) -> Option<Result<Line, ReadStop>>
         requires limit { length self.old.held ≤ LINE_LIMIT }
         requires room { bytes_taken self.old ≤ INPUT_LIMIT }
@@ -215,18 +215,18 @@ impl LineReader {
     }
 
     // Passes the first line in hand. Its text ends at `end`, and its bytes at `after`.
-    fn pass(&mut self, end: usize, behind: usize) -> Option<Line>
+    fn pass(&mut self, end: usize, after: usize) -> Option<Line>
         requires limit { end ≤ LINE_LIMIT }
-        requires order { end ≤ behind }
-        requires some { 0 < behind }
-        requires within { behind ≤ length self.old.held }
-        requires room { self.old.position.bytes + behind ≤ INPUT_LIMIT }
-        ensures { PassesLine self.old self.new end behind result }
+        requires order { end ≤ after }
+        requires some { 0 < after }
+        requires within { after ≤ length self.old.held }
+        requires room { self.old.position.bytes + after ≤ INPUT_LIMIT }
+        ensures { PassesLine self.old self.new end after result }
     {
         let given = self.keep(end);
-        self.held.drop_prefix(behind);
+        self.held.drop_prefix(after);
         self.lines += 1;
-        self.bytes += behind;
+        self.bytes += after;
         if given {
             let number = self.lines;
             Some(Line::Text { number })
@@ -235,7 +235,7 @@ impl LineReader {
         }
     }
 
-    // Keeps the content of the first line in hand, whose text ends at `end`, where it is given.
+    // Keeps the content of the first line in hand, whose text ends at `end`, if it is given.
     fn keep(&mut self, end: usize) -> bool
         requires limit { end ≤ LINE_LIMIT }
         requires within { end ≤ length self.old.held }

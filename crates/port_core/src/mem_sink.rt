@@ -9,7 +9,7 @@ use league_core::OutOfMemory;
 use std::alloc::Global;
 use std::marker::Model;
 
-/// Tells the bytes that it holds, and takes more in pieces. Chosen calls fail, and each call once
+/// Shows the bytes that it holds, and takes more in pieces. Chosen calls fail, and each call once
 /// its room is used.
 #[derive(Drop)]
 pub struct MemSink {

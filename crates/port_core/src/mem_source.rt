@@ -8,7 +8,7 @@ use crate::bytes::copy_to_start;
 use crate::ports::{Got, Source};
 use std::marker::Model;
 
-/// Tells its bytes, and gives them in pieces. Chosen calls fail.
+/// Shows its bytes, and gives them in pieces. Chosen calls fail.
 #[derive(Drop)]
 pub struct MemSource {
     bytes: Vec<u8>,

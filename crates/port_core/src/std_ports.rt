@@ -1,4 +1,4 @@
-//! std's readers and writers as sources and sinks. They tell no bytes, and count each error.
+//! std's readers and writers as sources and sinks. They show no bytes, and count each error.
 
 ghost use Rattle.std.specs.Prelude.{◌≡◌, ◌<◌, None, false, length};
 ghost use Rattle.std.specs.Io.KnownBytes.{Consumes};
@@ -19,7 +19,7 @@ pub struct StdSource<I: Read> {
 }
 
 impl<I: Read> StdSource<I> {
-    /// A source with no faults so far, whose end was not told.
+    /// A source with no faults so far, whose end was not marked.
     pub fn new(input: I) -> StdSource<I>
         ensures reader { reader_of result ≡ input }
         ensures faults { read_faults result ≡ 0 }

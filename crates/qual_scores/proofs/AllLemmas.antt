@@ -1,14 +1,13 @@
 -- The numbers so far, as an answer is put together.
 use Rattle.std.specs.Prelude.{All}
 use Rattle.std.specs.List.{list_all}
-use Rattle.score_answers.specs.inside.SpentLines.{IsBoundInRange, IsInLineRange, AreInLineRange}
-use Rattle.std.proofs.Common.{◌≡◌, ℕ, ◌+◌, ◌<◌, List, [], ◌∷◌, ◌++◌, length, map, take, get_or}
+use Rattle.answer_rows.specs.inside.SpentLines.{IsBoundInRange, IsInLineRange, AreInLineRange}
+use Rattle.std.proofs.Common.{◌≡◌, ℕ, ◌+◌, ◌<◌, List, [], ◌∷◌, ◌++◌, length, map}
 use Rattle.std.proofs.Common.{refl}
 use Rattle.std.proofs.Common.{true, sym, ap, ◌∙◌, subst, arith, append_assoc, append-nil}
 use Rattle.std.proofs.Common.{nat_lt, nat_le}
-use Rattle.std.specs.List.{flat_map}
 use Rattle.std.proofs.lemmas.Bool.{and_parts, ltb-true, leb-true}
-use Rattle.std.proofs.lemmas.List.{flat_map_more, map-append, take_more}
+use Rattle.std.proofs.lemmas.List.{map-append}
 use Rattle.std.proofs.lemmas.List.Elements.{All-nil, All-cons, All-append, All-weaker}
 use Rattle.std.proofs.lemmas.List.FromFn.{map-range_with_len_more}
 use Rattle.league_core.specs.declared.sheet.Sheet.{Sheet}
@@ -19,14 +18,14 @@ use Rattle.league_core.specs.game.Sheets.{is_line}
 use Rattle.league_core.specs.game.Questions.{IsQuestionOf, full_question}
 use Rattle.cert_text.specs.declared.proof_line.ProofLine.{ProofLine}
 use Rattle.cert_text.specs.Ranges.{is_in_range}
-use Rattle.verdict_run.specs.Items.{AnswerRow, answer_rows_of}
-use Rattle.score_answers.specs.declared.bound.Bound.{Bound}
-use Rattle.score_answers.specs.declared.bound.Bound.TheVariants.{Known, None, Between}
-use Rattle.score_answers.specs.declared.bound.Score2.{Score2}
-use Rattle.score_answers.specs.declared.bound.ClubScores.{ClubScores}
+use Rattle.answer_rows.specs.Items.{AnswerRow, answer_rows_of}
+use Rattle.answer_rows.specs.declared.bound.Bound.{Bound}
+use Rattle.answer_rows.specs.declared.bound.Bound.TheVariants.{Known, None, Between}
+use Rattle.answer_rows.specs.declared.bound.Score2.{Score2}
+use Rattle.answer_rows.specs.declared.bound.ClubScores.{ClubScores}
 use Rattle.qual_scores.specs.Bounds.{AreRightScores, IsRightBound}
 use Rattle.qual_scores.specs.AllScores.{scores_row, AreRightOf, AreScoresFor}
-use Rattle.qual_scores.specs.inside.AddedScores.{AddsClubs, AddsLine, AreScoresOfLines}
+use Rattle.qual_scores.specs.inside.AddedScores.{AddsClubs}
 
 -- numbers for some rows and then for others
 pub scores_joined : (sheet : Sheet) (season : Results) (rows others : List AnswerRow)
@@ -73,24 +72,6 @@ adds_one sheet season line club scores old between new adds within right after =
           (scores_joined sheet season (answer_rows_of club line)
           (record { line = line; club = club } ∷ []) adds.more (found ∷ []) adds.right one);
     }
-
--- one line more
-pub adds_line : (sheet : Sheet) (season : Results) (i : ℕ) (old new : List ClubScores)
-    → i < length sheet.lines → AreScoresOfLines sheet season (take i sheet.lines) old
-    → AddsLine sheet season (get_or sheet.lines i 0) old new
-    → AreScoresOfLines sheet season (take (i + 1) sheet.lines) new
-adds_line sheet season i old new within so_far adds =
-    let line = get_or sheet.lines i 0 in
-    let rows = answer_rows_of (length sheet.clubs) in
-    let joined = scores_joined sheet season (flat_map rows (take i sheet.lines)) (rows line) old
-    adds.more so_far adds.right in
-    let more : flat_map rows (take i sheet.lines) ++ rows line
-    ≡ flat_map rows (take (i + 1) sheet.lines) =
-    flat_map_more rows [] (take i sheet.lines) line
-    ∙ ap (flat_map rows) (sym (take_more sheet.lines i 0 within)) in
-    subst (λ (scores : List ClubScores).
-    AreScoresOfLines sheet season (take (i + 1) sheet.lines) scores) (sym adds.after)
-    (subst (λ (rs : List AnswerRow). AreScoresFor sheet season rs (old ++ adds.more)) more joined)
 
 -- a question about a club of the sheet and a line that may be is one of the sheet
 pub row_is_asked : (sheet : Sheet) (line club : ℕ) (claim : Claim) → club < length sheet.clubs

@@ -16,7 +16,7 @@ use Rattle.league_core.proofs.PointsLemmas.{match_worth, results-deductions, ded
 least_of_two : (a b : ℤ) → pos 0 ≤ℤ a → pos 0 ≤ℤ b → pos 0 ≤ℤ int_min a b
 least_of_two a b h k = omega (arith, ints, clamps)
 
--- where no option gives less than nothing, neither does the least
+-- if no option gives less than nothing, neither does the least
 range_not_negative : (value : Score → ℤ) → ((score : Score) → pos 0 ≤ℤ value score)
     → (options : List Score) → pos 0 ≤ℤ (range_of value options).least
 range_not_negative value each [] = omega (arith, ints)

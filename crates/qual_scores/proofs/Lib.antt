@@ -2,7 +2,7 @@
 -- question says, the range of a search, the numbers so far, and that each season has some.
 pub mod PointLemmas
 pub mod LeastLemmas
-pub mod SpanLemmas
+pub mod PointRangeLemmas
 pub mod WindowLemmas
 pub mod SearchLemmas
 pub mod AllLemmas

@@ -1,5 +1,5 @@
 -- Examples of questions with a window: the club's points lie in it, and between the least and the
--- most that the club can reach; and where a window is moved over them, the example stays one.
+-- most that the club can reach; and when a window is moved over them, the example stays one.
 use Rattle.std.proofs.Common.{◌≡◌, ℕ, ℤ, pos, negsuc, ◌≤ℤ◌, true, List, []}
 use Rattle.std.proofs.Common.{◌∷◌, refl, sym, subst, arith, int_le, nat_le}
 use Rattle.std.specs.List.{list_all}

@@ -10,12 +10,12 @@ use Rattle.league_core.specs.game.Results.{Results, are_results}
 use Rattle.league_core.specs.game.Seasons.{IsLeague}
 use Rattle.league_core.specs.game.Questions.{IsQuestionOf, full_question}
 use Rattle.league_core.specs.search.PointRanges.{most_points_of}
-use Rattle.question_laws.proofs.DecidedLemmas.{question_decided}
+use Rattle.verdict_run.proofs.DecidedLemmas.{question_decided}
 use Rattle.verdict_run.proofs.ShownLemmas.{refutation_is_true}
 use Rattle.qual_scores.specs.Scores.{IsLeastOf, IsPossibleScore, HasNoPossibleScore}
 use Rattle.qual_scores.specs.Scores.{CanBeInsideWith, IsInsideFrom, IsGuaranteedScore}
 use Rattle.qual_scores.specs.Scores.{question_between}
-use Rattle.qual_scores.specs.Bisections.{HoldsOfPoints, IsNotAbove, first_span}
+use Rattle.qual_scores.specs.Bisections.{HoldsOfPoints, IsNotAbove, first_range}
 use Rattle.qual_scores.proofs.PointLemmas.{from_le}
 use Rattle.qual_scores.proofs.WindowLemmas.{inside_found, inside_none, outside_found, outside_none}
 use Rattle.qual_scores.proofs.SearchLemmas.{first_below, possible_most, none_past_reach}
@@ -27,8 +27,8 @@ abbrev IsDecidedFrom : (ℤ → Type 0) → ℤ → Type 0
 IsDecidedFrom Holds low =
     (bound : ℤ) → low ≤ℤ bound → IsNotAbove Holds bound ⊎ (¬ IsNotAbove Holds bound)
 
--- what is decided from a number on, below which it is never true, is true of a least number up to
--- a bound, where it is true of some number up to it
+-- what is decided from a number on, below which it is never true, is true of a least number up to a
+-- bound, if it is true of some number up to it
 least_upto : (Holds : ℤ → Type 0) (low : ℤ) (count : ℕ) → IsDecidedFrom Holds low
     → ((points : ℤ) → Holds points → low ≤ℤ points) → IsNotAbove Holds (low +ℤ pos count)
     → (number : ℤ) × IsLeastOf Holds number
@@ -120,7 +120,7 @@ score_there : (sheet : Sheet) (season : Results) (club line : ℕ) (claim : Clai
     → (number : ℤ) × IsLeastOf (HoldsOfPoints sheet season club line claim) number
 score_there sheet season club line Inside points league results asked holds =
     least_there (CanBeInsideWith sheet season club line)
-    ((first_span sheet season club Inside).low) points
+    ((first_range sheet season club Inside).low) points
     (λ bound from. possible_decided sheet season club line league results asked bound)
     (first_below sheet season club line Inside) holds
 score_there sheet season club line Outside points league results asked holds =

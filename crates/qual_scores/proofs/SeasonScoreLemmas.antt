@@ -6,12 +6,12 @@ use Rattle.league_core.specs.declared.sheet.Sheet.{Sheet}
 use Rattle.league_core.specs.declared.question.Claim.TheVariants.{Inside}
 use Rattle.league_core.specs.game.Results.{Results, are_results}
 use Rattle.league_core.specs.game.Seasons.{IsLeague}
-use Rattle.verdict_run.specs.Items.{AnswerRow, answer_rows}
+use Rattle.answer_rows.specs.Items.{AnswerRow, answer_rows}
 use Rattle.verdict_run.proofs.RowLemmas.{IsRowOf, rows_asked}
-use Rattle.score_answers.specs.declared.bound.Bound.{Bound}
-use Rattle.score_answers.specs.declared.bound.Bound.TheVariants.{Known, None}
-use Rattle.score_answers.specs.declared.bound.Score2.{Score2}
-use Rattle.score_answers.specs.declared.bound.ClubScores.{ClubScores}
+use Rattle.answer_rows.specs.declared.bound.Bound.{Bound}
+use Rattle.answer_rows.specs.declared.bound.Bound.TheVariants.{Known, None}
+use Rattle.answer_rows.specs.declared.bound.Score2.{Score2}
+use Rattle.answer_rows.specs.declared.bound.ClubScores.{ClubScores}
 use Rattle.qual_scores.specs.Scores.{IsPossibleScore, HasNoPossibleScore}
 use Rattle.qual_scores.specs.Bounds.{IsRightBound, AreRightScores}
 use Rattle.qual_scores.specs.AllScores.{AreRightOf, AreScoresFor, AreScoresOf}

@@ -92,7 +92,7 @@ pub outside_none : (sheet : Sheet) (season : Results) (club line : ℕ) (points 
 outside_none sheet season club line points from none =
     (points, (from, none), omega (arith, ints))
 
--- what is said where the window question has an example
+-- what is said if the window question has an example
 pub said_found : (sheet : Sheet) (season : Results) (sought : ScoreQuery) (points : ℤ)
     (finish : Results) (lots : List ℕ)
     → IsExample sheet season (question_sought sought points) finish lots
@@ -109,7 +109,7 @@ said_found sheet season sought points finish lots example =
     by_claim Outside is =
         outside_found sheet season sought.club sought.line points finish lots is
 
--- and where it has none
+-- and if it has none
 pub said_none : (sheet : Sheet) (season : Results) (sought : ScoreQuery) (points : ℤ)
     → IsLeague sheet season → are_results season ≡ true → MayBeAsked sought.claim points
     → HasNoExample sheet season (question_sought sought points)
@@ -140,16 +140,6 @@ club_asked sought points = by_claim sought.claim
   where
     by_claim : (claim : Claim)
         → (window_question sought.club sought.line claim points).club ≡ sought.club
-    by_claim Inside = refl
-    by_claim Outside = refl
-
--- and about the line
-pub line_asked : (sought : ScoreQuery) (points : ℤ)
-    → (question_sought sought points).line ≡ sought.line
-line_asked sought points = by_claim sought.claim
-  where
-    by_claim : (claim : Claim)
-        → (window_question sought.club sought.line claim points).line ≡ sought.line
     by_claim Inside = refl
     by_claim Outside = refl
 

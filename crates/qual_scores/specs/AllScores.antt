@@ -2,8 +2,8 @@
 use Rattle.std.specs.Prelude.{◌≡◌, ◌<◌, List, map, All, length}
 use Rattle.league_core.specs.declared.sheet.Sheet.{Sheet}
 use Rattle.league_core.specs.game.Results.{Results}
-use Rattle.verdict_run.specs.Items.{AnswerRow, answer_rows}
-use Rattle.score_answers.specs.declared.bound.ClubScores.{ClubScores}
+use Rattle.answer_rows.specs.Items.{AnswerRow, answer_rows}
+use Rattle.answer_rows.specs.declared.bound.ClubScores.{ClubScores}
 use Rattle.qual_scores.specs.Bounds.{AreRightScores}
 
 -- the row that the numbers are about

@@ -11,13 +11,13 @@ use Rattle.league_core.specs.search.Trees.{Tree}
 use Rattle.cert_text.specs.declared.proof_line.ProofLine.{ProofLine}
 use Rattle.cert_text.specs.Ranges.{is_in_range}
 use Rattle.cert_text.specs.TreeLines.{IsFairSpentTree, marked_lines, with_window_head}
-use Rattle.verdict_run.specs.NewTrees.{is_all_new}
-use Rattle.score_answers.specs.declared.bound.Bound.{Bound}
-use Rattle.score_answers.specs.declared.bound.Bound.TheVariants.{Known, None, Between}
-use Rattle.score_answers.specs.declared.bound.Score2.{Score2}
-use Rattle.qual_scores.specs.declared.span.PointSpan.{PointSpan}
+use Rattle.answer_rows.specs.NewTrees.{is_all_new}
+use Rattle.answer_rows.specs.declared.bound.Bound.{Bound}
+use Rattle.answer_rows.specs.declared.bound.Bound.TheVariants.{Known, None, Between}
+use Rattle.answer_rows.specs.declared.bound.Score2.{Score2}
+use Rattle.qual_scores.specs.declared.point_range.PointRange.{PointRange}
 use Rattle.qual_scores.specs.Scores.{IsLeastOf, HasNoPossibleScore}
-use Rattle.qual_scores.specs.Bisections.{HoldsOfPoints, ShowsSpan, window_question}
+use Rattle.qual_scores.specs.Bisections.{HoldsOfPoints, ShowsRange, window_question}
 
 -- the lines show that the budget was spent on the question in the present epoch: its head, which
 -- names the window, and a tree on which it was spent fairly, all of it new
@@ -30,13 +30,13 @@ ShowsWindowSpent sheet season question lines =
 -- a range on the way to the number, with the spent tree of the window question that shows it; the
 -- number, if there is one, lies there
 pub record IsShownBetween (sheet : Sheet) (season : Results) (club line : ℕ) (claim : Claim)
-    (span : PointSpan) (lines : List ProofLine) : Type 0 where
+    (range : PointRange) (lines : List ProofLine) : Type 0 where
   pub asked : ℤ
-  pub shows : ShowsSpan sheet season club line claim span asked
+  pub shows : ShowsRange sheet season club line claim range asked
   pub spent : ShowsWindowSpent sheet season (window_question club line claim asked) lines
   pub in_range : IsTrue (list_all is_in_range lines)
   pub lies_there : (number : ℤ) → IsLeastOf (HoldsOfPoints sheet season club line claim) number
-      → (span.low ≤ℤ number) × (number ≤ℤ span.high)
+      → (range.low ≤ℤ number) × (number ≤ℤ range.high)
 
 -- of the guaranteed score it is never said that there is none
 abbrev pub IsNoneRight : Sheet → Results → ℕ → ℕ → Claim → Type 0

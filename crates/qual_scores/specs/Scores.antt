@@ -33,7 +33,7 @@ pub record IsLeastOf (Holds : ℤ → Type 0) (number : ℤ) : Type 0 where
   pub holds : Holds number
   pub least : (other : ℤ) → Holds other → number ≤ℤ other
 
--- the possible qualification score; negative where so many points are taken off
+-- the possible qualification score; negative if so many points are taken off
 abbrev pub IsPossibleScore : Sheet → Results → ℕ → ℕ → ℤ → Type 0
 IsPossibleScore sheet season club line points =
     IsLeastOf (CanBeInsideWith sheet season club line) points

@@ -3,13 +3,13 @@
 ghost use Rattle.std.specs.Prelude.{IfOk, OnOk, IsTrue, length};
 ghost use Rattle.league_core.specs.game.Seasons.{IsLeague};
 ghost use Rattle.league_core.specs.game.Sheets.{is_line};
-ghost use Rattle.score_answers.specs.inside.SpentLines.{AreInLineRange};
+ghost use Rattle.answer_rows.specs.inside.SpentLines.{AreInLineRange};
 ghost use Rattle.qual_scores.specs.AllScores.{AreScoresOf};
 ghost use Rattle.qual_scores.specs.inside.AddedScores.{AddsLine};
 
 use crate::search::scores;
+use answer_rows::ClubScores;
 use league_core::{OutOfMemory, Season, Sheet};
-use score_answers::ClubScores;
 use std::alloc::Global;
 
 /// The two numbers of each club and line: line by line in the order of the sheet, and for each line

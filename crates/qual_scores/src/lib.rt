@@ -5,13 +5,13 @@
 #![tactic(auto)]
 
 mod all;
+mod point_range;
 mod reach;
 mod score_laws;
 mod search;
-mod span;
 mod window;
 
 pub use all::all_scores;
-pub use score_answers::{Bound, ClubScores, Score2};
+pub use answer_rows::{Bound, ClubScores, Score2};
 pub use score_laws::{each_season_has_scores, scores_are_there};
 pub use search::scores;

@@ -7,12 +7,12 @@ ghost use Rattle.league_core.specs.game.Questions.{IsQuestionOf, full_question};
 ghost use Rattle.qual_scores.specs.Bounds.{AreRightScores, IsRightBound};
 ghost use Rattle.qual_scores.specs.inside.Searching.{IsNarrowed, IsFirstReach};
 
+use crate::point_range::PointRange;
 use crate::reach::reach_of;
-use crate::span::PointSpan;
 use crate::window::{ScoreQuery, WindowAnswer, ask_window};
+use answer_rows::{Bound, Score2};
 use cert_text::ProofLine;
 use league_core::{Claim, OutOfMemory, Season, Sheet};
-use score_answers::{Bound, Score2};
 use std::alloc::Global;
 
 /// The possible and the guaranteed qualification score of a club, by its number from 0, and a line,
@@ -42,7 +42,7 @@ fn possible_score(
     season: &Season,
     club: u8,
     line: u8,
-    reach: PointSpan,
+    reach: PointRange,
 ) -> Result<Bound, OutOfMemory>
     requires league { IsLeague sheet.now season.now }
     requires of_sheet { IsQuestionOf sheet.now (full_question club line Inside) }
@@ -65,7 +65,7 @@ fn guaranteed_score(
     season: &Season,
     club: u8,
     line: u8,
-    reach: PointSpan,
+    reach: PointRange,
 ) -> Result<Bound, OutOfMemory>
     requires league { IsLeague sheet.now season.now }
     requires of_sheet { IsQuestionOf sheet.now (full_question club line Inside) }
@@ -75,7 +75,7 @@ fn guaranteed_score(
     let claim = Claim::Outside;
     let sought = ScoreQuery { club, line, claim };
     let high = (reach.high + 1).max(0);
-    halved(alloc, sheet, season, sought, PointSpan { low: 0, high })
+    halved(alloc, sheet, season, sought, PointRange { low: 0, high })
 }
 
 // Halves the range until one number is left, or the budget of a window question is spent.
@@ -84,7 +84,7 @@ fn halved(
     sheet: &Sheet,
     season: &Season,
     sought: ScoreQuery,
-    first: PointSpan,
+    first: PointRange,
 ) -> Result<Bound, OutOfMemory>
     requires league { IsLeague sheet.now season.now }
     requires of_sheet { IsQuestionOf sheet.now
@@ -93,21 +93,21 @@ fn halved(
     ensures { IfOk result
         (IsRightBound sheet.now season.now sought.club sought.line sought.claim) }
 {
-    let mut span = first;
-    while span.low < span.high {
-        let middle = span.middle();
+    let mut range = first;
+    while range.low < range.high {
+        let middle = range.middle();
         match ask_window(alloc, sheet, season, sought, middle)? {
-            WindowAnswer::NotAbove => span.high = middle,
-            WindowAnswer::Above => span.low = middle + 1,
-            WindowAnswer::Spent(spent) => return Ok(between(span, spent)),
+            WindowAnswer::NotAbove => range.high = middle,
+            WindowAnswer::Above => range.low = middle + 1,
+            WindowAnswer::Spent(spent) => return Ok(between(range, spent)),
         }
     }
-    Ok(Bound::Known(span.low))
+    Ok(Bound::Known(range.low))
 }
 
-fn between(span: PointSpan, spent: Vec<ProofLine>) -> Bound
-    ensures { result ≡ Bound.Between span.low span.high spent }
+fn between(range: PointRange, spent: Vec<ProofLine>) -> Bound
+    ensures { result ≡ Bound.Between range.low range.high spent }
 {
-    let PointSpan { low, high } = span;
+    let PointRange { low, high } = range;
     Bound::Between { low, high, spent }
 }

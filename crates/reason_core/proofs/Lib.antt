@@ -1,2 +1,4 @@
 -- What `==` says of literals.
 pub mod LiteralLemmas
+-- What was done with a piece, and what was found there.
+pub mod DoneLemmas

@@ -1,7 +1,7 @@
 //! What came of a piece.
 
 ghost use Rattle.std.specs.Prelude.{◌≡◌, ◌↔◌, IsTrue};
-ghost use Rattle.reason_core.specs.inside.Dones.{IsFor, done_of};
+ghost use Rattle.reason_core.specs.inside.Dones.{IsFor, done_of, finding_of};
 
 use crate::finding::Finding;
 use crate::piece::Piece;
@@ -26,6 +26,18 @@ impl Done {
             Finding::Refuted(reason) => Done::Refuted(piece, reason),
             Finding::Split(literal) => Done::Split(piece, literal),
             Finding::Won(finish, lots) => Done::Won(piece, finish, lots),
+        }
+    }
+
+    /// What was found, without the piece.
+    pub fn into_finding(self) -> Option<Finding>
+        ensures { result ≡ finding_of self }
+    {
+        match self {
+            Done::Refuted(_, reason) => Some(Finding::Refuted(reason)),
+            Done::Split(_, literal) => Some(Finding::Split(literal)),
+            Done::Won(_, finish, lots) => Some(Finding::Won(finish, lots)),
+            Done::Undone => None,
         }
     }
 

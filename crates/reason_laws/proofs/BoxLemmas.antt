@@ -13,13 +13,13 @@ use Rattle.league_core.specs.search.Options.{take_options, IsInBox}
 use Rattle.league_core.proofs.OptionLemmas.{has_score-first, same_score-true}
 use Rattle.reason_laws.proofs.FixedLemmas.{all_alike}
 
--- the first option of each fixture, and none where none is left
+-- the first option of each fixture, and none if none is left
 abbrev first_scores : List (List Score) → List (Option Score)
 first_scores [] = []
 first_scores ([] ∷ more) = None ∷ first_scores more
 first_scores ((score ∷ options) ∷ more) = Some score ∷ first_scores more
 
--- where each fixture has one option, they are options
+-- if each fixture has one option, they are options
 first_taken : (options : List (List Score)) → list_all has_one_score options ≡ true
     → take_options options (first_scores options) ≡ true
 first_taken [] one = refl

@@ -27,7 +27,7 @@ use Rattle.league_core.proofs.HalfLemmas.{list_all-with, options_of-off, options
 use Rattle.reason_laws.proofs.HalfMarkLemmas.{proper_names}
 use Rattle.reason_laws.proofs.CountLemmas.{count_by-parts, filter-all}
 
--- where each fixture has an option there is a choice
+-- if each fixture has an option there is a choice
 choices_some : (options : List (List Score)) → list_all has_option options ≡ true
     → 1 ≤ choices options
 choices_some [] all = omega arith

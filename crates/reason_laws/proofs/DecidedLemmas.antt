@@ -1,4 +1,4 @@
--- A zone in which each fixture has one option decides itself: where neither the window nor the
+-- A zone in which each fixture has one option decides itself: if neither the window nor the
 -- criteria are a reason, its finish is an example with lots that favour the claim.
 use Rattle.std.proofs.Common.{◌≡◌, ℕ, ◌+◌, ◌-◌, ◌<◌, ℤ, ◌≤ℤ◌, Bool, true, false}
 use Rattle.std.proofs.Common.{◌&&◌, ◌||◌, nat_lt, List, [], ◌∷◌, length}
@@ -57,7 +57,7 @@ first_less Equal i j first before =
     let low : i < j = ltb-true i j (sym (is_lt-nat_cmp i j) ∙ before) in
     absurd (omega arith)
 
--- who does not come before a club that is drawn later comes behind it without the lots
+-- who does not come before a club that is drawn later comes after it without the lots
 last_greater : (order : Ordering) (i j : ℕ) → i < j
     → is_lt (ordering_then order (nat_cmp i j)) ≡ false → order ≡ Greater
 last_greater Less i j last behind = absurd (true≢false behind)
@@ -65,7 +65,7 @@ last_greater Greater i j last behind = refl
 last_greater Equal i j last behind =
     absurd (true≢false (sym (is_lt-nat_cmp i j ∙ lt-ltb i j last) ∙ behind))
 
--- in a single zone a rival before the club is surely above it, where the club is drawn first
+-- in a single zone a rival before the club is surely above it, if the club is drawn first
 before_is_above : (sheet : Sheet) (season : Results) (zone : List Literal) (finish : Results)
     (lots : List ℕ) (rival club : ℕ) → is_single sheet season zone ≡ true
     → IsInBox sheet season zone finish → lot_of lots club ≡ 0
@@ -76,7 +76,7 @@ before_is_above sheet season zone finish lots rival club single box first before
     lots club) first (sym (ap is_lt (order_of-lots sheet finish lots rival club)) ∙ before) in
     ap is_above (order_is sheet season zone finish rival club single box ∙ ap sure_of less)
 
--- and one that is not before it is surely below it, where it is drawn earlier
+-- and one that is not before it is surely below it, if it is drawn earlier
 behind_is_below : (sheet : Sheet) (season : Results) (zone : List Literal) (finish : Results)
     (lots : List ℕ) (rival club : ℕ) → is_single sheet season zone ≡ true
     → IsInBox sheet season zone finish → lot_of lots rival < lot_of lots club
@@ -146,7 +146,7 @@ single_has_finish sheet season zone single =
 other_fails : (a b : Bool) → a ≡ true → ((a && b) ≡ true → ⊥) → b ≡ false
 other_fails a b is fails = false_from_ne_true b (λ holds. fails (and_from a b is holds))
 
--- where the window is no reason, the points at the zone's finish are in it
+-- if the window is no reason, the points at the zone's finish are in it
 in_window : (sheet : Sheet) (season : Results) (question : Question) (zone : List Literal)
     (finish : Results) → is_single sheet season zone ≡ true → IsInBox sheet season zone finish
     → refutes_by_window sheet season question zone ≡ false

@@ -1,5 +1,5 @@
--- Where the options of each fixture are alike, a sum has one value: points where they have one
--- outcome, every sum where each fixture has one option.
+-- If the options of each fixture are alike, a sum has one value: points if they have one outcome,
+-- every sum if each fixture has one option.
 use Rattle.std.proofs.Common.{◌≡◌, ℕ, ℤ, pos, ◌+ℤ◌, Bool, true, false, ◌==◌, cond}
 use Rattle.std.proofs.Common.{List, [], ◌∷◌, refl, sym, ap, ◌∙◌, subst, inl, inr, arith}
 use Rattle.std.specs.List.{list_all}

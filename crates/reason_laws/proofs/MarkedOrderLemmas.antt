@@ -17,16 +17,7 @@ use Rattle.league_core.specs.game.Sums.{points_of}
 use Rattle.league_core.specs.game.Ranking.{ranks_before}
 use Rattle.league_core.specs.search.Zones.{is_of_rival, is_test_true, is_as_said, is_literal_true}
 use Rattle.league_core.specs.search.Zones.{are_literals_true, marked_before, marked_after}
-use Rattle.league_core.proofs.OrderingLemmas.{int_cmp-less, int_cmp-greater}
-
--- who ranks before another has as many points or more, and who does not has as many or fewer
-pub lead_says : (x y : ℤ) (rest : Ordering) → is_lt (ordering_then (int_cmp y x) rest) ≡ true
-    → y ≤ℤ x
-lead_says x y rest before =
-    by_lt_z x y (λ below. absurd
-    (false≢true
-    (sym (ap (λ o. is_lt (ordering_then o rest)) (int_cmp-greater y x below)) ∙ before)))
-    (λ at_least. at_least)
+use Rattle.league_core.proofs.OrderingLemmas.{int_cmp-less}
 
 pub trail_says : (x y : ℤ) (rest : Ordering) → is_lt (ordering_then (int_cmp y x) rest) ≡ false
     → x ≤ℤ y

@@ -26,7 +26,7 @@ use Rattle.league_core.proofs.SumLemmas.{total_of-sum_over}
 use Rattle.league_core.proofs.PointRangeLemmas.{range_bounds}
 use Rattle.league_core.proofs.PlainLemmas.{times-suc}
 
--- a test of a fixture is true exactly where the fixture's score passes
+-- a test of a fixture is true exactly when the fixture's score passes
 test_at : (sheet : Sheet) (club : ℕ) (finish : Results) (lots : List ℕ) (test : Test) (fixture : ℕ)
     (score : Score) → is_on fixture test ≡ true → get_or finish.scores fixture None ≡ Some score
     → is_test_true sheet club finish lots test ≡ passes test score
@@ -58,7 +58,7 @@ meets_true sheet club finish lots fixture score literal at holds =
           (is_as_said literal.yes (passes literal.test score)) (ap not off)
     ]
 
--- what all of a list pass, they pass where each that passes the one test passes the other
+-- what all of a list pass, they pass if each that passes the one test passes the other
 pub list_all-weaker : {X : Type 0} (p q : X → Bool) (xs : List X)
     → ((x : X) → p x ≡ true → q x ≡ true) → list_all p xs ≡ true → list_all q xs ≡ true
 list_all-weaker p q [] weaker all = refl
@@ -159,7 +159,7 @@ points_in_box sheet season zone finish clubs box =
     let same = ap (λ ds. total_of (λ club. pos (slice_index ds club)) clubs) box.deductions in
     (omega (arith, ints), omega (arith, ints))
 
--- where each of some clubs has at most so many points, or at least, so have they together
+-- if each of some clubs has at most so many points, or at least, so have they together
 pub total_at_most : (value : ℕ → ℤ) (most : ℤ) (test : ℕ → Bool) (clubs : List ℕ)
     → ((club : ℕ) → test club ≡ true → value club ≤ℤ most) → list_all test clubs ≡ true
     → total_of value clubs ≤ℤ (pos (length clubs) *ℤ most)

@@ -18,8 +18,8 @@ use Rattle.league_core.proofs.OrderingLemmas.{then-equal, greater_first-same, in
 use Rattle.league_core.proofs.PlainLemmas.{int_lt-true, int_lt-false}
 use Rattle.league_core.proofs.OrderingLemmas.{int_cmp-greater}
 
--- how the rival surely stands against the club is how the two compare; where that is unknown
--- nothing is said
+-- how the rival surely stands against the club is how the two compare; if that is unknown nothing
+-- is said
 abbrev pub Agrees : Sure → Ordering → Type 0
 Agrees Above order = order ≡ Less
 Agrees Below order = order ≡ Greater

@@ -1,5 +1,5 @@
--- Reasons are sound: where one holds, the question holds at no member of the zone. Here are the
--- counts of marked rivals, the window and both cuts.
+-- Reasons are sound: if one holds, the question holds at no member of the zone. Here are the counts
+-- of marked rivals, the window and both cuts.
 use Rattle.std.proofs.Common.{◌≡◌, ℕ, ◌-◌, ◌<◌, ◌≤◌, ℤ, ◌≤ℤ◌, Bool, true, false}
 use Rattle.std.proofs.Common.{not, ◌&&◌, nat_le, List, [], ◌∷◌, length}
 use Rattle.std.proofs.Common.{count_by, sym, ap, ◌∙◌, inl, inr, arith}

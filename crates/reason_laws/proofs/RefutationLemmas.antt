@@ -1,5 +1,5 @@
--- Reasons and splits together: where a reason holds at each leaf of a tree, the question has no
--- example; where one holds at some leaves, an example is in one of the others.
+-- Reasons and splits together: if a reason holds at each leaf of a tree, the question has no
+-- example; if one holds at some leaves, an example is in one of the others.
 use Rattle.std.proofs.Common.{◌≡◌, ◌<◌, ℕ, true, false, ◌||◌, List, [], length, refl, ◌∙◌, inl, inr}
 use Rattle.std.specs.List.{list_any}
 use Rattle.std.proofs.lemmas.Bool.{false≢true, and_parts, and_from, or_left, or_right}
@@ -53,7 +53,7 @@ refutation_shows sheet season question tree club_in refuted =
     none_at_root sheet season question
     (refutation_below sheet season question [] tree club_in refuted)
 
--- each leaf has a reason that holds exactly where each is refuted and the refuted ones have such
+-- each leaf has a reason that holds exactly when each is refuted and the refuted ones have such
 -- reasons
 pub refuted_parts : (sheet : Sheet) (season : Results) (question : Question) (tree : Tree)
     (zone : List Literal) → NodesMeet (IsRefutedLeaf sheet season question) zone tree
@@ -80,7 +80,7 @@ refuted_from sheet season question (branch test fresh yes_half no_half) zone set
       refuted_from sheet season question no_half (with_test zone test false) parts.1 reasons.2,
     )
 
--- where the reasons of the refuted leaves hold, a member at which the question holds is in another
+-- if the reasons of the refuted leaves hold, a member at which the question holds is in another
 -- leaf
 pub example_unsettled : (sheet : Sheet) (season : Results) (question : Question) (tree : Tree)
     (zone : List Literal) (finish : Results) (lots : List ℕ) → question.club < length sheet.clubs

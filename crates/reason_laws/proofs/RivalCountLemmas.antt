@@ -15,7 +15,7 @@ use Rattle.std.proofs.lemmas.Bool.{false≢true, and_parts}
 use Rattle.std.proofs.lemmas.Bool.{eqb-true, eqb-false}
 use Rattle.league_core.proofs.PlainLemmas.{one_if-most}
 
--- the first of a list counts where it passes
+-- the first of a list counts if it passes
 pub count_by-cons : (test : ℕ → Bool) (club : ℕ) (clubs : List ℕ)
     → count_by test (club ∷ clubs) ≡ cond {A = ℕ} (test club) 1 0 + count_by test clubs
 count_by-cons test club clubs = sum_by-cons (λ (x : ℕ). cond (test x) 1 0) club clubs
@@ -24,7 +24,7 @@ count_by-cons test club clubs = sum_by-cons (λ (x : ℕ). cond (test x) 1 0) cl
 abbrev pub others_in : ℕ → List ℕ → List ℕ
 others_in club clubs = filter (λ other. not (other == club)) clubs
 
--- a club that is not the one counts among the others where it passes
+-- a club that is not the one counts among the others if it passes
 pub count_by-other : (test : ℕ → Bool) (club other : ℕ) (clubs : List ℕ)
     → count_by test (cond (not false) (other ∷ others_in club clubs) (others_in club clubs))
     ≡ cond {A = ℕ} (test other) 1 0 + count_by test (others_in club clubs)
@@ -149,7 +149,7 @@ count_by-rivals before front club (other ∷ clubs) itself gives =
         let none : cond {A = ℕ} (before other) 1 0 ≡ 0 = ap (λ t. cond {A = ℕ} t 1 0) b in
         omega arith
 
--- where each rival is before or behind, the rivals are no more than both together
+-- if each rival is before or behind, the rivals are no more than both together
 pub count_by-both : (known before back : ℕ → Bool) (club : ℕ) (clubs : List ℕ)
     → list_all known clubs ≡ true
     → ((other : ℕ) → known other ≡ true → other ≢ club → before other ≡ false → back other ≡ true)

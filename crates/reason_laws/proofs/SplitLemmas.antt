@@ -98,7 +98,7 @@ halves_apart sheet season club zone test finish lots member other =
     let is_not = (out_of_half sheet season club zone test false finish lots other).1 in
     true≢false (sym is ∙ not-true (is_test_true sheet club finish lots test) is_not)
 
--- where a zone's literals are true, so are those of one of the leaves below it
+-- if a zone's literals are true, so are those of one of the leaves below it
 pub leaves_from : (sheet : Sheet) (club : ℕ) (finish : Results) (lots : List ℕ) (tree : Tree)
     (zone : List Literal) → are_literals_true sheet club finish lots zone ≡ true
     → list_any (are_literals_true sheet club finish lots) (zones_from zone tree) ≡ true
@@ -138,7 +138,7 @@ pub leaves_cover_zone : (sheet : Sheet) (season : Results) (club : ℕ) (zone : 
 leaves_cover_zone sheet season club zone tree finish lots member =
     leaves_from sheet club finish lots tree zone member.literals
 
--- where the question holds in no leaf's zone, it holds nowhere in the zone of the root
+-- if the question holds in no leaf's zone, it holds nowhere in the zone of the root
 pub leaves_decide : (sheet : Sheet) (season : Results) (question : Question) (tree : Tree)
     (zone : List Literal) → NodesMeet (HoldsAtNoLeaf sheet season question) zone tree
     → HoldsNowhereIn sheet season question zone

@@ -1,5 +1,5 @@
--- What is sure of two clubs in a zone is so at each of its finishes: where two ranges decide, the
--- sums compare that way, and where they leave two clubs level, the clubs are level.
+-- What is sure of two clubs in a zone is so at each of its finishes: if two ranges decide, the sums
+-- compare that way, and if they leave two clubs level, the clubs are level.
 use Rattle.std.proofs.Common.{◌≡◌, ℕ, zero, suc, Bool, true, false, ◌||◌, ◌==◌}
 use Rattle.std.proofs.Common.{cond, List, [], ◌∷◌, length, filter, Ordering, Less, Equal, Greater}
 use Rattle.std.proofs.Common.{is_eq, refl, sym, ap, ◌∙◌, subst, arith}
@@ -85,7 +85,8 @@ overall_agrees sheet options finish rival club takes =
     (overall_in_ranges sheet options finish rival takes)
     (overall_in_ranges sheet options finish club takes)
 
--- what comparison tells a club that is surely level with another from one that surely is not
+-- what comparison distinguishes a club that is surely level with another from one that surely is
+-- not
 pub in_or_out : (sure : Sure) (out : Bool) (order : Ordering) → Agrees sure order
     → (out ≡ true → order ≡ Equal → ⊥) → (is_level sure || out) ≡ true → is_level sure ≡ is_eq order
 in_or_out Above out order is differs known = sym (ap is_eq is)
@@ -99,7 +100,7 @@ in_or_out Unknown true order is differs known = not_equal order (differs refl)
     not_equal Greater other = refl
 in_or_out Unknown false order is differs known = absurd (false≢true known)
 
--- two tests that agree where a third one passes keep the same of a list that passes it
+-- two tests that agree whenever a third one passes keep the same of a list that passes it
 pub filter_where : (test other known : ℕ → Bool) (clubs : List ℕ)
     → ((club : ℕ) → known club ≡ true → test club ≡ other club) → list_all known clubs ≡ true
     → filter test clubs ≡ filter other clubs
@@ -110,7 +111,7 @@ filter_where test other known (club ∷ clubs) agree all =
     ∙ ap (λ rest. cond (other club) (club ∷ rest) rest)
     (filter_where test other known clubs agree parts.1)
 
--- where it is sure who shares the club's record, those are the clubs that share it
+-- if it is sure who shares the club's record, those are the clubs that share it
 surely_level : (sheet : Sheet) (options : List (List Score)) (finish : Results) (group : List ℕ)
     (club : ℕ) → take_options options finish.scores ≡ true
     → are_all_sure sheet options group club ≡ true

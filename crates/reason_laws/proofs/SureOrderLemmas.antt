@@ -44,7 +44,7 @@ points_in_range sheet season zone finish club box =
     let bounds = points_in_box sheet season zone finish (club ∷ []) box in
     (omega (arith, ints), omega (arith, ints))
 
--- where outcomes are fixed, the range has one value
+-- if outcomes are fixed, the range has one value
 pub points_fixed : (sheet : Sheet) (season : Results) (zone : List Literal) (club : ℕ)
     → are_outcomes_fixed sheet season zone ≡ true
     → has_one_value (points_range sheet season (options_in sheet season zone) (club ∷ [])) ≡ true
@@ -113,7 +113,7 @@ level_on_points-tied sheet season zone finish club fixed box =
         (points_fixed sheet season zone other fixed) (points_fixed sheet season zone club fixed))
         ∙ int_eq_equiv.symm (points_of sheet finish club) (points_of sheet finish other)
 
--- the sure order, where it decides, is the order before the lots
+-- the sure order, if it decides, is the order before the lots
 pub order_agrees : (sheet : Sheet) (season : Results) (zone : List Literal) (finish : Results)
     (rival club : ℕ) → are_outcomes_fixed sheet season zone ≡ true
     → IsInBox sheet season zone finish

@@ -42,7 +42,7 @@ first_sums_agree sheet options finish rival club takes =
     (first_sums_in_ranges sheet options finish rival takes)
     (first_sums_in_ranges sheet options finish club takes)
 
--- where it is sure who shares the club's difference and goals, those are the clubs that share them
+-- if it is sure who shares the club's difference and goals, those are the clubs that share them
 surely_level_is : (sheet : Sheet) (options : List (List Score)) (finish : Results)
     (group : List ℕ) (club : ℕ) → take_options options finish.scores ≡ true
     → are_all_sure_overall sheet options group club ≡ true
@@ -60,7 +60,7 @@ surely_level_is sheet options finish group club takes sure =
     (first_sums_in_ranges sheet options finish club takes)))
     sure
 
--- where it is not sure who is in the smaller group nothing is said
+-- if it is not sure who is in the smaller group nothing is said
 if_sure_agrees : (sure : Bool) (further : Sure) (beyond : Ordering)
     → (sure ≡ true → Agrees further beyond)
     → Agrees (elim sure [ false ↦ Unknown | true ↦ further ]) beyond

@@ -1,5 +1,5 @@
--- The tie-break reason is sound, and so are all five: where one holds, the question holds at no
--- member of the zone, whatever the lots.
+-- The tie-break reason is sound, and so are all five: if one holds, the question holds at no member
+-- of the zone, whatever the lots.
 use Rattle.std.proofs.Common.{◌≡◌, ℕ, ◌<◌, Bool, true, false, ◌&&◌, ◌||◌, List, [], ◌∷◌, length}
 use Rattle.std.proofs.Common.{refl, sym, ◌∙◌, inl, inr}
 use Rattle.std.specs.List.{list_any}
@@ -154,7 +154,7 @@ tie_says sheet season question zone finish lots club_in member reason holds =
           (surely_wrong_says sheet season question zone finish lots parts.0 member) wrong
     ]
 
--- where a reason holds, no member is an example
+-- if a reason holds, no member is an example
 pub reason_says : (sheet : Sheet) (season : Results) (question : Question) (zone : List Literal)
     (reason : Reason) (finish : Results) (lots : List ℕ) → question.club < length sheet.clubs
     → has_reason sheet season question zone reason ≡ true

@@ -18,8 +18,8 @@ pub fn reasons_are_sound()
     ensures { ReasonsAreSound }
 {}
 
-/// Where each fixture has one option the search ends: the window or the criteria are a reason, or
-/// what is left is an example.
+/// If each fixture has one option the search ends: the window or the criteria are a reason, or what
+/// is left is an example.
 pub fn single_zones_are_decided()
     ensures one { SingleZonesHaveOneFinish }
     ensures favoured { SingleZonesAreDecided }

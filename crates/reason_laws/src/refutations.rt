@@ -14,7 +14,7 @@ pub fn refuted_trees_decide()
     ensures reasons { RefutedTreesHaveTrueReasons }
 {}
 
-/// Where only some leaves are refuted, by reasons that hold, an example is in one of the others.
+/// If only some leaves are refuted, by reasons that hold, an example is in one of the others.
 pub fn examples_are_in_unsettled_leaves()
     ensures { ExamplesAreInUnsettledLeaves }
 {}

@@ -27,7 +27,7 @@ pub fn leaves_decide_the_question()
     ensures zone { LeavesDecideZones }
 {}
 
-/// Where all splits are proper, no zone of the tree marks the question's own club.
+/// If all splits are proper, no zone of the tree marks the question's own club.
 pub fn proper_trees_name_rivals()
     ensures { ProperTreesNameRivals }
 {}

@@ -7,16 +7,16 @@ ghost use Rattle.reason_laws.specs.inside.SureLaws.{SurelyAboveRanksBefore, Sure
 ghost use Rattle.reason_laws.specs.inside.SureLaws.{SurelyLevelIsLeftToLots, SingleZonesAreClear};
 ghost use Rattle.reason_laws.specs.inside.SureLaws.{SingleZonesAreRanked};
 
-/// Where the options of each fixture have one outcome, what is sure of two clubs is so at each
-/// finish, whatever the lots.
+/// If the options of each fixture have one outcome, what is sure of two clubs is so at each finish,
+/// whatever the lots.
 pub fn sure_order_is_true()
     ensures above { SurelyAboveRanksBefore }
     ensures below { SurelyBelowRanksBehind }
     ensures level { SurelyLevelIsLeftToLots }
 {}
 
-/// Where each fixture has one option, it is known of any two clubs how they stand, and they stand
-/// as the ranking has it before the lots.
+/// If each fixture has one option, it is known of any two clubs how they stand, and they stand as
+/// the ranking has it before the lots.
 pub fn single_zones_are_clear()
     ensures known { SingleZonesAreClear }
     ensures ranked { SingleZonesAreRanked }

@@ -20,12 +20,12 @@ use Rattle.cert_check.specs.inside.Calls.{unsettled_in}
 use Rattle.cert_check.specs.inside.Answers.{ShowsWord, AreShown, ShowsSpentHeaded, ShowsExampleOf}
 use Rattle.cert_check.specs.inside.Answers.{row_due, unsettled_items}
 use Rattle.cert_check.proofs.AnswerLemmas.{answer_accepted}
-use Rattle.verdict_run.specs.declared.word.Word.{Word}
-use Rattle.verdict_run.specs.declared.word.Word.TheVariants.{Clinched, Lost, Possible, Unsettled}
-use Rattle.verdict_run.specs.declared.word.Verdict.{Verdict}
-use Rattle.verdict_run.specs.Items.{AreVerdictsOf, AnswerRow, IsItemShown, IsShownVerdict}
-use Rattle.verdict_run.specs.Items.{ShowsPart, ShowsSpentNow, answer_row}
-use Rattle.verdict_run.specs.Items.{answer_rows_of}
+use Rattle.answer_rows.specs.declared.word.Word.{Word}
+use Rattle.answer_rows.specs.declared.word.Word.TheVariants.{Clinched, Lost, Possible, Unsettled}
+use Rattle.answer_rows.specs.declared.word.Verdict.{Verdict}
+use Rattle.answer_rows.specs.Items.{AreVerdictsOf, AnswerRow, IsItemShown, IsShownVerdict}
+use Rattle.answer_rows.specs.Items.{ShowsPart, ShowsSpentNow, answer_row}
+use Rattle.answer_rows.specs.Items.{answer_rows_of}
 use Rattle.report_laws.specs.inside.AcceptedAnswers.{answer_written, item_of_verdict, row_word}
 use Rattle.report_laws.specs.inside.AcceptedAnswers.{unsettled_count, unsettled_one}
 

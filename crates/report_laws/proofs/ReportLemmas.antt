@@ -10,15 +10,15 @@ use Rattle.cert_check.specs.Tokens.{counted_lines}
 use Rattle.cert_check.specs.LineLists.{tokens_of}
 use Rattle.cert_check.specs.Machine.{Ending, ending_of, part_of_ask}
 use Rattle.cert_check.specs.Machine.{basis_of}
-use Rattle.check_run.specs.declared.outcome.CheckOutcome.TheVariants.{Accepted}
-use Rattle.check_run.specs.Outcomes.{ReportInput, ReportProgressView, first_progress, outcome_by}
-use Rattle.check_run.specs.Outcomes.{outcome_from, progress_after, progress_with}
-use Rattle.check_run.proofs.ReportLemmas.{end-accepted}
+use Rattle.cert_check.specs.declared.outcome.CheckOutcome.TheVariants.{Accepted}
+use Rattle.cert_check.specs.Outcomes.{ReportInput, ReportProgressView, first_progress, outcome_by}
+use Rattle.cert_check.specs.Outcomes.{outcome_from, progress_after, progress_with}
+use Rattle.cert_check.proofs.OutcomeLemmas.{end-accepted}
 use Rattle.report_laws.specs.inside.AcceptedAnswers.{answer_written, unsettled_count}
 use Rattle.report_laws.specs.inside.AcceptedReports.{AreAnswersWritten, rows_written}
 use Rattle.report_laws.proofs.ItemLemmas.{answer_of_verdicts}
 
--- a report is accepted from here on, where the lines that are left are answers
+-- a report is accepted from here on, if the lines that are left are answers
 answers_from : (report : ReportInput) (entries : List Entry) (standing : ReportProgressView)
     (lines : List Token) (unsettled : ℕ)
     → drop standing.at (tokens_of report.lines) ≡ lines

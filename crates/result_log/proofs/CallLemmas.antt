@@ -2,8 +2,7 @@
 use Rattle.std.proofs.Common.{◌≡◌, ◌≤◌, ℕ, List, [], ◌∷◌, ◌++◌, Option, None, Some, option_map}
 use Rattle.std.proofs.Common.{IfSome, Result, Ok, Err, refl, sym, ap, ◌∙◌, arith, append_assoc}
 use Rattle.port_core.specs.declared.line.ReadStop.{ReadStop}
-use Rattle.port_core.specs.declared.line.ReadStop.TheVariants.{ReadFault, LineTooLong}
-use Rattle.port_core.specs.declared.line.ReadStop.TheVariants.{InputTooLong}
+use Rattle.port_core.specs.declared.line.ReadStop.TheVariants.{ReadFault, LineTooLong, InputTooLong}
 use Rattle.port_core.specs.Contents.{Contents, ended, with_line, with_lines}
 use Rattle.port_core.specs.Readers.{LineReaderView}
 use Rattle.port_core.specs.inside.ReaderCalls.{PassesTo, given_by}
@@ -14,9 +13,9 @@ use Rattle.result_log.specs.declared.entry.Entry.{Entry}
 use Rattle.result_log.specs.declared.entry.Entry.TheVariants.{Change, Ask, Proofs, End}
 use Rattle.result_log.specs.declared.fault.FeedStop.{FeedStop}
 use Rattle.result_log.specs.declared.fault.FeedStop.TheVariants.{Fault, Read, OutOfMemory}
-use Rattle.result_log.specs.inside.FeedParts.{entry_reading_from, entry_reading_of}
+use Rattle.result_log.specs.inside.FeedParts.{entry_reading_from, entry_reading_of, LineEntry}
 use Rattle.result_log.specs.inside.Calls.{ComesOf, ComesThere, PassesBlank, PassesToEntry}
-use Rattle.result_log.specs.inside.Calls.{entry_answer_after, AnswersLine, LineEntry, MovesToEntry}
+use Rattle.result_log.specs.inside.Calls.{entry_answer_after, AnswersLine, MovesToEntry}
 use Rattle.result_log.specs.inside.Calls.{PassesBareLines, PassesBareLine, ReadsEntryAs, ReadsEntry}
 use Rattle.result_log.specs.inside.Calls.{ReadsRecord}
 

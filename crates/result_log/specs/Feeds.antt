@@ -24,7 +24,7 @@ abbrev pub given : Result Entry FeedFault → Result (Option Entry) FeedFault
 given (Ok entry) = Ok (Some entry)
 given (Err fault) = Err fault
 
--- the entry that a line's record is, where a field is left of the line
+-- the entry that a line's record is, if a field is left of the line
 abbrev pub entry_if :
     Sheet → Results → ℕ → Bool → Option (List (List ℕ)) → Result (Option Entry) FeedFault
 entry_if sheet season events proofs None = Ok None

@@ -25,7 +25,7 @@ use Rattle.result_log.specs.declared.fault.FeedFault.TheVariants.{AlreadyPlayed,
 
 -- ---- the kinds of records
 
--- the kind of a record by its first field; `proofs` is one only where proofs may follow the feed
+-- the kind of a record by its first field; `proofs` is one only if proofs may follow the feed
 abbrev pub kind_of : Bool → List ℕ → Option Kind
 kind_of proofs word =
     if bytes_eq word (codes "result") then Some kind.Result
@@ -89,7 +89,7 @@ is_for_club kind.Proofs = false
 abbrev pub is_event : Kind → Bool
 is_event kind = is_for_fixture kind || is_for_club kind
 
--- ---- what a record tells; it means something where no test refuses the record
+-- ---- what a record tells; it means something if no test refuses the record
 
 -- the number that a field writes
 abbrev pub number_in_field : ℕ → List (List ℕ) → ℕ
@@ -187,7 +187,7 @@ entry_of sheet season events proofs fields =
     entry_by sheet season events fields (kind_of proofs (field 0 fields))
 
 -- an entry may come in this season, after so many events: its event is one that the season may be
--- told, with room for it, and proofs follow only where they may
+-- told, with room for it, and proofs follow only if they may
 abbrev pub IsEntryAt : Results → ℕ → Bool → Entry → Type 0
 IsEntryAt season events proofs (Change event) = IsEventOf season event × (events < most_events)
 IsEntryAt season events proofs Ask = Unit {0}

@@ -2,5 +2,6 @@
 -- these words. Read in this order.
 pub mod FeedParts
 pub mod Calls
+pub mod Rounds
 pub mod LastReads
 pub mod Laws

@@ -13,7 +13,7 @@ use fixture_sheet::{FieldsStop, fields_of};
 use league_core::{Season, Sheet};
 use std::alloc::Global;
 
-/// The entry that the content of a line is, none where no field is left of it, or the first
+/// The entry that the content of a line is, none if no field is left of it, or the first
 /// refusal.
 ///
 /// `events` is how many events came before, and `season` is the season after them; `proofs` is

@@ -24,7 +24,7 @@ pub enum Kind {
 }
 
 impl Kind {
-    /// The kind of a record, where it is one. `proofs` is a record only where proofs may follow.
+    /// The kind of a record, if it is one. `proofs` is a record only if proofs may follow.
     pub fn of(fields: &Fields, proofs: bool) -> Option<Kind>
         ensures { result ≡ kind_of proofs (field 0 fields.now) }
     {

@@ -7,6 +7,7 @@ ghost use Rattle.result_log.specs.inside.Laws.{EntriesMayCome, FeedsAreReadByEnt
 ghost use Rattle.result_log.specs.inside.Laws.{FeedsKeepTheLog, FeedsAreReadByRounds};
 ghost use Rattle.result_log.specs.inside.Laws.{RoundsEndOtherwise, NoRecordIsTheEnd};
 ghost use Rattle.result_log.specs.inside.Laws.{ReadingsMayCome, SeasonsGrowByEntries};
+ghost use Rattle.result_log.specs.inside.Laws.{LastLinesCloseRounds, EventLinesBeginRounds};
 
 /// An event that a record tells is one that its season may be told.
 pub fn events_told_may_be_applied()
@@ -28,4 +29,11 @@ pub fn a_feed_is_read_entry_by_entry()
 pub fn a_feed_is_read_round_by_round()
     ensures rounds { FeedsAreReadByRounds }
     ensures close { RoundsEndOtherwise }
+{}
+
+/// What lines tell one by one is what all of the input has there, however its lines are read: lines
+/// that tell events begin a round with these events, and a line that asks or is refused closes it.
+pub fn a_round_is_read_as_its_lines()
+    ensures lines { EventLinesBeginRounds }
+    ensures last { LastLinesCloseRounds }
 {}

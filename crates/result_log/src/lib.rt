@@ -18,7 +18,8 @@ pub use content::read_content;
 pub use entry::Entry;
 pub use fault::{ContentStop, FeedFault, FeedStop};
 pub use laws::{
-    a_feed_is_read_entry_by_entry, a_feed_is_read_round_by_round, events_told_may_be_applied,
+    a_feed_is_read_entry_by_entry, a_feed_is_read_round_by_round, a_round_is_read_as_its_lines,
+    events_told_may_be_applied,
 };
 pub use reader::next_entry;
 pub use record::read_event;

@@ -36,7 +36,7 @@ pub fn next_entry<S: Source>(
     requires of_sheet { IsSeasonOf sheet.now season.now }
     requires clubs { length sheet.now.clubs ≤ 255 }
     requires numbers { length sheet.now.fixtures ≤ 65535 }
-    // Where the source tells its bytes: what was still to come, and what is.
+    // If the source tells its bytes: what was still to come, and what is.
     ensures reads { ReadsEntry (entry_in sheet.now season.now events proofs)
         (contents_to_come reader.old (S.left source.old))
         (contents_to_come reader.new (S.left source.new)) result }
@@ -64,7 +64,7 @@ pub fn next_entry<S: Source>(
     }
 }
 
-// What the next line is, or none where no field is left of it.
+// What the next line is, or none if no field is left of it.
 fn take_line<S: Source>(
     alloc: Global,
     sheet: &Sheet,
@@ -103,7 +103,7 @@ fn take_line<S: Source>(
     }
 }
 
-// What the content of the line of this number is, or none where no field is left of it.
+// What the content of the line of this number is, or none if no field is left of it.
 fn entry_in(
     alloc: Global,
     sheet: &Sheet,

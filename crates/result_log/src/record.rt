@@ -19,7 +19,7 @@ use league_core::limits::{MOST_DEDUCTION, MOST_EVENTS, MOST_GOALS};
 use league_core::{Event, Score, Season, Sheet};
 
 /// The entry that a record is, in the season of the events before it, of which there were so
-/// many; or the first refusal in the order of the tests. `proofs` is a record only where `proofs`
+/// many; or the first refusal in the order of the tests. `proofs` is a record only if `proofs`
 /// is true.
 pub fn read_event(
     sheet: &Sheet,
@@ -198,7 +198,7 @@ fn change_played(
     change(events, event)
 }
 
-// The event, where there is room for it.
+// The event, if there is room for it.
 fn change(events: u64, event: Event) -> Result<Entry, FeedFault>
     ensures { result ≡ value_unless ((nat_le most_events events, FeedFault.LogFull) ∷ [])
         (Entry.Change event) }

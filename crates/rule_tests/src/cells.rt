@@ -152,7 +152,7 @@ fn check_away(rt: &impl Abort, at_home: Cell) -> u32 {
     some
 }
 
-// The outcomes are all, two of them and one alone; where a home win and a draw alone are left, the
+// The outcomes are all, two of them and one alone; if a home win and a draw alone are left, the
 // ranges leave them. Of the 600 cells 481 have a score.
 #[test]
 fn a_cell_takes_the_first_of_its_scores(rt: HostRuntime) -> Result<(), Fail> {

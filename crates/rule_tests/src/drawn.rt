@@ -50,7 +50,7 @@ fn split_in(done: &Done) -> Option<Literal> {
     }
 }
 
-// The split that is proposed for a zone; none where it is refuted or has an example.
+// The split that is proposed for a zone; none if it is refuted or has an example.
 fn split_of(
     rt: &impl Abort,
     alloc: Global,
@@ -87,7 +87,7 @@ fn has_finish_behind(
     has_finish_after(rt, &mut zone_box, literal)
 }
 
-// Whether the zone has a finish where the literal is put at its end.
+// Whether the zone has a finish if the literal is put at its end.
 fn has_finish_with(
     rt: &impl Abort,
     alloc: Global,

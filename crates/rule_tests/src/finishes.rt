@@ -4,7 +4,7 @@ ghost use Rattle.league_core.specs.game.Seasons.{IsLeague};
 
 use crate::plain::{Entrant, Plain};
 use crate::ranking::count_around;
-use exhaustive_walk::{Reach, finish_count, reaches};
+use reference_programs::{Reach, finish_count, reaches};
 use sample_leagues::Sample;
 use std::alloc::Global;
 use std::process::Abort;

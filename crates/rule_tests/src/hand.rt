@@ -94,7 +94,7 @@ fn bound(most: u8, yes: bool) -> Literal {
 }
 
 // The middle of the wider range of goals. A draw has 0 to 4 on either side. A home win has 1 to 4
-// and 0 to 3; where A wins without a goal of the home side, it has 1 to 4.
+// and 0 to 3; if A wins without a goal of the home side, it has 1 to 4.
 #[test]
 fn goals_are_split_in_the_middle(rt: HostRuntime) -> Result<(), Fail> {
     let alloc = rt.alloc();

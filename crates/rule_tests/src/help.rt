@@ -181,8 +181,8 @@ fn is_zone_for(sheet: &Sheet, question: &Question, literals: &[Literal]) -> bool
         && !marks_after(literals, question.club)
 }
 
-// Whether the question is one of the sheet.
-fn is_question_of(sheet: &Sheet, question: &Question) -> bool
+/// The question is about a club of the sheet, and a line that leaves clubs on both its sides.
+pub fn is_question_of(sheet: &Sheet, question: &Question) -> bool
     ensures { IsTrue result → IsQuestionOf sheet.now question.now }
 {
     let clubs = sheet.clubs.len();

@@ -64,7 +64,7 @@ fn finish_of(alloc: Global, sample: &Sample) -> Result<Finish, Fail>
     Ok(Finish::of_season(season).ok().ok_or("a match is open")?)
 }
 
-// Asserts with which lots the question holds at this finish; none where it does with none.
+// Asserts with which lots the question holds at this finish; none if it does with none.
 fn check_finish(
     rt: &impl Abort,
     alloc: Global,
@@ -94,7 +94,7 @@ fn check_league(
     check_finish(rt, alloc, sample, &finish, question, wanted)
 }
 
-// The same, where A is asked about the first place of the league of a text.
+// The same, if A is asked about the first place of the league of a text.
 fn check_lots(
     rt: &impl Abort,
     alloc: Global,

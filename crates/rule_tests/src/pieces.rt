@@ -76,7 +76,7 @@ fn last_score(finish: &Finish) -> Option<Score> {
     }
 }
 
-// Whether this is found where C is to be inside or outside, with any points.
+// Whether this is found if C is to be inside or outside, with any points.
 fn finds(
     rt: &impl Abort,
     alloc: Global,
@@ -91,7 +91,7 @@ fn finds(
     Ok(())
 }
 
-// Asserts what is found where C is to be inside, from what the pieces before left.
+// Asserts what is found if C is to be inside, from what the pieces before left.
 fn inside_from(
     rt: &impl Abort,
     alloc: Global,
@@ -112,12 +112,12 @@ fn inside_from(
     Ok(())
 }
 
-// Asserts what is found in the first league where C is to be inside.
+// Asserts what is found in the first league if C is to be inside.
 fn inside(rt: &impl Abort, alloc: Global, zone: &[Literal], wanted: Found) -> Result<(), Fail> {
     finds(rt, alloc, LEVEL, Claim::Inside, zone, wanted)
 }
 
-// The same in the third where it is to be outside.
+// The same in the third if it is to be outside.
 fn outside(rt: &impl Abort, alloc: Global, zone: &[Literal], wanted: Found) -> Result<(), Fail> {
     finds(rt, alloc, TWICE, Claim::Outside, zone, wanted)
 }
@@ -163,7 +163,7 @@ fn rivals_that_cannot_come_up_refute_pieces_alone(rt: HostRuntime) -> Result<(),
     outside(&rt, alloc, &[behind(1), behind(2), behind(3)], COUNT)
 }
 
-// A cut of X and Y is found, then another league where they make none, then the cut once more.
+// A cut of X and Y is found, then another league if they make none, then the cut once more.
 #[test]
 fn pieces_are_worked_on_with_one_keep(rt: HostRuntime) -> Result<(), Fail> {
     let alloc = rt.alloc();
@@ -207,9 +207,9 @@ fn of(test: Test, yes: bool) -> Literal {
     Literal { test, yes }
 }
 
-// Where C does not win, X has too many points alone; where X or Y wins, the winner. Else X and Y
-// have 10 points together, just twice what C has, so no set refutes. After 0:0 C has the worse
-// difference over all matches, after 1:1 fewer goals against the two.
+// If C does not win, X has too many points alone; if X or Y wins, the winner. Else X and Y have 10
+// points together, just twice what C has, so no set refutes. After 0:0 C has the worse difference
+// over all matches, after 1:1 fewer goals against the two.
 #[test]
 fn criteria_refute_a_piece_where_points_do_not(rt: HostRuntime) -> Result<(), Fail> {
     let alloc = rt.alloc();

@@ -34,7 +34,7 @@ impl Total {
         }
     }
 
-    /// Adds a match of the club, where it is one.
+    /// Adds a match of the club, if it is one.
     pub fn take(&mut self, played: &Played, club: u8) {
         if played.home == club {
             self.add(played.home_goals, played.away_goals);
@@ -61,7 +61,7 @@ impl Total {
     }
 }
 
-/// `Less` where the first is the better: by points, difference and goals.
+/// `Less` if the first is the better: by points, difference and goals.
 pub fn by_meetings(ours: Total, theirs: Total) -> Ordering {
     theirs.points.cmp(&ours.points).then(by_goals(ours, theirs))
 }

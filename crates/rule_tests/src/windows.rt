@@ -15,7 +15,7 @@ use std::test::Fail;
 const OPEN: &[u8] = b"league,Open,2\nclub,C,1\nclub,X,2\nclub,Y,3\nmatch,X,Y\nmatch,C,X\nmatch,Y,C
 season\n";
 
-// Asserts what is chosen where the club is to be inside with at most so many points.
+// Asserts what is chosen if the club is to be inside with at most so many points.
 fn inside(
     rt: &impl Abort,
     alloc: Global,
@@ -33,7 +33,7 @@ fn inside(
     )
 }
 
-// The same where it is to be outside with so many at the least.
+// The same if it is to be outside with so many at the least.
 fn outside(
     rt: &impl Abort,
     alloc: Global,

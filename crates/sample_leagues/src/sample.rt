@@ -17,8 +17,8 @@ pub struct Sample {
     pub season: Season,
 }
 
-/// The league of a text, with all that its feed reports. None where the text is refused, where its
-/// feed has more than 10,000 entries, and if memory runs out.
+/// The league of a text, with all that its feed reports. None if the text is refused, if its feed
+/// has more than 10,000 entries, and if memory runs out.
 pub fn sample_of(alloc: Global, text: &[u8]) -> Option<Sample>
     ensures { IfSome result (λ sample. IsLeague sample.sheet sample.season) }
 {

@@ -17,11 +17,10 @@ use Rattle.league_core.specs.game.Results.{Results}
 use Rattle.league_core.specs.game.Finishes.{same_score, may_end}
 use Rattle.std.proofs.lemmas.Bool.{ltb-true}
 use Rattle.std.proofs.lemmas.List.Folds.{list_any-append}
-use Rattle.std.proofs.lemmas.List.Sums.{AllPass-from_list_all}
 use Rattle.league_core.specs.declared.zone.Test.{Test}
 use Rattle.league_core.specs.declared.zone.Test.TheVariants.{Home, Draw, HomeMost, AwayMost, Rival}
 use Rattle.league_core.specs.search.Zones.{is_on, is_of_rival, passes, is_as_said, marked_before}
-use Rattle.league_core.specs.search.Zones.{marked_after, is_test_of, is_zone_of}
+use Rattle.league_core.specs.search.Zones.{marked_after, is_test_of}
 use Rattle.league_core.specs.search.Options.{meets_literal, options_from, options_in, has_score}
 use Rattle.league_core.specs.search.Options.{has_option, has_one_score, has_finish, is_single}
 use Rattle.league_core.proofs.OptionLemmas.{same_score-true, same_score-itself, has_score-first}
@@ -40,7 +39,7 @@ TakesLiteral old new literal =
     → AreCellsOf old (options_from limit zone 0 scores)
     → AreCellsOf new (options_from limit (zone ++ literal ∷ []) 0 scores)
 
--- where no fixture is tested, each cell stays
+-- if no fixture is tested, each cell stays
 pub takes_mark : (cells : List Cell) (literal : Literal)
     → ((number : ℕ) → is_on number literal.test ≡ false) → TakesLiteral cells cells literal
 takes_mark cells literal off limit zone scores are = record {
@@ -61,7 +60,7 @@ takes_mark cells literal off limit zone scores are = record {
   exact = are.exact;
 }
 
--- where a cell is put among others, all are exact
+-- if a cell is put among others, all are exact
 pub exact_set : (cells : List Cell) (f : ℕ) (cell : Cell) → f < length cells
     → All IsExactCell cells → IsExactCell cell → All IsExactCell (set cells f cell)
 exact_set cells f cell in_range all is k d within = at (cases_eq k f)
@@ -74,7 +73,7 @@ exact_set cells f cell in_range all is k d within = at (cases_eq k f)
         subst IsExactCell (sym (get_or-set_other cells f k cell d other))
         (all k d (omega (arith, within, length-set cells f cell)))
 
--- where a fixture is tested, its cell is cut, and each other stays
+-- if a fixture is tested, its cell is cut, and each other stays
 pub takes_cut : (cells : List Cell) (fixture : ℕ) (cell : Cell) (literal : Literal)
     → fixture < length cells → ((number : ℕ) → is_on number literal.test ≡ (fixture == number))
     → ((d : Cell) (score : Score)
@@ -150,7 +149,7 @@ exact_push cells cell all is k d within = at (cases_eq k (length cells))
         let below : k < length cells = omega (arith, length_push cells cell) in
         subst IsExactCell (sym (get_or_append_left cells (cell ∷ []) d k below)) (all k d below)
 
--- a cell that has what its fixture may end with has its options where no literal is asked for
+-- a cell that has what its fixture may end with has its options if no literal is asked for
 pub first_options : (limit : ℕ) (scores : List (Option Score)) (k : ℕ) (cell : Cell)
     → k < length scores
     → ((score : Score) → allows cell score ≡ may_end limit (get_or scores k None) (Some score))
@@ -160,7 +159,7 @@ first_options limit scores k cell within may score =
     ∙ sym (has_score-options_of limit [] k (get_or scores k None) score)
     ∙ ap (λ options. has_score options score) (sym (options_at limit [] scores k within))
 
--- a cell is not empty exactly where its fixture has an option
+-- a cell is not empty exactly when its fixture has an option
 pub option_of_cell : (cell : Cell) (options : List Score) → IsCellOf cell options
     → ¬ IsEmptyCell cell
     → has_option options ≡ true
@@ -173,7 +172,7 @@ cell_of_option cell [] is some none = false≢true some
 cell_of_option cell (score ∷ options) is some none =
     false≢true (sym (none score) ∙ is score ∙ has_score-first score options)
 
--- a cell has one score alone exactly where its fixture has one option
+-- a cell has one score alone exactly when its fixture has one option
 one_of_cell : (cell : Cell) (options : List Score) → IsCellOf cell options → HasOneScore cell
     → has_one_score options ≡ true
 one_of_cell cell [] is one = absurd (false≢true (sym (is one.0) ∙ one.1))
@@ -215,7 +214,7 @@ tail_of cell cells o options are = record {
   exact = λ k d within. are.exact (suc k) d (omega arith);
 }
 
--- what holds of each cell, and what of each list of options, where the one gives the other
+-- what holds of each cell, and what of each list of options, if the one gives the other
 all_of_cells : (Fact : Cell → Type 0) (test : List Score → Bool)
     → ((cell : Cell) (options : List Score) → IsCellOf cell options → Fact cell
     → test options ≡ true) → (cells : List Cell) (options : List (List Score))
@@ -252,7 +251,7 @@ cells_of_all Fact test gives cells options are all k d within =
         second true b h = h
         second false b h = absurd (false≢true h)
 
--- no cell is empty exactly where the zone has a finish
+-- no cell is empty exactly when the zone has a finish
 pub has_finish-is : (sheet : Sheet) (season : Results) (zone : List Literal) (cells : List Cell)
     (r : Bool) → AreCellsOf cells (options_in sheet season zone)
     → (r ≡ true → All (λ cell. ¬ IsEmptyCell cell) cells)
@@ -267,7 +266,7 @@ has_finish-is sheet season zone cells r are gives from =
           (options_in sheet season zone) are,
     )
 
--- each cell has one score exactly where the zone is single
+-- each cell has one score exactly when the zone is single
 pub is_single-is : (sheet : Sheet) (season : Results) (zone : List Literal) (cells : List Cell)
     (r : Bool) → AreCellsOf cells (options_in sheet season zone)
     → (r ≡ true → All HasOneScore cells) → (All HasOneScore cells → r ≡ true)
@@ -295,7 +294,7 @@ pub cells_of_season : (sheet : Sheet) (season : Results) (zone : List Literal) (
 cells_of_season sheet season zone cells are =
     are.many ∙ length-options_from sheet.goal_limit zone 0 season.scores
 
--- what a walk over the cells answers: each passes, or one fails
+-- what a walk over the cells finds: each passes, or one fails
 pub all_decided : (r : Bool) (Yes No : Cell → Type 0) (cells : List Cell)
     → ((cell : Cell) → Yes cell → No cell → ⊥)
     → MatchBool r (AllWithin Yes cells 0 (length cells))
@@ -345,10 +344,3 @@ test_below sheet fixtures
     let h = ltb-true fixture (length sheet.fixtures) is in omega arith
 test_below sheet fixtures
     (Rival club) many few is = let h = ltb-true club (length sheet.clubs) is in omega arith
-
-pub tests_below : (sheet : Sheet) (fixtures : ℕ) (zone : List Literal)
-    → length sheet.fixtures ≡ fixtures → length sheet.clubs ≤ 32 → is_zone_of sheet zone ≡ true
-    → All (λ literal. IsTestBelow fixtures 32 literal.test) zone
-tests_below sheet fixtures zone many few is k d within =
-    test_below sheet fixtures (get_or zone k d).test many few
-    (AllPass-from_list_all (λ (l : Literal). is_test_of sheet l.test) zone is k d within)

@@ -8,8 +8,9 @@ use Rattle.league_core.specs.declared.season.Score.{Score}
 use Rattle.league_core.specs.search.Options.{score_of, is_home_win, is_draw, is_away_win}
 use Rattle.league_core.proofs.OutcomeLemmas.{outcome_cases}
 use Rattle.score_box.specs.declared.cell.Cell.{Cell}
-use Rattle.score_box.specs.declared.cell.goals.GoalRange.{GoalRange}
-use Rattle.score_box.specs.inside.Cells.{is_within, keeps_outcome, allows, IsAllowed, IsSpanOf}
+use Rattle.score_box.specs.declared.cell.goals.ScoreRange.{ScoreRange}
+use Rattle.score_box.specs.inside.Cells.{is_within, keeps_outcome, allows, IsAllowed}
+use Rattle.score_box.specs.inside.Cells.{IsScoreRangeOf}
 use Rattle.score_box.specs.inside.Cells.{AllowsNone, IsAt}
 
 -- the goals of a score lie in both ranges of the cell
@@ -52,7 +53,7 @@ allows_from cell score ranges outcome =
     (le-leb score.away cell.away_most ranges.away_most)))
     outcome
 
--- the outcome of a score is kept where the cell keeps home wins, draws or away wins
+-- the outcome of a score is kept if the cell keeps home wins, draws or away wins
 pub keeps_home_win : (cell : Cell) (score : Score) → score.away < score.home
     → keeps_outcome cell score ≡ cell.home_win
 keeps_home_win cell score wins =
@@ -101,20 +102,19 @@ away_win_at cell home away kept ranges loses = record {
 }
 
 -- home wins: the home side scores more than the least of the away side, the away side less than the
--- most
--- of the home side
-pub home_wins_span : (cell : Cell) (least most : ℕ) → cell.home_win ≡ true
+-- most of the home side
+pub home_wins_range : (cell : Cell) (least most : ℕ) → cell.home_win ≡ true
     → cell.home_least ≤ cell.home_most → cell.away_least ≤ cell.away_most
     → cell.away_least < cell.home_most → least ≡ max cell.home_least (cell.away_least + 1)
     → most ≡ min cell.away_most (cell.home_most - 1)
-    → IsSpanOf cell is_home_win
+    → IsScoreRangeOf cell is_home_win
     (record {
       home_least = least;
       home_most = cell.home_most;
       away_least = cell.away_least;
       away_most = most;
     })
-home_wins_span cell least most kept home away reach lower upper =
+home_wins_range cell least most kept home away reach lower upper =
     let widest = home_win_at cell cell.home_most cell.away_least kept
     (record {
       home_least = omega arith;
@@ -159,11 +159,11 @@ home_wins_span cell least most kept home away reach lower upper =
     }
 
 -- draws: both sides score as many, in both ranges
-pub draws_span : (cell : Cell) (least most : ℕ) → cell.draw ≡ true → least ≤ most
+pub draws_range : (cell : Cell) (least most : ℕ) → cell.draw ≡ true → least ≤ most
     → least ≡ max cell.home_least cell.away_least → most ≡ min cell.home_most cell.away_most
-    → IsSpanOf cell is_draw
+    → IsScoreRangeOf cell is_draw
     (record { home_least = least; home_most = most; away_least = least; away_most = most })
-draws_span cell least most kept reach lower upper =
+draws_range cell least most kept reach lower upper =
     let low = draw_at cell least kept (record {
       home_least = omega arith;
       home_most = omega arith;
@@ -193,11 +193,11 @@ draws_span cell least most kept reach lower upper =
     }
 
 -- away wins: home wins with the sides exchanged
-pub away_wins_span : (cell : Cell) (least most : ℕ) → cell.away_win ≡ true
+pub away_wins_range : (cell : Cell) (least most : ℕ) → cell.away_win ≡ true
     → cell.home_least ≤ cell.home_most → cell.away_least ≤ cell.away_most
     → cell.home_least < cell.away_most → most ≡ min cell.home_most (cell.away_most - 1)
     → least ≡ max cell.away_least (cell.home_least + 1)
-    → IsSpanOf cell is_away_win
+    → IsScoreRangeOf cell is_away_win
     (record {
       home_least = cell.home_least;
       home_most = most;
@@ -205,7 +205,7 @@ pub away_wins_span : (cell : Cell) (least most : ℕ) → cell.away_win ≡ true
       away_most =
           cell.away_most;
     })
-away_wins_span cell least most kept home away reach upper lower =
+away_wins_range cell least most kept home away reach upper lower =
     let widest = away_win_at cell cell.home_least cell.away_most kept
     (record {
       home_least = omega arith;
@@ -249,12 +249,12 @@ away_wins_span cell least most kept home away reach upper lower =
       away_most = (score_of cell.home_least cell.away_most, widest, refl);
     }
 
--- what is said of the goals of an outcome, where the cell has any
-abbrev pub Says : Cell → (Score → Bool) → Option GoalRange → Type 0
-Says cell test goals = MatchOption goals (AllowsNone cell test) (IsSpanOf cell test)
+-- what is said of the goals of an outcome, if the cell has any
+abbrev pub Says : Cell → (Score → Bool) → Option ScoreRange → Type 0
+Says cell test goals = MatchOption goals (AllowsNone cell test) (IsScoreRangeOf cell test)
 
 -- a score of an outcome whose goals are all at one score is that score
-at_score : (cell : Cell) (test : Score → Bool) (goals : Option GoalRange) (score other : Score)
+at_score : (cell : Cell) (test : Score → Bool) (goals : Option ScoreRange) (score other : Score)
     → Says cell test goals → IfSome goals (IsAt score) → IsAllowed cell test other → score ≡ other
 at_score cell test None score other says at is = absurd (says other is)
 at_score cell test (Some goals) score other says at is =
@@ -263,8 +263,8 @@ at_score cell test (Some goals) score other says at is =
     let away : score.away ≡ other.away = omega arith in
     λ i. record { home = home i; away = away i }
 
--- where the goals of each outcome are all at one score, the cell has no other
-pub no_other : (cell : Cell) (home draws away : Option GoalRange) (score : Score)
+-- if the goals of each outcome are all at one score, the cell has no other
+pub no_other : (cell : Cell) (home draws away : Option ScoreRange) (score : Score)
     → Says cell is_home_win home → Says cell is_draw draws → Says cell is_away_win away
     → IfSome home (IsAt score) → IfSome draws (IsAt score) → IfSome away (IsAt score)
     → (other : Score) → allows cell other ≡ true → score ≡ other
@@ -278,8 +278,8 @@ no_other cell home draws away score home_says draws_say away_says home_at draws_
     (λ passed. at_score cell is_away_win away score other away_says away_at
     (record { allowed = allowed; passed = passed }))
 
--- where the cell has no other score, the goals of each outcome are all at it
-pub all_at : (cell : Cell) (test : Score → Bool) (goals : Option GoalRange) (score : Score)
+-- if the cell has no other score, the goals of each outcome are all at it
+pub all_at : (cell : Cell) (test : Score → Bool) (goals : Option ScoreRange) (score : Score)
     → Says cell test goals → ((other : Score) → allows cell other ≡ true → score ≡ other)
     → IfSome goals (IsAt score)
 all_at cell test None score says only = tt

@@ -1,4 +1,4 @@
--- What fixtures come to for a club alone: by its sides, within bounds, and where the options of one
+-- What fixtures come to for a club alone: by its sides, within bounds, and when the options of one
 -- fixture change.
 use Rattle.std.proofs.Common.{◌≡◌, ◌≢◌, ◌⊎◌, ℕ, zero, suc, ◌+◌}
 use Rattle.std.proofs.Common.{◌*◌, ◌<◌, ◌≤◌, ℤ, pos, ◌+ℤ◌, ◌-ℤ◌, ◌≤ℤ◌}
@@ -34,8 +34,8 @@ use Rattle.score_box.specs.declared.points.outcomes.MatchPoints.{MatchPoints}
 use Rattle.score_box.specs.inside.Cells.{IsCellOf, IsEmptyCell}
 use Rattle.score_box.specs.inside.Points.{IsPointsOf}
 use Rattle.score_box.specs.inside.Boxes.{open_outcomes_in}
-use Rattle.score_box.specs.inside.Ends.{alone_in, alone_over, empty_in, end_at, IsMatch, AreSpans}
-use Rattle.score_box.specs.inside.Ends.{MovesSpans}
+use Rattle.score_box.specs.inside.Ends.{alone_in, alone_over, empty_in, end_at, IsMatch, AreRanges}
+use Rattle.score_box.specs.inside.Ends.{MovesRanges}
 use Rattle.score_box.specs.inside.Cells.{HasOneOutcome}
 use Rattle.score_box.proofs.OutcomeLemmas.{one_outcome_of, outcome_of_cell}
 
@@ -107,12 +107,12 @@ pub one_small : (club : ℕ) (match : Fixture) (options : List Score)
 one_small club match options =
     range_small (points_together (club ∷ []) match) (λ score. alone_small club match score) options
 
--- so the numbers of spans are small too
-pub spans_small : (fixtures : List Fixture) (options : List (List Score)) (lows highs : List ℤ)
-    → length fixtures ≤ 600 → AreSpans fixtures options lows highs → (club : ℕ)
+-- so the numbers of ranges are small too
+pub ranges_small : (fixtures : List Fixture) (options : List (List Score)) (lows highs : List ℤ)
+    → length fixtures ≤ 600 → AreRanges fixtures options lows highs → (club : ℕ)
     → ((pos 0 ≤ℤ end_at lows club) × (end_at lows club ≤ℤ pos 1800))
     × ((pos 0 ≤ℤ end_at highs club) × (end_at highs club ≤ℤ pos 1800))
-spans_small fixtures options lows highs few are club = at (cases_lt club 24)
+ranges_small fixtures options lows highs few are club = at (cases_lt club 24)
   where
     at : (club < 24) ⊎ (24 ≤ club)
         → ((pos 0 ≤ℤ end_at lows club) × (end_at lows club ≤ℤ pos 1800))
@@ -221,16 +221,16 @@ range_set value (match ∷ matches) (scores ∷ options) (suc f) after d within 
     let rest = range_set value matches options f after d (omega arith) (omega arith) in
     (omega (arith, ints, rest.0), omega (arith, ints, rest.1))
 
--- the numbers of spans move with them
-pub spans_moved : (fixtures : List Fixture) (options : List (List Score)) (f : ℕ) (d : Fixture)
+-- the numbers of ranges move with them
+pub ranges_moved : (fixtures : List Fixture) (options : List (List Score)) (f : ℕ) (d : Fixture)
     (was now : Cell) (after : List Score) (lows lows_new highs highs_new : List ℤ)
     → f < length fixtures → length options ≡ length fixtures
-    → AreSpans fixtures options lows highs
-    → MovesSpans (get_or fixtures f d) was now lows lows_new highs highs_new
+    → AreRanges fixtures options lows highs
+    → MovesRanges (get_or fixtures f d) was now lows lows_new highs highs_new
     → IsCellOf was (get_or options f []) → IsCellOf now after
     → length lows_new ≡ length lows → length highs_new ≡ length highs
-    → AreSpans fixtures (set options f after) lows_new highs_new
-spans_moved fixtures options f d was now after lows lows_new highs highs_new within many are moves
+    → AreRanges fixtures (set options f after) lows_new highs_new
+ranges_moved fixtures options f d was now after lows lows_new highs highs_new within many are moves
     was_is now_is same_lows same_highs = record {
       many_lows = same_lows ∙ are.many_lows;
       many_highs = same_highs ∙ are.many_highs;
@@ -314,7 +314,7 @@ outcome_is cell options false is gives from =
     sym (false_from_ne_true (has_one_outcome options)
     (λ has. false≢true (from (one_outcome_of cell options is has))))
 
--- one fixture more counts where it passes
+-- one fixture more counts if it passes
 pub count_more : (test : List Score → Bool) (options : List (List Score)) (k : ℕ) (b : Bool)
     → k < length options → b ≡ test (get_or options k [])
     → count_of test (take (k + 1) options) ≡ count_of test (take k options) + cond b 1 0
@@ -365,7 +365,7 @@ matches_of sheet limits i d within =
     let ends = fixture_of_sheet sheet i d limits within in
     record { home = ends.0; away = ends.1; apart = ends.2 }
 
--- all pass exactly where none fails
+-- all pass exactly when none fails
 none_fails : {X : Type 0} (test : X → Bool) (xs : List X)
     → (length (filter (λ x. not (test x)) xs) == 0) ≡ list_all test xs
 none_fails test [] = refl

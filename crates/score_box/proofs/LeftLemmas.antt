@@ -1,19 +1,20 @@
 -- What the outcomes that a cell has left say of it.
 use Rattle.std.proofs.Common.{◌≡◌, Bool, true, false, not, ◌||◌, is_some, refl, sym, ap, ◌∙◌}
-use Rattle.std.proofs.Common.{List, ◌&&◌, Option, Some, None, subst, arith}
+use Rattle.std.proofs.Common.{List, ◌&&◌, Option, Some, None, arith}
 use Rattle.std.specs.List.{list_any}
 use Rattle.std.proofs.lemmas.Bool.{false≢true, false_from_ne_true}
 use Rattle.std.proofs.lemmas.Bool.{ltb-true, eqb-true}
 use Rattle.league_core.specs.declared.season.Score.{Score}
 use Rattle.league_core.specs.search.Options.{is_home_win, is_draw, is_away_win}
 use Rattle.league_core.specs.game.Finishes.{same_score}
+use Rattle.league_core.proofs.PlainLemmas.{same_tests}
 use Rattle.league_core.proofs.OptionLemmas.{same_score-true, same_score-itself}
 use Rattle.league_core.proofs.OutcomeLemmas.{outcome_cases}
 use Rattle.league_core.proofs.OptionTestLemmas.{any_shows, any_gives}
 use Rattle.score_box.specs.declared.cell.Cell.{Cell}
 use Rattle.score_box.specs.declared.points.left.OutcomesLeft.{OutcomesLeft}
 use Rattle.score_box.specs.declared.points.outcomes.MatchPoints.{MatchPoints}
-use Rattle.score_box.specs.declared.cell.goals.GoalRange.{GoalRange}
+use Rattle.score_box.specs.declared.cell.goals.ScoreRange.{ScoreRange}
 use Rattle.score_box.proofs.CellLemmas.{Says, ranges_of, keeps_home_win, keeps_draw}
 use Rattle.score_box.proofs.CellLemmas.{keeps_away_win, allows_from}
 use Rattle.score_box.specs.inside.Cells.{allows, IsAllowed, at_most_one, HasOneOutcome, IsCellOf}
@@ -51,7 +52,7 @@ none_passes cell test has left empty =
     let found = has_outcome cell test left.goals left.says (sym left.is ∙ some) in
     false≢true (sym (empty found.0) ∙ found.1.allowed))
 
--- no outcome is left exactly where no score is
+-- no outcome is left exactly when no score is
 pub none_left : (cell : Cell) (left : OutcomesLeft) → AreOutcomesLeft cell left
     → not (left.home_win || left.draw || left.away_win) ≡ true → IsEmptyCell cell
 none_left cell left are none score =
@@ -73,7 +74,7 @@ left_none cell left are empty =
     (none_passes cell is_draw left.draw are.draw empty)
     (none_passes cell is_away_win left.away_win are.away_win empty)
 
--- one outcome is left at most exactly where the scores have one
+-- one outcome is left at most exactly when the scores have one
 one_same : (cell : Cell) (left : OutcomesLeft) (are : AreOutcomesLeft cell left)
     → at_most_one left.home_win left.draw left.away_win
     ≡ at_most_one (is_some are.home_win.goals) (is_some are.draw.goals) (is_some are.away_win.goals)
@@ -116,7 +117,7 @@ points_left-are cell left home away points are some least_is most_is =
     ∙ ap (λ b. most_of_three h b left.away_win home away) are.draw.is
     ∙ ap (λ b. most_of_three h d b home away) are.away_win.is)
 
--- the cell has a score that passes exactly where the options have one
+-- the cell has a score that passes exactly when the options have one
 passing_among : (cell : Cell) (options : List Score) (test : Score → Bool) (has : Bool)
     → IsCellOf cell options → HasPassing cell test has → has ≡ list_any test options
 passing_among cell options test true is left =
@@ -151,22 +152,22 @@ same_passing cell other test has same left = record {
     back : (score : Score) → IsAllowed other test score → IsAllowed cell test score
     back score one = record { allowed = same score ∙ one.allowed; passed = one.passed }
 
-    moved : (goals : Option GoalRange) → Says cell test goals → Says other test goals
+    moved : (goals : Option ScoreRange) → Says cell test goals → Says other test goals
     moved None none = λ score one. none score (back score one)
-    moved (Some goals) span = record {
-      within = λ score one. span.within score (back score one);
+    moved (Some goals) range = record {
+      within = λ score one. range.within score (back score one);
       home_least = (
-        span.home_least.0,
-        there span.home_least.0 span.home_least.1,
-        span.home_least.2,
+        range.home_least.0,
+        there range.home_least.0 range.home_least.1,
+        range.home_least.2,
       );
-      home_most = (span.home_most.0, there span.home_most.0 span.home_most.1, span.home_most.2);
+      home_most = (range.home_most.0, there range.home_most.0 range.home_most.1, range.home_most.2);
       away_least = (
-        span.away_least.0,
-        there span.away_least.0 span.away_least.1,
-        span.away_least.2,
+        range.away_least.0,
+        there range.away_least.0 range.away_least.1,
+        range.away_least.2,
       );
-      away_most = (span.away_most.0, there span.away_most.0 span.away_most.1, span.away_most.2);
+      away_most = (range.away_most.0, there range.away_most.0 range.away_most.1, range.away_most.2);
     }
 
 pub same_left : (cell other : Cell) (left : OutcomesLeft)
@@ -186,7 +187,7 @@ mended cell left = record cell {
   away_win = left.away_win;
 }
 
--- for a score of an outcome: kept in the one exactly where it is in the other
+-- for a score of an outcome: kept in the one exactly when it is in the other
 same_at : (cell : Cell) (test : Score → Bool) (score : Score) (inside has kept : Bool)
     → HasPassing cell test has → test score ≡ true → allows cell score ≡ (inside && kept)
     → ((other : Score) → IsAllowed cell test other → kept ≡ true)
@@ -240,20 +241,6 @@ mended_exact cell left are =
     score)) are in
     record { home_win = same.home_win; draw = same.draw; away_win = same.away_win }
 
--- what an exact cell keeps is what it has left
-pub exact_left : (cell : Cell) (left : OutcomesLeft) → IsExactCell cell
-    → left.home_win ≡ cell.home_win → left.draw ≡ cell.draw → left.away_win ≡ cell.away_win
-    → AreOutcomesLeft cell left
-exact_left cell left exact home draw away =
-    let Home : Bool → Type 0 = λ b. HasPassing cell is_home_win b in
-    let Draw : Bool → Type 0 = λ b. HasPassing cell is_draw b in
-    let Away : Bool → Type 0 = λ b. HasPassing cell is_away_win b in
-    record {
-      home_win = subst Home (sym home) exact.home_win;
-      draw = subst Draw (sym draw) exact.draw;
-      away_win = subst Away (sym away) exact.away_win;
-    }
-
 -- ---- one score alone
 
 -- the cell of a score, with its outcome alone
@@ -293,12 +280,6 @@ one_other score other allowed =
     (arith, between.away_least, between.away_most) in
     λ i. record { home = home i; away = away i }
 
--- two tests that follow from each other
-same_tests : (a b : Bool) → (a ≡ true → b ≡ true) → (b ≡ true → a ≡ true) → a ≡ b
-same_tests true b there back = sym (there refl)
-same_tests false true there back = back refl
-same_tests false false there back = refl
-
 -- it has that score and no other
 pub one_allows : (score other : Score) → allows (one_cell score) other ≡ same_score score other
 one_allows score other =
@@ -307,7 +288,7 @@ one_allows score other =
     (λ same. ap (λ (s : Score). allows (one_cell score) s) (sym (same_score-true score other same))
     ∙ one_itself score)
 
--- so it has one that passes exactly where that score does
+-- so it has one that passes exactly when that score does
 one_passing : (score : Score) (test : Score → Bool) (has : Bool) → has ≡ test score
     → HasPassing (one_cell score) test has
 one_passing score test true is =

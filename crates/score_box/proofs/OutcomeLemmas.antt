@@ -1,4 +1,4 @@
--- Cells whose scores have one outcome: which it is, and where it is so.
+-- Cells whose scores have one outcome: which it is, and when it is so.
 use Rattle.std.proofs.Common.{◌≡◌, ◌<◌, ◌⊎◌, Bool, true, false, List, [], ◌∷◌, Option}
 use Rattle.std.proofs.Common.{Some, None, is_some, refl, sym, ap, ◌∙◌, inl, inr, arith}
 use Rattle.std.proofs.Common.{ℕ, not, ◌+◌, cond, length, get_or, take}
@@ -17,13 +17,13 @@ use Rattle.league_core.proofs.OutcomeLemmas.{same_outcome-home, same_outcome-dra
 use Rattle.league_core.proofs.OutcomeLemmas.{same_outcome-away, same_outcome-itself}
 use Rattle.league_core.proofs.OutcomeLemmas.{same_outcome-joined}
 use Rattle.score_box.specs.declared.cell.Cell.{Cell}
-use Rattle.score_box.specs.declared.cell.goals.GoalRange.{GoalRange}
+use Rattle.score_box.specs.declared.cell.goals.ScoreRange.{ScoreRange}
 use Rattle.score_box.specs.inside.Cells.{allows, IsAllowed, AllowsNone, IsCellOf, at_most_one}
 use Rattle.score_box.specs.inside.Cells.{HasOneOutcome}
 use Rattle.score_box.specs.inside.Boxes.{open_outcomes_in}
 use Rattle.score_box.proofs.CellLemmas.{Says}
 
--- where one score is a home win, a draw or an away win, all are
+-- if one score is a home win, a draw or an away win, all are
 pub all_home_wins : (cell : Cell) (first : Score) → HasOneOutcome cell
     → IsAllowed cell is_home_win first → (score : Score) → allows cell score ≡ true
     → score.away < score.home
@@ -53,7 +53,7 @@ all_away_wins cell first one is score allowed =
     (λ f s. absurd (no_lost_draw first f is.passed))
     (λ f s. s))
 
--- a cell has one outcome exactly where its fixture's options have one
+-- a cell has one outcome exactly when its fixture's options have one
 pub one_outcome_of : (cell : Cell) (options : List Score) → IsCellOf cell options
     → has_one_outcome options ≡ true → HasOneOutcome cell
 one_outcome_of cell [] is one score other allowed other_allowed = absurd
@@ -81,7 +81,7 @@ outcome_of_cell cell (first ∷ options) is one =
     (is first ∙ has_score-first first options)
     (is score ∙ or_right (same_score score first) (has_score options score) later))
 
--- where all scores are of one kind, they have one outcome
+-- if all scores are of one kind, they have one outcome
 one_kind : (cell : Cell) (test : Score → Bool)
     → ((score other : Score) → test score ≡ true → test other ≡ true
     → same_outcome score other ≡ true)
@@ -142,8 +142,8 @@ draw_and_away cell draw away one d a =
     let below : away.home < away.away = ltb-true away.home away.away a.passed in
     omega arith
 
--- one outcome at most exactly where no two of the three have a score
-pub decided : (cell : Cell) (home draws away : Option GoalRange) → Says cell is_home_win home
+-- one outcome at most exactly when no two of the three have a score
+pub decided : (cell : Cell) (home draws away : Option ScoreRange) → Says cell is_home_win home
     → Says cell is_draw draws → Says cell is_away_win away
     → (at_most_one (is_some home) (is_some draws) (is_some away) ≡ true → HasOneOutcome cell)
     × (HasOneOutcome cell → at_most_one (is_some home) (is_some draws) (is_some away) ≡ true)
@@ -167,7 +167,7 @@ decided cell None (Some d) None hs ds aws = (λ e. only_draws cell hs aws, λ on
 decided cell None None (Some a) hs ds aws = (λ e. only_away_wins cell hs ds, λ one. refl)
 decided cell None None None hs ds aws = (λ e. only_away_wins cell hs ds, λ one. refl)
 
--- one fixture more counts where its cell has several outcomes
+-- one fixture more counts if its cell has several outcomes
 pub open_more : (options : List (List Score)) (k : ℕ) (cell : Cell) (one : Bool)
     → k < length options → IsCellOf cell (get_or options k [])
     → (one ≡ true → HasOneOutcome cell) → (HasOneOutcome cell → one ≡ true)

@@ -10,7 +10,7 @@ use Rattle.std.proofs.lemmas.List.Elements.{filter_agree}
 use Rattle.std.proofs.lemmas.Bool.{cases_lt}
 use Rattle.std.proofs.Common.{◌≤◌, append_assoc}
 use Rattle.league_core.specs.search.Options.{meets, endings, options_in}
-use Rattle.score_box.specs.inside.Settings.{ZoneBoxView}
+use Rattle.score_box.specs.inside.ZoneBoxViews.{ZoneBoxView}
 use Rattle.std.proofs.lemmas.List.Folds.{list_all-append}
 use Rattle.std.proofs.lemmas.List.FromFn.{filter_of_map_range_with_len_more}
 use Rattle.std.proofs.Math.Seq.{take-append_seam}
@@ -55,7 +55,7 @@ unplayed_below-suc count scores =
     (omega arith) in
     rw (map-id, map-id) at more
 
--- a zone with one literal more names the sheet alone, where the literal does
+-- a zone with one literal more names the sheet alone, if the literal does
 pub zone_with : (sheet : Sheet) (zone : List Literal) (literal : Literal)
     → is_zone_of sheet zone ≡ true → is_test_of sheet literal.test ≡ true
     → is_zone_of sheet (zone ++ literal ∷ []) ≡ true

@@ -15,7 +15,7 @@ use Rattle.league_core.proofs.WorthLemmas.{points_at_win, points_at_draw, points
 use Rattle.league_core.proofs.WorthLemmas.{won_points-most, drawn_points-most}
 use Rattle.league_core.proofs.PointRangeLemmas.{Reaches, least-is, greatest-is}
 use Rattle.score_box.specs.declared.cell.Cell.{Cell}
-use Rattle.score_box.specs.declared.cell.goals.GoalRange.{GoalRange}
+use Rattle.score_box.specs.declared.cell.goals.ScoreRange.{ScoreRange}
 use Rattle.score_box.specs.inside.Cells.{allows, IsCellOf, IsEmptyCell, IsAllowed}
 use Rattle.score_box.specs.declared.points.outcomes.MatchPoints.{MatchPoints}
 use Rattle.score_box.specs.inside.Points.{least_of_three, most_of_three, IsPointsOf}
@@ -49,7 +49,7 @@ IsGiven wins draws losses home away points =
     ⊎ (((draws ≡ true) × (points ≡ drawn_points home away))
     ⊎ ((losses ≡ true) × (points ≡ lost_points away)))
 
--- where the least is three, or the most is none, each outcome that may come gives just that
+-- if the least is three, or the most is none, each outcome that may come gives just that
 given_at_three : (wins draws losses home away : Bool) → (wins || draws || losses) ≡ true
     → least_of_three wins draws losses home away ≡ 3
     → IsGiven wins draws losses home away (least_of_three wins draws losses home away)
@@ -149,22 +149,22 @@ most_given wins draws losses home away some =
       ]
     ]
 
--- a score of the cell of an outcome, where the cell has one
-pub has_outcome : (cell : Cell) (test : Score → Bool) (goals : Option GoalRange)
+-- a score of the cell of an outcome, if the cell has one
+pub has_outcome : (cell : Cell) (test : Score → Bool) (goals : Option ScoreRange)
     → Says cell test goals
     → is_some goals ≡ true → (score : Score) × IsAllowed cell test score
 has_outcome cell test None says some = absurd (false≢true some)
 has_outcome cell test (Some goals) says some = (says.home_most.0, says.home_most.1)
 
--- and where a score has the outcome, the cell has one
-pub some_outcome : (cell : Cell) (test : Score → Bool) (goals : Option GoalRange) (score : Score)
+-- and if a score has the outcome, the cell has one
+pub some_outcome : (cell : Cell) (test : Score → Bool) (goals : Option ScoreRange) (score : Score)
     → Says cell test goals → allows cell score ≡ true → test score ≡ true → is_some goals ≡ true
 some_outcome cell test None score says allowed passed =
     absurd (says score (record { allowed = allowed; passed = passed }))
 some_outcome cell test (Some goals) score says allowed passed = refl
 
 -- a cell that is not empty has a score of one of the outcomes
-some_of_three : (cell : Cell) (home draws away : Option GoalRange) → Says cell is_home_win home
+some_of_three : (cell : Cell) (home draws away : Option ScoreRange) → Says cell is_home_win home
     → Says cell is_draw draws → Says cell is_away_win away → ¬ IsEmptyCell cell
     → (is_some home || is_some draws || is_some away) ≡ true
 some_of_three cell (Some goals) draws away home_says draws_say away_says some = refl
@@ -179,7 +179,7 @@ some_of_three cell None None None home_says draws_say away_says some =
     (λ passed. away_says score (record { allowed = allowed; passed = passed })))))
 
 -- an option that reaches what an outcome gives
-reached : (cell : Cell) (options : List Score) (home draws away : Option GoalRange) (h a : Bool)
+reached : (cell : Cell) (options : List Score) (home draws away : Option ScoreRange) (h a : Bool)
     (points : ℕ) → IsCellOf cell options → Says cell is_home_win home → Says cell is_draw draws
     → Says cell is_away_win away → IsGiven (is_some home) (is_some draws) (is_some away) h a points
     → Reaches (points_of_sides h a) options (pos points)
@@ -228,7 +228,7 @@ in_order wins draws losses home away points (inr (inr (some, same))) =
     let above = (most_above wins draws losses home away).2 some in omega arith
 
 -- the least and the most of the outcomes that a cell has are those of its options
-pub points_of_outcomes : (cell : Cell) (home draws away : Option GoalRange) (h a : Bool)
+pub points_of_outcomes : (cell : Cell) (home draws away : Option ScoreRange) (h a : Bool)
     (points : MatchPoints) → Says cell is_home_win home → Says cell is_draw draws
     → Says cell is_away_win away → ¬ IsEmptyCell cell
     → points.least ≡ least_of_three (is_some home) (is_some draws) (is_some away) h a

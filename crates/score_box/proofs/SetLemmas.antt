@@ -32,7 +32,7 @@ use Rattle.score_box.specs.declared.points.PointRange.{PointRange}
 use Rattle.score_box.specs.declared.points.outcomes.MatchPoints.{MatchPoints}
 use Rattle.score_box.specs.declared.totals.Totals.{Totals}
 use Rattle.score_box.specs.inside.Boxes.{AreCellsOf}
-use Rattle.score_box.specs.inside.Ends.{IsMatch, AreSpans, end_at, empty_in}
+use Rattle.score_box.specs.inside.Ends.{IsMatch, AreRanges, end_at, empty_in}
 use Rattle.score_box.specs.inside.Points.{IsPointsOf, IsRangeOver, left_to}
 use Rattle.score_box.specs.inside.Totals.{AreTables, totals_at, no_totals, points_column}
 use Rattle.score_box.specs.inside.Unplayed.{unplayed_in}
@@ -184,7 +184,7 @@ set_is sheet season zone cells unplayed clubs rows pairs won left league finish 
     )
 
 -- the numbers that begin with the points of the table, and take what is left
-pub first_spans : (sheet : Sheet) (season : Results) (rows pairs : List Totals)
+pub first_ranges : (sheet : Sheet) (season : Results) (rows pairs : List Totals)
     (unplayed : List ℕ) (won lows highs : List ℤ) → IsLeague sheet season
     → AreTables sheet.fixtures season.scores rows pairs → unplayed ≡ unplayed_in season.scores
     → length lows ≡ 24 → length highs ≡ 24
@@ -193,8 +193,8 @@ pub first_spans : (sheet : Sheet) (season : Results) (rows pairs : List Totals)
     (λ k. (left_to (club ∷ []) sheet.fixtures (options_in sheet season []) k).least) unplayed)
     × (end_at highs club ≡ end_at won club +ℤ total_of
     (λ k. (left_to (club ∷ []) sheet.fixtures (options_in sheet season []) k).greatest) unplayed))
-    → AreSpans sheet.fixtures (options_in sheet season []) lows highs
-first_spans sheet season rows pairs unplayed won lows highs league tables same many_lows many_highs
+    → AreRanges sheet.fixtures (options_in sheet season []) lows highs
+first_ranges sheet season rows pairs unplayed won lows highs league tables same many_lows many_highs
     won_is sums = record {
       many_lows = many_lows;
       many_highs = many_highs;

@@ -178,7 +178,7 @@ pub unplayed_in_range : (scores : List (Option Score)) (i d : ℕ) → i < lengt
     → get_or (unplayed_in scores) i d < length scores
 unplayed_in_range scores i d within = below_count scores (length scores) i d within
 
--- the same, where the list of them is known by another name
+-- the same, if the list of them is known by another name
 pub open_fixture : (scores : List (Option Score)) (unplayed : List ℕ) (i d : ℕ)
     → unplayed ≡ unplayed_in scores → i < length unplayed → get_or unplayed i d < length scores
 open_fixture scores unplayed i d are within =
@@ -225,7 +225,7 @@ sum_split value matches scores later many many_later same =
     +ℤ total_of (worth_at_fixture value matches later) ks)
     (sym (unplayed-is (length matches) scores many))
 
--- where a played fixture has its score as its one option
+-- if a played fixture has its score as its one option
 abbrev pub KeepsPlayed : List (Option Score) → List (List Score) → Type 0
 KeepsPlayed scores options =
     (k : ℕ) → is_unplayed (get_or scores k None) ≡ false
@@ -382,7 +382,7 @@ sides_come_to end options home away both =
     (h a : Bool) → end (range_of (points_of_sides h a) options)
     ≡ cond h home (pos 0) +ℤ cond a away (pos 0) +ℤ cond (h && a) both (pos 0)
 
--- is what the match adds to a set beyond what it adds to each club, where both are of the set
+-- is what the match adds to a set beyond what it adds to each club, if both are of the set
 pub beyond_of_sides : (end : Range → ℤ) (bits : ℕ) (match : Fixture) (options : List Score)
     (home away both : ℤ) → match.home ≢ match.away → sides_come_to end options home away both
     → beyond_alone end (clubs_below 32 bits) match options

@@ -41,7 +41,7 @@ each_column P first second third fourth fifth sixth away_goals_column = fourth
 each_column P first second third fourth fifth sixth wins_column = fifth
 each_column P first second third fourth fifth sixth away_wins_column = sixth
 
--- goals away count where goals do, and so do wins
+-- goals away count if goals do, and so do wins
 pub away_goals-is : (amount total : ℤ) (scored conceded : ℕ) (away : Bool) → amount ≡ pos scored
     → total ≡ cond away amount (pos 0) → total ≡ worth_in away_goals_column scored conceded away
 away_goals-is amount total scored conceded away is total_is =

@@ -65,10 +65,6 @@ undo_same limit scores zone zone_too literal literal_too undo undo_too same_zone
     let Of_undo : Undo → Type 0 = λ u. IsUndoOf limit scores zone_too literal_too u in
     subst Of_undo same_undo (subst Of_literal same_literal (subst Of_zone same_zone is))
 
--- no literal
-pub trail_none : (limit : ℕ) (scores : List (Option Score)) → IsTrailOf limit scores [] []
-trail_none limit scores = record { many = refl; each = λ k d e within. absurd (omega arith) }
-
 -- one literal more
 pub trail_more : (limit : ℕ) (scores : List (Option Score)) (zone : List Literal)
     (trail : List Undo) (literal : Literal) (undo : Undo) → IsTrailOf limit scores zone trail

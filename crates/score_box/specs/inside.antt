@@ -1,6 +1,6 @@
 -- The setting of a box, what a cell stands for, then what a box does, then the points that it
 -- leaves.
-pub mod Settings
+pub mod ZoneBoxViews
 pub mod Cells
 pub mod Unplayed
 pub mod Boxes

@@ -10,7 +10,7 @@ ghost use Rattle.score_box.specs.inside.Cells.{allows, is_within, keeps_outcome,
 mod exact;
 mod goals;
 
-pub use goals::{GoalRange, at_most_one};
+pub use goals::{ScoreRange, at_most_one};
 use league_core::{Literal, Score, Test};
 
 /// A set of scores: those whose outcome is kept and whose goals are in the two ranges. Contracts

@@ -1,4 +1,4 @@
-//! What the fixtures of a box come to for each club alone, kept as numbers, and moved on where the
+//! What the fixtures of a box come to for each club alone, kept as numbers, and moved on when the
 //! cell of a fixture changes.
 
 ghost use Rattle.std.specs.Prelude.{◌≡◌, ◌<◌, ◌≤◌, ◌+◌, ◌==◌, ℕ, pos, ◌+ℤ◌, ◌-ℤ◌, ◌≤ℤ◌};
@@ -17,7 +17,7 @@ ghost use Rattle.score_box.specs.inside.Cells.{IsCellOf, IsExactCell};
 ghost use Rattle.score_box.specs.inside.Points.{AreOutcomesLeft};
 ghost use Rattle.score_box.specs.inside.Boxes.{AreCellsOf, HasOptions, open_outcomes_in};
 ghost use Rattle.score_box.specs.inside.Ends.{AreEnds, HasEndsOfCells, HasEndsAt, IsMatch};
-ghost use Rattle.score_box.specs.inside.Ends.{MovesSpans, end_at};
+ghost use Rattle.score_box.specs.inside.Ends.{MovesRanges, end_at};
 ghost use Rattle.score_box.specs.inside.Points.{left_to};
 ghost use Rattle.score_box.specs.inside.Totals.{AreTables, AreTotalsNear, totals_at};
 ghost use Rattle.score_box.specs.inside.Unplayed.{unplayed_in};
@@ -121,7 +121,7 @@ fn add_left(
     for i in 0..numbers.len() {
         let number = numbers[i] as usize;
         let left = cells[number].left();
-        move_spans(lows, highs, fixtures[number], none, left);
+        move_ranges(lows, highs, fixtures[number], none, left);
     }
 }
 
@@ -155,7 +155,7 @@ pub fn replace(cells: &mut [Cell], ends: &mut Ends, fixtures: &[Fixture], number
     cells[number as usize] = cell;
 }
 
-// Moves the ends on where a fixture has another cell.
+// Moves the ends on when a fixture has another cell.
 fn move_ends(ends: &mut Ends, fixtures: &[Fixture], number: u16, was: &Cell, now: &Cell)
     requires few { length fixtures.now ≤ most_fixtures }
     requires matches { All IsMatch fixtures.now }
@@ -170,7 +170,7 @@ fn move_ends(ends: &mut Ends, fixtures: &[Fixture], number: u16, was: &Cell, now
 {
     let before = was.left();
     let after = now.left();
-    move_spans(
+    move_ranges(
         &mut ends.lows,
         &mut ends.highs,
         fixtures[number as usize],
@@ -196,8 +196,8 @@ fn one_if(counts: bool) -> usize
     if counts { 1 } else { 0 }
 }
 
-// Moves the numbers of a match's two clubs, where its cell had some outcomes and has others now.
-fn move_spans(
+// Moves the numbers of a match's two clubs, when its cell had some outcomes and has others now.
+fn move_ranges(
     lows: &mut [i32],
     highs: &mut [i32],
     fixture: Fixture,
@@ -212,7 +212,7 @@ fn move_spans(
     requires high { (club : ℕ) → ((pos 0 -ℤ pos 200000) ≤ℤ end_at highs.old club)
         × (end_at highs.old club ≤ℤ pos 200000) }
     ensures { (was now : Cell) → AreOutcomesLeft was before → AreOutcomesLeft now after
-        → MovesSpans fixture was now lows.old lows.new highs.old highs.new }
+        → MovesRanges fixture was now lows.old lows.new highs.old highs.new }
 {
     let home_was = before.points(true, false);
     let away_was = before.points(false, true);

@@ -18,7 +18,7 @@ mod totals;
 mod trail;
 mod zone_box;
 
-pub use cell::{Cell, GoalRange};
+pub use cell::{Cell, ScoreRange};
 pub use own::{own_least, own_most};
 pub use played::Played;
 pub use points::{MatchPoints, OutcomesLeft, PointRange};

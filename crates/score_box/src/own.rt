@@ -4,7 +4,7 @@ ghost use Rattle.std.specs.Prelude.{◌≡◌, ◌<◌, ◌≤ℤ◌, neg_ℤ, l
 ghost use Rattle.league_core.specs.game.Limits.{most_points};
 ghost use Rattle.league_core.specs.search.PointRanges.{own_least, own_most};
 ghost use Rattle.score_box.specs.inside.Points.{most_taken_off};
-ghost use Rattle.score_box.specs.inside.Settings.{HasFinish};
+ghost use Rattle.score_box.specs.inside.ZoneBoxViews.{HasFinish};
 
 use crate::zone_box::ZoneBox;
 use league_core::Question;

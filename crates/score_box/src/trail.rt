@@ -18,7 +18,7 @@ pub struct Undo {
     pub marks: Marks,
 }
 
-/// The cell of the fixture that a literal is on; any cell where it is on none.
+/// The cell of the fixture that a literal is on; any cell if it is on none.
 pub fn cell_on(cells: &[Cell], literal: &Literal) -> Cell
     requires { IsTestBelow (length cells.now) set_width literal.now.test }
     ensures { (number : ℕ) (d : Cell) → is_on number literal.now.test ≡ true

@@ -12,7 +12,7 @@ ghost use Rattle.league_core.specs.search.Zones.{is_zone_of, marked_before, mark
 ghost use Rattle.league_core.specs.search.Options.{options_in, has_score, has_finish, is_single};
 ghost use Rattle.score_box.specs.inside.Cells.{IsCellOf, HasOneScore};
 ghost use Rattle.score_box.specs.inside.Boxes.{IsSetOf};
-ghost use Rattle.score_box.specs.inside.Settings.{HasFinish};
+ghost use Rattle.score_box.specs.inside.ZoneBoxViews.{HasFinish};
 ghost use Rattle.score_box.specs.inside.Points.{most_taken_off};
 
 mod build;
@@ -47,7 +47,7 @@ pub struct ZoneBox<'a> {
 }
 
 impl<'a> Model for ZoneBox<'a> {
-    ghost use Rattle.score_box.specs.inside.Settings.{ZoneBoxView};
+    ghost use Rattle.score_box.specs.inside.ZoneBoxViews.{ZoneBoxView};
 
     ghost Value = { ZoneBoxView };
 
@@ -144,8 +144,7 @@ impl<'a> ZoneBox<'a> {
         have_one_score(&self.cells)
     }
 
-    /// One of the scores that a fixture has left, where the zone has a finish. Fixtures count from
-    /// 0.
+    /// One of the scores that a fixture has left, if the zone has a finish. Fixtures count from 0.
     pub fn pick(&self, fixture: u16) -> Score
         requires in_range { fixture < length self.now.season.scores }
         requires has_finish { HasFinish self.now }
@@ -157,8 +156,8 @@ impl<'a> ZoneBox<'a> {
     }
 
     /// The least and the most points that the clubs of a set can have together: match points less
-    /// deductions, negative where the deductions exceed them. A walk over the clubs, and one over
-    /// the fixtures that are not played.
+    /// deductions, negative if the deductions exceed them. A walk over the clubs, and one over the
+    /// fixtures that are not played.
     pub fn points(&self, set: ClubSet) -> PointRange
         requires { HasFinish self.now }
         ensures least { result.least

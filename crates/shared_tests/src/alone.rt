@@ -95,7 +95,7 @@ fn ask<J: Job, R: Wait>(
     match finding_at(alloc, sheet, badge, &ticket) {
         Ok(finding) => {
             let turns = turns_at(rt, alloc, sheet, lock, badge, &ticket);
-            let gave = lock.give(rt, badge, ticket, finding);
+            let gave = lock.give(rt, badge, ticket, Some(finding));
             Ok((turns?, gave))
         }
         Err(OutOfMemory) => {
@@ -123,7 +123,7 @@ fn turns_at<J: Job, R: Wait>(
     turns_by(rt, lock, badge, ticket.epoch, &mut solver)
 }
 
-// How often the solver works in the pool before there is nothing to work on; nothing where it is
+// How often the solver works in the pool before there is nothing to work on; nothing if it is
 // refused.
 fn turns_by<J: Job, R: Wait, W: Solver>(
     rt: &R,

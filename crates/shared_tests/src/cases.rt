@@ -34,11 +34,11 @@ pub enum Case {
     Early,
     /// The same once the feed is shut.
     Alone,
-    /// The same, where the result has come since it was lent its ticket.
+    /// The same, if the result has come since it was lent its ticket.
     Late,
 }
 
-/// The result that is reported: 0:0 where it overtakes the workers, or else 1:0.
+/// The result that is reported: 0:0 if it overtakes the workers, or else 1:0.
 pub fn event_of(case: Case) -> Event {
     let home = match case {
         Case::Overtaken => 0,
@@ -50,7 +50,7 @@ pub fn event_of(case: Case) -> Event {
     }
 }
 
-/// Plays a case with two badges, and answers what became of the two tickets, where they were given
+/// Plays a case with two badges, and returns what became of the two tickets, if they were given
 /// back.
 pub fn meet<J: Job, R: Wait>(
     rt: &R,

@@ -7,23 +7,23 @@ use std::test::Fail;
 /// What is seen of a round, all of it plain values.
 #[derive(Clone, Copy)]
 pub struct Round {
-    /// What became of the two tickets, where they were given back.
+    /// What became of the two tickets, if they were given back.
     pub gave: Option<(Gave, Gave)>,
-    /// How far the first two questions are, where two are asked.
+    /// How far the first two questions are, if two are asked.
     pub first_two: Option<(Answer, Answer)>,
-    /// How far the two after them are, where four are asked.
+    /// How far the two after them are, if four are asked.
     pub last_two: Option<(Answer, Answer)>,
     /// How many numbers are out.
     pub out: u64,
     /// How many events the log has.
     pub logged: usize,
-    /// The log is the one event that was to be told.
+    /// The log is the one event that was to be reported.
     pub is_told: bool,
     /// There are four trees, each of which is one leaf that is open.
     pub are_open: bool,
 }
 
-/// What is seen of the pool of a round, where this became of its tickets.
+/// What is seen of the pool of a round, if this became of its tickets.
 pub fn seen(
     pool: &Pool,
     gave: Result<Option<(Gave, Gave)>, Fail>,

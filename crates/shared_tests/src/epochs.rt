@@ -72,7 +72,7 @@ fn a_worker_finds_each_epoch(rt: HostRuntime) -> Result<(), Fail> {
     Ok(())
 }
 
-// Tells 500 times of a result.
+// Reports a result 500 times.
 fn tell_all(word: &EpochWord, mut owner: Owner, mut front: Front) -> (Owner, Front)
     requires seats { (owner.table ≡ word.now) × (front.table ≡ word.now) }
     requires empty { (owner.list ≡ []) × (front.list ≡ []) }

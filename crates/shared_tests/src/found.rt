@@ -48,7 +48,7 @@ pub fn found_at<J: Job>(alloc: Global, sheet: &Sheet, badge: &WorkBadge<J>, tick
     }
 }
 
-/// Lets a ticket go.
+/// Drops a ticket.
 pub fn lose(ticket: Ticket) {
     let Ticket {
         number: _,

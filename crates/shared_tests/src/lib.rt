@@ -4,7 +4,7 @@
 //! `trees` has the calls on a tree while memory runs out, `pools` those on a pool, `reports` a
 //! report to the lock round one: they are made to be run with each allocation failing in turn, as
 //! `checks/memory` does; `rt try --test --fail-alloc N` does it for the Nth. One of them in which
-//! memory runs out beside its call has nothing to say, and ends in the error that tells of it.
+//! memory runs out beside its call has nothing to say, and ends in the error that says so.
 #![tactic(auto)]
 
 #[cfg(test)]

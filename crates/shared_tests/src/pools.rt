@@ -54,7 +54,7 @@ fn push_nodes(pool: &Pool, place: usize, all: &mut Vec<TreeNode>) -> Result<(), 
     Ok(all.extend_from_slice(nodes.as_slice())?)
 }
 
-/// Whether the trees have these nodes, and nothing is told.
+/// Whether the trees have these nodes, and nothing is reported.
 pub fn stays(alloc: Global, pool: &Pool, nodes: &[TreeNode]) -> Result<bool, Fail> {
     let own = all_nodes(alloc, pool)?;
     Ok(is_at(pool, 0, 0, false) && own.as_slice() == nodes)
@@ -125,7 +125,7 @@ fn is_told(pool: &mut Pool) -> Result<bool, Fail> {
     Ok(pool.change(Event::Set { fixture: 0, score }).is_ok())
 }
 
-// Whether the pool has been told the result, at once or after it had stayed as it was.
+// Whether the result was reported to the pool, at once or after it had stayed as it was.
 fn changes_or_stays(alloc: Global, pool: &mut Pool) -> Result<bool, Fail> {
     let nodes = all_nodes(alloc, pool)?;
     let told = is_told(pool)? || (stays(alloc, pool, nodes.as_slice())? && is_told(pool)?);

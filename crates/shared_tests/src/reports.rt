@@ -37,7 +37,7 @@ struct Beside {
     seated: Seated,
 }
 
-// What a pool that may be told the result has beside it.
+// What a pool that may take the result has beside it.
 fn made_beside(alloc: Global, pool: &Pool) -> Result<Beside, Fail>
     ensures owner { IfOk result
         (λ made. made.seated.owner ≡ seat_of made.seated.word pool.now.log) }
@@ -56,9 +56,9 @@ fn made_beside(alloc: Global, pool: &Pool) -> Result<Beside, Fail>
     Ok(Beside { nodes, seated })
 }
 
-// Whether the pool, whose first tree was split, has the result where that was taken, and else has
-// the nodes of before, and whether the word tells the same. A report that is refused is made once
-// more where so wished.
+// Whether the pool, whose first tree was split, has the result if that was taken, and else has the
+// nodes of before, and whether the word tells the same. A report that is refused is made once more
+// if so wished.
 fn reports_or_stays<R: Wait>(rt: &R, alloc: Global, again: bool) -> Result<bool, Fail> {
     let pool = worked(alloc)?;
     let Beside { nodes, seated } = made_beside(alloc, &pool)?;
@@ -138,7 +138,7 @@ fn report<J: Job, R: Wait>(
     }
 }
 
-// The word told of the event from the report on where that was taken, and else not before it was
+// The word names the event from the report on if that was taken, and else not before it was
 // reported again.
 fn is_told_or_as_before(pool: &Pool, told: Told, again: bool) -> bool {
     let first = if told.is_taken { Some(1u64) } else { None };

@@ -1,4 +1,4 @@
-//! A pool behind its lock, by hand: two clubs and one match. Where A wins it, A is first, and the
+//! A pool inside its lock, by hand: two clubs and one match. If A wins it, A is first, and the
 //! questions are, in order: whether A can end inside the line (an example shows it), outside
 //! (refuted), and the same of B.
 
@@ -73,7 +73,7 @@ pub fn take_seats(alloc: Global, log: &[Event], workers: u8) -> Result<Seated, F
     })
 }
 
-// A pool that may be told the event.
+// A pool that may take the event.
 fn pool_to_tell(alloc: Global, sheet: &Sheet, case: Case, event: &Event) -> Result<Pool, Fail>
     requires limits { IsWithinLimits sheet.now }
     ensures of_sheet { IfOk result (λ pool. pool.sheet ≡ sheet.now) }
@@ -100,7 +100,7 @@ pub fn pool_of(alloc: Global, sheet: &Sheet, case: Case) -> Result<Pool, OutOfMe
     Pool::begin(alloc, sheet.copy(alloc)?, asked)
 }
 
-// What is asked in a case: nothing where the feed is shut at once.
+// What is asked in a case: nothing if the feed is shut at once.
 fn asked_in(alloc: Global, sheet: &Sheet, case: Case) -> Result<Vec<Question>, OutOfMemory>
     requires limits { IsWithinLimits sheet.now }
     ensures of_sheet { IfOk result (λ asked. All (IsQuestionOf sheet.now) asked.items) }
@@ -161,7 +161,7 @@ fn round_as<J: Job, R: Wait>(
     seen(&pool, gave, event)
 }
 
-/// Whether the pool may be told the event.
+/// Whether the pool may take the event.
 pub fn may_be_told(pool: &Pool, event: &Event) -> bool
     ensures { IsTrue result → IsEventOf (season_after pool.now.sheet pool.now.log) event.now }
 {
@@ -169,7 +169,7 @@ pub fn may_be_told(pool: &Pool, event: &Event) -> bool
     may_be(pool.season(), event)
 }
 
-// Whether the season may be told the event.
+// Whether the season may take the event.
 fn may_be(season: &Season, event: &Event) -> bool
     ensures { IsTrue result → IsEventOf season.now event.now }
 {

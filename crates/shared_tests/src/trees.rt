@@ -99,7 +99,7 @@ fn lend_leaves_an_open_leaf(rt: HostRuntime) -> Result<(), Fail> {
     Ok(())
 }
 
-// The way to the leaf wants memory after the leaf was marked.
+// The way to the leaf needs memory after the leaf was marked.
 fn halves_lend_or_stay(alloc: Global) -> Result<bool, OutOfMemory> {
     let mut tree = two_halves(alloc)?;
     let wanted = if tree.lend(1).is_ok() { b"HLO" } else { b"HOO" };
@@ -187,7 +187,7 @@ fn carried_in(alloc: Global, sample: &Sample, tree: &Tree) -> Result<Option<Tree
     Ok(retarget(alloc, &sample.sheet, &A_FIRST, tree, &sample.season).ok())
 }
 
-// Whether the season leaves what it should of a tree, where there was memory for it.
+// Whether the season leaves what it should of a tree, if there was memory for it.
 fn carries_or_not(alloc: Global, tree: &Tree) -> Result<bool, Fail> {
     let carried = carried(alloc, tree)?;
     is_left(&carried)

@@ -1,4 +1,4 @@
-//! A round that fails its test where it does not end. All that meet in it are on one thread, so
+//! A round that fails its test if it does not end. All that meet in it are on one thread, so
 //! whoever has to wait there waits in vain.
 
 use crate::cases::Case;
@@ -31,7 +31,7 @@ pub fn watched<R: Threads + Wait + Clock + Abort + Sync + Alloc<A = Global>>(
     round
 }
 
-// Waits for the mark of the end, and ends the test where none comes within forty seconds.
+// Waits for the mark of the end, and ends the test if none comes within forty seconds.
 fn watch<R: Clock + Abort>(rt: &R, ended: &AtomicU64) {
     for _ in 0..4000 {
         if ended.load(Ordering::SeqCst) != 0 {

@@ -27,11 +27,12 @@ use Rattle.tie_criteria.specs.inside.Measures.{worth_of}
 use Rattle.tie_bound.specs.declared.answer_sets.Answers.{Answers}
 use Rattle.tie_bound.specs.declared.parts.Parts.{Parts}
 use Rattle.tie_bound.specs.declared.sums.Sums.{Sums}
-use Rattle.tie_bound.specs.inside.Spans.{as_range}
+use Rattle.tie_bound.specs.inside.IntRanges.{as_range}
 use Rattle.tie_bound.specs.inside.Sums.{range_by, sums_at}
 use Rattle.tie_bound.specs.inside.Tables.{AreSums}
-use Rattle.tie_bound.specs.inside.Answers.{record_spans_of, first_spans_of, ranges_of}
-use Rattle.tie_bound.specs.inside.Answers.{overall_spans_of, by_table, by_overall_table, is_sure_by}
+use Rattle.tie_bound.specs.inside.Answers.{record_ranges_of, first_ranges_of, ranges_of}
+use Rattle.tie_bound.specs.inside.Answers.{overall_ranges_of, by_table, by_overall_table}
+use Rattle.tie_bound.specs.inside.Answers.{is_sure_by}
 use Rattle.tie_bound.specs.inside.Answers.{answer_at, AreLevelIn, StepDecides, IsStepIn}
 
 -- before the first club nothing has changed
@@ -74,7 +75,7 @@ step_goes_on next seen at old now new answer so_far is_new put is = record {
       put_beside at club answer now new put apart.0 ∙ so_far.outside club apart.1;
 }
 
--- where an answer is not level the next step changes nothing
+-- if an answer is not level the next step changes nothing
 pub not_level_keeps : (answer next : Sure) → is_level answer ≡ false
     → sure_then answer next ≡ answer
 not_level_keeps Above next is = refl
@@ -141,10 +142,10 @@ points_range-one sheet season options club =
     without n = omega (arith, ints)
 
 -- the records and the sums of a table are those of its club
-pub record_spans_of-is : (sheet : Sheet) (options : List (List Score)) (group : List ℕ)
+pub record_ranges_of-is : (sheet : Sheet) (options : List (List Score)) (group : List ℕ)
     (table : List Sums) (club : ℕ) → AreSums (worth_among group) sheet.fixtures options table
-    → record_spans_of (sums_at table club) ≡ record_ranges sheet options group club
-record_spans_of-is sheet options group table club are =
+    → record_ranges_of (sums_at table club) ≡ record_ranges sheet options group club
+record_ranges_of-is sheet options group table club are =
     let points = are.each club Points in
     let difference = are.each club Difference in
     let goals = are.each club Goals in
@@ -156,18 +157,20 @@ HasSums sheet options table club =
     (measure : Measure) → range_by (sums_at table club) measure
     ≡ range_from (worth_to (worth_of measure) club) sheet.fixtures options
 
-pub first_spans_of-is : (sheet : Sheet) (options : List (List Score)) (table : List Sums) (club : ℕ)
+pub first_ranges_of-is : (sheet : Sheet) (options : List (List Score)) (table : List Sums)
+    (club : ℕ)
     → HasSums sheet options table club
-    → first_spans_of (sums_at table club) ≡ first_sum_ranges sheet options club
-first_spans_of-is sheet options table club has =
+    → first_ranges_of (sums_at table club) ≡ first_sum_ranges sheet options club
+first_ranges_of-is sheet options table club has =
     let difference = has Difference in
     let goals = has Goals in
     (λ j. difference j ∷ goals j ∷ [])
 
-pub overall_spans_of-is : (sheet : Sheet) (options : List (List Score)) (table : List Sums)
+pub overall_ranges_of-is : (sheet : Sheet) (options : List (List Score)) (table : List Sums)
     (club : ℕ) → HasSums sheet options table club
-    → overall_spans_of (sums_at table club) (rank_of sheet club) ≡ overall_ranges sheet options club
-overall_spans_of-is sheet options table club has =
+    → overall_ranges_of (sums_at table club) (rank_of sheet club)
+    ≡ overall_ranges sheet options club
+overall_ranges_of-is sheet options table club has =
     let difference = has Difference in
     let goals = has Goals in
     let away_goals = has AwayGoals in
@@ -202,21 +205,21 @@ by_table-read parts table club rival sums own sums_are own_is =
 pub by_overall_table-read : (sheet : Sheet) (table : List Sums) (club rival : ℕ) (sums own : Sums)
     (rank own_rank : ℕ) → sums ≡ sums_at table rival → own ≡ sums_at table club
     → rank ≡ rank_of sheet rival → own_rank ≡ rank_of sheet club
-    → sure_by_ranges (overall_spans_of sums rank) (overall_spans_of own own_rank)
+    → sure_by_ranges (overall_ranges_of sums rank) (overall_ranges_of own own_rank)
     ≡ by_overall_table sheet table
     club rival
 by_overall_table-read sheet table club rival sums own rank own_rank sums_are own_is rank_is
     own_rank_is =
-    ap (λ (s : Sums). sure_by_ranges (overall_spans_of s rank) (overall_spans_of own own_rank))
+    ap (λ (s : Sums). sure_by_ranges (overall_ranges_of s rank) (overall_ranges_of own own_rank))
     sums_are
-    ∙ ap (λ (n : ℕ). sure_by_ranges (overall_spans_of (sums_at table rival) n)
-    (overall_spans_of own own_rank))
+    ∙ ap (λ (n : ℕ). sure_by_ranges (overall_ranges_of (sums_at table rival) n)
+    (overall_ranges_of own own_rank))
     rank_is
     ∙ ap (λ (s : Sums). sure_by_ranges
-    (overall_spans_of (sums_at table rival) (rank_of sheet rival))
-    (overall_spans_of s own_rank)) own_is
-    ∙ ap (λ (n : ℕ). sure_by_ranges (overall_spans_of (sums_at table rival) (rank_of sheet rival))
-    (overall_spans_of (sums_at table club) n)) own_rank_is
+    (overall_ranges_of (sums_at table rival) (rank_of sheet rival))
+    (overall_ranges_of s own_rank)) own_is
+    ∙ ap (λ (n : ℕ). sure_by_ranges (overall_ranges_of (sums_at table rival) (rank_of sheet rival))
+    (overall_ranges_of (sums_at table club) n)) own_rank_is
 
 -- a step at one club, from the answer that stood there
 pub next_is : (old next : ℕ → Sure) (answer first second : Sure) (k : ℕ)

@@ -1,7 +1,7 @@
 -- The options of a box: one list for each fixture.
 use Rattle.std.proofs.Common.{◌≡◌, length}
 use Rattle.league_core.proofs.OptionLemmas.{length-options_from}
-use Rattle.score_box.specs.inside.Settings.{ZoneBoxView}
+use Rattle.score_box.specs.inside.ZoneBoxViews.{ZoneBoxView}
 use Rattle.tie_bound.specs.inside.Boxes.{options_in_box}
 
 -- as many lists of options as the season has fixtures

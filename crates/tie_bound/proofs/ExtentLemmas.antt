@@ -16,12 +16,12 @@ use Rattle.tie_criteria.specs.declared.measure.Measure.TheVariants.{AwayGoals, W
 use Rattle.tie_criteria.specs.inside.Measures.{worth_of}
 use Rattle.score_box.specs.declared.cell.Cell.{Cell}
 use Rattle.score_box.specs.inside.Cells.{allows, IsCellOf, IsEmptyCell}
-use Rattle.tie_bound.specs.declared.int_range.GoalSpan.{GoalSpan}
-use Rattle.tie_bound.specs.inside.Spans.{IsSpanNear}
+use Rattle.tie_bound.specs.declared.int_range.GoalRange.{GoalRange}
+use Rattle.tie_bound.specs.inside.IntRanges.{IsRangeNear}
 use Rattle.tie_bound.specs.inside.Sides.{goals_by, AreGoalsOf}
 
 -- the goals of a side
-pub goals_extent : (cell : Cell) (away : Bool) (goals : GoalSpan) → AreGoalsOf cell away goals
+pub goals_extent : (cell : Cell) (away : Bool) (goals : GoalRange) → AreGoalsOf cell away goals
     → IsExtent (allows cell) (λ score. pos (goals_by away score))
     (record { least = pos goals.least; greatest = pos goals.most })
 goals_extent cell away goals are = record {
@@ -31,11 +31,11 @@ goals_extent cell away goals are = record {
   greatest = (are.most.0, are.most.1, ap pos are.most.2);
 }
 
--- where all values are near zero, so are the ends
+-- if all values are near zero, so are the ends
 pub near_extent : (cell : Cell) (value : Score → ℤ) (range : Range)
     → IsExtent (allows cell) value range
     → ((score : Score) → allows cell score ≡ true → IsNearZero 255 (value score))
-    → IsSpanNear 255 range
+    → IsRangeNear 255 range
 near_extent cell value range extent near =
     let ends = extent_near 255 (allows cell) value range extent near in
     record {

@@ -12,8 +12,8 @@ use Rattle.league_core.specs.inside.Extents.{IsExtent}
 use Rattle.score_box.specs.declared.cell.Cell.{Cell}
 use Rattle.score_box.specs.inside.Cells.{allows, keeps_outcome}
 use Rattle.score_box.proofs.CellLemmas.{IsInRanges, ranges_of, allows_from}
-use Rattle.tie_bound.specs.declared.int_range.GoalSpan.{GoalSpan}
-use Rattle.tie_bound.specs.inside.Spans.{IsMargin}
+use Rattle.tie_bound.specs.declared.int_range.GoalRange.{GoalRange}
+use Rattle.tie_bound.specs.inside.IntRanges.{IsMargin}
 use Rattle.tie_bound.specs.inside.Sides.{to_side, AreGoalsOf, Wins as WinsAll}
 
 -- two wins of one side have one outcome, so a cell that has the one and lies round the other has
@@ -38,15 +38,15 @@ away_win_in cell won score allowed wins win ranges =
     ∙ ap (λ b. cond b cell.draw cell.away_win) (ne_eqb s.home s.away (λ e. absurd (omega arith))) in
     allows_from cell score ranges (outcome score win ∙ sym (outcome won wins) ∙ kept)
 
--- the closest win is by the least margin that the goals leave, and by one goal where they overlap
-closest_by : (b : Bool) (winner loser : GoalSpan) (range : Range) → nat_lt loser.most winner.least
+-- the closest win is by the least margin that the goals leave, and by one goal if they overlap
+closest_by : (b : Bool) (winner loser : GoalRange) (range : Range) → nat_lt loser.most winner.least
     ≡ b → IsMargin winner loser range → range.least ≡ cond b (pos winner.least -ℤ pos loser.most)
     (pos 1)
 closest_by b winner loser range test margin = margin.closest
     ∙ ap (λ t. cond t (pos winner.least -ℤ pos loser.most) (pos 1)) test
 
 -- the margins of home wins
-pub home_margin : (cell : Cell) (own other : GoalSpan) (range : Range) → WinsAll cell false
+pub home_margin : (cell : Cell) (own other : GoalRange) (range : Range) → WinsAll cell false
     → AreGoalsOf cell false own → AreGoalsOf cell true other → IsMargin own other range
     → IsExtent (allows cell) (to_side goal_difference false) range
 home_margin cell own other range all_won own_goals other_goals margin =
@@ -143,7 +143,7 @@ home_margin cell own other range all_won own_goals other_goals margin =
         }
 
 -- the margins of away wins: those of home wins with the sides exchanged
-pub away_margin : (cell : Cell) (own other : GoalSpan) (range : Range) → WinsAll cell true
+pub away_margin : (cell : Cell) (own other : GoalRange) (range : Range) → WinsAll cell true
     → AreGoalsOf cell true own → AreGoalsOf cell false other → IsMargin own other range
     → IsExtent (allows cell) (to_side goal_difference true) range
 away_margin cell own other range all_won own_goals other_goals margin =

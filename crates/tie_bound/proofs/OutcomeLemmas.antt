@@ -6,16 +6,17 @@ use Rattle.league_core.specs.declared.season.Score.{Score}
 use Rattle.league_core.specs.search.Options.{is_home_win, is_draw, is_away_win}
 use Rattle.league_core.proofs.OutcomeLemmas.{outcome_cases}
 use Rattle.score_box.specs.declared.cell.Cell.{Cell}
-use Rattle.score_box.specs.declared.cell.goals.GoalRange.{GoalRange}
-use Rattle.score_box.specs.inside.Cells.{allows, AllowsNone, IsSpanOf, IsEmptyCell}
-use Rattle.tie_bound.specs.declared.int_range.GoalSpan.{GoalSpan}
+use Rattle.score_box.specs.declared.cell.goals.ScoreRange.{ScoreRange}
+use Rattle.score_box.specs.inside.Cells.{allows, AllowsNone, IsScoreRangeOf, IsEmptyCell}
+use Rattle.tie_bound.specs.declared.int_range.GoalRange.{GoalRange}
 use Rattle.tie_bound.specs.inside.Sides.{AreGoalsOf}
 
 -- the goals of the outcome are those of all scores
-pub home_goals_are : (cell : Cell) (test : Score → Bool) (span : GoalRange) (own : GoalSpan)
-    → ((score : Score) → allows cell score ≡ true → test score ≡ true) → IsSpanOf cell test span
-    → own.least ≡ span.home_least → own.most ≡ span.home_most → AreGoalsOf cell false own
-home_goals_are cell test span own all is least most = record {
+pub home_goals_are : (cell : Cell) (test : Score → Bool) (range : ScoreRange) (own : GoalRange)
+    → ((score : Score) → allows cell score ≡ true → test score ≡ true)
+    → IsScoreRangeOf cell test range
+    → own.least ≡ range.home_least → own.most ≡ range.home_most → AreGoalsOf cell false own
+home_goals_are cell test range own all is least most = record {
   within = λ score allowed.
       let between = is.within score (record { allowed = allowed; passed = all score allowed }) in
       (omega arith, omega arith);
@@ -23,10 +24,11 @@ home_goals_are cell test span own all is least most = record {
   most = (is.home_most.0, is.home_most.1.allowed, is.home_most.2 ∙ sym most);
 }
 
-pub away_goals_are : (cell : Cell) (test : Score → Bool) (span : GoalRange) (own : GoalSpan)
-    → ((score : Score) → allows cell score ≡ true → test score ≡ true) → IsSpanOf cell test span
-    → own.least ≡ span.away_least → own.most ≡ span.away_most → AreGoalsOf cell true own
-away_goals_are cell test span own all is least most = record {
+pub away_goals_are : (cell : Cell) (test : Score → Bool) (range : ScoreRange) (own : GoalRange)
+    → ((score : Score) → allows cell score ≡ true → test score ≡ true)
+    → IsScoreRangeOf cell test range
+    → own.least ≡ range.away_least → own.most ≡ range.away_most → AreGoalsOf cell true own
+away_goals_are cell test range own all is least most = record {
   within = λ score allowed.
       let between = is.within score (record { allowed = allowed; passed = all score allowed }) in
       (omega arith, omega arith);

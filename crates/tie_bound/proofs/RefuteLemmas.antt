@@ -18,7 +18,7 @@ use Rattle.league_core.specs.search.Reasons.{too_many, is_surely_above, is_surel
 use Rattle.league_core.specs.search.SureOrder.{sure_then, sure_by_points, sure_order, is_above}
 use Rattle.league_core.specs.search.SureOrder.{is_below}
 use Rattle.league_core.proofs.PlainLemmas.{same_tests}
-use Rattle.score_box.specs.inside.Settings.{ZoneBoxView}
+use Rattle.score_box.specs.inside.ZoneBoxViews.{ZoneBoxView}
 use Rattle.tie_bound.specs.declared.answer_sets.Answers.{Answers}
 use Rattle.tie_bound.specs.inside.Boxes.{options_in_box}
 use Rattle.tie_bound.specs.inside.Answers.{answer_at, AreByPoints}
@@ -214,7 +214,7 @@ refuted_by_points box question above below above_is below_is refuted =
     (and_parts (nat_lt x (length box.sheet.clubs)) _ (sym (below_is x) ∙ is)).1)
     refuted)
 
--- and where all that points leave open would not refute, nothing does
+-- and if all that points leave open would not refute, nothing does
 pub open_by_points : (box : ZoneBoxView) (question : Question)
     (above below most_above most_below : ℕ
     → Bool)

@@ -23,7 +23,7 @@ and_under : (b c d : Bool) → (b ≡ true → c ≡ d) → (b && c) ≡ (b && d
 and_under true c d same = same refl
 and_under false c d same = refl
 
--- the rivals that are in a set as well, where the set is told by a test of rivals
+-- the rivals that are in a set as well, if the set is given by a test of rivals
 pub common-is : (sheet : Sheet) (club all found : ℕ) (set test : ℕ → Bool)
     → clubs_below 32 all ≡ rivals_of sheet club
     → ((x : ℕ) → has_club (clubs_below 32 found) x ≡ (has_club (clubs_below 32 all) x && set x))

@@ -18,8 +18,8 @@ use Rattle.tie_bound.specs.inside.Answers.{answer_at, AreLevelIn, StepDecides}
 use Rattle.tie_bound.proofs.AnswerLemmas.{is_level-then}
 use Rattle.tie_bound.proofs.AnswerLemmas.{not_level, not_level_keeps}
 
--- one round of the sure order within a group: where it is not sure who shares the club's record
--- nothing more is, where all share it the sums over all matches decide, and else the round is made
+-- one round of the sure order within a group: if it is not sure who shares the club's record
+-- nothing more is, if all share it the sums over all matches decide, and else the round is made
 -- again among those who do
 abbrev smaller_group : Sheet → List (List Score) → List ℕ → ℕ → List ℕ
 smaller_group sheet options group club = filter (is_surely_in sheet options group club) group
@@ -130,7 +130,7 @@ judged_last task times group answers taken last next judged takes lasts round ri
     ∙ ap (sure_then (answer_at answers rival)) (sym (round rival))
     ∙ sym (judged.order rival within)
 
--- where it is not sure who shares the record, nothing more is
+-- if it is not sure who shares the record, nothing more is
 pub judged_open : (task : Judging) (times : ℕ) (group : List ℕ) (answers taken last : Answers)
     → IsJudged task (suc times) group answers
     → StepDecides (length task.sheet.clubs)
@@ -141,7 +141,7 @@ judged_open task times group answers taken last judged takes lasts not_sure =
     judged_last task (suc times) group answers taken last (λ _. Unknown) judged takes lasts
     (λ rival. within_open times task.sheet task.options group rival task.club not_sure)
 
--- where the whole group shares it, the sums over all matches decide
+-- if the whole group shares it, the sums over all matches decide
 pub judged_whole : (task : Judging) (times : ℕ) (group level : List ℕ)
     (answers taken last : Answers) → IsJudged task (suc times) group answers
     → StepDecides (length task.sheet.clubs)
@@ -168,12 +168,12 @@ pub judged_deeper : (task : Judging) (times : ℕ) (group level : List ℕ)
     → IsJudged task times level taken
 judged_deeper task times group level answers taken judged takes sure is fewer level_of = record {
   order = λ rival within.
-      let record_spans_of = by_record_ranges task.sheet task.options group rival task.club in
+      let record_ranges_of = by_record_ranges task.sheet task.options group rival task.club in
       judged.order rival within
       ∙ ap (sure_then (answer_at answers rival))
       (within_deeper times task.sheet task.options group rival task.club sure
       (λ e. fewer (ap length is ∙ e)))
-      ∙ sym (sure_then-assoc (answer_at answers rival) record_spans_of
+      ∙ sym (sure_then-assoc (answer_at answers rival) record_ranges_of
       (sure_within times task.sheet task.options
       (smaller_group task.sheet task.options group task.club) rival task.club))
       ∙ ap (λ a. sure_then a (sure_within times task.sheet task.options

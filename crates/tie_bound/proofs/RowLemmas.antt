@@ -28,8 +28,8 @@ use Rattle.score_box.proofs.SplitLemmas.{least_end, greatest_end, end_at_fixture
 use Rattle.score_box.proofs.SplitLemmas.{range_split, KeepsPlayed, total_take}
 use Rattle.score_box.proofs.SplitLemmas.{unplayed_few}
 use Rattle.tie_bound.specs.declared.sums.Sums.{Sums}
-use Rattle.tie_bound.specs.inside.Spans.{IsSpanNear}
-use Rattle.tie_bound.specs.inside.Sums.{range_by, no_sums, sums_at, AreNear, SpansGrowBy}
+use Rattle.tie_bound.specs.inside.IntRanges.{IsRangeNear}
+use Rattle.tie_bound.specs.inside.Sums.{range_by, no_sums, sums_at, AreNear, RangesGrowBy}
 use Rattle.tie_bound.specs.inside.Tables.{Value}
 use Rattle.tie_bound.specs.inside.Rows.{column_of, IsRow, AreRows}
 use Rattle.tie_bound.proofs.SoFarLemmas.{no_sums-is}
@@ -44,9 +44,9 @@ worth_of-column Wins = refl
 worth_of-column AwayWins = refl
 
 near_one : (bound more : ℕ) (n : ℤ) (range : Range) → bound ≤ more → range ≡ one_value n
-    → (pos 0 -ℤ pos bound) ≤ℤ n → n ≤ℤ pos bound → IsSpanNear more range
+    → (pos 0 -ℤ pos bound) ≤ℤ n → n ≤ℤ pos bound → IsRangeNear more range
 near_one bound more n range fewer is least most =
-    subst (IsSpanNear more) (sym is) (record {
+    subst (IsRangeNear more) (sym is) (record {
       least_above = omega (arith, ints);
       least_below = omega (arith, ints);
       greatest_above = omega (arith, ints);
@@ -106,17 +106,6 @@ past_over clubs fixtures scores club all past =
     (λ worth match score is.
     let low = ends_low clubs match is in
     not_there worth club match score (λ e. omega arith) (λ e. omega arith))
-
-pub past_among : (group : List ℕ) (clubs : ℕ) (fixtures : List Fixture)
-    (scores : List (Option Score)) (club : ℕ) → list_all (is_fixture clubs) fixtures ≡ true
-    → clubs ≤ club → IsRow (worth_among group) fixtures scores club no_sums
-past_among group clubs fixtures scores club all past =
-    row_of_none (worth_among group) clubs fixtures scores club all
-    (λ worth match score is.
-    let low = ends_low clubs match is in
-    zero_if (has_club group match.home && has_club group match.away)
-    (worth_to worth club match score)
-    (not_there worth club match score (λ e. omega arith) (λ e. omega arith)))
 
 -- a club outside the group
 pub out_of_group : (group : List ℕ) (clubs : ℕ) (fixtures : List Fixture)
@@ -221,7 +210,7 @@ open_none value fixtures scores options unplayed club sums row = record {
 pub open_more : (value : Value) (fixtures : List Fixture) (scores : List (Option Score))
     (options : List (List Score)) (unplayed : List ℕ) (i club : ℕ) (old new : Sums)
     → i < length unplayed → IsOpenSoFar value fixtures scores options unplayed i club old
-    → SpansGrowBy (λ measure. range_of (value (worth_of measure) club
+    → RangesGrowBy (λ measure. range_of (value (worth_of measure) club
     (get_or fixtures (get_or unplayed i 0) no_match)) (get_or options (get_or unplayed i 0) []))
     old new → IsOpenSoFar value fixtures scores options unplayed (i + 1) club new
 open_more value fixtures scores options unplayed i club old new within so_far grows =

@@ -16,9 +16,9 @@ use Rattle.tie_criteria.specs.declared.measure.Measure.TheVariants.{AwayGoals, W
 use Rattle.tie_criteria.specs.inside.Measures.{worth_of}
 use Rattle.score_box.specs.declared.cell.Cell.{Cell}
 use Rattle.score_box.specs.inside.Cells.{allows, IsEmptyCell}
-use Rattle.tie_bound.specs.declared.int_range.GoalSpan.{GoalSpan}
+use Rattle.tie_bound.specs.declared.int_range.GoalRange.{GoalRange}
 use Rattle.tie_bound.specs.declared.sums.Sums.{Sums}
-use Rattle.tie_bound.specs.inside.Spans.{as_range, IsSpanNear, IsMargin}
+use Rattle.tie_bound.specs.inside.IntRanges.{as_range, IsRangeNear, IsMargin}
 use Rattle.tie_bound.specs.inside.Sums.{range_by, no_sums}
 use Rattle.tie_bound.specs.inside.Sides.{goals_by, to_side, AreGoalsOf, Wins as WinsAll}
 use Rattle.tie_bound.specs.inside.Sides.{Draws as DrawsAll, Loses as LosesAll, AreSumsOf}
@@ -26,14 +26,14 @@ use Rattle.tie_bound.proofs.ExtentLemmas.{goals_extent, near_extent, worth_near,
 use Rattle.tie_bound.proofs.MarginLemmas.{home_margin, away_margin}
 
 -- what all the sums of a side need: the goals of each side, which are no more than 255
-pub record IsMatchOf (cell : Cell) (away : Bool) (own other : GoalSpan) : Type 0 where
+pub record IsMatchOf (cell : Cell) (away : Bool) (own other : GoalRange) : Type 0 where
   pub own_goals : AreGoalsOf cell away own
   pub other_goals : AreGoalsOf cell (not away) other
   pub own_few : own.most ≤ 255
   pub other_few : other.most ≤ 255
 
 -- ranges that the scores of a cell reach, measure by measure, are the sums of the side
-sums_from : (cell : Cell) (away : Bool) (own other : GoalSpan) (sums : Sums)
+sums_from : (cell : Cell) (away : Bool) (own other : GoalRange) (sums : Sums)
     → IsMatchOf cell away own other
     → ((measure : Measure) → IsExtent (allows cell) (to_side (worth_of measure) away)
     (range_by sums measure))
@@ -51,7 +51,7 @@ sums_from cell away own other sums match extents = record {
 }
 
 -- away goals count for the away side alone
-away_goals_extent : (cell : Cell) (away : Bool) (goals : GoalSpan) → AreGoalsOf cell away goals
+away_goals_extent : (cell : Cell) (away : Bool) (goals : GoalRange) → AreGoalsOf cell away goals
     → IsExtent (allows cell) (to_side away_goals away)
     (cond away (record { least = pos goals.least; greatest = pos goals.most }) (one_value (pos 0)))
 away_goals_extent cell true own are = goals_extent cell true own are
@@ -69,7 +69,7 @@ away_win_extent cell true score allowed all_won =
 away_win_extent cell false score allowed all_won =
     one_extent (allows cell) (to_side away_wins false) (pos 0) score allowed (λ s is. refl)
 
-margin_extent : (cell : Cell) (away : Bool) (own other : GoalSpan) (range : Range)
+margin_extent : (cell : Cell) (away : Bool) (own other : GoalRange) (range : Range)
     → WinsAll cell away → AreGoalsOf cell away own → AreGoalsOf cell (not away) other
     → IsMargin own other range → IsExtent (allows cell) (to_side goal_difference away) range
 margin_extent cell true own other range all_won own_goals other_goals margin = away_margin cell own
@@ -78,7 +78,7 @@ margin_extent cell false own other range all_won own_goals other_goals margin = 
     other range all_won own_goals other_goals margin
 
 -- a defeat is the other side's win
-lost_extent : (cell : Cell) (away : Bool) (own other : GoalSpan) (range : Range)
+lost_extent : (cell : Cell) (away : Bool) (own other : GoalRange) (range : Range)
     → LosesAll cell away → AreGoalsOf cell away own → AreGoalsOf cell (not away) other
     → IsMargin other own range → IsExtent (allows cell) (to_side goal_difference away)
     (negated range)
@@ -92,7 +92,7 @@ lost_extent cell false own other range loses own_goals other_goals margin =
     (away_margin cell other own range loses other_goals own_goals margin)
 
 -- what the code gives for a side that wins, draws or loses with these goals
-pub record AreWon (own other : GoalSpan) (away : Bool) (sums : Sums) : Type 0 where
+pub record AreWon (own other : GoalRange) (away : Bool) (sums : Sums) : Type 0 where
   pub points : as_range sums.points ≡ one_value (pos 3)
   pub difference : IsMargin own other (as_range sums.difference)
   pub goals : as_range sums.goals ≡ record { least = pos own.least; greatest = pos own.most }
@@ -101,7 +101,7 @@ pub record AreWon (own other : GoalSpan) (away : Bool) (sums : Sums) : Type 0 wh
   pub wins : as_range sums.wins ≡ one_value (pos 1)
   pub away_wins : as_range sums.away_wins ≡ cond away (one_value (pos 1)) (one_value (pos 0))
 
-pub record AreDrawn (own : GoalSpan) (away : Bool) (sums : Sums) : Type 0 where
+pub record AreDrawn (own : GoalRange) (away : Bool) (sums : Sums) : Type 0 where
   pub points : as_range sums.points ≡ one_value (pos 1)
   pub difference : as_range sums.difference ≡ one_value (pos 0)
   pub goals : as_range sums.goals ≡ record { least = pos own.least; greatest = pos own.most }
@@ -110,7 +110,7 @@ pub record AreDrawn (own : GoalSpan) (away : Bool) (sums : Sums) : Type 0 where
   pub wins : as_range sums.wins ≡ one_value (pos 0)
   pub away_wins : as_range sums.away_wins ≡ one_value (pos 0)
 
-pub record AreLost (own other : GoalSpan) (away : Bool) (sums : Sums) : Type 0 where
+pub record AreLost (own other : GoalRange) (away : Bool) (sums : Sums) : Type 0 where
   pub points : as_range sums.points ≡ one_value (pos 0)
   pub difference : (range : Range) × IsMargin other own range
       × (as_range sums.difference ≡ negated range)
@@ -120,7 +120,7 @@ pub record AreLost (own other : GoalSpan) (away : Bool) (sums : Sums) : Type 0 w
   pub wins : as_range sums.wins ≡ one_value (pos 0)
   pub away_wins : as_range sums.away_wins ≡ one_value (pos 0)
 
-pub won_sums : (cell : Cell) (away : Bool) (own other : GoalSpan) (sums : Sums)
+pub won_sums : (cell : Cell) (away : Bool) (own other : GoalRange) (sums : Sums)
     → IsMatchOf cell away own other → WinsAll cell away → AreWon own other away sums
     → AreSumsOf cell away sums
 won_sums cell away own other sums match wins_all are = sums_from cell away own other sums match
@@ -155,7 +155,8 @@ won_sums cell away own other sums match wins_all are = sums_from cell away own o
         (away_win_extent cell away some allowed wins_all)
 
 -- in a draw the other side has the same goals
-pub drawn_match : (cell : Cell) (away : Bool) (own : GoalSpan) → own.most ≤ 255 → DrawsAll cell away
+pub drawn_match : (cell : Cell) (away : Bool) (own : GoalRange) → own.most ≤ 255
+    → DrawsAll cell away
     → AreGoalsOf cell away own → IsMatchOf cell away own own
 drawn_match cell away own few draws are = record {
   own_goals = are;
@@ -169,7 +170,7 @@ drawn_match cell away own few draws are = record {
   other_few = few;
 }
 
-pub drawn_sums : (cell : Cell) (away : Bool) (own other : GoalSpan) (sums : Sums)
+pub drawn_sums : (cell : Cell) (away : Bool) (own other : GoalRange) (sums : Sums)
     → IsMatchOf cell away own other → DrawsAll cell away → AreDrawn own away sums
     → AreSumsOf cell away sums
 drawn_sums cell away own other sums match draws are = sums_from cell away own other sums match
@@ -210,7 +211,7 @@ drawn_sums cell away own other sums match draws are = sums_from cell away own ot
         (λ score is. let level = draws score is in no_away_win (goals_by away score)
         (goals_by (not away) score) away (omega arith)))
 
-pub lost_sums : (cell : Cell) (away : Bool) (own other : GoalSpan) (sums : Sums)
+pub lost_sums : (cell : Cell) (away : Bool) (own other : GoalRange) (sums : Sums)
     → IsMatchOf cell away own other → LosesAll cell away → AreLost own other away sums
     → AreSumsOf cell away sums
 lost_sums cell away own other sums match loses are = sums_from cell away own other sums match
@@ -248,7 +249,7 @@ lost_sums cell away own other sums match loses are = sums_from cell away own oth
         (λ score is. let below = loses score is in no_away_win (goals_by away score)
         (goals_by (not away) score) away (omega arith)))
 
--- where no score is open, the match adds nothing
+-- if no score is open, the match adds nothing
 pub none_sums : (cell : Cell) (away : Bool) → IsEmptyCell cell → AreSumsOf cell away no_sums
 none_sums cell away empty = record {
   each = λ options is measure. sym (ap (range_of (to_side (worth_of measure) away))
@@ -265,7 +266,7 @@ none_sums cell away empty = record {
     nothing Wins = refl
     nothing AwayWins = refl
 
-    zero : IsSpanNear 255 (one_value (pos 0))
+    zero : IsRangeNear 255 (one_value (pos 0))
     zero = record {
       least_above = omega (arith, ints);
       least_below = omega (arith, ints);
@@ -273,7 +274,7 @@ none_sums cell away empty = record {
       greatest_below = omega (arith, ints);
     }
 
-    near : (measure : Measure) → IsSpanNear 255 (range_by no_sums measure)
+    near : (measure : Measure) → IsRangeNear 255 (range_by no_sums measure)
     near Points = zero
     near Difference = zero
     near Goals = zero

@@ -13,8 +13,8 @@ use Rattle.tie_criteria.specs.declared.measure.Measure.TheVariants.{Points, Diff
 use Rattle.tie_criteria.specs.declared.measure.Measure.TheVariants.{AwayGoals, Wins, AwayWins}
 use Rattle.tie_criteria.specs.inside.Measures.{worth_of}
 use Rattle.tie_bound.specs.declared.sums.Sums.{Sums}
-use Rattle.tie_bound.specs.inside.Spans.{IsSpanNear}
-use Rattle.tie_bound.specs.inside.Sums.{range_by, no_sums, AreNear, SpansGrowBy}
+use Rattle.tie_bound.specs.inside.IntRanges.{IsRangeNear}
+use Rattle.tie_bound.specs.inside.Sums.{range_by, no_sums, AreNear, RangesGrowBy}
 use Rattle.tie_bound.specs.inside.Tables.{Value}
 
 -- the sums so far: with what is left of the matches they are the whole
@@ -42,7 +42,7 @@ so_far_none matches options value club = record {
       (no_sums-is measure)
       ∙ none-added (range_from (value (worth_of measure) club) matches options);
   near = λ measure.
-      let P : Range → Type 0 = λ r. IsSpanNear 0 r in
+      let P : Range → Type 0 = λ r. IsRangeNear 0 r in
       subst P (sym (no_sums-is measure)) (record {
         least_above = omega (arith, ints);
         least_below = omega (arith, ints);
@@ -54,7 +54,7 @@ so_far_none matches options value club = record {
 pub so_far_more : (matches : List Fixture) (options : List (List Score)) (value : Value)
     (i club : ℕ) (d : Fixture) (old new : Sums) → i < length matches → i < length options
     → IsSoFar matches options value i club old
-    → SpansGrowBy (λ measure. range_of (value (worth_of measure) club (get_or matches i d))
+    → RangesGrowBy (λ measure. range_of (value (worth_of measure) club (get_or matches i d))
     (get_or options i [])) old new → IsSoFar matches options value (i + 1) club new
 so_far_more matches options value i club d old new in_matches in_options so_far grows =
     let bound : 255 * i + 255 ≡ 255 * (i + 1) = omega arith in

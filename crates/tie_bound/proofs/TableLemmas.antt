@@ -15,12 +15,13 @@ use Rattle.tie_criteria.specs.inside.Measures.{worth_of}
 use Rattle.score_box.specs.declared.cell.Cell.{Cell}
 use Rattle.score_box.specs.inside.Cells.{IsCellOf}
 use Rattle.tie_bound.specs.declared.sums.Sums.{Sums}
-use Rattle.tie_bound.specs.inside.Spans.{IsSpanNear}
-use Rattle.tie_bound.specs.inside.Sums.{range_by, no_sums, sums_at, AreNear, SpansGrowBy}
+use Rattle.tie_bound.specs.inside.IntRanges.{IsRangeNear}
+use Rattle.tie_bound.specs.inside.Sums.{range_by, no_sums, sums_at, AreNear, RangesGrowBy}
 use Rattle.tie_bound.specs.inside.Sides.{to_side, AreSumsOf}
 
-near_added : (bound more : ℕ) (range other : Range) → IsSpanNear bound range → IsSpanNear more other
-    → IsSpanNear (bound + more) (added range other)
+near_added : (bound more : ℕ) (range other : Range) → IsRangeNear bound range
+    → IsRangeNear more other
+    → IsRangeNear (bound + more) (added range other)
 near_added bound more range other near other_near = record {
   least_above = omega (arith, ints);
   least_below = omega (arith, ints);
@@ -28,8 +29,8 @@ near_added bound more range other near other_near = record {
   greatest_below = omega (arith, ints);
 }
 
-near_in : (bound more : ℕ) (range : Range) → bound ≤ more → IsSpanNear bound range
-    → IsSpanNear more range
+near_in : (bound more : ℕ) (range : Range) → bound ≤ more → IsRangeNear bound range
+    → IsRangeNear more range
 near_in bound more range fewer near = record {
   least_above = omega (arith, ints);
   least_below = omega (arith, ints);
@@ -42,7 +43,7 @@ wider bound more sums fewer near measure = near_in bound more (range_by sums mea
     (near measure)
 
 pub same_sums : (options : List Score) (sums : Sums)
-    → SpansGrowBy (λ measure. range_of (λ score. pos 0) options) sums sums
+    → RangesGrowBy (λ measure. range_of (λ score. pos 0) options) sums sums
 same_sums options sums = record {
   sums = λ measure. sym (ap (added (range_by sums measure)) (range_of-none options)
       ∙ added-none (range_by sums measure));
@@ -53,31 +54,31 @@ same_sums options sums = record {
 pub side_grows : (cell : Cell) (away : Bool) (options : List Score) (sums old new : Sums)
     → AreSumsOf cell away sums → IsCellOf cell options
     → ((measure : Measure) → range_by new measure ≡ added (range_by old measure)
-    (range_by sums measure)) → SpansGrowBy
+    (range_by sums measure)) → RangesGrowBy
     (λ measure. range_of (to_side (worth_of measure) away) options) old new
 side_grows cell away options sums old new are is grown = record {
   sums = λ measure. grown measure ∙ ap (added (range_by old measure)) (are.each options is measure);
   near = λ bound near measure.
-      let P : Range → Type 0 = λ r. IsSpanNear (bound + 255) r in
+      let P : Range → Type 0 = λ r. IsRangeNear (bound + 255) r in
       subst P (sym (grown measure)) (near_added bound 255 (range_by old measure)
       (range_by sums measure) (near measure) (are.near measure));
 }
 
 grows_at : (value : Measure → Range) (old old' new new' : Sums) → old ≡ old' → new ≡ new'
-    → SpansGrowBy value old new → SpansGrowBy value old' new'
+    → RangesGrowBy value old new → RangesGrowBy value old' new'
 grows_at value old old' new new' p q grows =
-    let P : Sums → Type 0 = λ s. SpansGrowBy value s new in
-    let Q : Sums → Type 0 = λ s. SpansGrowBy value old' s in
+    let P : Sums → Type 0 = λ s. RangesGrowBy value s new in
+    let Q : Sums → Type 0 = λ s. RangesGrowBy value old' s in
     subst Q q (subst P p grows)
 
 -- the sums of two clubs change, those of the home side and those of the away side
 pub table_grows : (table : List Sums) (match : Fixture) (options : List Score) (home away : Sums)
     → match.home ≢ match.away → match.home < length table → match.away < length table
-    → SpansGrowBy (λ measure. range_of (to_side (worth_of measure) false) options)
-    (sums_at table match.home) home → SpansGrowBy
+    → RangesGrowBy (λ measure. range_of (to_side (worth_of measure) false) options)
+    (sums_at table match.home) home → RangesGrowBy
     (λ measure. range_of (to_side (worth_of measure) true) options) (sums_at table match.away) away
     → (club : ℕ)
-    → SpansGrowBy (λ measure. range_of (worth_to (worth_of measure) club match) options)
+    → RangesGrowBy (λ measure. range_of (worth_to (worth_of measure) club match) options)
     (sums_at table club) (sums_at (set (set table match.home home) match.away away) club)
 table_grows table match options home away differ home_in away_in home_grows away_grows club =
     by_home (cases_eq match.home club)
@@ -91,7 +92,7 @@ table_grows table match options home away differ home_in away_in home_grows away
     long = omega (arith, length-set table match.home home)
 
     by_away : (match.home ≢ club) → (match.away ≡ club) ⊎ (match.away ≢ club)
-        → SpansGrowBy (λ measure. range_of (worth_to (worth_of measure) club match) options)
+        → RangesGrowBy (λ measure. range_of (worth_to (worth_of measure) club match) options)
         (sums_at table club) (sums_at (set (set table match.home home) match.away away) club)
     by_away not_home (inl same) =
         let is_home : eqb match.home club ≡ false = ne_eqb match.home club not_home in
@@ -100,10 +101,10 @@ table_grows table match options home away differ home_in away_in home_grows away
         sym (ap (λ (k : ℕ). get_or (set (set table match.home home) match.away away) k no_sums)
         (sym same)
         ∙ get_or-set_same (set table match.home home) match.away away no_sums long) in
-        let P : Bool → Type 0 = λ b. SpansGrowBy (sides b (eqb match.away club))
+        let P : Bool → Type 0 = λ b. RangesGrowBy (sides b (eqb match.away club))
         (sums_at table club)
         (sums_at (set (set table match.home home) match.away away) club) in
-        let Q : Bool → Type 0 = λ b. SpansGrowBy (sides false b) (sums_at table club)
+        let Q : Bool → Type 0 = λ b. RangesGrowBy (sides false b) (sums_at table club)
         (sums_at (set (set table match.home home) match.away away) club) in
         subst P (sym is_home) (subst Q (sym is_away)
         (grows_at (λ measure. range_of (to_side (worth_of measure) true) options)
@@ -118,10 +119,10 @@ table_grows table match options home away differ home_in away_in home_grows away
         sym (get_or-set_other (set table match.home home) match.away club away no_sums
         (λ e. not_away (sym e))
         ∙ get_or-set_other table match.home club home no_sums (λ e. not_home (sym e))) in
-        let P : Bool → Type 0 = λ b. SpansGrowBy (sides b (eqb match.away club))
+        let P : Bool → Type 0 = λ b. RangesGrowBy (sides b (eqb match.away club))
         (sums_at table club)
         (sums_at (set (set table match.home home) match.away away) club) in
-        let Q : Bool → Type 0 = λ b. SpansGrowBy (sides false b) (sums_at table club)
+        let Q : Bool → Type 0 = λ b. RangesGrowBy (sides false b) (sums_at table club)
         (sums_at (set (set table match.home home) match.away away) club) in
         subst P (sym is_home) (subst Q (sym is_away)
         (grows_at (λ measure. range_of (λ score. pos 0) options) (sums_at table club)
@@ -130,7 +131,7 @@ table_grows table match options home away differ home_in away_in home_grows away
         (same_sums options (sums_at table club))))
 
     by_home : (match.home ≡ club) ⊎ (match.home ≢ club)
-        → SpansGrowBy (λ measure. range_of (worth_to (worth_of measure) club match) options)
+        → RangesGrowBy (λ measure. range_of (worth_to (worth_of measure) club match) options)
         (sums_at table club) (sums_at (set (set table match.home home) match.away away) club)
     by_home (inl same) =
         let is_home : eqb match.home club ≡ true = eq-eqb match.home club same in
@@ -139,7 +140,7 @@ table_grows table match options home away differ home_in away_in home_grows away
         sym (get_or-set_other (set table match.home home) match.away club away no_sums other
         ∙ ap (λ (k : ℕ). get_or (set table match.home home) k no_sums) (sym same)
         ∙ get_or-set_same table match.home home no_sums home_in) in
-        let P : Bool → Type 0 = λ b. SpansGrowBy (sides b (eqb match.away club))
+        let P : Bool → Type 0 = λ b. RangesGrowBy (sides b (eqb match.away club))
         (sums_at table club)
         (sums_at (set (set table match.home home) match.away away) club) in
         subst P (sym is_home) (grows_at (λ measure. range_of (to_side (worth_of measure) false)
@@ -151,23 +152,23 @@ table_grows table match options home away differ home_in away_in home_grows away
 -- a match that counts in a group is worth what it is worth anywhere, another nothing
 pub counted_grows : (group : List ℕ) (match : Fixture) (options : List Score) (club : ℕ)
     (old new : Sums) → (has_club group match.home && has_club group match.away) ≡ true
-    → SpansGrowBy (λ measure. range_of (worth_to (worth_of measure) club match) options) old new
-    → SpansGrowBy
+    → RangesGrowBy (λ measure. range_of (worth_to (worth_of measure) club match) options) old new
+    → RangesGrowBy
     (λ measure. range_of (worth_among group (worth_of measure) club match) options) old
     new
 counted_grows group match options club old new counts grows =
-    let P : Bool → Type 0 = λ b. SpansGrowBy
+    let P : Bool → Type 0 = λ b. RangesGrowBy
     (λ measure. range_of (λ score. cond b (worth_to (worth_of measure) club match score) (pos 0))
     options) old new in
     subst P (sym counts) grows
 
 pub uncounted_grows : (group : List ℕ) (match : Fixture) (options : List Score) (club : ℕ)
     (sums : Sums) → (has_club group match.home && has_club group match.away) ≡ false
-    → SpansGrowBy
+    → RangesGrowBy
     (λ measure. range_of (worth_among group (worth_of measure) club match) options) sums
     sums
 uncounted_grows group match options club sums counts =
-    let P : Bool → Type 0 = λ b. SpansGrowBy
+    let P : Bool → Type 0 = λ b. RangesGrowBy
     (λ measure. range_of (λ score. cond b (worth_to (worth_of measure) club match score) (pos 0))
     options) sums sums in
     subst P (sym counts) (same_sums options sums)

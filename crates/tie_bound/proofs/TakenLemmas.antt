@@ -21,18 +21,18 @@ use Rattle.league_core.specs.search.SureOrder.{level_on_points, sure_order}
 use Rattle.league_core.specs.game.ClubSets.{clubs_below}
 use Rattle.league_core.proofs.ClubSetLemmas.{clubs_below-filter_range}
 use Rattle.league_core.proofs.SureLemmas.{sure_then-assoc}
-use Rattle.score_box.specs.inside.Settings.{ZoneBoxView}
+use Rattle.score_box.specs.inside.ZoneBoxViews.{ZoneBoxView}
 use Rattle.tie_bound.specs.declared.answer_sets.Answers.{Answers}
 use Rattle.tie_bound.specs.declared.parts.Parts.TheVariants.{Record, FirstSums}
 use Rattle.tie_bound.specs.declared.sums.Sums.{Sums}
 use Rattle.tie_bound.specs.inside.Sums.{sums_at}
 use Rattle.tie_bound.specs.inside.Boxes.{options_in_box}
 use Rattle.tie_bound.specs.inside.Tables.{AreSums, AreSumsFor}
-use Rattle.tie_bound.specs.inside.Answers.{record_spans_of, first_spans_of, overall_spans_of}
+use Rattle.tie_bound.specs.inside.Answers.{record_ranges_of, first_ranges_of, overall_ranges_of}
 use Rattle.tie_bound.specs.inside.Answers.{by_table, by_overall_table, is_sure_by, answer_at}
 use Rattle.tie_bound.specs.inside.Answers.{AreByPoints, AreLevelIn, StepDecides, IsStepIn}
-use Rattle.tie_bound.proofs.AnswerLemmas.{record_spans_of-is, overall_spans_of-is}
-use Rattle.tie_bound.proofs.AnswerLemmas.{first_spans_of-is, step_decides, AreOthersDecided}
+use Rattle.tie_bound.proofs.AnswerLemmas.{record_ranges_of-is, overall_ranges_of-is}
+use Rattle.tie_bound.proofs.AnswerLemmas.{first_ranges_of-is, step_decides, AreOthersDecided}
 
 -- a step in the group of the clubs that are level, by what it says of each of them
 taken_by : (clubs : ℕ) (step next : ℕ → Sure) (group : List ℕ) (answers taken : Answers)
@@ -58,10 +58,10 @@ taken_records sheet options club group table answers taken are decided goes =
     taken_by (length sheet.clubs) (by_table Record table club)
     (λ rival. by_record_ranges sheet options group rival club) group answers taken decided goes
     (λ rival has.
-    ap (λ rs. sure_by_ranges rs (record_spans_of (sums_at table club)))
-    (record_spans_of-is sheet options group table rival are)
+    ap (λ rs. sure_by_ranges rs (record_ranges_of (sums_at table club)))
+    (record_ranges_of-is sheet options group table rival are)
     ∙ ap (sure_by_ranges (record_ranges sheet options group rival))
-    (record_spans_of-is sheet options group table club are))
+    (record_ranges_of-is sheet options group table club are))
 
 -- difference and goals by a table of all matches for the group and the club
 pub taken_first_sums : (sheet : Sheet) (options : List (List Score)) (club : ℕ) (group : List ℕ)
@@ -75,10 +75,10 @@ taken_first_sums sheet options club group table answers taken are decided goes =
     taken_by (length sheet.clubs) (by_table FirstSums table club)
     (λ rival. by_first_sum_ranges sheet options rival club) group answers taken decided goes
     (λ rival has.
-    ap (λ rs. sure_by_ranges rs (first_spans_of (sums_at table club)))
-    (first_spans_of-is sheet options table rival (are rival (inl has)))
+    ap (λ rs. sure_by_ranges rs (first_ranges_of (sums_at table club)))
+    (first_ranges_of-is sheet options table rival (are rival (inl has)))
     ∙ ap (sure_by_ranges (first_sum_ranges sheet options rival))
-    (first_spans_of-is sheet options table club (are club (inr refl))))
+    (first_ranges_of-is sheet options table club (are club (inr refl))))
 
 -- the sums over all matches, and the ranks
 pub taken_overall : (sheet read : Sheet) (options : List (List Score)) (club : ℕ)
@@ -93,10 +93,10 @@ taken_overall sheet read options club group table taken last same are decided go
     (λ rival. by_overall_ranges sheet options rival club) group taken last decided goes
     (λ rival has.
     ap (λ s. by_overall_table s table club rival) same
-    ∙ ap (λ rs. sure_by_ranges rs (overall_spans_of (sums_at table club) (rank_of sheet club)))
-    (overall_spans_of-is sheet options table rival (are rival (inl has)))
+    ∙ ap (λ rs. sure_by_ranges rs (overall_ranges_of (sums_at table club) (rank_of sheet club)))
+    (overall_ranges_of-is sheet options table rival (are rival (inl has)))
     ∙ ap (sure_by_ranges (overall_ranges sheet options rival))
-    (overall_spans_of-is sheet options table club (are club (inr refl))))
+    (overall_ranges_of-is sheet options table club (are club (inr refl))))
 
 -- it is sure by the table of a group who shares the club's record there
 pub all_sure-records : (sheet : Sheet) (options : List (List Score)) (group : List ℕ)
@@ -109,12 +109,12 @@ all_sure-records sheet options group table club are =
         ≡ (is_surely_in sheet options group club other
         || is_surely_out sheet options group club other)
     same other =
-        ap (λ rs. is_level (sure_by_ranges rs (record_spans_of (sums_at table club)))
-        || is_apart rs (record_spans_of (sums_at table club)))
-        (record_spans_of-is sheet options group table other are)
+        ap (λ rs. is_level (sure_by_ranges rs (record_ranges_of (sums_at table club)))
+        || is_apart rs (record_ranges_of (sums_at table club)))
+        (record_ranges_of-is sheet options group table other are)
         ∙ ap (λ rs. is_level (sure_by_ranges (record_ranges sheet options group other) rs)
         || is_apart (record_ranges sheet options group other) rs)
-        (record_spans_of-is sheet options group table club are)
+        (record_ranges_of-is sheet options group table club are)
 
 -- two tests that agree on each club of a group
 all_agree : (test other : ℕ → Bool) (group : List ℕ)
@@ -141,14 +141,14 @@ all_sure-first_sums sheet options group table club are =
         ≡ (is_surely_level_overall sheet options club other
         || is_surely_apart_overall sheet options club other)
     same other has =
-        ap (λ rs. is_level (sure_by_ranges rs (first_spans_of (sums_at table club)))
-        || is_apart rs (first_spans_of (sums_at table club)))
-        (first_spans_of-is sheet options table other (are other (inl has)))
+        ap (λ rs. is_level (sure_by_ranges rs (first_ranges_of (sums_at table club)))
+        || is_apart rs (first_ranges_of (sums_at table club)))
+        (first_ranges_of-is sheet options table other (are other (inl has)))
         ∙ ap (λ rs. is_level (sure_by_ranges (first_sum_ranges sheet options other) rs)
         || is_apart (first_sum_ranges sheet options other) rs)
-        (first_spans_of-is sheet options table club (are club (inr refl)))
+        (first_ranges_of-is sheet options table club (are club (inr refl)))
 
--- with difference and goals first: nothing more is sure where it is not sure who shares them
+-- with difference and goals first: nothing more is sure if it is not sure who shares them
 abbrev after_first_sums : Sheet → List (List Score) → List ℕ → ℕ → ℕ → Bool → Sure
 after_first_sums sheet options group rival club sure =
     elim sure [

@@ -9,7 +9,7 @@ use Rattle.league_core.specs.search.PointRanges.{Range, range_of}
 use Rattle.tie_criteria.specs.declared.measure.Measure.{Measure}
 use Rattle.tie_criteria.specs.inside.Measures.{worth_of}
 use Rattle.tie_bound.specs.declared.sums.Sums.{Sums}
-use Rattle.tie_bound.specs.inside.Sums.{no_sums, AreNear, SpansGrowBy}
+use Rattle.tie_bound.specs.inside.Sums.{no_sums, AreNear, RangesGrowBy}
 use Rattle.tie_bound.specs.inside.Sides.{to_side}
 use Rattle.tie_bound.specs.inside.Tables.{IsWanted}
 use Rattle.tie_bound.proofs.TableLemmas.{same_sums}
@@ -22,10 +22,10 @@ none_near = (past_over 0 [] [] 0 refl (omega arith)).near
 -- a match of two others adds nothing
 pub other_grows : (match : Fixture) (options : List Score) (club : ℕ) (sums : Sums)
     → match.home ≢ club → match.away ≢ club
-    → SpansGrowBy (λ measure. range_of (worth_to (worth_of measure) club match) options) sums sums
+    → RangesGrowBy (λ measure. range_of (worth_to (worth_of measure) club match) options) sums sums
 other_grows match options club sums home away =
-    let P : Bool → Type 0 = λ b. SpansGrowBy (sides b (eqb match.away club)) sums sums in
-    let Q : Bool → Type 0 = λ b. SpansGrowBy (sides false b) sums sums in
+    let P : Bool → Type 0 = λ b. RangesGrowBy (sides b (eqb match.away club)) sums sums in
+    let Q : Bool → Type 0 = λ b. RangesGrowBy (sides false b) sums sums in
     subst P (sym (ne_eqb match.home club home)) (subst Q (sym (ne_eqb match.away club away))
     (same_sums options sums))
   where
@@ -38,7 +38,7 @@ other_grows match options club sums home away =
 pub unwanted_grows : (wanted : List ℕ) (match : Fixture) (options : List Score) (club : ℕ)
     (sums : Sums) → (has_club wanted match.home || has_club wanted match.away) ≡ false
     → ((match.home ≡ club) ⊎ (match.away ≡ club) → has_club wanted club ≡ true)
-    → SpansGrowBy (λ measure. range_of (worth_to (worth_of measure) club match) options) sums sums
+    → RangesGrowBy (λ measure. range_of (worth_to (worth_of measure) club match) options) sums sums
 unwanted_grows wanted match options club sums none wants =
     other_grows match options club sums
     (λ home. false≢true (sym (neither (has_club wanted match.home) (has_club wanted match.away)
@@ -50,7 +50,7 @@ unwanted_grows wanted match options club sums none wants =
     neither true c is = absurd (false≢true (sym is))
     neither false c is = (refl, is)
 
--- a club of a match is one of the sheet, so it is wanted where each club of the sheet would be
+-- a club of a match is one of the sheet, so it is wanted if each club of the sheet would be
 pub side_wanted : (clubs : ℕ) (wanted : List ℕ) (match : Fixture) (club : ℕ)
     → match.home < clubs → match.away < clubs → IsWanted clubs wanted club
     → (match.home ≡ club) ⊎ (match.away ≡ club) → has_club wanted club ≡ true

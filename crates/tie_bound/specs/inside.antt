@@ -1,5 +1,5 @@
 -- Read in this order: it is the order in which the notions rest on each other.
-pub mod Spans
+pub mod IntRanges
 pub mod Sums
 pub mod Sides
 pub mod Boxes

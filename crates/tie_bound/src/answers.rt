@@ -1,4 +1,4 @@
-//! The steps that carry answers on, which are what is sure of each club against one club. Where an
+//! The steps that carry answers on, which are what is sure of each club against one club. If an
 //! earlier step decides, a later one leaves the answer as it is.
 
 ghost use Rattle.std.specs.Prelude.{◌≡◌, ◌<◌, ◌-ℤ◌, ◌≤ℤ◌, ◌&&◌, ◌||◌, pos, length, slice_index};
@@ -9,19 +9,19 @@ ghost use Rattle.league_core.specs.game.Ahead.{rank_of};
 ghost use Rattle.league_core.specs.game.ClubSets.{clubs_in};
 ghost use Rattle.league_core.specs.search.PointRanges.{one_value, added};
 ghost use Rattle.league_core.specs.search.SureOrder.{sure_by_ranges, sure_then, is_level, is_apart};
-ghost use Rattle.score_box.specs.inside.Settings.{HasFinish};
-ghost use Rattle.tie_bound.specs.inside.Spans.{as_range, IsSpanNear};
+ghost use Rattle.score_box.specs.inside.ZoneBoxViews.{HasFinish};
+ghost use Rattle.tie_bound.specs.inside.IntRanges.{as_range, IsRangeNear};
 ghost use Rattle.tie_bound.specs.inside.Sums.{sums_at};
 ghost use Rattle.tie_bound.specs.inside.Boxes.{options_in_box};
 ghost use Rattle.tie_bound.specs.inside.Tables.{AreSums};
-ghost use Rattle.tie_bound.specs.inside.Answers.{ranges_of, overall_spans_of, by_table};
+ghost use Rattle.tie_bound.specs.inside.Answers.{ranges_of, overall_ranges_of, by_table};
 ghost use Rattle.tie_bound.specs.inside.Answers.{by_overall_table, is_sure_by, AreByPoints};
 ghost use Rattle.tie_bound.specs.inside.Answers.{IsStepIn};
 
 use crate::answer_sets::Answers;
 use crate::ends::ends_of;
 use crate::int_range::IntRange;
-use crate::order::{are_apart, by_overall, by_parts, by_span, is_answer, then};
+use crate::order::{are_apart, by_overall, by_parts, by_range, is_answer, then};
 use crate::parts::Parts;
 use crate::sums::{Sums, sums_at};
 use league_core::{ClubSet, Season, Sheet, Sure};
@@ -36,7 +36,7 @@ pub fn by_ends(zone_box: &ZoneBox, club: u8) -> Answers
     let own = ends_of(zone_box, club);
     let mut answers = Answers::open();
     for rival in 0..zone_box.sheet().clubs.len() as u8 {
-        let answer = by_span(ends_of(zone_box, rival), own);
+        let answer = by_range(ends_of(zone_box, rival), own);
         answers = answers.with(rival, answer);
     }
     answers
@@ -53,14 +53,14 @@ pub fn by_points(zone_box: &ZoneBox, overall: &[Sums], club: u8) -> Answers
     let mut answers = Answers::open();
     for rival in 0..zone_box.sheet().clubs.len() as u8 {
         let points = points_of(season, sums_at(overall, rival).points, rival);
-        answers = answers.with(rival, by_span(points, own));
+        answers = answers.with(rival, by_range(points, own));
     }
     answers
 }
 
 // The club's points: these match points, less what is taken off.
 fn points_of(season: &Season, won: IntRange, club: u8) -> IntRange
-    requires { IsSpanNear 6000000 (as_range won) }
+    requires { IsRangeNear 6000000 (as_range won) }
     ensures { as_range result ≡ added (as_range won)
         (one_value (pos 0 -ℤ pos (slice_index season.now.deductions club))) }
 {
@@ -94,7 +94,7 @@ pub fn take_parts(
     now
 }
 
-// The answer, where it decides; else what these parts say.
+// The answer, if it decides; else what these parts say.
 fn then_parts(answer: Sure, parts: Parts, table: &[Sums], rival: u8, own: &Sums) -> Sure
     ensures { result ≡ sure_then answer
         (sure_by_ranges (ranges_of parts (sums_at table.now rival)) (ranges_of parts own.now)) }
@@ -128,7 +128,7 @@ pub fn take_overall(
     now
 }
 
-// The answer, where it decides; else what the sums over all matches say, and the ranks.
+// The answer, if it decides; else what the sums over all matches say, and the ranks.
 fn then_overall(
     answer: Sure,
     sheet: &Sheet,
@@ -138,8 +138,8 @@ fn then_overall(
     own_rank: u16,
 ) -> Sure
     ensures { result ≡ sure_then answer
-        (sure_by_ranges (overall_spans_of (sums_at overall.now rival) (rank_of sheet.now rival))
-        (overall_spans_of own.now own_rank)) }
+        (sure_by_ranges (overall_ranges_of (sums_at overall.now rival) (rank_of sheet.now rival))
+        (overall_ranges_of own.now own_rank)) }
 {
     match answer {
         Sure::Above => Sure::Above,
@@ -152,7 +152,7 @@ fn then_overall(
     }
 }
 
-/// Where nothing has decided yet for the clubs of a group, nothing is sure.
+/// If nothing has decided yet for the clubs of a group, nothing is sure.
 pub fn leave_open(answers: Answers, group: ClubSet) -> Answers
     ensures { IsStepIn (clubs_in group) (λ rival. Unknown) answers result }
 {

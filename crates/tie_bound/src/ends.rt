@@ -2,8 +2,8 @@
 
 ghost use Rattle.std.specs.Prelude.{◌≡◌, ◌<◌, [], ◌∷◌, length};
 ghost use Rattle.league_core.specs.search.PointRanges.{points_range};
-ghost use Rattle.score_box.specs.inside.Settings.{HasFinish};
-ghost use Rattle.tie_bound.specs.inside.Spans.{as_range};
+ghost use Rattle.score_box.specs.inside.ZoneBoxViews.{HasFinish};
+ghost use Rattle.tie_bound.specs.inside.IntRanges.{as_range};
 ghost use Rattle.tie_bound.specs.inside.Boxes.{options_in_box};
 
 use crate::int_range::IntRange;

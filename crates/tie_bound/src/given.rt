@@ -1,4 +1,4 @@
-//! The reasons that want no search: whether one that is given holds in a box. No call takes memory.
+//! The reasons that need no search: whether one that is given holds in a box. No call takes memory.
 
 ghost use Rattle.std.specs.Prelude.{◌≡◌, ◌<◌, ◌&&◌, ℕ, Bool, length};
 ghost use Rattle.std.specs.List.{list_all};
@@ -6,7 +6,7 @@ ghost use Rattle.league_core.specs.declared.zone.Reason.TheVariants.{Count, Wind
 ghost use Rattle.league_core.specs.game.ClubSets.{clubs_in};
 ghost use Rattle.league_core.specs.search.Reasons.{has_reason, has_member, times};
 ghost use Rattle.score_box.specs.inside.Boxes.{IsSetOf};
-ghost use Rattle.score_box.specs.inside.Settings.{HasFinish};
+ghost use Rattle.score_box.specs.inside.ZoneBoxViews.{HasFinish};
 
 use crate::rivals::rivals_of;
 use crate::tie::tie_reason;

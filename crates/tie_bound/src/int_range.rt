@@ -2,7 +2,7 @@
 
 ghost use Rattle.std.specs.Prelude.{◌≡◌, ◌-ℤ◌, pos, nat_lt, if◌then◌else◌};
 ghost use Rattle.league_core.specs.search.PointRanges.{one_value, negated, added};
-ghost use Rattle.tie_bound.specs.inside.Spans.{as_range, IsSpanNear, IsMargin};
+ghost use Rattle.tie_bound.specs.inside.IntRanges.{as_range, IsRangeNear, IsMargin};
 
 /// The least and the greatest value of a sum.
 #[derive(Clone, Copy)]
@@ -13,7 +13,7 @@ pub struct IntRange {
 
 /// The goals of one side over the scores of a match.
 #[derive(Clone, Copy)]
-pub struct GoalSpan {
+pub struct GoalRange {
     pub least: u8,
     pub most: u8,
 }
@@ -31,8 +31,8 @@ impl IntRange {
 
     /// Both sums together.
     pub fn plus(self, other: IntRange) -> IntRange
-        requires near { IsSpanNear 10000000 (as_range self) }
-        requires other_near { IsSpanNear 10000000 (as_range other) }
+        requires near { IsRangeNear 10000000 (as_range self) }
+        requires other_near { IsRangeNear 10000000 (as_range other) }
         ensures { as_range result ≡ added (as_range self) (as_range other) }
     {
         IntRange {
@@ -43,7 +43,7 @@ impl IntRange {
 
     /// The sum with its sign turned round.
     pub fn negated(self) -> IntRange
-        requires { IsSpanNear 10000000 (as_range self) }
+        requires { IsRangeNear 10000000 (as_range self) }
         ensures { as_range result ≡ negated (as_range self) }
     {
         IntRange {
@@ -52,7 +52,7 @@ impl IntRange {
         }
     }
 
-    /// The sum where it counts, and nothing otherwise.
+    /// The sum if it counts, and nothing otherwise.
     pub fn only_if(self, counts: bool) -> IntRange
         ensures { as_range result ≡ (if counts then as_range self else one_value (pos 0)) }
     {
@@ -60,8 +60,8 @@ impl IntRange {
     }
 }
 
-impl GoalSpan {
-    pub fn span(self) -> IntRange
+impl GoalRange {
+    pub fn as_int_range(self) -> IntRange
         ensures { as_range result ≡ record { least = pos self.least; greatest = pos self.most } }
     {
         IntRange {
@@ -71,7 +71,7 @@ impl GoalSpan {
     }
 
     /// By how much a side with these goals can win over one with those of the other.
-    pub fn margin(self, other: GoalSpan) -> IntRange
+    pub fn margin(self, other: GoalRange) -> IntRange
         ensures { IsMargin self other (as_range result) }
     {
         IntRange {
@@ -81,8 +81,7 @@ impl GoalSpan {
     }
 }
 
-// The least that a win can be won by, where the side has at least so many goals and the other at
-// most.
+// The least that a win can be won by, if the side has at least so many goals and the other at most.
 fn closest(least: u8, most: u8) -> i32
     ensures { result ≡ (if nat_lt most least then pos least -ℤ pos most else pos 1) }
 {

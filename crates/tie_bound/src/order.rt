@@ -4,9 +4,9 @@ ghost use Rattle.std.specs.Prelude.{◌≡◌, ◌||◌, int_lt, neg_ℤ, pos};
 ghost use Rattle.league_core.specs.search.PointRanges.{one_value};
 ghost use Rattle.league_core.specs.search.SureOrder.{sure_by_range, sure_by_ranges, sure_then};
 ghost use Rattle.league_core.specs.search.SureOrder.{is_apart};
-ghost use Rattle.tie_bound.specs.inside.Spans.{as_range};
-ghost use Rattle.tie_bound.specs.inside.Answers.{record_spans_of, first_spans_of, ranges_of};
-ghost use Rattle.tie_bound.specs.inside.Answers.{overall_spans_of, is_answer};
+ghost use Rattle.tie_bound.specs.inside.IntRanges.{as_range};
+ghost use Rattle.tie_bound.specs.inside.Answers.{record_ranges_of, first_ranges_of, ranges_of};
+ghost use Rattle.tie_bound.specs.inside.Answers.{overall_ranges_of, is_answer};
 
 use crate::int_range::IntRange;
 use crate::parts::Parts;
@@ -14,7 +14,7 @@ use crate::sums::Sums;
 use league_core::Sure;
 
 /// Ranges that lie apart decide, two equal single values leave the two level.
-pub fn by_span(rival: IntRange, club: IntRange) -> Sure
+pub fn by_range(rival: IntRange, club: IntRange) -> Sure
     ensures { result ≡ sure_by_range (as_range rival) (as_range club) }
 {
     if club.greatest < rival.least {
@@ -28,7 +28,7 @@ pub fn by_span(rival: IntRange, club: IntRange) -> Sure
     }
 }
 
-/// Where one step leaves the two level, the next decides.
+/// If one step leaves the two level, the next decides.
 pub fn then(first: Sure, next: Sure) -> Sure
     ensures { result ≡ sure_then first next }
 {
@@ -53,36 +53,36 @@ pub fn by_parts(parts: Parts, rival: &Sums, club: &Sums) -> Sure
 // The head-to-head records, by the sums over the matches of a group: points, then goal difference,
 // then goals.
 fn by_record(rival: &Sums, club: &Sums) -> Sure
-    ensures { result ≡ sure_by_ranges (record_spans_of rival.now) (record_spans_of club.now) }
+    ensures { result ≡ sure_by_ranges (record_ranges_of rival.now) (record_ranges_of club.now) }
 {
-    let by_goals = by_span(rival.goals, club.goals);
-    let by_difference = then(by_span(rival.difference, club.difference), by_goals);
-    then(by_span(rival.points, club.points), by_difference)
+    let by_goals = by_range(rival.goals, club.goals);
+    let by_difference = then(by_range(rival.difference, club.difference), by_goals);
+    then(by_range(rival.points, club.points), by_difference)
 }
 
 // Goal difference, then goals, by the sums over all matches.
 fn by_first_sums(rival: &Sums, club: &Sums) -> Sure
-    ensures { result ≡ sure_by_ranges (first_spans_of rival.now) (first_spans_of club.now) }
+    ensures { result ≡ sure_by_ranges (first_ranges_of rival.now) (first_ranges_of club.now) }
 {
-    let by_goals = by_span(rival.goals, club.goals);
-    then(by_span(rival.difference, club.difference), by_goals)
+    let by_goals = by_range(rival.goals, club.goals);
+    then(by_range(rival.difference, club.difference), by_goals)
 }
 
 /// What decides after the head-to-head, by the sums over all matches, then the fixed ranks.
 pub fn by_overall(rival: &Sums, club: &Sums, rival_rank: u16, club_rank: u16) -> Sure
-    ensures { result ≡ sure_by_ranges (overall_spans_of rival.now rival_rank)
-        (overall_spans_of club.now club_rank) }
+    ensures { result ≡ sure_by_ranges (overall_ranges_of rival.now rival_rank)
+        (overall_ranges_of club.now club_rank) }
 {
-    let by_rank = by_span(rank_span(rival_rank), rank_span(club_rank));
-    let by_away_wins = then(by_span(rival.away_wins, club.away_wins), by_rank);
-    let by_wins = then(by_span(rival.wins, club.wins), by_away_wins);
-    let by_away_goals = then(by_span(rival.away_goals, club.away_goals), by_wins);
-    let by_goals = then(by_span(rival.goals, club.goals), by_away_goals);
-    then(by_span(rival.difference, club.difference), by_goals)
+    let by_rank = by_range(rank_range(rival_rank), rank_range(club_rank));
+    let by_away_wins = then(by_range(rival.away_wins, club.away_wins), by_rank);
+    let by_wins = then(by_range(rival.wins, club.wins), by_away_wins);
+    let by_away_goals = then(by_range(rival.away_goals, club.away_goals), by_wins);
+    let by_goals = then(by_range(rival.goals, club.goals), by_away_goals);
+    then(by_range(rival.difference, club.difference), by_goals)
 }
 
 // A rank as a sum that is better the greater it is.
-fn rank_span(rank: u16) -> IntRange
+fn rank_range(rank: u16) -> IntRange
     ensures { as_range result ≡ one_value (neg_ℤ (pos rank)) }
 {
     IntRange::only(-i32::from(rank))

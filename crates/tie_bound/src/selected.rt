@@ -6,11 +6,12 @@ ghost use Rattle.std.specs.Prelude.{length};
 ghost use Rattle.league_core.specs.game.Sums.{has_club, worth_to};
 ghost use Rattle.league_core.specs.game.ClubSets.{clubs_in};
 ghost use Rattle.score_box.specs.inside.Cells.{HasOneOutcome};
-ghost use Rattle.score_box.specs.inside.Settings.{HasFinish};
+ghost use Rattle.score_box.specs.inside.ZoneBoxViews.{HasFinish};
 ghost use Rattle.tie_bound.specs.inside.Sums.{sums_at, AreNear};
 ghost use Rattle.tie_bound.specs.inside.Rows.{IsRow};
 ghost use Rattle.tie_bound.specs.inside.Boxes.{options_in_box, have_one_outcome};
-ghost use Rattle.tie_bound.specs.inside.Tables.{AreSumsFor, AreSumsOfThose, AddsSpansFor, IsWanted};
+ghost use Rattle.tie_bound.specs.inside.Tables.{AreSumsFor, AreSumsOfThose, AddsRangesFor};
+ghost use Rattle.tie_bound.specs.inside.Tables.{IsWanted};
 
 use crate::fixtures::fixtures_of;
 use crate::rows::row_over;
@@ -91,14 +92,14 @@ fn add_open_for(table: &mut [Sums], zone_box: &ZoneBox, wanted: ClubSet)
     }
 }
 
-// Adds the match to the sums of its two clubs, where one of them is wanted.
+// Adds the match to the sums of its two clubs, if one of them is wanted.
 fn add_if_wanted(table: &mut [Sums], wanted: ClubSet, fixture: Fixture, cell: &Cell)
     requires one { HasOneOutcome cell.now }
     requires different { fixture.home ≢ fixture.away }
     requires home { fixture.home < length table.old }
     requires away { fixture.away < length table.old }
     requires room { (club : ℕ) → AreNear 10000000 (sums_at table.old club) }
-    ensures { AddsSpansFor (clubs_in wanted) fixture cell.now table.old table.new }
+    ensures { AddsRangesFor (clubs_in wanted) fixture cell.now table.old table.new }
 {
     if is_of_one(wanted, fixture) {
         add(table, fixture, cell);

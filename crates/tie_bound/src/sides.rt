@@ -1,4 +1,4 @@
-//! What one match can add to the sums of its two sides, where all its open scores have one outcome.
+//! What one match can add to the sums of its two sides, if all its open scores have one outcome.
 //! Points and wins then have one value; goals and goal difference lie between ends that are found
 //! in a fixed number of steps.
 
@@ -7,9 +7,9 @@ ghost use Rattle.score_box.specs.declared.cell.Cell.{Cell};
 ghost use Rattle.score_box.specs.inside.Cells.{HasOneOutcome};
 ghost use Rattle.tie_bound.specs.inside.Sides.{AreGoalsOf, Wins, Draws, Loses, AreSumsOf};
 
-use crate::int_range::{GoalSpan, IntRange};
+use crate::int_range::{GoalRange, IntRange};
 use crate::sums::Sums;
-use score_box::{Cell, GoalRange};
+use score_box::{Cell, ScoreRange};
 
 /// What a match adds for its two sides.
 #[derive(Clone, Copy)]
@@ -19,7 +19,7 @@ pub struct Sides {
 }
 
 impl Sides {
-    /// The two sides of a match with these open scores; nothing where none is open.
+    /// The two sides of a match with these open scores; nothing if none is open.
     pub fn of(cell: &Cell) -> Sides
         requires { HasOneOutcome cell.now }
         ensures home { AreSumsOf cell.now false result.home }
@@ -50,64 +50,64 @@ impl Sides {
     }
 }
 
-fn home_goals(goals: &GoalRange) -> GoalSpan
+fn home_goals(goals: &ScoreRange) -> GoalRange
     ensures least { result.least ≡ goals.now.home_least }
     ensures most { result.most ≡ goals.now.home_most }
 {
-    GoalSpan {
+    GoalRange {
         least: goals.home_least,
         most: goals.home_most,
     }
 }
 
-fn away_goals(goals: &GoalRange) -> GoalSpan
+fn away_goals(goals: &ScoreRange) -> GoalRange
     ensures least { result.least ≡ goals.now.away_least }
     ensures most { result.most ≡ goals.now.away_most }
 {
-    GoalSpan {
+    GoalRange {
         least: goals.away_least,
         most: goals.away_most,
     }
 }
 
 // The sums of a side that wins with these goals against those of the other.
-fn won(own: GoalSpan, other: GoalSpan, away: bool) -> Sums
+fn won(own: GoalRange, other: GoalRange, away: bool) -> Sums
     ensures { (cell : Cell) → Wins cell away → AreGoalsOf cell away own
         → AreGoalsOf cell (not away) other → AreSumsOf cell away result }
 {
     Sums {
         points: IntRange::only(3),
         difference: own.margin(other),
-        goals: own.span(),
-        away_goals: own.span().only_if(away),
+        goals: own.as_int_range(),
+        away_goals: own.as_int_range().only_if(away),
         wins: IntRange::only(1),
         away_wins: IntRange::only(1).only_if(away),
     }
 }
 
-fn drawn(own: GoalSpan, away: bool) -> Sums
+fn drawn(own: GoalRange, away: bool) -> Sums
     ensures { (cell : Cell) → Draws cell away → AreGoalsOf cell away own
         → AreSumsOf cell away result }
 {
     Sums {
         points: IntRange::only(1),
         difference: IntRange::only(0),
-        goals: own.span(),
-        away_goals: own.span().only_if(away),
+        goals: own.as_int_range(),
+        away_goals: own.as_int_range().only_if(away),
         wins: IntRange::only(0),
         away_wins: IntRange::only(0),
     }
 }
 
-fn lost(own: GoalSpan, other: GoalSpan, away: bool) -> Sums
+fn lost(own: GoalRange, other: GoalRange, away: bool) -> Sums
     ensures { (cell : Cell) → Loses cell away → AreGoalsOf cell away own
         → AreGoalsOf cell (not away) other → AreSumsOf cell away result }
 {
     Sums {
         points: IntRange::only(0),
         difference: other.margin(own).negated(),
-        goals: own.span(),
-        away_goals: own.span().only_if(away),
+        goals: own.as_int_range(),
+        away_goals: own.as_int_range().only_if(away),
         wins: IntRange::only(0),
         away_wins: IntRange::only(0),
     }

@@ -3,7 +3,7 @@
 ghost use Rattle.std.specs.Prelude.{◌≡◌, pos};
 ghost use Rattle.league_core.specs.search.PointRanges.{one_value, added};
 ghost use Rattle.tie_criteria.specs.declared.measure.Measure.{Measure};
-ghost use Rattle.tie_bound.specs.inside.Spans.{IsSpanNear};
+ghost use Rattle.tie_bound.specs.inside.IntRanges.{IsRangeNear};
 ghost use Rattle.score_box.specs.inside.Totals.{total_in};
 ghost use Rattle.tie_bound.specs.inside.Rows.{column_of};
 ghost use Rattle.tie_bound.specs.inside.Sums.{range_by, sums_at};
@@ -55,9 +55,9 @@ impl Sums {
 
     /// The sums with those of a match more.
     pub fn plus(&self, other: &Sums) -> Sums
-        requires near { (measure : Measure) → IsSpanNear 10000000 (range_by self.now measure) }
+        requires near { (measure : Measure) → IsRangeNear 10000000 (range_by self.now measure) }
         requires other_near { (measure : Measure)
-            → IsSpanNear 10000000 (range_by other.now measure) }
+            → IsRangeNear 10000000 (range_by other.now measure) }
         ensures { (measure : Measure) → range_by result measure
             ≡ added (range_by self.now measure) (range_by other.now measure) }
     {

@@ -9,7 +9,7 @@ use league_core::{ClubSet, Sure};
 use score_box::ZoneBox;
 
 /// Whether the rival is surely before the club, surely behind it, surely left to lots with it, or
-/// none of these. Each fixture has one outcome: `has_one_outcome` tells.
+/// none of these. Each fixture has one outcome: `has_one_outcome` says so.
 pub fn judge(zone_box: &ZoneBox, club: u8, rival: u8) -> Sure
     requires outcomes { IsTrue (have_one_outcome zone_box.now) }
     requires rival { rival < length zone_box.now.sheet.clubs }

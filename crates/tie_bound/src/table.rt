@@ -5,10 +5,10 @@ ghost use Rattle.league_core.specs.game.Sums.{has_club, worth_to, worth_among};
 ghost use Rattle.league_core.specs.game.ClubSets.{clubs_in};
 ghost use Rattle.tie_bound.specs.inside.Sums.{no_sums, sums_at, AreNear};
 ghost use Rattle.score_box.specs.inside.Cells.{HasOneOutcome};
-ghost use Rattle.score_box.specs.inside.Settings.{HasFinish};
+ghost use Rattle.score_box.specs.inside.ZoneBoxViews.{HasFinish};
 ghost use Rattle.tie_bound.specs.inside.Rows.{AreRows};
 ghost use Rattle.tie_bound.specs.inside.Boxes.{options_in_box, have_one_outcome};
-ghost use Rattle.tie_bound.specs.inside.Tables.{AreSums, AddsSpansOfMatch};
+ghost use Rattle.tie_bound.specs.inside.Tables.{AreSums, AddsRangesOfMatch};
 
 use crate::fixtures::fixtures_of;
 use crate::rows::{rows_among, rows_over};
@@ -18,7 +18,7 @@ use league_core::{ClubSet, Fixture};
 use score_box::{Cell, ZoneBox};
 
 /// Each club's sums over all matches, by the clubs' numbers: what was played, and a walk over the
-/// other matches. Where no finish is left, a walk over all.
+/// other matches. If no finish is left, a walk over all.
 pub fn sums_over(zone_box: &ZoneBox) -> [Sums; 24]
     requires { IsTrue (have_one_outcome zone_box.now) }
     ensures { AreSums worth_to zone_box.now.sheet.fixtures (options_in_box zone_box.now) result }
@@ -114,14 +114,15 @@ fn add_all(table: &mut [Sums], zone_box: &ZoneBox, group: ClubSet)
     }
 }
 
-// Adds the match to the sums of its two clubs, where both are of the group.
+// Adds the match to the sums of its two clubs, if both are of the group.
 fn add_if_counted(table: &mut [Sums], group: ClubSet, fixture: Fixture, cell: &Cell)
     requires one { HasOneOutcome cell.now }
     requires different { fixture.home ≢ fixture.away }
     requires home { fixture.home < length table.old }
     requires away { fixture.away < length table.old }
     requires room { (club : ℕ) → AreNear 10000000 (sums_at table.old club) }
-    ensures { AddsSpansOfMatch (worth_among (clubs_in group)) fixture cell.now table.old table.new }
+    ensures { AddsRangesOfMatch (worth_among (clubs_in group)) fixture cell.now
+        table.old table.new }
 {
     if counts(group, fixture) {
         add(table, fixture, cell);
@@ -143,7 +144,7 @@ pub fn add(table: &mut [Sums], fixture: Fixture, cell: &Cell)
     requires home { fixture.home < length table.old }
     requires away { fixture.away < length table.old }
     requires room { (club : ℕ) → AreNear 10000000 (sums_at table.old club) }
-    ensures { AddsSpansOfMatch worth_to fixture cell.now table.old table.new }
+    ensures { AddsRangesOfMatch worth_to fixture cell.now table.old table.new }
 {
     let sides = Sides::of(cell);
     let home = table[fixture.home as usize].plus(&sides.home);

@@ -1,6 +1,5 @@
-//! The reason that rests on the sure order: where each match has one outcome, points and criteria
-//! put too many rivals on the other side of the club, or a rival where the zone says that it is
-//! not.
+//! The reason that rests on the sure order: if each match has one outcome, points and criteria put
+//! too many rivals on the other side of the club, or a rival where the zone says that it is not.
 
 ghost use Rattle.std.specs.Prelude.{◌≡◌, IsTrue, IfSome};
 ghost use Rattle.std.specs.List.{list_any};
@@ -24,7 +23,7 @@ use league_core::{Claim, Question};
 use score_box::ZoneBox;
 
 /// The question holds nowhere in the zone by points and criteria: the reason `Tie`. Nothing is
-/// looked at where an outcome is open, and the criteria only where points alone leave it open.
+/// looked at if an outcome is open, and the criteria only if points alone leave it open.
 pub fn tie_reason(zone_box: &ZoneBox, question: &Question) -> bool
     requires { IsTrue (has_finish zone_box.now.sheet zone_box.now.season zone_box.now.zone) }
     ensures { result
@@ -45,8 +44,8 @@ fn is_refuted(zone_box: &ZoneBox, question: &Question) -> bool
     }
 }
 
-// What points alone tell: whether the question is refuted whoever the criteria put at the front, or
-// not refuted at all.
+// What points alone say: whether the question is refuted whoever the criteria put ahead, or not
+// refuted at all.
 fn by_points(
     zone_box: &ZoneBox,
     question: &Question,

@@ -56,7 +56,7 @@ fn worth(measure: Measure, scored: u8, conceded: u8, away: bool) -> i32
     }
 }
 
-// What a match is worth to a club, nothing where it does not play in it.
+// What a match is worth to a club, nothing if it does not play in it.
 fn worth_to(measure: Measure, club: u8, fixture: Fixture, score: Score) -> i32
     ensures worth { result ≡ worth_to (worth_of measure) club fixture score }
     ensures low { neg_ℤ (pos 255) ≤ℤ result }
@@ -71,7 +71,7 @@ fn worth_to(measure: Measure, club: u8, fixture: Fixture, score: Score) -> i32
     }
 }
 
-/// What a match that counts is worth to a club, nothing where it is not played.
+/// What a match that counts is worth to a club, nothing if it is not played.
 pub fn if_played(
     measure: Measure,
     matches: Matches,

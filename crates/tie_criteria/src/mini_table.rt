@@ -67,7 +67,7 @@ impl MiniTable {
     }
 }
 
-// Adds the club's row, where the club is of the group.
+// Adds the club's row, if the club is of the group.
 fn add_row(rows: &mut Vec<Row>, group: ClubSet, club: u8, triple: Triple) -> Result<(), OutOfMemory>
     ensures { OnOk result (rows.new.items ≡ rows.old.items
         ++ (if has_club (clubs_in group) club

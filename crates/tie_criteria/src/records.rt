@@ -41,7 +41,7 @@ fn add_all(found: &mut [Triple], sheet: &Sheet, season: &Season, group: ClubSet)
     }
 }
 
-// Adds the match to the records of its two clubs, where it is played and both are of the group.
+// Adds the match to the records of its two clubs, if it is played and both are of the group.
 fn add_if_counted(found: &mut [Triple], group: ClubSet, fixture: Fixture, score: Option<Score>)
     requires different { fixture.home ≢ fixture.away }
     requires home { fixture.home < length found.old }
@@ -57,7 +57,7 @@ fn add_if_counted(found: &mut [Triple], group: ClubSet, fixture: Fixture, score:
     }
 }
 
-// The score, where it counts in the group.
+// The score, if it counts in the group.
 fn counted(group: ClubSet, fixture: Fixture, score: Option<Score>) -> Option<Score>
     ensures { (worth : Worth) (club : ℕ)
         → if_played (worth_among (clubs_in group) worth club) fixture score

@@ -34,7 +34,7 @@ impl Tail {
         rank: 0,
     };
 
-    /// `Less` where this tail comes first: greater sums do, and then the lower rank.
+    /// `Less` if this tail comes first: greater sums do, and then the lower rank.
     pub fn order(&self, other: &Tail) -> Ordering
         ensures { result ≡ by_first_difference (tail_parts self.now) (tail_parts other.now) }
     {

@@ -40,7 +40,7 @@ impl Triple {
         }
     }
 
-    /// `Less` where this triple is the greater, so that it comes first.
+    /// `Less` if this triple is the greater, so that it comes first.
     pub fn order(&self, other: &Triple) -> Ordering
         ensures { result ≡ by_first_difference (triple_parts self.now) (triple_parts other.now) }
     {
@@ -50,7 +50,7 @@ impl Triple {
             .then(self.order_by_goals(other))
     }
 
-    /// `Less` where this triple has the greater difference, or else the more goals.
+    /// `Less` if this triple has the greater difference, or else the more goals.
     pub fn order_by_goals(&self, other: &Triple) -> Ordering
         ensures { result ≡ by_first_difference (goal_parts self.now) (goal_parts other.now) }
     {

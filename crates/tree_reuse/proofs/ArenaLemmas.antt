@@ -51,7 +51,7 @@ is_open (Lent number) marked = absurd (omega arith)
 is_open (Refuted reason fresh) marked = absurd (omega arith)
 is_open (Split test fresh half) marked = absurd (omega arith)
 
--- a leaf in place of a leaf, where the two lists are right, makes an arena
+-- a leaf in place of a leaf, if the two lists are right, makes an arena
 pub arena_leaf : (nodes : List Node) (open_list lent_list opens lents : List ℕ) (at : ℕ)
     (kind : Kind) (default : Node) → IsArena nodes open_list lent_list → at < length nodes
     → IsLeafKind (get_or nodes at default).kind → IsLeafKind kind
@@ -101,7 +101,7 @@ arena-has_open nodes opens lents arena =
     ∙ ap (nat_lt 0) (counted_whole open_count open_mark counts_open nodes arena.some arena.whole
     arena.within ∙ arena.open_listed.many)
 
--- it is refuted where nothing is open and nothing is lent
+-- it is refuted if nothing is open and nothing is lent
 pub arena-is_refuted : (nodes : List Node) (opens lents : List ℕ) → IsArena nodes opens lents
     → is_refuted (tree_below nodes 0) ≡ (length opens == 0 && length lents == 0)
 arena-is_refuted nodes opens lents arena =

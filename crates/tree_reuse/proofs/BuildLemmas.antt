@@ -299,7 +299,7 @@ given_end [] a b (suc size) is = absurd (omega arith)
 given_end (one ∷ given) a b zero is = absurd (omega arith)
 given_end (one ∷ given) a b (suc size) is = given_end given a b size (omega arith)
 
--- where a tree is given to no place but these
+-- if a tree is given to no place but these
 others_less : (given : List (Option Tree)) (rest : List ℕ) (at : ℕ) → at < length given
     → ((place : ℕ) → times_in place (rest ++ at ∷ []) ≡ 0 → get_or given place None ≡ None)
     → (place : ℕ) → times_in place rest ≡ 0 → get_or (set given at None) place None ≡ None

@@ -3,9 +3,9 @@
 use Rattle.std.proofs.Common.{◌≡◌, ℕ, suc, ◌+◌, ◌≤◌, ◌<◌, Bool, true, false, List, [], ◌∷◌}
 use Rattle.std.proofs.Common.{◌++◌, length, take, drop, get_or, reverse, add-one, drop-cons}
 use Rattle.std.proofs.Common.{Option, Some, None, IsTrue, refl, sym, ap, ◌∙◌, subst, append_assoc}
-use Rattle.std.proofs.Common.{append-nil, arith, length-append, length-drop}
+use Rattle.std.proofs.Common.{append-nil, arith, length-drop}
 use Rattle.std.proofs.lemmas.Option.{none-some, same_Some}
-use Rattle.std.proofs.lemmas.List.{take-append-le, take-take, length-take-le, take_all}
+use Rattle.std.proofs.lemmas.List.{take_all}
 use Rattle.std.proofs.lemmas.List.{reverse-append}
 use Rattle.league_core.specs.declared.sheet.Sheet.{Sheet}
 use Rattle.league_core.specs.declared.question.Question.{Question}
@@ -18,7 +18,7 @@ use Rattle.league_core.specs.search.Zones.{is_test_of}
 use Rattle.league_core.specs.search.Trees.{Tree, open_leaf, lent_leaf, refuted_leaf, branch}
 use Rattle.league_core.specs.search.Trees.{preorder}
 use Rattle.league_core.specs.inside.TreeLists.{with_node, trees_of, trees_of-preorder}
-use Rattle.score_box.specs.inside.Settings.{ZoneBoxView}
+use Rattle.score_box.specs.inside.ZoneBoxViews.{ZoneBoxView}
 use Rattle.tree_reuse.specs.declared.halves.Halves.{Halves}
 use Rattle.tree_reuse.specs.declared.halves.Halves.TheVariants.{Both, YesAlone, NoAlone}
 use Rattle.tree_reuse.specs.declared.carry.Part.{Part}
@@ -29,12 +29,7 @@ use Rattle.tree_reuse.specs.inside.Steps.{literal_of, zone_of_part}
 use Rattle.tree_reuse.specs.inside.Carrying.{halves_kept, parts_after, split_kept, nodes_kept}
 use Rattle.tree_reuse.specs.inside.Carrying.{parts_next, nodes_next, ArePartsOf, IsWalk}
 use Rattle.tree_reuse.specs.inside.Calls.{IsNodeOf}
-
--- at the end nothing is left to come
-pub walk_done : (question : Question) (zone_box : ZoneBoxView) (nodes : List TreeNode)
-    (found wanted : List TreeNode) → IsWalk question zone_box nodes [] found wanted → found ≡ wanted
-walk_done question zone_box nodes found wanted walk =
-    sym (append-nil found) ∙ walk.become
+use Rattle.tree_reuse.proofs.ZoneLemmas.{length-zone_of_part, zone_of_part-begins}
 
 -- a part that is to come has a node
 pub walk_some : (question : Question) (zone_box : ZoneBoxView) (nodes : List TreeNode) (part : Part)
@@ -88,28 +83,6 @@ nodes_to_come-deeper sheet season question zone_box other depth (Kept start (Som
     (retargeted_from sheet season question (take start other ++ literal ∷ []) tree) ++ rest)
     (nodes_to_come-deeper sheet season question zone_box other start parts trees
     (λ less le. same less (let top = are.0 in omega arith)) are.2)
-
--- the zone of a part is at least as long as the way that it keeps
-length-zone_of_part : (zone_box : List Literal) (depth : ℕ) (literal : Option Literal)
-    → depth ≤ length zone_box → depth ≤ length (zone_of_part zone_box depth literal)
-length-zone_of_part zone_box depth None within = omega (arith, length-take-le depth zone_box within)
-length-zone_of_part zone_box depth (Some literal) within =
-    omega (
-      arith,
-      length-append (take depth zone_box) (literal ∷ []),
-      length-take-le depth zone_box
-          within,
-    )
-
--- and begins like it
-zone_of_part-begins : (zone_box : List Literal) (depth start : ℕ) (literal : Option Literal)
-    → start ≤ depth → depth ≤ length zone_box
-    → take start (zone_of_part zone_box depth literal) ≡ take start zone_box
-zone_of_part-begins zone_box depth start None less within = take-take start depth zone_box less
-zone_of_part-begins zone_box depth start (Some literal) less within =
-    take-append-le start (take depth zone_box) (literal ∷ [])
-    (let long = length-take-le depth zone_box within in omega arith)
-    ∙ take-take start depth zone_box less
 
 -- a walk that was taken on by a node: what is left is read, the parts are as many, and what is
 -- still to come makes up the list
@@ -496,12 +469,3 @@ walk_within question zone_box nodes at stack rest part found wanted walk taken =
     let top = walk_top question zone_box (drop at nodes) stack rest part found wanted walk taken in
     let some = walk_some question zone_box (drop at nodes) part (reverse rest) found wanted top in
     omega (arith, length-drop at nodes)
-
--- what a part asks of the way
-pub walk_part : (question : Question) (zone_box : ZoneBoxView) (nodes : List TreeNode) (part : Part)
-    (parts : List Part) (found wanted : List TreeNode)
-    → IsWalk question zone_box nodes (part ∷ parts) found wanted
-    → ArePartsOf zone_box.sheet (length zone_box.zone) (part ∷ [])
-walk_part question zone_box nodes Dropped parts found wanted walk = tt
-walk_part question zone_box nodes (Kept depth literal) parts found wanted walk =
-    let are = walk.parts_of in (are.0, are.1, tt)

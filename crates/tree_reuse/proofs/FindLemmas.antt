@@ -42,7 +42,7 @@ stands_at number (x ∷ list) some = elim (cases_Bool (x == number)) [
       record { place = suc rest.place; in_list = omega arith; is = rest.is }
 ]
 
--- where the marks are more than none, one of them is
+-- if the marks are more than none, one of them is
 record MarkedAt (ms : List ℕ) : Type 0 where
   place : ℕ
   in_list : place < length ms

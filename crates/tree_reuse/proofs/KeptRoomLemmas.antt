@@ -7,12 +7,12 @@ use Rattle.tree_reuse.specs.declared.node.Kind.{Kind}
 use Rattle.tree_reuse.specs.declared.node.Kind.TheVariants.{Open}
 use Rattle.tree_reuse.specs.declared.node.Node.{Node}
 use Rattle.tree_reuse.specs.inside.Arena.{with_kind, IsArena, IsLeafAt, IsLeafKind, IsRoomy}
-use Rattle.tree_reuse.specs.inside.KeptWays.{LeadsToNode}
+use Rattle.tree_reuse.specs.inside.LastPaths.{LeadsToNode}
 use Rattle.tree_reuse.proofs.ArenaLemmas.{top_is_open}
-use Rattle.tree_reuse.proofs.KeptWayLemmas.{leads-set, leads-more}
+use Rattle.tree_reuse.proofs.LastPathLemmas.{leads-set, leads-more}
 use Rattle.tree_reuse.proofs.RoomLemmas.{any_node, last_lent, leaf_removed, lent_kind}
 
--- where the leaf on top of the open ones is lent
+-- when the leaf on top of the open ones is lent
 pub leads_lent : (nodes more done : RoomyListView Node) (waiting taken lent last : RoomyListView ℕ)
     (leaf : ℕ)
     (kind : Kind) (literals : List Literal) (at : ℕ) → IsRoomy nodes waiting lent
@@ -32,7 +32,7 @@ leads_lent nodes more done waiting taken lent last leaf kind literals at roomy s
     (leads-set nodes.items leaf kind literals at top.in_nodes
     (subst (λ (k : Kind). IsLeafKind k) (sym top.kind) tt) leads)
 
--- where a lent leaf comes back
+-- when a lent leaf comes back
 pub leads_back : (number : ℕ) (nodes done : RoomyListView Node) (lent less : RoomyListView ℕ)
     (list : List Node)
     (slice : List ℕ) (place leaf : ℕ) (kind : Kind) (literals : List Literal) (at : ℕ)
@@ -50,7 +50,7 @@ leads_back number nodes done lent less list slice place leaf kind literals at sa
     (leads-set nodes.items leaf kind literals at is.in_nodes
     (subst (λ (k : Kind). IsLeafKind k) (sym (is.kind any_node)) tt) leads)
 
--- where two nodes more come after all others
+-- when two nodes more come after all others
 pub leads_pushed : (nodes one two : RoomyListView Node) (first second : Node)
     (literals : List Literal)
     (at : ℕ) → one.items ≡ nodes.items ++ first ∷ [] → two.items ≡ one.items ++ second ∷ []
@@ -61,7 +61,7 @@ leads_pushed nodes one two first second literals at one_is two_is leads =
     (subst (λ (ns : List Node). LeadsToNode ns literals at) (sym one_is)
     (leads-more nodes.items (first ∷ []) literals at leads)))
 
--- where the last of the lent leaves is open again
+-- when the last of the lent leaves is open again
 pub leads_opened : (nodes done : RoomyListView Node) (waiting lent less : RoomyListView ℕ)
     (leaf : ℕ)
     (literals : List Literal) (at : ℕ) → IsRoomy nodes waiting lent

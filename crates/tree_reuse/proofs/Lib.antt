@@ -8,7 +8,7 @@ pub mod LinkLemmas
 pub mod ArenaLemmas
 pub mod FindLemmas
 pub mod RoomLemmas
-pub mod KeptWayLemmas
+pub mod LastPathLemmas
 pub mod KeptRoomLemmas
 pub mod VisitLemmas
 pub mod FillLemmas

@@ -8,7 +8,6 @@ use Rattle.std.proofs.Common.{append_assoc, append-nil, length-append, inl, inr,
 use Rattle.std.proofs.Common.{get_or-set_other}
 use Rattle.std.proofs.lemmas.Bool.{cases_Bool, cases_lt, eqb-true, eqb-false, eq-eqb}
 use Rattle.std.proofs.lemmas.List.{get_or_append_left, get_or-append-add, get_or-drop, length-set}
-use Rattle.std.proofs.lemmas.List.{reverse-append}
 use Rattle.league_core.specs.declared.zone.Test.{Test}
 use Rattle.league_core.specs.declared.zone.Literal.{Literal}
 use Rattle.league_core.specs.search.Zones.{with_test}
@@ -364,15 +363,6 @@ way_up number nodes at default test fresh half zone_box linked later within is o
     subst (λ (t : Tree). IsPathTo number t (record { test = test; yes = node.yes } ∷ zone_box))
     (sym tree) (way_beside number node.yes test fresh (tree_below nodes at) other zone_box to none)
 
--- the parent of a node is a split
-pub parent_splits : (nodes : List Node) (at : ℕ) (default : Node) → IsLinked nodes → 0 < at
-    → at < length nodes → IsLeafKind (get_or nodes (get_or nodes at default).parent default).kind
-    → ⊥
-parent_splits nodes at default linked later within leaf =
-    let node = get_or nodes at default in
-    let link = linked at default later within in
-    no_half_of_leaf (get_or nodes node.parent default).kind node.yes node.parent at leaf link.1
-
 -- the way begins at the leaf
 pub way_starts : (number : ℕ) (nodes : List Node) (lents : List ℕ) (place leaf : ℕ)
     (default : Node) (zone_box : List Literal) → IsLeafAt number nodes lents place leaf
@@ -385,21 +375,3 @@ way_starts number nodes lents place leaf default zone_box at none =
     (sym (shapes-at nodes leaf default at.in_nodes
     ∙ ap (λ kind. shape_over kind (drop (suc leaf) (shapes nodes))) (at.kind default)))
     (way_to_leaf number))
-
--- and goes on by one literal
-pub way_on : (number : ℕ) (nodes : List Node) (at : ℕ) (default : Node) (test : Test)
-    (fresh : Bool) (half : ℕ) (zone_box more : List Literal) → IsLinked nodes → 0 < at
-    → at < length nodes
-    → (get_or nodes (get_or nodes at default).parent default).kind ≡ Split test fresh half
-    → times_lent number (tree_below nodes 0) ≡ 1
-    → IsPathTo number (tree_below nodes at) (reverse zone_box)
-    → more ≡ zone_box ++ record { test = test; yes = (get_or nodes at default).yes } ∷ []
-    → IsPathTo number (tree_below nodes (get_or nodes at default).parent) (reverse more)
-way_on number nodes at default test fresh half zone_box more linked later within is once to longer =
-    let literal : Literal = record { test = test; yes = (get_or nodes at default).yes } in
-    let turned : literal ∷ reverse zone_box ≡ reverse more =
-    sym (ap reverse longer ∙ reverse-append zone_box (literal ∷ [])) in
-    subst (λ (literals : List Literal).
-    IsPathTo number (tree_below nodes (get_or nodes at default).parent) literals) turned
-    (way_up number nodes at default test fresh half (reverse zone_box) linked later within is once
-    to)

@@ -1,9 +1,8 @@
 -- Lists of nodes that are read from their end, one node after the other.
 use Rattle.std.proofs.Common.{◌≡◌, ℕ, zero, suc, ◌+◌, ◌-◌, ◌<◌, ◌≤◌, true, false, ◌==◌, List, []}
 use Rattle.std.proofs.Common.{◌∷◌, length, drop, get_or, Some, None, refl, sym, ap, ◌∙◌}
-use Rattle.std.proofs.Common.{add-one, drop-cons, arith, subst}
+use Rattle.std.proofs.Common.{add-one, drop-cons, arith}
 use Rattle.std.specs.Option.{is_some}
-use Rattle.std.proofs.lemmas.Bool.{ne_eqb}
 use Rattle.league_core.specs.declared.tree.TreeNode.{TreeNode}
 use Rattle.league_core.specs.declared.tree.TreeNode.TheVariants.{Split, Open, Lent, Refuted}
 use Rattle.league_core.specs.search.Trees.{Tree, open_leaf, lent_leaf, refuted_leaf, branch}
@@ -92,7 +91,7 @@ reads_split nodes at from count node default within next is splits two reads =
       many = omega arith;
     }
 
--- where there are fewer than two the list is that of no tree
+-- if there are fewer than two the list is that of no tree
 split_none : (node : TreeNode) (trees : List Tree) → is_split_node node ≡ true
     → length trees < 2 → with_node node (Some trees) ≡ None
 split_none Open trees splits few = cc
@@ -113,18 +112,3 @@ reads_none nodes at from count node default within next is splits few reads =
     ∙ ap (λ n. with_node n (trees_of (drop from nodes))) (sym is)
     ∙ ap (with_node node) reads.read
     ∙ split_none node reads.trees splits (omega arith))))
-
--- the whole list is that of one tree, or of none
-pub reads_all : (nodes : List TreeNode) (at count : ℕ) → at ≡ 0 → ReadsTrees nodes at count
-    → (count == 1) ≡ is_some (tree_of nodes)
-reads_all nodes at count start reads =
-    let read : trees_of nodes ≡ Some reads.trees =
-    subst (λ (n : ℕ). trees_of (drop n nodes) ≡ Some reads.trees) start reads.read in
-    ap (λ n. n == 1) (sym reads.many) ∙ by_trees reads.trees
-    ∙ sym (ap (λ trees. is_some (only_tree trees)) read)
-  where
-    by_trees : (trees : List Tree) → (length trees == 1) ≡ is_some (only_tree (Some trees))
-    by_trees [] = refl
-    by_trees (tree ∷ []) = refl
-    by_trees (tree ∷ other ∷ trees) =
-        ne_eqb (suc (suc (length trees))) 1 (λ is. omega arith)

@@ -8,7 +8,7 @@ use Rattle.std.proofs.lemmas.List.{get_or_past, set-get_or}
 use Rattle.std.proofs.lemmas.List.Sums.{sum_by_push, sum_by-remove}
 use Rattle.tree_reuse.specs.inside.Arena.{total, times_in, IsListed}
 
--- one where two numbers are the same, none otherwise
+-- one if two numbers are the same, none otherwise
 abbrev pub one_if : ℕ → ℕ → ℕ
 one_if number other = cond (other == number) 1 0
 
@@ -23,13 +23,7 @@ total-set (m ∷ ms) zero n within = omega arith
 total-set (m ∷ ms) (suc at) n within =
     let rest = total-set ms at n (omega arith) in omega arith
 
--- no number is more than all together
-pub get_or-total : (ms : List ℕ) (at : ℕ) → get_or ms at 0 ≤ total ms
-get_or-total [] at = omega arith
-get_or-total (m ∷ ms) zero = omega arith
-get_or-total (m ∷ ms) (suc at) = let rest = get_or-total ms at in omega arith
-
--- where the list has the number with a mark, the number is that of a node
+-- if the list has the number with a mark, the number is that of a node
 pub listed_within : (marked list : List ℕ) (at : ℕ) → IsListed marked list
     → 1 ≤ times_in at list → (at < length marked) × (1 ≤ get_or marked at 0)
 listed_within marked list at listed some =
@@ -57,7 +51,7 @@ pub times_in-push : (number at : ℕ) (list : List ℕ)
     → times_in number (list ++ at ∷ []) ≡ times_in number list + one_if number at
 times_in-push number at list = sum_by_push (one_if number) list at
 
--- nothing changes where a mark is written again
+-- nothing changes when a mark is written again
 pub listed_same : (marked list : List ℕ) (at n : ℕ) → get_or marked at 0 ≡ n
     → IsListed marked list → IsListed (set marked at n) list
 listed_same marked list at n is listed =

@@ -166,7 +166,7 @@ marks-score was zone test holds of_score same = record {
     or_nothing true = refl
     or_nothing false = refl
 
--- both halves stay by their finishes alone where both have one
+-- both halves stay by their finishes alone if both have one
 both_by : (a b : Bool) → halves_by a b ≡ Both → (a && b) ≡ true
 both_by true true is = refl
 both_by true false is = cc
@@ -183,7 +183,7 @@ one_half_of_score sheet season zone (HomeMost fixture most) halves is = (λ _. r
 one_half_of_score sheet season zone (AwayMost fixture most) halves is = (λ _. refl, λ _. refl)
 one_half_of_score sheet season zone (Rival club) halves is = (λ yes. cc, λ no. cc)
 
--- a split of which both halves stay is proper in the new season, where it was in the one before
+-- a split of which both halves stay is proper in the new season, if it was in the one before
 proper_kept : (sheet : Sheet) (before season : Results) (question : Question)
     (was zone : List Literal) (test : Test) → SameMarks was zone
     → halves_in sheet season zone test ≡ Both
@@ -223,7 +223,7 @@ proper_kept sheet before season question was zone (Rival club) same both proper 
     ∙ ap (λ b. marked_before was club || b) (sym (same.back club)))
     ∙ proper
 
--- a node of what is carried over is good, where its zone has a finish
+-- a node of what is carried over is good, if its zone has a finish
 kept_nodes : (sheet : Sheet) (before season : Results) (question : Question)
     (was zone : List Literal) (tree : Tree) → SameMarks was zone
     → has_finish sheet season zone ≡ true

@@ -34,7 +34,7 @@ use Rattle.tree_reuse.specs.inside.Calls.{most_nodes}
 abbrev pub any_node : Node
 any_node = record { kind = Open; parent = 0; yes = false }
 
--- where a leaf is open the stack has it
+-- if a leaf is open the stack has it
 pub some_waiting : (nodes : RoomyListView Node) (waiting lent : RoomyListView ℕ) (tree : Tree)
     → IsRoomy nodes waiting lent → tree_below nodes.items 0 ≡ tree → has_open tree ≡ true
     → 0 < length waiting.items
@@ -148,18 +148,6 @@ leaf_removed number nodes lent less list slice place leaf same same_lent at take
     in_range [] i other within = absurd (omega arith)
     in_range (x ∷ xs) zero other within = refl
     in_range (x ∷ xs) (suc i) other within = in_range xs i other (omega arith)
-
--- so it stands among the nodes
-pub removed_within : (number : ℕ) (nodes : RoomyListView Node) (lent less : RoomyListView ℕ)
-    (list : List Node)
-    (slice : List ℕ) (place leaf : ℕ) → list ≡ nodes.items → slice ≡ lent.items
-    → IsLeafAt number list slice place (get_or slice place 0)
-    → leaf ≡ get_or lent.items place leaf → less.items ≡ remove lent.items place
-    → leaf < length nodes.items
-removed_within number nodes lent less list slice place leaf same same_lent at taken removed =
-    let there = leaf_removed number nodes lent less list slice place leaf same same_lent at taken
-    removed in
-    there.in_nodes
 
 pub reopens : (number : ℕ) (tree : Tree) (nodes done : RoomyListView Node)
     (waiting lent less longer : RoomyListView ℕ) (list : List Node) (slice : List ℕ)
@@ -466,7 +454,7 @@ opens_last opened nodes done waiting lent less longer leaf roomy same popped don
           ∙ get_or-mapped all_opened refl (shapes nodes.items) 0 ∙ same;
     }
 
--- where nothing is lent all leaves that could be are open
+-- if nothing is lent all leaves that could be are open
 all_opened-none : (tree : Tree) → lent_count tree ≡ 0 → all_opened tree ≡ tree
 all_opened-none open_leaf none = refl
 all_opened-none (lent_leaf number) none = absurd (omega arith)

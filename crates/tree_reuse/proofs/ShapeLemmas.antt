@@ -46,7 +46,7 @@ split_mapped change leaf test fresh half trees into =
     ∙ ap (λ tree. branch test fresh (get_or (map change trees) half open_leaf) tree)
     (sym (get_or-mapped change leaf trees (suc half)))
 
--- where a node is not lent under the number, the tree that is put there comes in after it
+-- if a node is not lent under the number, the tree that is put there comes in after it
 put_over : (number : ℕ) (new : Tree) (kind : Kind) (trees : List Tree)
     → number_mark number kind ≡ 0
     → put number new (shape_over kind trees) ≡ shape_over kind (map (put number new) trees)
@@ -60,7 +60,7 @@ put_over number new (Refuted reason fresh) trees none = refl
 put_over number new (Split test fresh half) trees none =
     split_mapped (put number new) refl test fresh half trees (λ yes_half no_half. refl)
 
--- where no node is lent under the number, all trees stay
+-- if no node is lent under the number, all trees stay
 pub shapes-absent : (number : ℕ) (new : Tree) (nodes : List Node)
     → total (marks (number_mark number) nodes) ≡ 0
     → map (put number new) (shapes nodes) ≡ shapes nodes
@@ -83,7 +83,7 @@ lent_counts number (node ∷ nodes) zero default within lent =
 lent_counts number (node ∷ nodes) (suc at) default within lent =
     let rest = lent_counts number nodes at default (omega arith) lent in omega arith
 
--- where one node alone is lent under the number, what is written there is put in place of it
+-- if one node alone is lent under the number, what is written there is put in place of it
 pub shapes-set_lent : (number : ℕ) (new : Tree) (written : Node) (nodes : List Node) (at : ℕ)
     (default : Node) → at < length nodes → (get_or nodes at default).kind ≡ Lent number
     → total (marks (number_mark number) nodes) ≡ 1
@@ -114,7 +114,7 @@ shapes-set_lent number new written (node ∷ nodes) (suc at) default within lent
     ∙ ap (λ tree. tree ∷ map (put number new) (shapes nodes))
     (sym (put_over number new node.kind (shapes nodes) none))
 
--- where a lent leaf is opened, the tree with all leaves open is the same
+-- if a lent leaf is opened, the tree with all leaves open is the same
 pub shapes-set_opened : (written : Node) (nodes : List Node) (at : ℕ) (default : Node)
     → at < length nodes → lent_mark (get_or nodes at default).kind ≡ 1 → written.kind ≡ Open
     → map all_opened (shapes (set nodes at written)) ≡ map all_opened (shapes nodes)

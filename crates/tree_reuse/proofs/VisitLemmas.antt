@@ -2,7 +2,6 @@
 use Rattle.std.proofs.Common.{◌≡◌, ℕ, zero, suc, ◌+◌, ◌<◌, ◌≤◌, Bool, true, List, [], ◌∷◌, ◌++◌}
 use Rattle.std.proofs.Common.{length}
 use Rattle.std.proofs.Common.{get_or, drop, reverse, refl, sym, ap, ◌∙◌, subst, arith, append_assoc}
-use Rattle.std.proofs.Common.{append-nil}
 use Rattle.std.proofs.lemmas.List.{reverse-append}
 use Rattle.league_core.specs.declared.tree.TreeNode.{TreeNode}
 use Rattle.league_core.specs.declared.zone.Test.{Test}
@@ -90,15 +89,6 @@ pub record ListsNodes (nodes : List Node) (stack : List ℕ) (found wanted : Lis
     : Type 0 where
   pub are : AreNodes (length nodes) stack
   pub become : found ++ pending nodes stack ≡ wanted
-
-pub lists_start : (nodes : List Node) (stack : List ℕ) (found : List TreeNode)
-    → 0 < length nodes → stack ≡ 0 ∷ [] → found ≡ []
-    → ListsNodes nodes (reverse stack) found (preorder (tree_below nodes 0))
-lists_start nodes stack found some start none =
-    rw (start, none) (record {
-      are = (some, tt);
-      become = append-nil (preorder (tree_below nodes 0));
-    })
 
 -- the number on top is that of a node
 pub lists_top : (nodes : List Node) (stack rest : List ℕ) (at : ℕ) (found wanted : List TreeNode)

@@ -2,7 +2,6 @@
 use Rattle.std.proofs.Common.{◌≡◌, ℕ, suc, ◌≤◌, Bool, true, false, List, [], ◌∷◌, ◌++◌}
 use Rattle.std.proofs.Common.{length, take, reverse, Option, Some, None, refl, sym, ap, ◌∙◌, subst}
 use Rattle.std.proofs.Common.{append_assoc, append-nil, arith, length-append}
-use Rattle.std.specs.Option.{is_some}
 use Rattle.std.proofs.lemmas.Option.{none-some, same_Some}
 use Rattle.std.proofs.lemmas.List.{take-append-le, take-take, length-take-le, take_all}
 use Rattle.std.proofs.lemmas.List.{reverse-append, length-reverse}
@@ -11,13 +10,12 @@ use Rattle.league_core.specs.declared.zone.Literal.{Literal}
 use Rattle.league_core.specs.declared.tree.TreeNode.{TreeNode}
 use Rattle.league_core.specs.declared.tree.TreeNode.TheVariants.{Split, Open, Lent, Refuted}
 use Rattle.league_core.specs.search.Trees.{Tree, open_leaf, lent_leaf, refuted_leaf, branch}
-use Rattle.league_core.specs.search.Trees.{zones_from, zones_of}
-use Rattle.league_core.specs.inside.TreeLists.{with_node, trees_of, tree_of, only_tree}
-use Rattle.league_core.specs.inside.TreeLists.{tree_or_leaf}
+use Rattle.league_core.specs.search.Trees.{zones_from}
+use Rattle.league_core.specs.inside.TreeLists.{with_node, trees_of}
 use Rattle.tree_reuse.specs.declared.zones.Step.{Step}
 use Rattle.tree_reuse.specs.inside.Steps.{literal_of, zone_of_part, zones_to_come, AreInDepth}
 use Rattle.tree_reuse.specs.inside.Steps.{steps_after, zones_at, ListsZones}
-use Rattle.tree_reuse.proofs.BuildLemmas.{read_tree, left_some}
+use Rattle.tree_reuse.proofs.BuildLemmas.{left_some}
 
 -- parts that stand no deeper stand no deeper than what is deeper still
 steps-deeper : (depth more : ℕ) (steps : List Step) → depth ≤ more → AreInDepth depth steps
@@ -47,10 +45,10 @@ zones-deeper zone_box other depth (step ∷ steps) (tree ∷ trees) same are =
     (λ less le. same less (let top = are.0 in omega arith)) are.1)
 
 -- the zone of a part is at least as long as the way that it keeps, and begins like it
-length-zone : (zone_box : List Literal) (depth : ℕ) (literal : Option Literal)
+pub length-zone_of_part : (zone_box : List Literal) (depth : ℕ) (literal : Option Literal)
     → depth ≤ length zone_box → depth ≤ length (zone_of_part zone_box depth literal)
-length-zone zone_box depth None within = omega (arith, length-take-le depth zone_box within)
-length-zone zone_box depth (Some literal) within =
+length-zone_of_part zone_box depth None within = omega (arith, length-take-le depth zone_box within)
+length-zone_of_part zone_box depth (Some literal) within =
     omega (
       arith,
       length-append (take depth zone_box) (literal ∷ []),
@@ -58,11 +56,11 @@ length-zone zone_box depth (Some literal) within =
           within,
     )
 
-zone-begins : (zone_box : List Literal) (depth start : ℕ) (literal : Option Literal)
+pub zone_of_part-begins : (zone_box : List Literal) (depth start : ℕ) (literal : Option Literal)
     → start ≤ depth → depth ≤ length zone_box
     → take start (zone_of_part zone_box depth literal) ≡ take start zone_box
-zone-begins zone_box depth start None less within = take-take start depth zone_box less
-zone-begins zone_box depth start (Some literal) less within =
+zone_of_part-begins zone_box depth start None less within = take-take start depth zone_box less
+zone_of_part-begins zone_box depth start (Some literal) less within =
     take-append-le start (take depth zone_box) (literal ∷ [])
     (let long = length-take-le depth zone_box within in omega arith)
     ∙ take-take start depth zone_box less
@@ -84,11 +82,12 @@ leaf_on zone_box step leaf steps left trees found wanted read many are is all =
       read = read;
       many = many;
       steps_of = steps-deeper step.depth (length zone) steps
-          (length-zone zone_box step.depth step.literal are.0) are.1;
+          (length-zone_of_part zone_box step.depth step.literal are.0) are.1;
       become = append_assoc found (zone ∷ []) (zones_to_come zone steps trees)
           ∙ ap (λ rest. found ++ ((zone ∷ []) ++ rest))
           (zones-deeper zone zone_box step.depth steps trees
-          (λ start less. zone-begins zone_box step.depth start step.literal less are.0) are.1)
+          (λ start less. zone_of_part-begins zone_box step.depth start step.literal less are.0)
+          are.1)
           ∙ ap (λ zones. found ++ (zones ++ zones_to_come zone_box steps trees)) (sym is)
           ∙ all;
     }
@@ -119,7 +118,7 @@ split_on zone_box step test fresh yes_half no_half steps left trees found wanted
         (
           omega arith,
           steps-deeper step.depth (length zone) steps
-              (length-zone zone_box step.depth step.literal are.0) are.1,
+              (length-zone_of_part zone_box step.depth step.literal are.0) are.1,
         ),
       );
       become = ap (λ list. list ++ zones_to_come zone
@@ -131,7 +130,8 @@ split_on zone_box step test fresh yes_half no_half steps left trees found wanted
           ∙ ap (λ list. found ++ list) (sym (append_assoc yes_zones no_zones rest))
           ∙ ap (λ list. found ++ ((yes_zones ++ no_zones) ++ list))
           (zones-deeper zone zone_box step.depth steps trees
-          (λ start less. zone-begins zone_box step.depth start step.literal less are.0) are.1)
+          (λ start less. zone_of_part-begins zone_box step.depth start step.literal less are.0)
+          are.1)
           ∙ all;
     }
 
@@ -219,34 +219,3 @@ zones_some zone_box list left node stack found wanted lists list_is =
     let many = lists.many in
     let turned = length-reverse stack in
     omega arith
-
--- it begins at the root
-pub zones_start : (list : List TreeNode) (zone_box : List Literal) (steps : List Step)
-    (found : List (List Literal)) → is_some (tree_of list) ≡ true → zone_box ≡ []
-    → steps ≡ record { depth = 0; literal = None } ∷ [] → found ≡ []
-    → ListsZones zone_box list (reverse steps) found (zones_of (tree_or_leaf (tree_of list)))
-zones_start list zone_box steps found some way_is steps_are none =
-    let tree = read_tree list some in
-    rw (way_is, steps_are, none) (record {
-      trees = tree.0 ∷ [];
-      read = tree.1;
-      many = refl;
-      steps_of = (omega arith, tt);
-      become = append-nil (zones_from [] tree.0)
-          ∙ ap (λ read. zones_of (tree_or_leaf (only_tree read))) (sym tree.1);
-    })
-
--- and ends with all zones
-pub zones_end : (zone_box : List Literal) (left : List TreeNode) (stack : List Step)
-    (found wanted : List (List Literal)) → ListsZones zone_box left (reverse stack) found wanted
-    → left ≡ [] → found ≡ wanted
-zones_end zone_box left stack found wanted lists done =
-    by_steps (reverse stack) lists
-  where
-    by_steps : (steps : List Step) → ListsZones zone_box left steps found wanted → found ≡ wanted
-    by_steps [] all = sym (append-nil found) ∙ all.become
-    by_steps (step ∷ steps) all =
-        let none = same_Some [] all.trees (ap trees_of (sym done) ∙ all.read) in
-        let size = ap length none in
-        let many = all.many in
-        absurd (omega arith)

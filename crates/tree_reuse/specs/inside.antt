@@ -6,7 +6,7 @@ pub mod Stops
 pub mod Retargets
 pub mod RetargetLaws
 pub mod Arena
-pub mod KeptWays
+pub mod LastPaths
 pub mod Order
 pub mod Builds
 pub mod Steps

@@ -30,7 +30,7 @@ fn is_lent_under(kind: Kind, number: u64) -> bool
     }
 }
 
-/// Where the list of lent leaves has the one that is lent under the number, the last one first.
+/// If the list of lent leaves has the one that is lent under the number, the last one first.
 pub fn find(nodes: &[Node], lent: &[u32], number: u64) -> usize
     requires listed { IsListed (marks lent_mark nodes.now) lent.now }
     requires once { total (marks (number_mark number) nodes.now) ≡ 1 }

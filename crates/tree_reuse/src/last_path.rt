@@ -3,14 +3,14 @@
 
 ghost use Rattle.std.specs.Prelude.{◌≡◌, ◌<◌, ◌++◌, [], length, reverse, IfOk, OnOk};
 ghost use Rattle.tree_reuse.specs.inside.Arena.{IsLinked};
-ghost use Rattle.tree_reuse.specs.inside.KeptWays.{IsStep, LeadsToNode, TakesInHand};
+ghost use Rattle.tree_reuse.specs.inside.LastPaths.{IsStep, LeadsToNode, TakesInHand};
 
 use crate::node::{Kind, Node};
 use crate::shorten::shorten;
 use league_core::{Listing, Literal, OutOfMemory};
 
-/// Makes of the way to the last node that to another one, which is the last then; where memory is
-/// wanting, that to the root. What is in hand is of no use before and after.
+/// Turns the way to the last node into the way to another one, which is the last then; if memory
+/// runs out, into the way to the root. `hand` is scratch space.
 pub fn move_to(
     nodes: &[Node],
     to: u32,

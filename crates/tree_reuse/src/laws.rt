@@ -21,7 +21,7 @@ pub fn constants_are_the_limits()
     ensures kept { MOST_KEPT ≡ most_kept }
 {}
 
-/// A tree that was carried over lends nothing, has nothing new and is no greater; where its splits
+/// A tree that was carried over lends nothing, has nothing new and is no greater; if its splits
 /// were proper, all its nodes are good in the new season.
 pub fn retargeting_keeps_what_holds()
     ensures lent { RetargetedTreesLendNothing }

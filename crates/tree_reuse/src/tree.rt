@@ -32,8 +32,8 @@ pub struct Tree {
     nodes: RoomyList<Node>,
     waiting: RoomyList<u32>,
     lent: RoomyList<u32>,
-    // The way from the root to a node, the one whose zone was answered last, and a list for the
-    // time in which it is made.
+    // The way from the root to a node, the one whose zone was returned last, and a list as scratch
+    // space while it is made.
     zone_box: Listing<Literal>,
     last: u32,
     hand: Listing<Literal>,
@@ -48,7 +48,7 @@ impl Model for Tree {
     ghost coded = { coded_tree };
 
     ghost use Rattle.tree_reuse.specs.inside.Arena.{tree_below};
-    ghost use Rattle.tree_reuse.specs.inside.KeptWays.{KeepsPath};
+    ghost use Rattle.tree_reuse.specs.inside.LastPaths.{KeepsPath};
 
     ghost view = { λ tree. tree_below tree.nodes.items 0 };
 
@@ -114,9 +114,9 @@ impl Tree {
         self.waiting.len() == 0 && self.lent.len() == 0
     }
 
-    /// Lends an open leaf under a number that is not lent, and answers its zone; `None` where no
-    /// leaf is open. It takes the room that a split of this leaf needs; if memory runs out the tree
-    /// is as before. The leaf is the last one that was opened, of two halves the yes half.
+    /// Lends an open leaf under a number that is not lent, and returns its zone; `None` if no leaf
+    /// is open. It takes the room that a split of this leaf needs; if memory runs out the tree is
+    /// as before. The leaf is the last one that was opened, of two halves the yes half.
     pub fn lend(&mut self, number: u64) -> Result<Option<Zone>, OutOfMemory>
         requires free { times_lent number self.old ≡ 0 }
         requires few { node_count self.old + lent_count self.old ≤ most_nodes }
@@ -242,8 +242,8 @@ impl Tree {
         list_nodes(self.alloc, self.nodes.as_slice())
     }
 
-    /// The tree whose nodes are this list; `NoTree` hands the list back exactly where no tree has
-    /// it, and running out of memory lets it go. Its open leaves are lent as the list has them, the
+    /// The tree whose nodes are this list; `NoTree` hands the list back exactly when no tree has
+    /// it, and if memory runs out it is dropped. Its open leaves are lent as the list has them, the
     /// first one first.
     pub fn of_nodes(alloc: Global, nodes: Vec<TreeNode>) -> Result<Tree, TreeStop>
         requires few { length nodes.items ≤ most_nodes }

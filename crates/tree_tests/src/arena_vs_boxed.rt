@@ -3,7 +3,7 @@
 use crate::counts::times_lent;
 use crate::rows::{split, test_at};
 use league_core::TreeNode;
-use reference_trees::{BoxedTree, ZoneTree};
+use reference_programs::{BoxedTree, ZoneTree};
 use std::alloc::Global;
 use std::test::Fail;
 use tree_reuse::{Tree, TreeStop};
@@ -19,7 +19,7 @@ fn lends_root<T: ZoneTree>(tree: &mut T) -> Result<bool, Fail> {
     }
 }
 
-// Splits what is lent under 7, where that is one leaf.
+// Splits what is lent under 7, if that is one leaf.
 fn splits<T: ZoneTree>(tree: &mut T) -> Result<bool, Fail> {
     if times_lent(tree, 7)? != 1 {
         return Ok(false);

@@ -7,7 +7,7 @@ ghost use Rattle.tree_reuse.specs.inside.Calls.{IsNodeOf, AreTestsOf};
 
 use crate::rows::tree_or_fail;
 use league_core::{Claim, OutOfMemory, Question, Sheet, Test, TreeNode};
-use reference_trees::{BoxedTree, ZoneTree};
+use reference_programs::{BoxedTree, ZoneTree};
 use sample_leagues::{Sample, sample_of};
 use std::alloc::Global;
 use std::test::Fail;

@@ -6,7 +6,7 @@ ghost use Rattle.league_core.specs.inside.Lending.{times_lent, lent_count};
 ghost use Rattle.tree_tests.specs.inside.LentNodes.{is_lent_node};
 
 use league_core::{OutOfMemory, TreeNode, Zone};
-use reference_trees::ZoneTree;
+use reference_programs::ZoneTree;
 use std::test::Fail;
 use tree_reuse::{MOST_NODES, Tree};
 
@@ -42,7 +42,7 @@ pub fn may_lend(tree: &Tree) -> bool
     tree.node_count() < 1_000_000
 }
 
-/// Lends a leaf under a number that is not lent, and answers its zone.
+/// Lends a leaf under a number that is not lent, and returns its zone.
 pub fn lend_next(tree: &mut Tree, number: u64) -> Result<Option<Zone>, Fail> {
     if !may_lend(tree) || times_lent(tree, number)? != 0 {
         return Err("the number is lent, or the tree is full".into());

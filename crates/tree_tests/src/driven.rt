@@ -2,7 +2,7 @@
 
 use crate::counts::{lend_next, times_lent};
 use league_core::{ClubSet, Reason, Test, Zone};
-use reference_trees::{BoxedTree, ZoneTree};
+use reference_programs::{BoxedTree, ZoneTree};
 use sample_leagues::Draws;
 use std::alloc::Global;
 use std::test::Fail;

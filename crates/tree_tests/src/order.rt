@@ -1,4 +1,4 @@
-//! Which leaf is lent first where several are open.
+//! Which leaf is lent first when several are open.
 
 use crate::carried::carried_over_12_0;
 use crate::counts::lend_next;

@@ -4,7 +4,7 @@ ghost use Rattle.std.specs.Prelude.{◌≡◌, ◌≤◌, IfOk, length};
 
 use crate::counts::{lend_next, times_lent};
 use league_core::{Literal, OutOfMemory, Test, TreeNode, Zone};
-use reference_trees::ZoneTree;
+use reference_programs::ZoneTree;
 use std::alloc::Global;
 use std::test::Fail;
 use tree_reuse::{MOST_NODES, Tree, TreeStop};
@@ -184,7 +184,7 @@ fn a_chain_of_2_001_nodes_has_its_leaves(rt: HostRuntime) -> Result<(), Fail> {
     Ok(())
 }
 
-// How many literals the zone has that is lent under the number; none where nothing is open.
+// How many literals the zone has that is lent under the number; none if nothing is open.
 fn lent_depth(tree: &mut Tree, number: u64) -> Result<Option<usize>, Fail> {
     Ok(lend_next(tree, number)?.map(|zone| zone.literals.len()))
 }

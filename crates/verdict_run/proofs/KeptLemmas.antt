@@ -1,4 +1,4 @@
--- What an answer tells comes from what the pool keeps: of one question, of the two of a row, and of
+-- What an answer says comes from what the pool keeps: of one question, of the two of a row, and of
 -- all rows so far.
 use Rattle.std.proofs.Common.{◌≡◌, ◌≢◌, ℕ, zero, suc, ◌+◌, ◌*◌, Bool, true, false, List, []}
 use Rattle.std.proofs.Common.{◌∷◌, ◌++◌, length, Option, Some, None, refl, sym, ap, ◌∙◌, subst}
@@ -22,12 +22,12 @@ use Rattle.branch_pool.specs.inside.Calls.{answer_of, answer_without}
 use Rattle.verdict_run.specs.declared.part.Known.{Known}
 use Rattle.verdict_run.specs.declared.part.Known.TheVariants.{Won, Refuted, Spent}
 use Rattle.verdict_run.specs.declared.part.Part.{Part}
-use Rattle.verdict_run.specs.declared.word.Word.{Word}
-use Rattle.verdict_run.specs.declared.word.Word.TheVariants as word
-use Rattle.verdict_run.specs.declared.word.Verdict.{Verdict}
-use Rattle.verdict_run.specs.Items.{ShowsPart}
+use Rattle.answer_rows.specs.declared.word.Word.{Word}
+use Rattle.answer_rows.specs.declared.word.Word.TheVariants as word
+use Rattle.answer_rows.specs.declared.word.Verdict.{Verdict}
+use Rattle.answer_rows.specs.Items.{ShowsPart}
 use Rattle.verdict_run.specs.inside.Parts.{IsPart, IsAnswerPart, IsDoneSeat, word_by, proof_by}
-use Rattle.verdict_run.specs.NewTrees.{is_all_new}
+use Rattle.answer_rows.specs.NewTrees.{is_all_new}
 use Rattle.verdict_run.specs.inside.Kept.{lines_of_refuted, lines_of_spent, TellsExample, IsOfSeat}
 use Rattle.verdict_run.specs.inside.Kept.{IsOfPlace, IsFoundAt, TellsPlace, TellsBoth, TellsOthers}
 use Rattle.verdict_run.specs.inside.Kept.{IsOfPool, AreOfPool}
@@ -39,7 +39,7 @@ abbrev answer_by : Option Example → Bool → Bool → Answer
 answer_by example refuted used =
     if is_some example then answer.Won else answer_without refuted used
 
--- a question that is answered to be refuted has no example, and a refuted tree
+-- a question that the pool says is refuted has no example, and a refuted tree
 refuted_by : (example : Option Example) (refuted used : Bool)
     → answer_by example refuted used ≡ answer.Refuted → (example ≡ None) × (refuted ≡ true)
 refuted_by (Some example) refuted used is = absurd (cc)
@@ -52,7 +52,7 @@ pub refuted_is : (sheet : Sheet) (seat : QuestionState) → answer_of sheet seat
 refuted_is sheet seat is =
     refuted_by seat.example (is_refuted seat.tree) (seat.units == sheet.budget) is
 
--- one that is done, has no example and no refuted tree is answered to be spent
+-- one that is done, has no example and no refuted tree is said to be spent
 spent_by : (example : Option Example) (refuted used : Bool) → example ≡ None → refuted ≡ false
     → (is_some example || refuted || used) ≡ true
     → answer_by example refuted used ≡ answer.Spent
@@ -99,7 +99,7 @@ shows_other sheet season question Won lines other shows = (false, shows)
 shows_other sheet season question Refuted lines other shows = absurd (other refl)
 shows_other sheet season question Spent lines other shows = (true, shows)
 
--- and what is known where the budget was spent
+-- and what is known if the budget was spent
 pub spent_of_seat : (sheet : Sheet) (season : Results) (seat : QuestionState) (part : Part)
     → IsDoneSeat sheet season seat → seat.example ≡ None → is_refuted seat.tree ≡ false
     → IsAnswerPart sheet season seat.question part
@@ -134,7 +134,7 @@ of_place pool place seat sheet season part found same_sheet same_season of_seat 
     subst R (same_Some seat other (sym found ∙ there))
     (subst Q same_season (subst P same_sheet of_seat))
 
--- where nothing is found at a place, no tree is refuted there
+-- if nothing is found at a place, no tree is refuted there
 pub none_found : (pool : PoolView) (place : ℕ) (found : Option Part)
     → ((part : Part) → found ≢ Some part) → IsFoundAt pool place found → (seat : QuestionState)
     → slice_get pool.seats place ≡ Some seat → is_refuted seat.tree ≡ false
@@ -156,7 +156,7 @@ outside_of_pool pool place verdict not_refuted lines is = record {
   others = subst (λ (w : Word). TellsOthers pool place w verdict.proof.items) (sym is) tt;
 }
 
--- a verdict that refutes the first question, where the second one's tree is not refuted
+-- a verdict that refutes the first question, if the second one's tree is not refuted
 pub inside_of_pool : (pool : PoolView) (place : ℕ) (verdict : Verdict) (inside : Part)
     → ((seat : QuestionState) → slice_get pool.seats (place + 1) ≡ Some seat
     → is_refuted seat.tree ≡ false)

@@ -1,13 +1,14 @@
 -- Trees all of whose splits and refuted leaves are new: they stay so while leaves are lent and come
 -- back as new nodes.
 use Rattle.std.proofs.Common.{◌≡◌, ℕ, Bool, true, false, ◌&&◌, ◌==◌, cond, refl}
+use Rattle.std.proofs.Common.{Option, Some, None}
 use Rattle.std.proofs.lemmas.Bool.{and_parts, and_from}
 use Rattle.league_core.specs.search.Trees.{Tree, open_leaf, lent_leaf, refuted_leaf, branch}
 use Rattle.league_core.specs.inside.Lending.{put}
-use Rattle.reason_core.specs.declared.done.Done.{Done}
-use Rattle.reason_core.specs.declared.done.Done.TheVariants.{Refuted, Split, Won, Undone}
-use Rattle.branch_pool.specs.inside.Steps.{leaf_given}
-use Rattle.verdict_run.specs.NewTrees.{is_all_new}
+use Rattle.reason_core.specs.declared.finding.Finding.{Finding}
+use Rattle.reason_core.specs.declared.finding.Finding.TheVariants.{Refuted, Split, Won}
+use Rattle.branch_pool.specs.inside.Steps.{leaf_after}
+use Rattle.answer_rows.specs.NewTrees.{is_all_new}
 
 -- the parts of a split that is all new
 split_new : (fresh yes_new no_new : Bool) → (fresh && yes_new && no_new) ≡ true
@@ -39,7 +40,7 @@ is_all_new-put number new (branch test marked yes_half no_half) fresh all =
     parts.0 (is_all_new-put number new yes_half fresh parts.1)
     (is_all_new-put number new no_half fresh parts.2)
 
--- a tree is new where it was new before a leaf was lent
+-- a tree is new if it was new before a leaf was lent
 pub is_all_new-lend : (number : ℕ) (tree : Tree) → is_all_new (put number open_leaf tree) ≡ true
     → is_all_new tree ≡ true
 is_all_new-lend number open_leaf all = refl
@@ -52,8 +53,8 @@ is_all_new-lend number (branch test marked yes_half no_half) all =
     (is_all_new-lend number yes_half parts.1) (is_all_new-lend number no_half parts.2)
 
 -- what comes in the place of a leaf is new
-pub given_new : (done : Done) → is_all_new (leaf_given done) ≡ true
-given_new (Refuted piece reason) = refl
-given_new (Split piece literal) = refl
-given_new (Won piece finish lots) = refl
-given_new Undone = refl
+pub leaf_is_new : (finding : Option Finding) → is_all_new (leaf_after finding) ≡ true
+leaf_is_new (Some (Refuted reason)) = refl
+leaf_is_new (Some (Split literal)) = refl
+leaf_is_new (Some (Won finish lots)) = refl
+leaf_is_new None = refl

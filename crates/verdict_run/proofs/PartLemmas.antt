@@ -23,13 +23,12 @@ use Rattle.cert_text.specs.TreeLines.{with_tree_head, with_spent_head}
 use Rattle.cert_text.specs.ExampleLines.{example_lines}
 use Rattle.cert_text.proofs.TreeRangeLemmas.{plain_lines_in_range, marked_lines_in_range}
 use Rattle.cert_text.proofs.ExampleRangeLemmas.{example_in_range}
-use Rattle.branch_pool.specs.declared.question_state.Example.{Example}
 use Rattle.branch_pool.specs.declared.question_state.QuestionState.{QuestionState}
 use Rattle.branch_pool.specs.inside.States.{PoolView}
-use Rattle.branch_pool.specs.inside.Goodness.{IsSoundPool, IsGoodSeat, IsExampleOf}
+use Rattle.branch_pool.specs.inside.Goodness.{IsSoundPool, IsGoodSeat}
 use Rattle.verdict_run.specs.declared.part.Known.TheVariants.{Won, Refuted, Spent}
 use Rattle.verdict_run.specs.declared.part.Part.{Part}
-use Rattle.verdict_run.specs.NewTrees.{is_all_new, is_not_old}
+use Rattle.answer_rows.specs.NewTrees.{is_all_new, is_not_old}
 use Rattle.verdict_run.specs.inside.Working.{AreSettled, IsEnough}
 use Rattle.verdict_run.specs.inside.Parts.{IsAnswerPart, IsPartAt, IsRefutedPart, IsRefutedAt}
 use Rattle.verdict_run.specs.inside.Parts.{IsDoneSeat}
@@ -39,7 +38,7 @@ use Rattle.verdict_run.proofs.ShownLemmas.{refutes_seat, spends_seat, seat_decid
 
 -- ---- new trees
 
--- a tree is all new where its list is
+-- a tree is all new if its list is
 pub is_all_new-list : (tree : Tree) → list_all is_not_old (preorder tree) ≡ is_all_new tree
 is_all_new-list open_leaf = refl
 is_all_new-list (lent_leaf number) = refl
@@ -157,15 +156,6 @@ refuted_there pool place seat sheet season part sound found same_sheet same_seas
       part_of = part_at pool place seat sheet season part sound found same_sheet same_season
           refuted.part_of question asked;
     }
-
--- an example that is kept is one
-pub done_won : (sheet : Sheet) (season : Results) (seat : QuestionState) (example : Example)
-    → IsDoneSeat sheet season seat → seat.example ≡ Some example
-    → IsExample sheet season seat.question example.finish example.lots
-done_won sheet season seat example done is =
-    let P : Option Example → Type 0 = λ kept. IfSome kept (IsExampleOf sheet season seat.question)
-    in
-    subst P is done.good.example
 
 -- a refuted tree refutes
 pub done_refuted : (sheet : Sheet) (season : Results) (seat : QuestionState)

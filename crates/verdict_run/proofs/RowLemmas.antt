@@ -9,7 +9,7 @@ use Rattle.league_core.specs.declared.sheet.Sheet.{Sheet}
 use Rattle.league_core.specs.declared.question.Claim.{Claim}
 use Rattle.league_core.specs.game.Sheets.{IsWithinLimits, is_line}
 use Rattle.league_core.specs.game.Questions.{full_question, IsQuestionOf}
-use Rattle.verdict_run.specs.Items.{AnswerRow, answer_rows, answer_rows_of}
+use Rattle.answer_rows.specs.Items.{AnswerRow, answer_rows, answer_rows_of}
 
 -- the questions about a row are questions about the sheet
 abbrev pub IsRowOf : Sheet → AnswerRow → Type 0

@@ -1,4 +1,4 @@
--- The sample's sheet is within the limits, its results are such as its seasons may be told, and the
+-- The sample's sheet is within the limits, its results are such as its seasons may take, and the
 -- scores come in the order of the draws.
 use Rattle.std.proofs.Common.{◌≡◌, ℕ, zero, suc, ◌+◌, ◌*◌, ◌<◌, ◌≤◌, true, List, [], ◌∷◌}
 use Rattle.std.proofs.Common.{length, map, ap, sym, ◌∙◌, arith, rules, add-one, nat_le, lit≤}
@@ -61,12 +61,12 @@ drawn_score home away h a =
     and_from (nat_le home 99) (nat_le away 99) (le-leb home 99 (omega arith))
     (le-leb away 99 (omega arith))
 
--- the results of some fixtures are such as a season with that many may be told
-told-from : (season : Results) (seed from count : ℕ) → from + count ≤ length season.scores
+-- the results of some fixtures are such as a season with that many may take
+reported-from : (season : Results) (seed from count : ℕ) → from + count ≤ length season.scores
     → All (IsEventOf season) (map (sample_event seed) (range_with_len from count))
 unfolding sample_event
-told-from season seed from zero few = All-nil (IsEventOf season)
-told-from season seed from (suc count) few =
+reported-from season seed from zero few = All-nil (IsEventOf season)
+reported-from season seed from (suc count) few =
     All-cons (IsEventOf season) (sample_event seed from)
     (map (sample_event seed) (range_with_len (from + 1) count)) (
       omega (arith, few),
@@ -74,13 +74,14 @@ told-from season seed from (suc count) few =
           (drawn-below (state_after seed (2 * from + 1)))
           (drawn-below (state_after seed (2 * from + 2))),
     )
-    (told-from season seed (from + 1) count (omega (arith, few)))
+    (reported-from season seed (from + 1) count (omega (arith, few)))
 
--- the sample's results are such as a season of its sheet may be told
+-- the sample's results are such as a season of its sheet may take
 pub sample_told : (seed : ℕ) → AreEventsOf sample_sheet (sample_events seed)
 unfolding sample_sheet sample_events
 sample_told seed =
-    told-from (unplayed_season (length sample_sheet.clubs) (length sample_sheet.fixtures)) seed 0
+    reported-from (unplayed_season (length sample_sheet.clubs)
+    (length sample_sheet.fixtures)) seed 0
     114 (lit≤ tt)
 
 -- the sheet is within the limits

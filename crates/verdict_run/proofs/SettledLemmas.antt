@@ -1,5 +1,5 @@
--- Where no number is out and there is no work left, the work on each question is done: what that
--- means for its tree and its units.
+-- If no number is out and there is no work left, the work on each question is done: what that means
+-- for its tree and its units.
 use Rattle.std.proofs.Common.{◌≡◌, ◌≢◌, ℕ, Bool, true, false}
 use Rattle.std.proofs.Common.{◌||◌, ◌==◌, List, [], ◌∷◌, length, Option, Some, refl}
 use Rattle.std.proofs.Common.{sym}
@@ -25,10 +25,10 @@ use Rattle.branch_pool.specs.inside.Calls.{answer_without, answer_of}
 use Rattle.branch_pool.specs.inside.States.{PoolView, out_count, present_epoch}
 use Rattle.branch_pool.specs.inside.Goodness.{IsSoundPool, IsGoodSeat, zones_due}
 use Rattle.branch_pool.proofs.RunLemmas.{nothing_out}
-use Rattle.verdict_run.specs.NewTrees.{is_all_new}
+use Rattle.answer_rows.specs.NewTrees.{is_all_new}
 use Rattle.verdict_run.specs.inside.Working.{is_settled, AreSettled, is_known, AreAllNew}
 
--- where no number is out, no leaf is lent
+-- if no number is out, no leaf is lent
 pub none_lent : (pool : PoolView) (place : ℕ) (seat : QuestionState) → IsSoundPool pool
     → out_count pool.loans ≡ 0 → slice_get pool.seats place ≡ Some seat → lent_count seat.tree ≡ 0
 none_lent pool place seat sound home found =
@@ -45,7 +45,7 @@ not_yet_by false true used open_yet = absurd (true≢false open_yet)
 not_yet_by false false true open_yet = absurd (true≢false open_yet)
 not_yet_by false false false open_yet = refl
 
--- where no question is answered by `NotYet`, the work on each is done
+-- if no question is answered by `NotYet`, the work on each is done
 pub settled_at : (pool : PoolView) (place : ℕ) (seat : QuestionState) → AreSettled pool
     → slice_get pool.seats place ≡ Some seat → is_settled pool.sheet seat ≡ true
 settled_at pool place seat settled found =

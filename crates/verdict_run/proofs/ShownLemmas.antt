@@ -29,14 +29,15 @@ use Rattle.branch_pool.specs.declared.question_state.Example.{Example}
 use Rattle.branch_pool.specs.declared.question_state.QuestionState.{QuestionState}
 use Rattle.branch_pool.specs.inside.States.{PoolView, out_count, has_work}
 use Rattle.branch_pool.specs.inside.Goodness.{IsSoundPool, IsGoodSeat, IsGoodNode, IsExampleOf}
-use Rattle.branch_pool.specs.inside.Steps.{seat_lent, seat_given, leaf_given}
+use Rattle.reason_core.specs.inside.Dones.{finding_of}
+use Rattle.branch_pool.specs.inside.Steps.{seat_lent, seat_after, leaf_after}
 use Rattle.branch_pool.proofs.RunLemmas.{no_work_answers}
 use Rattle.branch_pool.specs.inside.Runs.{WorksNext}
 use Rattle.branch_pool.proofs.GoodLemmas.{seat_proper}
 use Rattle.verdict_run.specs.inside.Working.{WorksTo, no_turn, one_turn_more, is_settled, is_known}
 use Rattle.verdict_run.specs.inside.Working.{AreSettled, AreAllNew, AreDecided, IsEnough}
-use Rattle.verdict_run.specs.NewTrees.{is_all_new}
-use Rattle.verdict_run.proofs.NewTreeLemmas.{is_all_new-put, is_all_new-lend, given_new}
+use Rattle.answer_rows.specs.NewTrees.{is_all_new}
+use Rattle.verdict_run.proofs.NewTreeLemmas.{is_all_new-put, is_all_new-lend, leaf_is_new}
 use Rattle.verdict_run.proofs.SettledLemmas.{seat_spent, settled_at, IsOnlySeat}
 use Rattle.verdict_run.proofs.WorkLemmas.{works_home}
 
@@ -140,9 +141,10 @@ turn_new old new turn all =
     ap (λ (seat : QuestionState). is_all_new seat.tree)
     (sym (get_or_from_slice_get turn.between.seats place held held found))
     ∙ between_all place held (slice_get_within turn.between.seats place held found) in
-    let given = seat_given turn.ticket.number turn.done held in
+    let given = seat_after turn.ticket.number (finding_of turn.done) held in
     let given_is_new : is_all_new given.tree ≡ true =
-    is_all_new-put turn.ticket.number (leaf_given turn.done) held.tree (given_new turn.done)
+    is_all_new-put turn.ticket.number (leaf_after (finding_of turn.done)) held.tree
+    (leaf_is_new (finding_of turn.done))
     held_new in
     let P : List QuestionState → Type 0 = λ xs. All IsNew xs in
     subst P (sym (ap (λ pool. pool.seats) turn.kept.after))

@@ -28,14 +28,14 @@ use Rattle.branch_pool.specs.inside.Goodness.{IsSoundPool, IsGoodSeat}
 use Rattle.verdict_run.specs.declared.part.Known.{Known}
 use Rattle.verdict_run.specs.declared.part.Known.TheVariants.{Won, Refuted, Spent}
 use Rattle.verdict_run.specs.declared.part.Part.{Part}
-use Rattle.verdict_run.specs.declared.word.Word.{Word}
-use Rattle.verdict_run.specs.declared.word.Word.TheVariants.{Clinched, Lost, Possible, Unsettled}
-use Rattle.verdict_run.specs.declared.word.Verdict.{Verdict}
+use Rattle.answer_rows.specs.declared.word.Word.{Word}
+use Rattle.answer_rows.specs.declared.word.Word.TheVariants.{Clinched, Lost, Possible, Unsettled}
+use Rattle.answer_rows.specs.declared.word.Verdict.{Verdict}
 use Rattle.verdict_run.specs.inside.AskedQuestions.{both_questions, questions_of_line, questions_of}
 use Rattle.verdict_run.specs.inside.Working.{IsEnough}
-use Rattle.verdict_run.specs.Items.{AnswerRow, answer_rows, answer_rows_of, IsItemShown}
-use Rattle.verdict_run.specs.Items.{RefutesIfAsked, answer_row, IsShownVerdict, AreVerdictsOf}
-use Rattle.verdict_run.specs.inside.ItemRanges.{IsInRange, AreInRange, lines_shown}
+use Rattle.answer_rows.specs.Items.{AnswerRow, answer_rows, answer_rows_of, IsItemShown}
+use Rattle.answer_rows.specs.Items.{RefutesIfAsked, answer_row, IsShownVerdict, AreVerdictsOf}
+use Rattle.answer_rows.specs.inside.ItemRanges.{IsInRange, AreInRange, lines_shown}
 use Rattle.verdict_run.specs.inside.Verdicts.{AreKnownIfEnough}
 use Rattle.verdict_run.specs.inside.Parts.{IsPart, IsAnswerPart, IsRefutedPart, AsksBoth}
 use Rattle.verdict_run.specs.inside.Parts.{IsAnswered, word_by, proof_by}
@@ -174,7 +174,7 @@ range_by Unsettled first second one two =
     list_all-append is_in_range first second
     ∙ and_from (list_all is_in_range first) (list_all is_in_range second) one two
 
--- where nothing is spent nothing is unsettled
+-- if nothing is spent nothing is unsettled
 known_by : (inside outside : Known) → inside ≢ Spent → outside ≢ Spent
     → word_by inside outside ≢ Unsettled
 known_by Refuted outside one two = λ e. cc
@@ -326,7 +326,7 @@ row_club pool place row sound asks =
     (sound.questions place question
     (slice_get_within pool.questions place question asks.inside))).club
 
--- where the second question of a row is refuted, the first one is not
+-- if the second question of a row is refuted, the first one is not
 pub not_refuted_too : (pool : PoolView) (place : ℕ) (row : AnswerRow) (outside : Part)
     (seat : QuestionState) → IsSoundPool pool → AsksBoth pool place row
     → IsRefutedPart pool.sheet pool.season (full_question row.club row.line Outside) outside

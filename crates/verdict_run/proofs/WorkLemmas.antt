@@ -1,5 +1,5 @@
 -- What a turn of work leaves as it was, that it leaves less to do, and that nothing is out after it
--- where nothing was out before.
+-- if nothing was out before.
 use Rattle.std.proofs.Common.{◌≡◌, ℕ, suc, ◌+◌, ◌-◌, ◌<◌, true}
 use Rattle.std.proofs.Common.{List, [], ◌∷◌, Option, Some, None, refl, sym, ap, ◌∙◌}
 use Rattle.std.proofs.Common.{subst, arith, set, cond}
@@ -11,12 +11,13 @@ use Rattle.std.proofs.lemmas.List.Sums.{sum_by-set, sum_by-cons}
 use Rattle.league_core.specs.declared.sheet.Sheet.{Sheet}
 use Rattle.reason_core.specs.declared.done.Done.{Done}
 use Rattle.reason_core.specs.declared.done.Done.TheVariants.{Refuted, Split, Won, Undone}
+use Rattle.reason_core.specs.inside.Dones.{finding_of}
 use Rattle.branch_pool.specs.declared.question_state.Example.{Example}
 use Rattle.branch_pool.specs.declared.question_state.QuestionState.{QuestionState}
 use Rattle.branch_pool.specs.declared.question_state.Loan.{Loan}
 use Rattle.branch_pool.specs.inside.States.{PoolView, is_workable, free_number, with_loan}
 use Rattle.branch_pool.specs.inside.States.{out_count}
-use Rattle.branch_pool.specs.inside.Steps.{seat_lent, seat_given, units_given, example_given}
+use Rattle.branch_pool.specs.inside.Steps.{seat_lent, seat_after, units_after, example_after}
 use Rattle.branch_pool.specs.inside.Steps.{loan_of}
 use Rattle.branch_pool.proofs.SlotLemmas.{slice_get-set_same}
 use Rattle.branch_pool.specs.inside.Runs.{WorksNext, IsWorked}
@@ -87,8 +88,8 @@ works_home old new (one_turn_more first between last before turn) =
 
 -- ---- what is left to do
 
--- how much is left to do for a question at most, where no example is kept: the units that it has
--- not used, and one for the example
+-- how much is left to do for a question at most, if no example is kept: the units that it has not
+-- used, and one for the example
 abbrev pub left_if : ℕ → ℕ → Option Example → ℕ
 left_if budget units None = suc (budget - units)
 left_if budget units (Some example) = 0
@@ -127,8 +128,8 @@ workable_left sheet seat workable =
 
 -- what was found leaves less to do
 found_less : (budget units : ℕ) (done : Done) → units < budget → IsWorked done
-    → left_if budget (units + units_given done) (example_given None done) < left_if budget units
-    None
+    → left_if budget (units + units_after (finding_of done))
+    (example_after None (finding_of done)) < left_if budget units None
 found_less budget units (Refuted piece reason) within worked = omega (arith, within)
 found_less budget units (Split piece literal) within worked = omega (arith, within)
 found_less budget units (Won piece finish lots) within worked = omega arith
@@ -145,9 +146,10 @@ unfolding turns_left
 turn_less old new turn =
     let budget = old.sheet.budget in
     let place = turn.ticket.place in
+    let what = finding_of turn.done in
     let was = turn.taken.takes.seat in
     let lent = seat_lent turn.taken.takes.tree was in
-    let given = seat_given turn.ticket.number turn.done lent in
+    let given = seat_after turn.ticket.number what lent in
     let seats = set old.seats place lent in
     let last = set seats place given in
     let workable = workable_left old.sheet was turn.taken.takes.workable in
@@ -157,25 +159,25 @@ turn_less old new turn =
     let seen : slice_get turn.between.seats place ≡ Some turn.kept.seat = turn.kept.found in
     let is : turn.kept.seat ≡ lent = cc (ap (λ xs. slice_get xs place) there) in
     let ends : new ≡ record turn.between {
-      seats = set turn.between.seats place (seat_given turn.ticket.number turn.done turn.kept.seat);
+      seats = set turn.between.seats place (seat_after turn.ticket.number what turn.kept.seat);
       loans = set turn.between.loans turn.ticket.number None;
     } = turn.kept.after in
     let sheet_is : new.sheet ≡ old.sheet = (turn_same old new turn).sheet in
     let seats_are : new.seats ≡ last =
     ap (λ pool. pool.seats) ends
-    ∙ ap (λ xs. set xs place (seat_given turn.ticket.number turn.done turn.kept.seat)) there
-    ∙ ap (λ seat. set seats place (seat_given turn.ticket.number turn.done seat)) is in
+    ∙ ap (λ xs. set xs place (seat_after turn.ticket.number what turn.kept.seat)) there
+    ∙ ap (λ seat. set seats place (seat_after turn.ticket.number what seat)) is in
     let sum_is : turns_left new ≡ sum_by (left_of budget) last =
     ap (λ sheet. sum_by (left_of sheet.budget) new.seats) sheet_is
     ∙ ap (sum_by (left_of budget)) seats_are in
     let one = sum-set budget old.seats place was lent turn.taken.takes.found in
     let two = sum-set budget seats place lent given found in
     let none : was.example ≡ None = workable.0 in
-    let less : left_if budget (was.units + units_given turn.done)
-    (example_given None turn.done) < left_if budget was.units None =
+    let less : left_if budget (was.units + units_after what) (example_after None what)
+    < left_if budget was.units None =
     found_less budget was.units turn.done workable.1 turn.worked in
     let P : Option Example → Type 0 = λ kept.
-    left_if budget (was.units + units_given turn.done) (example_given kept turn.done)
+    left_if budget (was.units + units_after what) (example_after kept what)
     < left_if budget was.units kept in
     let fewer : left_of budget given < left_of budget was = subst P (sym none) less in
     less_sum (sum_by (left_of budget) last) (sum_by (left_of budget) seats)

@@ -1,6 +1,4 @@
--- Reading order: trees made in one epoch, what an answer says, and the league that comes from a
--- number.
-pub mod NewTrees
-pub mod Items
+-- Reading order: the league that comes from a number, and what is counted in it.
 pub mod Samples
+pub mod SampleCounts
 pub mod inside

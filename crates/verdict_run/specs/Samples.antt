@@ -34,8 +34,8 @@ first_of turn pair = (turn + pair) % 11
 abbrev pub second_of : ℕ → ℕ → ℕ
 second_of turn pair = if pair == 0 then 11 else (turn + 11 - pair) % 11
 
--- the first of a pair is at home in the even rounds of the first half, and in the second half where
--- it was away in the first
+-- the first of a pair is at home in the even rounds of the first half, and in the second half if it
+-- was away in the first
 abbrev pub is_first_at_home : ℕ → ℕ → Bool
 is_first_at_home half turn = (half + turn) % 2 == 0
 

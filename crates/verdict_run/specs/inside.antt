@@ -2,9 +2,12 @@
 -- these words. Read in this order.
 pub mod AskedQuestions
 pub mod Working
-pub mod ItemRanges
 pub mod Verdicts
 pub mod Solving
 pub mod Parts
 pub mod Kept
-pub mod Telling
+pub mod SeasonReports
+pub mod Completeness
+pub mod SeasonAnswers
+pub mod TableLaws
+pub mod SamplePools

@@ -1,25 +1,25 @@
 //! The verdicts of a pool on which the work is done.
 
 ghost use Rattle.std.specs.Prelude.{◌≡◌, ◌+◌, ◌<◌, ◌++◌, IfOk, length};
-ghost use Rattle.verdict_run.specs.declared.word.Verdict.{Verdict};
+ghost use Rattle.answer_rows.specs.declared.word.Verdict.{Verdict};
 ghost use Rattle.verdict_run.specs.inside.AskedQuestions.{questions_of};
 ghost use Rattle.verdict_run.specs.inside.Working.{AreSettled};
-ghost use Rattle.verdict_run.specs.Items.{AnswerRow, AreVerdictsOf};
-ghost use Rattle.verdict_run.specs.inside.ItemRanges.{AreInRange};
+ghost use Rattle.answer_rows.specs.Items.{AnswerRow, AreVerdictsOf};
+ghost use Rattle.answer_rows.specs.inside.ItemRanges.{AreInRange};
 ghost use Rattle.verdict_run.specs.inside.Parts.{AsksBoth, IsAnswered, word_by, proof_by};
 ghost use Rattle.verdict_run.specs.inside.Kept.{IsOfPool, AreOfPool};
 ghost use Rattle.verdict_run.specs.inside.Verdicts.{AreKnownIfEnough};
 
 use crate::part::{Known, Part, part_of, refuted_at};
-use crate::word::{Verdict, Word};
+use answer_rows::{Verdict, Word};
 use branch_pool::Pool;
 use cert_text::ProofLine;
 use league_core::OutOfMemory;
 use std::alloc::Global;
 
-/// The verdict of each line and club, in the order of the questions. Where the budget was spent on
-/// a tree that is not all of this epoch, the question is worked on once more from its root; else
-/// each verdict is what the pool keeps.
+/// The verdict of each line and club, in the order of the questions. If the budget was spent on a
+/// tree that is not all of this epoch, the question is worked on once more from its root; else each
+/// verdict is what the pool keeps.
 pub fn verdicts(alloc: Global, pool: &Pool) -> Result<Vec<Verdict>, OutOfMemory>
     requires asked { pool.now.questions ≡ questions_of pool.now.sheet }
     requires settled { AreSettled pool.now }

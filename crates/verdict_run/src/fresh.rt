@@ -7,7 +7,7 @@ ghost use Rattle.league_core.specs.game.Questions.{IsQuestionOf};
 ghost use Rattle.verdict_run.specs.inside.Working.{AreSettled, AreAllNew};
 ghost use Rattle.verdict_run.specs.inside.Solving.{IsSolved};
 
-use crate::telling::tell_season;
+use crate::reporting::report_season;
 use crate::turns::finish;
 use branch_pool::{Example, Pool, QuestionState};
 use league_core::{Finish, Lots, OutOfMemory, Question, Season, Sheet};
@@ -40,7 +40,7 @@ pub fn solve_fresh(
     let asked = Vec::from_slice(alloc, &[*question])?;
     let sheet = sheet.copy(alloc)?;
     let mut pool = Pool::begin(alloc, sheet, asked)?;
-    tell_season(&mut pool, season)?;
+    report_season(&mut pool, season)?;
     let pool = finish(alloc, pool)?;
     Ok(kept_of(pool))
 }

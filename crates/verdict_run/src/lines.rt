@@ -138,7 +138,7 @@ fn push_scores(
     Ok(())
 }
 
-// The line of a fixture, by its number from 0, where the season has no score for it.
+// The line of a fixture, by its number from 0, if the season has no score for it.
 fn push_score_if(
     lines: &mut Vec<ProofLine>,
     fixture: u16,

@@ -9,7 +9,7 @@ ghost use Rattle.cert_text.specs.TreeLines.{IsFairSpentTree, IsRefutationTree};
 ghost use Rattle.cert_text.specs.TreeLines.{plain_lines, marked_lines};
 ghost use Rattle.cert_text.specs.TreeLines.{with_tree_head, with_spent_head};
 ghost use Rattle.cert_text.specs.ExampleLines as shown;
-ghost use Rattle.verdict_run.specs.NewTrees.{is_all_new, is_not_old};
+ghost use Rattle.answer_rows.specs.NewTrees.{is_all_new, is_not_old};
 ghost use Rattle.verdict_run.specs.inside.Working.{AreSettled, IsEnough};
 ghost use Rattle.verdict_run.specs.inside.Parts.{IsAnswerPart, IsPartAt, IsDoneSeat, IsRefutedPart};
 ghost use Rattle.verdict_run.specs.inside.Parts.{IsRefutedAt};
@@ -38,8 +38,8 @@ pub(crate) struct Part {
     pub(crate) lines: Vec<ProofLine>,
 }
 
-/// The part of the question at a place. A tree that is not all new is no part of an answer: where
-/// the budget was spent on one, the question is worked on once more from its root.
+/// The part of the question at a place. A tree that is not all new is no part of an answer: if the
+/// budget was spent on one, the question is worked on once more from its root.
 pub(crate) fn part_of(alloc: Global, pool: &Pool, place: u16) -> Result<Part, OutOfMemory>
     requires in_range { place < length pool.now.questions }
     requires settled { AreSettled pool.now }
@@ -52,7 +52,7 @@ pub(crate) fn part_of(alloc: Global, pool: &Pool, place: u16) -> Result<Part, Ou
     part_of_seat(alloc, pool.sheet(), pool.season(), pool.seat(place))
 }
 
-/// The part of the question at a place, where its tree is refuted.
+/// The part of the question at a place, if its tree is refuted.
 pub(crate) fn refuted_at(
     alloc: Global,
     pool: &Pool,

@@ -38,7 +38,7 @@ fn finish_in_place(alloc: Global, pool: &mut Pool) -> Result<(), OutOfMemory>
     finish_season(alloc, &sheet, &season, pool)
 }
 
-// The same, where the sheet and the season are the pool's.
+// The same, if the sheet and the season are the pool's.
 fn finish_season(
     alloc: Global,
     sheet: &Sheet,
@@ -55,7 +55,7 @@ fn finish_season(
     finish_over(alloc, &played, pool)
 }
 
-// The same, where the tables are of the pool's sheet and season.
+// The same, if the tables are of the pool's sheet and season.
 fn finish_over(alloc: Global, played: &Played, pool: &mut Pool) -> Result<(), OutOfMemory>
     requires sheet { played.now.sheet ≡ pool.old.sheet }
     requires season { played.now.season ≡ pool.old.season }

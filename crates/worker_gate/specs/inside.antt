@@ -1,7 +1,6 @@
--- Reading order: what a round passes and tells, where its reading stops, the law of rounds; then
--- what a worker and a feeder go on with.
+-- Reading order: what ends a round, what a feeder does, what a worker has and goes on with, and
+-- what a round with workers begins with. What a round passes and tells stands in result_log.
 pub mod Rounds
-pub mod LastReads
-pub mod Laws
-pub mod Workers
 pub mod Feeding
+pub mod Workers
+pub mod Starts

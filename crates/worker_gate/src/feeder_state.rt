@@ -1,4 +1,4 @@
-//! What the one who reports has of the feed, and of the lock.
+//! What the feeder has of the feed, and of the lock.
 
 ghost use Rattle.std.specs.Prelude.{◌≡◌, ◌++◌, ◌∷◌, [], ◌<◌, OnErr, OnOk, length, true};
 ghost use Rattle.league_core.specs.game.Limits.{most_events};
@@ -22,18 +22,19 @@ pub struct FeederState<J: Job> {
 }
 
 impl<J: Job> FeederState<J> {
-    /// Reports an event that the season may be told.
+    /// Reports an event that may come in the season.
     pub fn report<R: Wait>(
         &mut self,
         rt: &R,
         lock: &PoolLock<J>,
         event: Event,
     ) -> Result<(), OutOfMemory>
-        requires told { IsSeasonReported J.sheet self.old.front self.old.season self.old.events }
+        requires reported { IsSeasonReported J.sheet self.old.front self.old.season
+            self.old.events }
         requires may_be { IsEventOf self.old.season event }
         requires room { self.old.events < most_events }
         ensures front { OnOk result (self.new.front ≡ self.old.front ++ event ∷ []) }
-        ensures told { OnOk result
+        ensures reported { OnOk result
             (IsSeasonReported J.sheet self.new.front self.new.season self.new.events) }
     {
         match lock.report(rt, &mut self.front, event) {
@@ -55,7 +56,7 @@ impl<J: Job> FeederState<J> {
         self.is_shut = true;
     }
 
-    /// The pool, where no event will come any more.
+    /// The pool, if no event will come any more.
     pub fn close(self, lock: PoolLock<J>) -> Pool
         requires { self.is_shut ≡ true }
         ensures log { result.log ≡ self.front }

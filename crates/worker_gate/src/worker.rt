@@ -3,12 +3,13 @@
 ghost use Rattle.std.specs.Prelude.{◌≡◌, IfErr, IfOk};
 ghost use mathlib.Core.List.{IsPrefix};
 ghost use Rattle.league_core.specs.game.Sheets.{IsWithinLimits};
-ghost use Rattle.league_core.specs.game.Seasons.{IsLeague};
 ghost use Rattle.pool_lock.specs.inside.Lends.{IsWorkAfter};
-ghost use Rattle.worker_gate.specs.inside.Workers.{IsEndFor, IsNextFor};
+ghost use Rattle.worker_gate.specs.inside.Workers.{HasWork, IsCrewFor, IsEndFor, IsNextFor};
+ghost use Rattle.worker_gate.specs.inside.Workers.{IsSameSolver};
 
+use crate::crew::{Crew, WorkerId};
 use crate::gate::Gate;
-use crate::next::{Next, WorkerId, give_up, pass_on, take_next};
+use crate::next::{Next, give_up, pass_on, take_next};
 use crate::piece::find_at;
 use crate::sole_worker::go_on;
 use branch_pool::Ticket;
@@ -33,7 +34,7 @@ pub enum WorkerEnd {
 /// Works on tickets until the lock has nothing more to lend. The gate hears where the worker is:
 /// after each loan, after each piece of work, after each return; `worker` is its number, from 0.
 ///
-/// A ticket goes back undone where an event has come since it was lent: the worker looks for that
+/// A ticket goes back undone if an event has come since it was lent: the worker looks for that
 /// before it works, and again before it gives back. A worker with the lock's only badge works in
 /// the pool itself once no event will come: then there are no tickets, and the gate hears of its
 /// work only.
@@ -51,16 +52,27 @@ pub fn run_worker<J: Job, R: Wait, G: Gate>(
     ensures end { IsEndFor badge.new result }
     ensures begins { IsPrefix badge.old.list badge.new.list }
 {
-    let role = WorkerId {
-        number: worker,
-        is_sole: badge.is_alone(),
+    work(&Crew::new(rt, alloc, sheet, lock, gate), badge, worker)
+}
+
+/// The same for a worker of a crew.
+pub fn work<J: Job, R: Wait, G: Gate>(
+    crew: &Crew<J, R, G>,
+    badge: &mut WorkBadge<J>,
+    number: u8,
+) -> WorkerEnd
+    requires crew { IsCrewFor J.sheet crew.now.sheet.now }
+    ensures end { IsEndFor badge.new result }
+    ensures begins { IsPrefix badge.old.list badge.new.list }
+{
+    let worker = WorkerId {
+        number,
+        is_sole: badge.is_sole(),
     };
-    let mut next = take_next(rt, lock, badge, role, gate);
-    for _ in rt.forever() {
+    let mut next = take_next(crew, badge, worker);
+    for _ in crew.rt.forever() {
         match next {
-            Next::Work(ticket) => {
-                next = work_epoch(rt, alloc, sheet, lock, badge, role, gate, ticket);
-            }
+            Next::Work(ticket) => next = work_epoch(crew, badge, worker, ticket),
             Next::Over => return WorkerEnd::Over,
             Next::Memory => return WorkerEnd::Memory,
         }
@@ -70,97 +82,76 @@ pub fn run_worker<J: Job, R: Wait, G: Gate>(
 
 // Works on the ticket, and on those that follow it in its season.
 fn work_epoch<J: Job, R: Wait, G: Gate>(
-    rt: &R,
-    alloc: Global,
-    sheet: &Sheet,
-    lock: &PoolLock<J>,
+    crew: &Crew<J, R, G>,
     badge: &mut WorkBadge<J>,
-    role: WorkerId,
-    gate: &G,
+    worker: WorkerId,
     ticket: Ticket,
 ) -> Next
-    requires of_job { sheet.now ≡ J.sheet }
-    requires limits { IsWithinLimits sheet.now }
+    requires crew { IsCrewFor J.sheet crew.now.sheet.now }
     requires work { IsWorkAfter J.sheet badge.old.list ticket }
     ensures next { IsNextFor J.sheet badge.new result }
     ensures begins { IsPrefix badge.old.list badge.new.list }
 {
-    match ticket.piece.season.copy(alloc) {
-        Ok(season) => work_season(rt, alloc, sheet, &season, lock, badge, role, gate, ticket),
-        Err(OutOfMemory) => give_up(rt, lock, badge, role, gate, ticket),
+    match ticket.piece.season.copy(crew.alloc) {
+        Ok(season) => work_season(crew, &season, badge, worker, ticket),
+        Err(OutOfMemory) => give_up(crew, badge, worker, ticket),
     }
 }
 
 fn work_season<J: Job, R: Wait, G: Gate>(
-    rt: &R,
-    alloc: Global,
-    sheet: &Sheet,
+    crew: &Crew<J, R, G>,
     season: &Season,
-    lock: &PoolLock<J>,
     badge: &mut WorkBadge<J>,
-    role: WorkerId,
-    gate: &G,
+    worker: WorkerId,
     ticket: Ticket,
 ) -> Next
-    requires of_job { sheet.now ≡ J.sheet }
-    requires limits { IsWithinLimits sheet.now }
+    requires crew { IsCrewFor J.sheet crew.now.sheet.now }
     requires season { season.now ≡ ticket.piece.season }
     requires work { IsWorkAfter J.sheet badge.old.list ticket }
     ensures next { IsNextFor J.sheet badge.new result }
     ensures begins { IsPrefix badge.old.list badge.new.list }
 {
-    match Played::of(alloc, sheet, season) {
-        Ok(played) => work_over(rt, alloc, &played, lock, badge, role, gate, ticket),
-        Err(OutOfMemory) => give_up(rt, lock, badge, role, gate, ticket),
+    match Played::of(crew.alloc, crew.sheet, season) {
+        Ok(played) => work_over(crew, &played, badge, worker, ticket),
+        Err(OutOfMemory) => give_up(crew, badge, worker, ticket),
     }
 }
 
 // The same, over the tables of that season.
 fn work_over<J: Job, R: Wait, G: Gate>(
-    rt: &R,
-    alloc: Global,
+    crew: &Crew<J, R, G>,
     played: &Played,
-    lock: &PoolLock<J>,
     badge: &mut WorkBadge<J>,
-    role: WorkerId,
-    gate: &G,
+    worker: WorkerId,
     ticket: Ticket,
 ) -> Next
-    requires of_job { played.now.sheet ≡ J.sheet }
-    requires season { played.now.season ≡ ticket.piece.season }
-    requires work { IsWorkAfter J.sheet badge.old.list ticket }
+    requires work { HasWork J.sheet badge.old.list played.now.sheet played.now.season ticket }
     ensures next { IsNextFor J.sheet badge.new result }
     ensures begins { IsPrefix badge.old.list badge.new.list }
 {
-    match ZoneSolver::new(alloc, played) {
-        Ok(mut solver) => work_on(rt, lock, badge, role, gate, &mut solver, ticket),
-        Err(OutOfMemory) => give_up(rt, lock, badge, role, gate, ticket),
+    match ZoneSolver::new(crew.alloc, played) {
+        Ok(mut solver) => work_on(crew, badge, worker, &mut solver, ticket),
+        Err(OutOfMemory) => give_up(crew, badge, worker, ticket),
     }
 }
 
 // Works on by one solver, until a ticket of another epoch comes.
 fn work_on<J: Job, R: Wait, G: Gate, W: Solver>(
-    rt: &R,
-    lock: &PoolLock<J>,
+    crew: &Crew<J, R, G>,
     badge: &mut WorkBadge<J>,
-    role: WorkerId,
-    gate: &G,
+    worker: WorkerId,
     solver: &mut W,
     ticket: Ticket,
 ) -> Next
-    requires sheet { W.sheet solver.old ≡ J.sheet }
-    requires season { W.season solver.old ≡ ticket.piece.season }
-    requires work { IsWorkAfter J.sheet badge.old.list ticket }
+    requires work { HasWork J.sheet badge.old.list (W.sheet solver.old) (W.season solver.old)
+        ticket }
     ensures next { IsNextFor J.sheet badge.new result }
     ensures begins { IsPrefix badge.old.list badge.new.list }
 {
     let epoch = ticket.epoch;
     let mut ticket = ticket;
-    for _ in rt.forever() {
-        match of_epoch(
-            take_turn(rt, lock, badge, role, gate, solver, ticket),
-            epoch,
-        ) {
+    for _ in crew.rt.forever() {
+        match of_epoch(take_turn(crew, badge, worker, solver, ticket), epoch) {
             Ok(next) => ticket = next,
             Err(next) => return next,
         }
@@ -168,7 +159,7 @@ fn work_on<J: Job, R: Wait, G: Gate, W: Solver>(
     unreachable!()
 }
 
-// The ticket that comes next, where it is of that epoch.
+// The ticket that comes next, if it is of that epoch.
 fn of_epoch(next: Next, epoch: u64) -> Result<Ticket, Next>
     ensures ok { IfOk result (λ ticket. next ≡ Next.Work ticket) }
     ensures epoch { IfOk result (λ ticket. ticket.epoch ≡ epoch) }
@@ -182,25 +173,21 @@ fn of_epoch(next: Next, epoch: u64) -> Result<Ticket, Next>
 
 // Works on the ticket, gives it back, and takes the next one.
 fn take_turn<J: Job, R: Wait, G: Gate, W: Solver>(
-    rt: &R,
-    lock: &PoolLock<J>,
+    crew: &Crew<J, R, G>,
     badge: &mut WorkBadge<J>,
-    role: WorkerId,
-    gate: &G,
+    worker: WorkerId,
     solver: &mut W,
     ticket: Ticket,
 ) -> Next
-    requires sheet { W.sheet solver.old ≡ J.sheet }
-    requires season { W.season solver.old ≡ ticket.piece.season }
-    requires work { IsWorkAfter J.sheet badge.old.list ticket }
+    requires work { HasWork J.sheet badge.old.list (W.sheet solver.old) (W.season solver.old)
+        ticket }
     ensures next { IsNextFor J.sheet badge.new result }
     ensures begins { IsPrefix badge.old.list badge.new.list }
-    ensures same_sheet { W.sheet solver.new ≡ W.sheet solver.old }
-    ensures same_season { W.season solver.new ≡ W.season solver.old }
+    ensures same { IsSameSolver W.sheet W.season solver.old solver.new }
 {
-    match find_at(lock, badge, role.number, gate, solver, &ticket) {
-        Ok(Some(found)) => go_on(rt, lock, badge, role, gate, solver, ticket, found),
-        Ok(None) => pass_on(rt, lock, badge, role, gate, ticket),
-        Err(OutOfMemory) => give_up(rt, lock, badge, role, gate, ticket),
+    match find_at(crew, badge, worker, solver, &ticket) {
+        Ok(Some(found)) => go_on(crew, badge, worker, solver, ticket, found),
+        Ok(None) => pass_on(crew, badge, worker, ticket),
+        Err(OutOfMemory) => give_up(crew, badge, worker, ticket),
     }
 }

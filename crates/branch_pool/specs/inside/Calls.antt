@@ -13,11 +13,7 @@ use Rattle.league_core.specs.game.Questions.{IsQuestionOf}
 use Rattle.league_core.specs.search.Zones.{IsZoneFor}
 use Rattle.league_core.specs.search.Options.{has_finish}
 use Rattle.league_core.specs.search.Trees.{Tree, is_refuted}
-use Rattle.reason_core.specs.declared.piece.Piece.{Piece}
-use Rattle.reason_core.specs.declared.done.Done.{Done}
-use Rattle.reason_core.specs.declared.done.Done.TheVariants.{Refuted, Split, Won, Undone}
 use Rattle.reason_core.specs.declared.finding.Finding.{Finding}
-use Rattle.reason_core.specs.inside.Dones.{done_of}
 use Rattle.branch_pool.specs.declared.question_state.Example.{Example}
 use Rattle.branch_pool.specs.declared.discarded.Discarded.{Discarded}
 use Rattle.branch_pool.specs.declared.question_state.QuestionState.{QuestionState}
@@ -29,7 +25,7 @@ use Rattle.branch_pool.specs.declared.ticket.Ticket.{Ticket}
 use Rattle.branch_pool.specs.declared.ticket.Took.{Took}
 use Rattle.branch_pool.specs.declared.ticket.Took.TheVariants.{Lent, Rest, Over, OutOfMemory}
 use Rattle.branch_pool.specs.inside.States.{PoolView, is_workable, has_work, out_count}
-use Rattle.branch_pool.specs.inside.Steps.{TakesLeaf}
+use Rattle.branch_pool.specs.inside.Steps.{TakesLeaf, example_in}
 
 -- ---- take
 
@@ -83,11 +79,11 @@ IsFitIfLent pool Rest = Unit {0}
 IsFitIfLent pool Over = Unit {0}
 IsFitIfLent pool OutOfMemory = Unit {0}
 
--- a spare season is not spare any more where it is this one, and else is as before
+-- a spare season is not spare any more if it is this one, and otherwise is as before
 abbrev pub IsSpareUsed : Results → Option Results → Option Results → Type 0
 IsSpareUsed season old new = (old ≡ Some season → new ≡ None) × (old ≢ Some season → new ≡ old)
 
--- what is left of a spare season: it goes along with a ticket that is lent, where it is the season
+-- what is left of a spare season: it goes along with a ticket that is lent, if it is the season
 -- of the pool
 abbrev pub LeavesSpare : Results → Took → Option Results → Option Results → Type 0
 LeavesSpare season (Lent ticket) old new = IsSpareUsed season old new
@@ -97,48 +93,26 @@ LeavesSpare season OutOfMemory old new = new ≡ old
 
 -- ---- give
 
--- the piece that was worked on
-abbrev pub piece_done : Done → Option Piece
-piece_done (Refuted piece reason) = Some piece
-piece_done (Split piece literal) = Some piece
-piece_done (Won piece finish lots) = Some piece
-piece_done Undone = None
+-- the example that was found, if another is kept already
+abbrev pub example_over : Option Example → Option Finding → Option Example
+example_over None finding = None
+example_over (Some example) finding = example_in finding
 
--- the example that was found
-abbrev pub example_done : Done → Option Example
-example_done (Refuted piece reason) = None
-example_done (Split piece literal) = None
-example_done (Won piece finish lots) = Some (record { finish = finish; lots = lots })
-example_done Undone = None
-
--- the example that was found, where another is kept already
-abbrev pub example_over : Option Example → Done → Option Example
-example_over None done = None
-example_over (Some example) done = example_done done
-
--- the example that is left over: where what was done is kept, the one beside another; where it is
--- stale, any
-abbrev pub IsExampleLeft : PoolView → Ticket → Done → Gave → Option Example → Type 0
-IsExampleLeft old ticket done Kept left =
+-- the example that is left over: if what was found is kept, the one beside another; if it is stale,
+-- any
+abbrev pub IsExampleLeft : PoolView → Ticket → Option Finding → Gave → Option Example → Type 0
+IsExampleLeft old ticket finding Kept left =
     (seat : QuestionState) → slice_get old.seats ticket.place ≡ Some seat
-    → left ≡ example_over seat.example done
-IsExampleLeft old ticket done (Stale epoch) left = left ≡ example_done done
+    → left ≡ example_over seat.example finding
+IsExampleLeft old ticket finding (Stale epoch) left = left ≡ example_in finding
 
--- what is left over when a ticket is given back: its piece, the piece that was worked on, and the
+-- what is left over when a ticket is given back: the season and the zone of its piece, and the
 -- example that is not kept
-pub record LeavesOver (old : PoolView) (ticket : Ticket) (done : Done) (gave : Gave)
+pub record LeavesOver (old : PoolView) (ticket : Ticket) (finding : Option Finding) (gave : Gave)
     (left : Discarded) : Type 0 where
-  pub piece : left.piece ≡ ticket.piece
-  pub worked_on : left.done ≡ piece_done done
-  pub example : IsExampleLeft old ticket done gave left.example
-
--- what is left over when a ticket is given back with what was found at its piece: the piece, and
--- the example that is not kept
-pub record LeavesFound (old : PoolView) (ticket : Ticket) (finding : Finding) (gave : Gave)
-    (left : Discarded) : Type 0 where
-  pub piece : left.piece ≡ ticket.piece
-  pub no_other : left.done ≡ None
-  pub example : IsExampleLeft old ticket (done_of ticket.piece finding) gave left.example
+  pub season : left.season ≡ Some ticket.piece.season
+  pub zone : left.zone ≡ ticket.piece.zone
+  pub example : IsExampleLeft old ticket finding gave left.example
 
 -- what `give` tells of epochs: what is kept is of the present one, and what is stale is told it
 abbrev pub IsEpochSaid : PoolView → Ticket → Gave → Type 0

@@ -53,7 +53,7 @@ pub record IsGoodLoan (epoch places : ℕ) (loan : Loan) : Type 0 where
   pub has_been : loan.epoch ≤ epoch
   pub in_range : loan.place < places
 
--- the zone of what is out, where it was lent in this epoch for the question at this place
+-- the zone of what is out, if it was lent in this epoch for the question at this place
 abbrev pub zones_due : ℕ → ℕ → Option Loan → List (List Literal)
 zones_due epoch place None = []
 zones_due epoch place (Some loan) =

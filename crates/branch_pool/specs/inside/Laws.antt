@@ -45,7 +45,7 @@ abbrev pub TurnsLeaveLess : Type 0
 TurnsLeaveLess =
     (old new : PoolView) → IsSoundPool old → WorksNext old new → work_left new < work_left old
 
--- where nothing is out and there is no work, each question is answered
+-- if nothing is out and there is no work, each question is answered
 abbrev pub PoolsWithoutWorkAnswer : Type 0
 PoolsWithoutWorkAnswer =
     (pool : PoolView) (place : ℕ) → IsSoundPool pool → out_count pool.loans ≡ 0

@@ -14,8 +14,9 @@ use Rattle.league_core.specs.game.Finishes.{may_all_end}
 use Rattle.league_core.specs.search.Trees.{Tree, open_leaf, refuted_leaf, branch}
 use Rattle.league_core.specs.inside.Lending.{lent_zones, put, all_opened}
 use Rattle.reason_core.specs.declared.done.Done.{Done}
-use Rattle.reason_core.specs.declared.done.Done.TheVariants.{Refuted, Split, Won, Undone}
-use Rattle.reason_core.specs.inside.Dones.{IsFor, IsTrueDone}
+use Rattle.reason_core.specs.declared.finding.Finding.{Finding}
+use Rattle.reason_core.specs.declared.finding.Finding.TheVariants.{Refuted, Split, Won}
+use Rattle.reason_core.specs.inside.Dones.{IsFor, IsTrueDone, finding_of}
 use Rattle.tree_reuse.specs.inside.Retargets.{retargeted}
 use Rattle.branch_pool.specs.declared.question_state.Example.{Example}
 use Rattle.branch_pool.specs.declared.question_state.QuestionState.{QuestionState}
@@ -71,40 +72,44 @@ pub record IsPresent (pool : PoolView) (ticket : Ticket) : Type 0 where
   pub zone : lent_zones ticket.number [] seat.tree ≡ ticket.piece.zone.literals ∷ []
 
 -- the ticket is one of the pool's: its number is out with its epoch, its place and its zone, and
--- where it is of the present epoch the pool has the rest of it too
+-- if it is of the present epoch, the pool has the rest of it too
 pub record IsOwnTicket (pool : PoolView) (ticket : Ticket) : Type 0 where
   pub out : loan_at pool.loans ticket.number ≡ Some (loan_of ticket)
   pub present : ticket.epoch ≡ present_epoch pool → IsPresent pool ticket
 
 -- what comes in place of a leaf: a refuted leaf or a split, marked new; or it is open again
-abbrev pub leaf_given : Done → Tree
-leaf_given (Refuted piece reason) = refuted_leaf reason true
-leaf_given (Split piece literal) = branch literal.test true open_leaf open_leaf
-leaf_given (Won piece finish lots) = open_leaf
-leaf_given Undone = open_leaf
+abbrev pub leaf_after : Option Finding → Tree
+leaf_after (Some (Refuted reason)) = refuted_leaf reason true
+leaf_after (Some (Split literal)) = branch literal.test true open_leaf open_leaf
+leaf_after (Some (Won finish lots)) = open_leaf
+leaf_after None = open_leaf
 
 -- a refutation and a split are one unit of work
-abbrev pub units_given : Done → ℕ
-units_given (Refuted piece reason) = 1
-units_given (Split piece literal) = 1
-units_given (Won piece finish lots) = 0
-units_given Undone = 0
+abbrev pub units_after : Option Finding → ℕ
+units_after (Some (Refuted reason)) = 1
+units_after (Some (Split literal)) = 1
+units_after (Some (Won finish lots)) = 0
+units_after None = 0
 
--- the first example that is given is kept
-abbrev pub example_given : Option Example → Done → Option Example
-example_given (Some example) done = Some example
-example_given None (Refuted piece reason) = None
-example_given None (Split piece literal) = None
-example_given None (Won piece finish lots) = Some (record { finish = finish; lots = lots })
-example_given None Undone = None
+-- the example that was found, if one was
+abbrev pub example_in : Option Finding → Option Example
+example_in (Some (Refuted reason)) = None
+example_in (Some (Split literal)) = None
+example_in (Some (Won finish lots)) = Some (record { finish = finish; lots = lots })
+example_in None = None
 
--- a question of which the leaf under a number came back
-abbrev pub seat_given : ℕ → Done → QuestionState → QuestionState
-seat_given number done seat = record seat {
-  tree = put number (leaf_given done) seat.tree;
-  units = seat.units + units_given done;
+-- the first example that is found is kept
+abbrev pub example_after : Option Example → Option Finding → Option Example
+example_after (Some example) finding = Some example
+example_after None finding = example_in finding
+
+-- a question of which the leaf under a number came back, with what was found in it
+abbrev pub seat_after : ℕ → Option Finding → QuestionState → QuestionState
+seat_after number finding seat = record seat {
+  tree = put number (leaf_after finding) seat.tree;
+  units = seat.units + units_after finding;
   lent = seat.lent - 1;
-  example = example_given seat.example done;
+  example = example_after seat.example finding;
 }
 
 -- nothing is out under the number any more
@@ -119,7 +124,7 @@ pub record Keeps (old : PoolView) (ticket : Ticket) (done : Done) (new : PoolVie
   pub seat : QuestionState
   pub found : slice_get old.seats ticket.place ≡ Some seat
   pub after : new ≡ record old {
-    seats = slice_set old.seats ticket.place (seat_given ticket.number done seat);
+    seats = slice_set old.seats ticket.place (seat_after ticket.number (finding_of done) seat);
     loans = loans_home old.loans ticket.number;
   }
 
@@ -158,7 +163,7 @@ may_end_as sheet season finish =
     bytes_eq finish.deductions season.deductions
     && may_all_end sheet.goal_limit season.scores finish.scores
 
--- an example stays where the new season may still end like it
+-- an example stays if the new season may still end like it
 abbrev pub example_kept : Sheet → Results → Option Example → Option Example
 example_kept sheet season None = None
 example_kept sheet season (Some example) =
@@ -183,7 +188,7 @@ pool_changed event pool =
       seats = map (seat_changed pool.sheet season) pool.seats;
     }
 
--- an event is reported that the season may be told, where there is room in the log
+-- an event is reported that the season may take, if there is room in the log
 pub record Changes (old : PoolView) (event : Event) (new : PoolView) : Type 0 where
   pub room : length old.log < most_events
   pub may_be : IsEventOf old.season event

@@ -7,7 +7,7 @@ use Rattle.league_core.specs.declared.zone.Test.{Test}
 use Rattle.league_core.specs.declared.zone.Test.TheVariants.{Home, Draw, HomeMost, AwayMost, Rival}
 use Rattle.league_core.specs.search.Options.{options_in, has_one_outcome}
 use Rattle.league_core.specs.search.Splits.{is_proper, is_due}
-use Rattle.score_box.specs.inside.Settings.{ZoneBoxView}
+use Rattle.score_box.specs.inside.ZoneBoxViews.{ZoneBoxView}
 
 -- the split is proper in the box's zone, and due
 pub record IsDueSplit (setting : ZoneBoxView) (question : Question) (test : Test) : Type 0 where

@@ -1,5 +1,4 @@
--- What is found in a zone for a question: the proposed finish where it is an example, else the
--- first
+-- What is found in a zone for a question: the proposed finish if it is an example, else the first
 -- reason that holds, else a fair split.
 use Rattle.std.specs.Prelude.{◌≡◌, ◌<◌, ℕ, Bool, false, IsTrue, List, length}
 use Rattle.league_core.specs.declared.sheet.Sheet.{Sheet}
@@ -48,14 +47,14 @@ pub record IsProposedExample (sheet : Sheet) (season : Results) (question : Ques
   pub proposed : finish ≡ proposed_finish sheet season question zone
   pub example : IsExample sheet season question finish lots
 
--- the first reason that holds, where the proposed finish is no example
+-- the first reason that holds, if the proposed finish is no example
 pub record IsFoundReason (sheet : Sheet) (season : Results) (question : Question)
     (zone : List Literal) (reason : Reason) : Type 0 where
   pub no_example : IsProposedInVain sheet season question zone
   pub first : IsFirstReason sheet season question zone reason
 
--- what is found: the proposed finish with lots where it is an example, otherwise the first reason
--- where one holds, otherwise a split that is one unit of work
+-- what is found: the proposed finish with lots if it is an example, otherwise the first reason if
+-- one holds, otherwise a split that is one unit of work
 abbrev pub IsFoundIn : Sheet → Results → Question → List Literal → Finding → Type 0
 IsFoundIn sheet season question zone (Won finish lots) =
     IsProposedExample sheet season question zone finish lots

@@ -5,7 +5,7 @@ use Rattle.league_core.specs.declared.zone.Test.{Test}
 use Rattle.league_core.specs.declared.zone.Test.TheVariants.{Home, Draw, HomeMost, AwayMost, Rival}
 use Rattle.league_core.specs.search.Zones.{passes}
 use Rattle.score_box.specs.declared.cell.Cell.{Cell}
-use Rattle.score_box.specs.declared.cell.goals.GoalRange.{GoalRange}
+use Rattle.score_box.specs.declared.cell.goals.ScoreRange.{ScoreRange}
 use Rattle.score_box.specs.inside.Cells.{allows}
 use Rattle.branch_rules.specs.inside.Choices.{IsDivided}
 
@@ -28,6 +28,6 @@ HasOneAtMost cell =
     (score other : Score) → allows cell score ≡ true → allows cell other ≡ true → score ≡ other
 
 -- the least goals of each side are its most
-pub record AreSame (goals : GoalRange) : Type 0 where
+pub record AreSame (goals : ScoreRange) : Type 0 where
   pub home : goals.home_most ≤ goals.home_least
   pub away : goals.away_most ≤ goals.away_least

@@ -53,7 +53,7 @@ pub record IsJudgedFrom (sheet : Sheet) (season : Results) (root : TrailView) : 
   pub league : IsLeague sheet season
   pub whole : root ≡ root_of sheet season
 
--- what the lines from a position on come to, where this is due first
+-- what the lines from a position on come to, if this is due first
 abbrev pub ending_from : ReportView → ℕ → List Expected → ℕ → Ending
 ending_from judged from dues unsettled =
     ending_of judged.basis (drop from judged.tokens) dues from unsettled
@@ -73,7 +73,7 @@ HaltsAt judged from due halt.Short =
     → ending_from judged from (due ∷ dues) unsettled ≡ short
 HaltsAt judged from due halt.OutOfMemory = Unit {0}
 
--- the position from which the rest is read, where what was due is shown; or why the reading stops
+-- the position from which the rest is read, if what was due is shown; or why the reading stops
 abbrev pub Goes : ReportView → ℕ → Expected → Result ℕ CheckStopAt → Type 0
 Goes judged from due (Ok at) =
     (at ≤ length judged.tokens)
@@ -92,7 +92,7 @@ pub record IsNextAt (judged : ReportView) (from at : ℕ) (token : Token) : Type
       → ending_from judged from (due ∷ dues) unsettled
       ≡ ending_from judged at (due ∷ dues) unsettled
 
--- a call that looks for the next line that counts: there is none where lines are missing
+-- a call that looks for the next line that counts: there is none if lines are missing
 abbrev pub FindsNext : ReportView → ℕ → Result (ℕ × Token) CheckStopAt → Type 0
 FindsNext judged from (Ok found) = IsNextAt judged from found.0 found.1
 FindsNext judged from (Err halt.Short) =
@@ -104,7 +104,7 @@ FindsNext judged from (Err (halt.NoProof at)) = ⊥
 
 -- ---- rows
 
--- what is due after the row of an ask, where it is that
+-- what is due after the row of an ask, if it is that
 abbrev pub after_ask_row_if : Bool → Next
 after_ask_row_if is = if is then go true [] else bad
 
@@ -149,25 +149,25 @@ pub record IsPathFor (basis : Basis) (question : Question) (path : TrailView) : 
   pub season : path.season ≡ basis.season
   pub tests : IsTrue (is_path_for basis.sheet question path.zone)
 
--- what is due where the reading of a tree stands so
+-- what is due when the reading of a tree stands so
 abbrev pub nodes_due : TreeSpec → Walk → Expected
 nodes_due wanted walk =
     nodes wanted.kind wanted.question walk.path.zone (pending_of walk.path.zone) walk.tally
 
--- what is due after a node where it stands so
+-- what is due after a node when it stands so
 abbrev pub after_walked : Basis → TreeSpec → Walk → TreeNode → Next
 after_walked basis wanted walk node =
     after_node basis wanted.kind wanted.question walk.path.zone (pending_of walk.path.zone)
     walk.tally node
 
--- the node that a line stands for, where it is a proof line that stands for one
+-- the node that a line stands for, if it is a proof line that stands for one
 abbrev pub node_of_token : TreeKind → Token → Option TreeNode
 node_of_token kind Blank = None
 node_of_token kind (Row fields) = None
 node_of_token kind (Proof line) = node_in kind line
 node_of_token kind Unknown = None
 
--- what a call says of a node: true where it ends its tree, false where nodes are due after it
+-- what a call says of a node: true if it ends its tree, false if nodes are due after it
 abbrev pub NodeSays : Next → ℕ → Expected → Result Bool CheckStopAt → Type 0
 NodeSays next at due (Ok true) = next ≡ go true []
 NodeSays next at due (Ok false) = next ≡ go true (due ∷ [])
@@ -179,7 +179,7 @@ NodeSays next at due (Err halt.OutOfMemory) = Unit {0}
 
 -- ---- heads
 
--- the head of a claim that a line is, where it is a proof line that is one
+-- the head of a claim that a line is, if it is a proof line that is one
 abbrev pub head_of_token : Claim → Token → Option Head
 head_of_token claim Blank = None
 head_of_token claim (Row fields) = None
@@ -188,25 +188,25 @@ head_of_token claim Unknown = None
 
 -- ---- examples
 
--- what is due of an example where the fixtures before this one have ended with these scores
+-- what is due of an example when the fixtures before this one have ended with these scores
 abbrev pub example_due : Question → ℕ → List (Option Score) → Expected
 example_due question fixture scores = scores_due question (take fixture scores) (drop fixture
     scores)
 
--- what is due after a score, where the line is one that may come
+-- what is due after a score, if the line is one that may come
 abbrev pub after_score_if : Question → List (Option Score) → List (Option Score) → Option Score →
     Next
 after_score_if question ended left None = bad
 after_score_if question ended left (Some ending) =
     go true (scores_due question (ended ++ Some ending ∷ []) left ∷ [])
 
--- what is due behind lots, where the line has such
+-- what is due after lots, if the line has such
 abbrev pub after_lots_if : Basis → Question → List (Option Score) → Option (List ℕ) → Next
 after_lots_if basis question ended None = bad
 after_lots_if basis question ended (Some drawn) =
     go (holds_at basis.sheet question (finish_with basis.season ended) drawn) []
 
--- the lots that a line tells, where it tells some of so many clubs
+-- the lots that a line gives, if it gives some of so many clubs
 abbrev pub lots_of_token : ℕ → Token → Option (List ℕ)
 lots_of_token clubs Blank = None
 lots_of_token clubs (Row fields) = None
@@ -227,7 +227,7 @@ GoesOverFixture judged from fixture old new (Err stop) =
 
 -- ---- items
 
--- the reading stops so where all of this is due, whatever else is
+-- the reading stops so when all of this is due, whatever else is
 abbrev pub AllHalt : ReportView → ℕ → List Expected → CheckStopAt → Type 0
 AllHalt judged from wanted (halt.BadLine at) =
     (at < length judged.tokens)
@@ -242,7 +242,7 @@ AllHalt judged from wanted halt.Short =
     → ending_from judged from (wanted ++ dues) unsettled ≡ short
 AllHalt judged from wanted halt.OutOfMemory = Unit {0}
 
--- the position from which the rest is read, where all of this is shown; or why the reading stops
+-- the position from which the rest is read, when all of this is shown; or why the reading stops
 abbrev pub GoesAfter : ReportView → ℕ → List Expected → Result ℕ CheckStopAt → Type 0
 GoesAfter judged from wanted (Ok at) =
     (at ≤ length judged.tokens)
@@ -287,8 +287,7 @@ SaysTruly basis lines from next =
     × AreTrueRows basis (part_of_ask basis.sheet) (counted_lines taken)
 
 -- a call that checks the part of one ask: it is whole, with a row for each line and each club, and
--- tells the truth; or
--- the reading stops at a line, whose number is told
+-- tells the truth; or the reading stops at a line, whose number is returned
 abbrev pub ChecksPart : Basis → List NumberedLine → ℕ → Result Accepted CheckStop → Type 0
 ChecksPart basis lines from (Ok accepted) =
     (part_ending basis lines from ≡ whole_at accepted.next accepted.unsettled)
@@ -304,7 +303,7 @@ ChecksPart basis lines from (Err stop.Short) = part_ending basis lines from ≡ 
 ChecksPart basis lines from (Err stop.OutOfMemory) = Unit {0}
 
 -- a call that looks for lines after a report: there is none that counts; or the first that does is
--- told
+-- returned
 abbrev pub ChecksEnd : List NumberedLine → ℕ → Result (Unit {0}) CheckStop → Type 0
 ChecksEnd lines from (Ok it) = counted_lines (drop from (tokens_of lines)) ≡ []
 ChecksEnd lines from (Err (stop.BadLine number)) =

@@ -64,7 +64,7 @@ pub record IsBadLineAt (basis : Basis) (tokens : List Token) (dues : List Expect
     pub begins : Begins basis dues before
     pub ends : ¬ Begins basis dues (before ++ bad_one ∷ [])
 
--- a line is refused exactly where it does not fit
+-- a line is refused exactly when it does not fit
 abbrev pub BadLinesDoNotFit : Type 0
 BadLinesDoNotFit =
     (basis : Basis) (tokens : List Token) (dues : List Expected) (at unsettled place : ℕ)
@@ -87,7 +87,7 @@ pub record IsUnprovedAt (basis : Basis) (tokens : List Token) (dues : List Expec
     pub fails : after basis due unproved ≡ go false more
     pub begins : Begins basis dues (before ++ unproved ∷ [])
 
--- a line is named as no proof exactly where it is the first that does not prove what it says
+-- a line is named as no proof exactly when it is the first that does not prove what it says
 abbrev pub UnprovedLinesFit : Type 0
 UnprovedLinesFit =
     (basis : Basis) (tokens : List Token) (dues : List Expected) (at unsettled place : ℕ)
@@ -102,7 +102,7 @@ pub record AreTooFew (basis : Basis) (tokens : List Token) (dues : List Expected
   pub passed : LeavesDue basis tokens dues left
   pub begins : Begins basis dues tokens
 
--- lines are said to be missing exactly where they are too few
+-- lines are said to be missing exactly when they are too few
 abbrev pub ShortReportsBegin : Type 0
 ShortReportsBegin =
     (basis : Basis) (tokens : List Token) (dues : List Expected) (at unsettled : ℕ)

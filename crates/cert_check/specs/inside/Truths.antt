@@ -33,7 +33,7 @@ AreTrueRows basis (verdict_row line club ∷ dues) tokens =
     × AreTrueRows basis dues later
 AreTrueRows basis (_ ∷ dues) tokens = ⊥
 
--- where lines prove the part of an ask, each of its rows is true
+-- if lines prove the part of an ask, each of its rows is true
 abbrev pub ProvedRowsAreTrue : Type 0
 ProvedRowsAreTrue =
     (basis : Basis) (tokens : List Token) → AreParts true basis (part_of_ask basis.sheet) tokens

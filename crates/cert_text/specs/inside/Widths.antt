@@ -12,7 +12,7 @@ use Rattle.cert_text.specs.declared.proof_line.ProofLine.TheVariants as line
 abbrev pub is_set_kept : ClubSet → Bool
 is_set_kept set = nat_lt set.bits (2 ^ set_width)
 
--- so are those of the reason's set, where it has one
+-- so are those of the reason's set, if it has one
 abbrev pub is_reason_kept : Reason → Bool
 is_reason_kept Count = true
 is_reason_kept Window = true

@@ -1,4 +1,4 @@
--- Corners: a few of a fixture's options between which all the others lie, whatever is looked at.
+-- Extremes: a few of a fixture's options between which all the others lie, whatever is looked at.
 use Rattle.std.specs.Prelude.{ℕ, ◌+◌, ◌<◌, ◌≤◌, ◌⊎◌, Bool, IsTrue, List, [], ◌∷◌, Option}
 use Rattle.std.specs.Prelude.{Some, None, if◌then◌else◌}
 use Rattle.league_core.specs.declared.season.Score.{Score}
@@ -8,13 +8,13 @@ use Rattle.check_bounds.specs.declared.score_domain.GoalRange.{GoalRange}
 use Rattle.check_bounds.specs.declared.extreme_scores.Wins.{Wins}
 use Rattle.check_bounds.specs.declared.extreme_scores.Draws.{Draws}
 
--- some corner of the score's outcome that passes a test
+-- some extreme of the score's outcome that passes a test
 abbrev pub HasExtreme : List Score → Score → (Score → Type 0) → Type 0
 HasExtreme corners score Passes =
     (corner : Score) × IsTrue (has_score corners corner) × IsTrue (same_outcome corner score)
     × Passes corner
 
--- corners on each side of a score: with fewer and with more goals at home and away, and with a
+-- extremes on each side of a score: with fewer and with more goals at home and away, and with a
 -- lesser and a greater lead of the home side, or as many
 pub record LiesBetween (corners : List Score) (score : Score) : Type 0 where
   pub fewest_home : HasExtreme corners score (λ c. c.home ≤ score.home)
@@ -24,7 +24,7 @@ pub record LiesBetween (corners : List Score) (score : Score) : Type 0 where
   pub least_lead : HasExtreme corners score (λ c. c.home + score.away ≤ score.home + c.away)
   pub most_lead : HasExtreme corners score (λ c. score.home + c.away ≤ c.home + score.away)
 
--- the corners are among the options, and each option lies between them
+-- the extremes are among the options, and each option lies between them
 pub record AreExtremesOf (corners options : List Score) : Type 0 where
   pub inside : (score : Score) → IsTrue (has_score corners score)
       → IsTrue (has_score options score)
@@ -46,13 +46,13 @@ pub record AreWinsOf (winner loser : GoalRange) (wins : Wins) : Type 0 where
       → (wins.won_least ≤ won) × (won ≤ wins.won_most)
       × (wins.lost_least ≤ lost) × (lost ≤ wins.lost_most)
 
--- the scores at these ends, where the home side wins
+-- the scores at these ends, if the home side wins
 abbrev pub home_extremes : Wins → List Score
 home_extremes wins =
     score_of wins.won_least wins.lost_least ∷ score_of wins.won_most wins.lost_least
     ∷ score_of wins.won_most wins.lost_most ∷ score_of wins.near wins.lost_most ∷ []
 
--- and where the away side wins
+-- and if the away side wins
 abbrev pub away_extremes : Wins → List Score
 away_extremes wins =
     score_of wins.lost_least wins.won_least ∷ score_of wins.lost_least wins.won_most
@@ -72,7 +72,7 @@ pub record AreDrawsOf (home away : GoalRange) (draws : Draws) : Type 0 where
 abbrev pub draw_extremes : Draws → List Score
 draw_extremes draws = score_of draws.least draws.least ∷ score_of draws.most draws.most ∷ []
 
--- the corners where there are some
+-- the extremes if there are some
 abbrev pub extremes_if : {A : Type 0} → Bool → (A → List Score) → Option A → List Score
 extremes_if left corners None = []
 extremes_if left corners (Some ends) = if left then corners ends else []

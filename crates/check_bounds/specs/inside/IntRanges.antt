@@ -3,25 +3,25 @@ use Rattle.std.specs.Prelude.{ℕ, pos, neg_ℤ, ◌≤ℤ◌, List, map, slice_
 use Rattle.league_core.specs.search.PointRanges.{Range}
 use Rattle.check_bounds.specs.declared.int_range.IntRange.{IntRange}
 
--- the range that a span is
-abbrev pub range_of_span : IntRange → Range
-range_of_span span = record { least = span.least; greatest = span.greatest }
+-- the range that a range is
+abbrev pub as_sum_range : IntRange → Range
+as_sum_range range = record { least = range.least; greatest = range.greatest }
 
 -- both ends are no further from 0 than this
-pub record IsSpanWithin (bound : ℕ) (span : IntRange) : Type 0 where
-  pub least_above : neg_ℤ (pos bound) ≤ℤ span.least
-  pub least_below : span.least ≤ℤ pos bound
-  pub greatest_above : neg_ℤ (pos bound) ≤ℤ span.greatest
-  pub greatest_below : span.greatest ≤ℤ pos bound
+pub record IsRangeWithin (bound : ℕ) (range : IntRange) : Type 0 where
+  pub least_above : neg_ℤ (pos bound) ≤ℤ range.least
+  pub least_below : range.least ≤ℤ pos bound
+  pub greatest_above : neg_ℤ (pos bound) ≤ℤ range.greatest
+  pub greatest_below : range.greatest ≤ℤ pos bound
 
 -- a sum without a match
-abbrev pub no_span : IntRange
-no_span = record { least = pos 0; greatest = pos 0 }
+abbrev pub no_range : IntRange
+no_range = record { least = pos 0; greatest = pos 0 }
 
 -- what a table has at a club's number
-abbrev pub span_at : List IntRange → ℕ → IntRange
-span_at table club = slice_index_or table club no_span
+abbrev pub range_at : List IntRange → ℕ → IntRange
+range_at table club = slice_index_or table club no_range
 
 -- the ranges of a club, one of each table
 abbrev pub ranges_at : List (List IntRange) → ℕ → List Range
-ranges_at tables club = map (λ table. range_of_span (span_at table club)) tables
+ranges_at tables club = map (λ table. as_sum_range (range_at table club)) tables

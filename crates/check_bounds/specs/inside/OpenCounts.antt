@@ -14,19 +14,19 @@ abbrev pub failing : (List Score → Bool) → List (List Score) → ℕ
 failing test [] = 0
 failing test (own ∷ corners) = fails (test own) + failing test corners
 
--- the counts are those of the corners
+-- the counts are those of the extremes
 pub record AreOpenCounts (corners : List (List Score)) (loose : OpenCounts) : Type 0 where
   pub without_score : loose.without_score ≡ failing has_option corners
   pub undecided : loose.undecided ≡ failing has_one_outcome corners
 
--- a fixture with these corners is counted, and at most 600 are
+-- a fixture with these extremes is counted, and at most 600 are
 pub record IsAmong (own : List Score) (loose : OpenCounts) : Type 0 where
   pub without_score : fails (has_option own) ≤ loose.without_score
   pub undecided : fails (has_one_outcome own) ≤ loose.undecided
   pub few : loose.without_score ≤ 600
   pub few_outcomes : loose.undecided ≤ 600
 
--- a fixture counts by its new corners in place of its old ones
+-- a fixture counts by its new extremes in place of its old ones
 pub record AreExchanged (before : OpenCounts) (old new : List Score) (after : OpenCounts) : Type 0
   where
     pub without_score : after.without_score + fails (has_option old)

@@ -1,5 +1,5 @@
--- What a reason says of a zone, with the corners of its fixtures in place of their options and sets
--- of clubs in place of its marks.
+-- What a reason says of a zone, with the extremes of its fixtures in place of their options and
+-- sets of clubs in place of its marks.
 use Rattle.std.specs.Prelude.{ℕ, ℤ, Bool, ◌&&◌, ◌||◌, int_lt, List, [], ◌∷◌}
 use Rattle.std.specs.Int.{int_min, int_max}
 use Rattle.std.specs.List.{list_all, list_any}

@@ -1,4 +1,4 @@
--- Scopes: the scores with which a fixture may still end, as the outcomes that are left and a range
+-- Domains: the scores with which a fixture may still end, as the outcomes that are left and a range
 -- of goals for each side.
 use Rattle.std.specs.Prelude.{◌≡◌, ℕ, Bool, ◌&&◌, ◌||◌, nat_le, List}
 use Rattle.league_core.specs.declared.season.Score.{Score}
@@ -22,6 +22,6 @@ is_left scope score =
     is_goals_of scope.home score.home && is_goals_of scope.away score.away
     && leaves_outcome scope score
 
--- the scope has these options, and no other score
+-- the domain has these options, and no other score
 abbrev pub IsScoreDomainOf : ScoreDomain → List Score → Type 0
 IsScoreDomainOf scope options = (score : Score) → is_left scope score ≡ has_score options score

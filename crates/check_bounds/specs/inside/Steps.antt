@@ -1,4 +1,4 @@
--- What is sure of each club against one club, step by step: where a step leaves the two level, the
+-- What is sure of each club against one club, step by step: if a step leaves the two level, the
 -- next one decides.
 use Rattle.std.specs.Prelude.{◌≡◌, ◌≢◌, ℕ, ◌<◌, Bool, false, ◌||◌, IsTrue, List, slice_index_or}
 use Rattle.league_core.specs.game.Sums.{has_club}
@@ -31,7 +31,7 @@ abbrev pub TakesNext : List Sure → List Sure → (ℕ → Sure) → Type 0
 TakesNext old new next =
     (rival : ℕ) → rival < 32 → sure_at new rival ≡ sure_then (sure_at old rival) (next rival)
 
--- the same of each club but one, where those whose answers are level are of a group
+-- the same of each club but one, if those whose answers are level are of a group
 abbrev pub TakesNextIn : List ℕ → ℕ → List Sure → List Sure → (ℕ → Sure) → Type 0
 TakesNextIn group club old new next =
     (rival : ℕ) → rival < 32 → rival ≢ club

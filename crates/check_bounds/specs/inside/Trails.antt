@@ -30,7 +30,7 @@ root_of sheet season = record { sheet = sheet; season = season; zone = [] }
 abbrev pub farther : TrailView → Literal → TrailView
 farther place literal = record place { zone = place.zone ++ literal ∷ [] }
 
--- the scopes as they were before a step that kept this
+-- the domains as they were before a step that kept this
 abbrev pub undone : List ScoreDomain → Option Cut → List ScoreDomain
 undone scopes None = scopes
 undone scopes (Some cut) = set scopes cut.fixture cut.kept
@@ -54,13 +54,13 @@ pub record AreMarks (marks : Marks) (zone : List Literal) : Type 0 where
   pub before : (rival : ℕ) → has_club (clubs_in marks.before) rival ≡ marked_as true zone rival
   pub after : (rival : ℕ) → has_club (clubs_in marks.after) rival ≡ marked_as false zone rival
 
--- scopes and marks are those of a zone
+-- domains and marks are those of a zone
 pub record AreOfZone (limit : ℕ) (scores : List (Option Score)) (zone : List Literal)
     (scopes : List ScoreDomain) (marks : Marks) : Type 0 where
   pub fixtures : AreScoreDomainsOf scopes (options_from limit zone 0 scores)
   pub rivals : AreMarks marks zone
 
--- scopes and marks are those of the steps, of which the last one stands first; without the last
+-- domains and marks are those of the steps, of which the last one stands first; without the last
 -- step, and with what it kept, they are those of the steps before it
 abbrev pub LeadTo : ℕ → List (Option Score) → List Step → List ScoreDomain → Marks → Type 0
 LeadTo limit scores [] scopes marks = AreOfZone limit scores [] scopes marks

@@ -13,14 +13,14 @@ use Rattle.check_bounds.specs.inside.Terms.{worth_by}
 use Rattle.check_bounds.specs.declared.records.Records.{Records}
 use Rattle.check_bounds.specs.declared.term.Measure.{Measure}
 use Rattle.check_bounds.specs.declared.int_range.IntRange.{IntRange}
-use Rattle.check_bounds.specs.inside.IntRanges.{span_at, IsSpanWithin}
+use Rattle.check_bounds.specs.inside.IntRanges.{range_at, IsRangeWithin}
 use Rattle.check_bounds.specs.inside.Tables.{IsTableOf, TableTakes, worth_if}
 
 -- no sum of a table is far from 0
 abbrev pub IsTableNear : List IntRange → Type 0
-IsTableNear table = (club : ℕ) → IsSpanWithin 500000 (span_at table club)
+IsTableNear table = (club : ℕ) → IsRangeWithin 500000 (range_at table club)
 
--- what a match is worth to a club, where an end of it is of a group
+-- what a match is worth to a club, if an end of it is of a group
 abbrev pub worth_near : List ℕ → Worth → ℕ → Fixture → Score → ℤ
 worth_near group worth club match score =
     if has_club group match.home || has_club group match.away
@@ -32,7 +32,7 @@ pub record AreRecordsNear (records : Records) : Type 0 where
   pub difference : IsTableNear records.difference
   pub goals : IsTableNear records.goals
 
--- each takes a match where it counts
+-- each takes a match if it counts
 pub record AddsRecord (counts : Bool) (match : Fixture) (corners : List Score)
     (old new : Records) : Type 0 where
   pub points : TableTakes (worth_if counts match_points match) corners old.points new.points

@@ -1,4 +1,4 @@
--- What a zone leaves of each fixture, as scopes and as corners, and the rivals that it marks.
+-- What a zone leaves of each fixture, as domains and as extremes, and the rivals that it marks.
 use Rattle.std.specs.Prelude.{◌≡◌, ℕ, ◌<◌, Bool, ◌&&◌, List, [], ◌∷◌, ◌++◌, length, Option}
 use Rattle.std.specs.Prelude.{slice_index_or}
 use Rattle.std.specs.List.{list_any}
@@ -12,14 +12,14 @@ use Rattle.check_bounds.specs.declared.score_domain.ScoreDomain.{ScoreDomain}
 use Rattle.check_bounds.specs.inside.ScoreDomains.{IsScoreDomainOf}
 use Rattle.check_bounds.specs.inside.ExtremeScores.{AreExtremesOf}
 
--- one scope for each fixture, which has the fixture's options
+-- one domain for each fixture, which has the fixture's options
 pub record AreScoreDomainsOf (scopes : List ScoreDomain) (options : List (List Score)) : Type 0
   where
     pub many : length scopes ≡ length options
     pub each : (k : ℕ) (d : ScoreDomain) → k < length scopes
         → IsScoreDomainOf (slice_index_or scopes k d) (slice_index_or options k [])
 
--- one list of corners for each fixture, between which the fixture's options lie
+-- one list of extremes for each fixture, between which the fixture's options lie
 pub record AreAllExtremesOf (corners options : List (List Score)) : Type 0 where
   pub many : length corners ≡ length options
   pub each : (k : ℕ) → k < length corners
@@ -33,7 +33,7 @@ IsTestWithin fixtures (HomeMost fixture most) = fixture < fixtures
 IsTestWithin fixtures (AwayMost fixture most) = fixture < fixtures
 IsTestWithin fixtures (Rival club) = club < 32
 
--- scopes of a zone become those of the zone with one literal more
+-- domains of a zone become those of the zone with one literal more
 abbrev pub CutsBy : List ScoreDomain → List ScoreDomain → Literal → Type 0
 CutsBy old new literal =
     (limit : ℕ) (zone : List Literal) (scores : List (Option Score))

@@ -12,7 +12,7 @@ code_of (Set fixture score) = 1 + fixture * 10000 + score.home * 100 + score.awa
 code_of (Clear fixture) = 8000000 + fixture
 code_of (Deduct club points) = 9000000 + club * 100 + points
 
--- the code of the last event, or 0 where there is none
+-- the code of the last event, or 0 if there is none
 abbrev pub last_code : List Event → ℕ
 last_code [] = 0
 last_code (event ∷ []) = code_of event

@@ -1,5 +1,5 @@
 -- The rule of the table, kept by every step: one seat at most owns the word, the word is the pack
--- of that seat's list, and what any seat knows is a beginning of that list.
+-- of that seat's list, and what any seat knows is a prefix of that list.
 use Rattle.std.specs.Prelude.{◌≡◌, ℕ, ◌<◌, ◌≤◌, true, List, [], ◌∷◌, length}
 use mathlib.Core.Option.{some}
 use mathlib.Core.List.{IsPrefix}

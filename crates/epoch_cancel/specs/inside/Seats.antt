@@ -46,7 +46,7 @@ pub record Looks (old new : EyeView) : Type 0 where
   pub begins : IsPrefix old.list log
   pub later : old.newest ≤ new.newest
 
--- work of an epoch is told to be out of date exactly where a later one was found, which is told
+-- work of an epoch is told to be out of date exactly when a later one was found, which is told
 abbrev pub IsCancelled : Option ℕ → ℕ → ℕ → Type 0
 IsCancelled (Some found) epoch newest = (found ≡ newest) × (epoch < found)
 IsCancelled None epoch newest = newest ≤ epoch

@@ -1,6 +1,5 @@
 -- The first of a cell's scores, for what its two sides are wished: among all of them, or among
--- those
--- of one outcome.
+-- those of one outcome.
 use Rattle.std.specs.Prelude.{◌≢◌, ◌||◌, Bool, true, Option, Some, None}
 use Rattle.std.specs.declared.cmp.Ordering.TheVariants.{Less}
 use Rattle.league_core.specs.declared.season.Score.{Score}
@@ -16,7 +15,7 @@ pub record IsFirstScore (cell : Cell) (test : Score → Bool) (home away : Bool)
   pub first : (other : Score) → IsAllowed cell test other
       → option_order home away other score ≢ Less
 
--- the first of the cell's scores that pass the test; none where none passes
+-- the first of the cell's scores that pass the test; none if none passes
 abbrev pub IsFirstAmong : Cell → (Score → Bool) → Bool → Bool → Option Score → Type 0
 IsFirstAmong cell test home away None = AllowsNone cell test
 IsFirstAmong cell test home away (Some score) = IsFirstScore cell test home away score

@@ -20,16 +20,16 @@ pub record IsStandingOf (order : ℕ → ℕ → Ordering) (group : List ℕ) (c
   pub level : (other : ℕ) → has_club (clubs_in standing.level) other
       ≡ (has_club group other && is_eq (order other club))
 
--- Less where the one club has more points
+-- Less if the one club has more points
 abbrev pub by_points_in : Sheet → Results → ℕ → ℕ → Ordering
 by_points_in sheet season club other =
     greater_first (points_of sheet season club) (points_of sheet season other)
 
--- Less where the one club has the greater number at its place
+-- Less if the one club has the greater number at its place
 abbrev pub by_number_in : List ℤ → ℕ → ℕ → Ordering
 by_number_in numbers club other = greater_first (end_at numbers club) (end_at numbers other)
 
--- what decides among clubs that the record in a group leaves level: the sums over all matches where
+-- what decides among clubs that the record in a group leaves level: the sums over all matches if
 -- they are the whole group, else who leads among them
 abbrev pub next_after : Bool → Sheet → Results → List ℕ → ℕ → ℕ → Ordering
 next_after whole sheet season level club other =

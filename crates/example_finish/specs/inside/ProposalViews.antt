@@ -5,7 +5,7 @@ use Rattle.league_core.specs.declared.sheet.Sheet.{Sheet}
 use Rattle.league_core.specs.declared.question.Question.{Question}
 use Rattle.league_core.specs.game.Results.{Results}
 use Rattle.league_core.specs.search.Proposals.{proposed_finish}
-use Rattle.score_box.specs.inside.Settings.{ZoneBoxView, HasFinish}
+use Rattle.score_box.specs.inside.ZoneBoxViews.{ZoneBoxView, HasFinish}
 use Rattle.example_finish.specs.declared.wishes.Wishes.{Wishes}
 use Rattle.example_finish.specs.inside.Wished.{AreWished, AreWishesOf}
 

@@ -61,7 +61,7 @@ numbers_by Overall sheet season table club =
     ∷ neg_ℤ (pos (rank_of sheet club))
     ∷ []
 
--- Less where the one club comes before the other
+-- Less if the one club comes before the other
 abbrev pub by_criterion : Criterion → Sheet → Results → List Totals → ℕ → ℕ → Ordering
 by_criterion criterion sheet season table club other =
     by_first_difference (numbers_by criterion sheet season table club)

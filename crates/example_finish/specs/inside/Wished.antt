@@ -21,7 +21,7 @@ AreWishesOf zone question wishes =
     (club : ℕ)
     → has_wish wishes.near club wishes.claim ≡ is_wished zone question.club club question.claim
 
--- the table tells of each number of a club whether it is wished points
+-- the table says of each number of a club whether it is wished points
 pub record AreWished (wishes : Wishes) (table : List Bool) : Type 0 where
   pub long : length table ≡ 24
   pub each : (club : ℕ) → club < 24

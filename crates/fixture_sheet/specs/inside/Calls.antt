@@ -45,13 +45,13 @@ Leads before after draft =
     × ((rest : Contents)
     → sheet_reading_of (with_lines lines rest) None ≡ sheet_reading_of rest draft)
 
--- the contents, where they are told, are read as the definition says
+-- the contents, if they are known, are read as the definition says
 abbrev pub ReadsSheetAs : Option Contents → Option Contents → Result Sheet SheetStop → Type 0
 ReadsSheetAs before after result =
     option_map (λ contents. sheet_reading_of contents None) before
     ≡ option_map (λ rest. record { gives = result; rest = rest }) after
 
--- some lines were read, where they are told
+-- some lines were read, if they are known
 abbrev pub TakesLines : Option Contents → Option Contents → Type 0
 TakesLines before after =
     (lines : List (ℕ × List ℕ)) × (before ≡ option_map (with_lines lines) after)
@@ -88,8 +88,8 @@ PassesUpTo old new left left' ended ended' answer =
     (front : List (ℕ × List ℕ))
     × PassesTo old new left left' ended ended' (front ++ given_by answer new.text)
 
--- what a refusal of this number refuses, where the reader stands at this position after it: the
--- line of the number, which is passed, or the input's end
+-- what a refusal of this number refuses, if the reader stands at this position after it: the line
+-- of the number, which is passed, or the input's end
 abbrev pub refused_before : Position → ℕ → Line
 refused_before position number = if number == number_at position then End number else Text number
 
@@ -102,7 +102,7 @@ sheet_answer_after new (Err (Fault number fault)) = Ok (refused_before new.posit
 sheet_answer_after new (Err (Read stop)) = Err stop
 sheet_answer_after new (Err OutOfMemory) = Ok (Text new.position.lines)
 
--- a fault of the source is answered only where its count rose, and else that count stays
+-- a fault of the source is returned only if its count rose, and else that count stays
 abbrev pub CountsSheet : {A : Type 0} → ℕ → ℕ → Result A SheetStop → Type 0
 CountsSheet before now (Err (Read ReadFault)) = Rose before now
 CountsSheet before now result = now ≡ before
@@ -115,7 +115,7 @@ StepReads start after (Ok (SoFar draft)) = Leads start after draft
 StepReads start after (Ok (Whole sheet)) = ReadsSheet start after (Ok sheet)
 StepReads start after (Err stop) = ReadsSheet start after (Err stop)
 
--- where it goes on, bytes were passed, and none of them past the input's limit
+-- if it goes on, bytes were passed, and none of them past the input's limit
 abbrev pub StepMoves : LineReaderView → LineReaderView → Result Progress SheetStop → Type 0
 StepMoves old new (Ok (SoFar draft)) =
     (old.position.bytes < new.position.bytes) × (new.position.bytes ≤ input_limit)

@@ -23,7 +23,7 @@ between_commas (byte ∷ bytes) =
     if byte == 44 then [] ∷ between_commas bytes
     else with_prefix (byte ∷ []) (between_commas bytes)
 
--- one more byte at the front: it does not stay where it is a comma and nothing after it stays
+-- one more byte before them: it does not stay if it is a comma and nothing after it stays
 abbrev pub with_byte : ℕ → List ℕ → List ℕ
 with_byte byte [] = if byte == 44 then [] else byte ∷ []
 with_byte byte (next ∷ bytes) = byte ∷ next ∷ bytes

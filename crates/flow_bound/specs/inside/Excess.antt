@@ -1,5 +1,5 @@
 -- Cuts: how far a set of rivals goes beyond what the club's own points allow, and which of the sets
--- that do so is answered. Where many sets would do, the choice is this project's own.
+-- that do so is found. If many sets would do, the choice is this project's own.
 use Rattle.std.specs.Prelude.{◌≡◌, ◌≢◌, ℕ, ◌<◌, ℤ, pos, ◌-ℤ◌, ◌≤ℤ◌, ◌<ℤ◌, Bool, true, not, ◌&&◌}
 use Rattle.std.specs.Prelude.{◌==◌, IsTrue, List, [], ◌∷◌}
 use Rattle.std.specs.List.{list_all}
@@ -58,8 +58,8 @@ IsInEachGreatest marked excess set =
     → excess (clubs_in rivals) ≤ℤ excess (clubs_in other))
     → (club : ℕ) → has_club (clubs_in set) club ≡ true → has_club (clubs_in other) club ≡ true
 
--- the set that is answered: the first marked club that has an excess alone; where none has, the
--- least set of greatest excess
+-- the set that is found: the first marked club that has an excess alone; if none has, the least set
+-- of greatest excess
 pub record IsChosen (marked : ℕ → Bool) (excess : List ℕ → ℤ) (set : ClubSet) : Type 0 where
   pub alone : (club : ℕ) → IsFirstAlone marked excess club → clubs_in set ≡ club ∷ []
   pub together : NoneAlone marked excess → IsLeastOfGreatest marked excess set

@@ -16,7 +16,7 @@ use Rattle.score_box.specs.declared.cell.Cell.{Cell}
 use Rattle.score_box.specs.inside.Cells.{IsCellOf}
 use Rattle.flow_bound.specs.declared.cut.Cut.{Cut}
 use Rattle.flow_bound.specs.declared.cut.Cut.TheVariants.{Floor, Ceiling}
-use Rattle.score_box.specs.inside.Settings.{ZoneBoxView}
+use Rattle.score_box.specs.inside.ZoneBoxViews.{ZoneBoxView}
 use Rattle.score_box.specs.inside.Unplayed.{unplayed_in}
 use Rattle.flow_bound.specs.declared.tally.Pair.{Pair}
 use Rattle.flow_bound.specs.inside.Parts.{entry}
@@ -44,8 +44,8 @@ beyond_over cut sheet season zone clubs =
     -ℤ total_of (λ club. end_of cut (range_from (points_together (club ∷ [])) sheet.fixtures
     (options_in sheet season zone))) clubs
 
--- what a fixture adds where one of its clubs is in the set, and what it adds beyond that where both
--- are; for a ceiling cut the points are counted with the sign turned
+-- what a fixture adds if one of its clubs is in the set, and what it adds beyond that if both are;
+-- for a ceiling cut the points are counted with the sign turned
 pub record MatchWorth : Type 0 where
   pub home : ℤ
   pub away : ℤ
@@ -86,7 +86,7 @@ surplus_in cut options =
     -ℤ end_of cut (range_of (points_of_sides true false) options)
     -ℤ end_of cut (range_of (points_of_sides false true) options))
 
--- that surplus where all three outcomes are among the options
+-- that surplus if all three outcomes are among the options
 abbrev pub surplus_of_all : Cut → ℕ
 surplus_of_all Floor = 2
 surplus_of_all Ceiling = 3

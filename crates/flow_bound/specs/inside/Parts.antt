@@ -1,5 +1,5 @@
 -- The excess of a set in parts: what each club adds alone, and what each two clubs add that still
--- meet, where both are in the set. Sets are tests of clubs here, and clubs are numbered below 32.
+-- meet, if both are in the set. Sets are tests of clubs here, and clubs are numbered below 32.
 use Rattle.std.specs.Prelude.{◌≡◌, ◌≢◌, ◌⊎◌, ℕ, zero, suc, ◌+◌, ◌*◌, ◌<◌, ◌≤◌, ℤ, pos, neg_ℤ, ◌+ℤ◌}
 use Rattle.std.specs.Prelude.{◌≤ℤ◌, ◌<ℤ◌, Bool, true, ◌&&◌, ◌==◌, if◌then◌else◌, List, [], ◌∷◌}
 use Rattle.std.specs.Prelude.{length, sum_by, slice_index_or}
@@ -77,7 +77,7 @@ abbrev pub HasNoExcess : List ℤ → List Pair → (ℕ → Bool) → Type 0
 HasNoExcess table pairs whole =
     (side : ℕ → Bool) → IsPartOf side whole → excess_in table pairs side ≤ℤ pos 0
 
--- the parts of a side lose nothing where only some of its clubs are kept
+-- the parts of a side lose nothing if only some of its clubs are kept
 pub record KeepsExcess (table : List ℤ) (pairs : List Pair) (whole rest : ℕ → Bool) : Type 0 where
   pub part : IsPartOf rest whole
   pub kept : (side : ℕ → Bool) → IsPartOf side whole
@@ -112,7 +112,7 @@ pub record IsFirstOver (table : List ℤ) (whole : ℕ → Bool) (club : ℕ) : 
 abbrev pub NoneOver : List ℤ → (ℕ → Bool) → Type 0
 NoneOver table whole = (club : ℕ) → whole club ≡ true → entry table club ≤ℤ pos 0
 
--- the set that is answered, club alone or together
+-- the set that is found, club alone or together
 abbrev pub IsAnsweredSet : List ℤ → List Pair → (ℕ → Bool) → ClubSet → Type 0
 IsAnsweredSet table pairs whole set =
     ((club : ℕ) × IsFirstOver table whole club × (clubs_in set ≡ club ∷ []))

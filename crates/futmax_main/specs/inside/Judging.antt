@@ -2,7 +2,7 @@
 use Rattle.std.specs.Prelude.{◌≡◌, ℕ, List, Option}
 use Rattle.std.specs.Io.KnownBytes.{append_known}
 use Rattle.port_core.specs.Ports.{AppendsPrefix, Rose}
-use Rattle.check_run.specs.declared.outcome.CheckOutcome.{CheckOutcome}
+use Rattle.cert_check.specs.declared.outcome.CheckOutcome.{CheckOutcome}
 use Rattle.futmax_main.specs.declared.status.Status.{Status}
 use Rattle.futmax_main.specs.declared.status.Status.TheVariants.{BadWords, ReadFault, WriteFault}
 use Rattle.futmax_main.specs.declared.status.Status.TheVariants.{OutOfMemory}

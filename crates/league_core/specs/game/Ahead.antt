@@ -32,7 +32,7 @@ overall_of sheet season club =
     ∷ neg_ℤ (pos (rank_of sheet club))
     ∷ []
 
--- Less where the one club is the greater over all matches, or else has the lower fixed rank
+-- Less if the one club is the greater over all matches, or else has the lower fixed rank
 abbrev pub by_overall : Sheet → Results → ℕ → ℕ → Ordering
 by_overall sheet season club other =
     by_first_difference (overall_of sheet season club) (overall_of sheet season other)
@@ -49,8 +49,8 @@ lead_within (suc times) sheet season group club other =
       | false ↦ lead_within times sheet season level club other
     ])
 
--- of two clubs of a group, by the head-to-head first: Less where the one leads, Greater where the
--- other does, Equal where neither
+-- of two clubs of a group, by the head-to-head first: Less if the one leads, Greater if the other
+-- does, Equal if neither
 abbrev pub lead_in : Sheet → Results → List ℕ → ℕ → ℕ → Ordering
 lead_in sheet season group club other = lead_within (length group) sheet season group club other
 
@@ -61,7 +61,7 @@ first_sums_of sheet season club =
     ∷ sum_of goals sheet season club
     ∷ []
 
--- Less where the one club has the greater difference over all matches, or else the more goals
+-- Less if the one club has the greater difference over all matches, or else the more goals
 abbrev pub by_first_sums : Sheet → Results → ℕ → ℕ → Ordering
 by_first_sums sheet season club other =
     by_first_difference (first_sums_of sheet season club) (first_sums_of sheet season other)
@@ -83,8 +83,8 @@ standing_by OverallFirst sheet season group club other =
     ordering_then (by_first_sums sheet season club other)
     (lead_in sheet season (level_overall sheet season group club) club other)
 
--- of two clubs of a group, by the criteria in the sheet's order: Less where the one is ahead,
--- Greater where the other is, Equal where neither
+-- of two clubs of a group, by the criteria in the sheet's order: Less if the one is ahead, Greater
+-- if the other is, Equal if neither
 abbrev pub standing_in : Sheet → Results → List ℕ → ℕ → ℕ → Ordering
 standing_in sheet season group club other = standing_by sheet.order sheet season group club other
 

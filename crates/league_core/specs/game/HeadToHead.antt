@@ -25,7 +25,7 @@ head_to_head_of sheet season group club =
     ∷ sum_among group goals sheet season club
     ∷ []
 
--- Less where the one club's record in the group is the greater
+-- Less if the one club's record in the group is the greater
 abbrev pub by_head_to_head : Sheet → Results → List ℕ → ℕ → ℕ → Ordering
 by_head_to_head sheet season group club other =
     by_first_difference (head_to_head_of sheet season group club)

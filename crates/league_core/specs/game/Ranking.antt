@@ -26,8 +26,8 @@ tied_group_of sheet season club =
     filter (λ other. int_eq (points_of sheet season other) (points_of sheet season club))
     (clubs_of sheet)
 
--- Less where the one club ranks before the other: by points, then as the two stand in the group of
--- all clubs on those points, then by the lots
+-- Less if the one club ranks before the other: by points, then as the two stand in the group of all
+-- clubs on those points, then by the lots
 abbrev pub order_of : Sheet → Results → List ℕ → ℕ → ℕ → Ordering
 order_of sheet season lots club other =
     ordering_then (greater_first (points_of sheet season club) (points_of sheet season other))

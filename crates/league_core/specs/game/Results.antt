@@ -5,7 +5,7 @@ use Rattle.std.specs.List.{list_all}
 use Rattle.league_core.specs.declared.season.Score.{Score}
 use Rattle.league_core.specs.game.Limits.{most_goals, most_deduction}
 
--- for each fixture its score, or none where it is not played; for each club the points taken off
+-- for each fixture its score, or none if it is not played; for each club the points taken off
 pub record Results : Type 0 where
   pub scores : List (Option Score)
   pub deductions : List ℕ

@@ -25,15 +25,15 @@ event_applied season (Clear fixture) = record season
 event_applied season (Deduct club points) =
     record season { deductions = slice_set season.deductions club points }
 
--- what a season may be told: of a fixture that it has, a score that may be or none; of a club that
--- it has, a deduction that may be
+-- what a season may take: of a fixture that it has, a score that may be or none; of a club that it
+-- has, a deduction that may be
 abbrev pub IsEventOf : Results → Event → Type 0
 IsEventOf season (Set fixture score) = (fixture < length season.scores) × IsTrue (is_score score)
 IsEventOf season (Clear fixture) = fixture < length season.scores
 IsEventOf season (Deduct club points) = (club < length season.deductions)
     × (points ≤ most_deduction)
 
--- each of these events is one that a season of the sheet may be told
+-- each of these events is one that a season of the sheet may take
 abbrev pub AreEventsOf : Sheet → List Event → Type 0
 AreEventsOf sheet events =
     All (IsEventOf (unplayed_season (length sheet.clubs) (length sheet.fixtures))) events

@@ -40,7 +40,7 @@ abbrev pub are_different : {A : Type 0} → (A → A → Bool) → List A → Bo
 are_different same [] = true
 are_different same (x ∷ xs) = not (list_any (same x) xs) && are_different same xs
 
--- two clubs go by one name exactly where the names' bytes are the same
+-- two clubs go by one name exactly when the names' bytes are the same
 abbrev pub same_name : Club → Club → Bool
 same_name club other = bytes_eq club.name other.name
 

@@ -38,7 +38,7 @@ wins scored conceded away = if nat_lt conceded scored then pos 1 else pos 0
 abbrev pub away_wins : Worth
 away_wins scored conceded away = if away && nat_lt conceded scored then pos 1 else pos 0
 
--- what a match of two different clubs is worth to a club: nothing where it does not play in it
+-- what a match of two different clubs is worth to a club: nothing if it does not play in it
 abbrev pub worth_to : Worth → ℕ → Fixture → Score → ℤ
 worth_to worth club match score =
     if match.home == club then worth score.home score.away false
@@ -49,7 +49,7 @@ worth_to worth club match score =
 abbrev pub has_club : List ℕ → ℕ → Bool
 has_club group club = list_any (λ member. member == club) group
 
--- what a match is worth to a club within a group: nothing where an end is outside it
+-- what a match is worth to a club within a group: nothing if an end is outside it
 abbrev pub worth_among : List ℕ → Worth → ℕ → Fixture → Score → ℤ
 worth_among group worth club match score =
     if has_club group match.home && has_club group match.away

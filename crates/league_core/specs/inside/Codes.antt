@@ -1,5 +1,5 @@
--- Events that have a code: what one number for each event has to tell apart. Every event that a
--- season of a sheet within the limits may be told is one of them.
+-- Events that have a code: what one number for each event has to distinguish. Every event that a
+-- season of a sheet within the limits may take is one of them.
 use Rattle.std.specs.Prelude.{Bool, ◌&&◌, nat_lt, nat_le}
 use Rattle.league_core.specs.declared.season.Event.{Event}
 use Rattle.league_core.specs.declared.season.Event.TheVariants.{Set, Clear, Deduct}

@@ -33,8 +33,8 @@ ways_to_finish limit (played ∷ season) = ways_to_end limit played * ways_to_fi
 abbrev pub score_number : ℕ → Score → ℕ
 score_number limit score = score.home * (limit + 1) + score.away
 
--- where an end stands among the ends of a fixture: 0 where it was played, which leaves one end, and
--- 0 also where it is left open, which is no end
+-- where an end stands among the ends of a fixture: 0 if it was played, which leaves one end, and 0
+-- also if it is left open, which is no end
 abbrev pub end_number : ℕ → Option Score → Option Score → ℕ
 end_number limit None None = 0
 end_number limit None (Some ended) = score_number limit ended

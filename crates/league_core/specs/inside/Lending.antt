@@ -20,7 +20,7 @@ times_lent number (refuted_leaf reason fresh) = 0
 times_lent number (branch test fresh yes_half no_half) =
     times_lent number yes_half + times_lent number no_half
 
--- the zones of the leaves that are lent under this number, where the tree's root has this zone
+-- the zones of the leaves that are lent under this number, if the tree's root has this zone
 abbrev pub lent_zones : ℕ → List Literal → Tree → List (List Literal)
 lent_zones number zone open_leaf = []
 lent_zones number zone (lent_leaf other) = if other == number then zone ∷ [] else []

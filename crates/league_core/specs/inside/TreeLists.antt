@@ -10,8 +10,8 @@ use Rattle.league_core.specs.declared.tree.TreeNode.TheVariants.{Split, Open, Le
 use Rattle.league_core.specs.search.Trees.{Tree, open_leaf, lent_leaf, refuted_leaf, branch}
 use Rattle.league_core.specs.search.Trees.{preorder}
 
--- the trees of what follows a node, with the tree that begins with the node; none where a split
--- has fewer than two trees after it
+-- the trees of what follows a node, with the tree that begins with the node; none if a split has
+-- fewer than two trees after it
 abbrev pub with_node : TreeNode → Option (List Tree) → Option (List Tree)
 with_node node None = None
 with_node Open (Some trees) = Some (open_leaf ∷ trees)
@@ -27,7 +27,7 @@ abbrev pub trees_of : List TreeNode → Option (List Tree)
 trees_of [] = Some []
 trees_of (node ∷ nodes) = with_node node (trees_of nodes)
 
--- the one tree of a list, where there is one and no other after it
+-- the one tree of a list, if there is one and no other after it
 abbrev pub only_tree : Option (List Tree) → Option Tree
 only_tree None = None
 only_tree (Some []) = None
@@ -42,7 +42,7 @@ tree_of nodes = only_tree (trees_of nodes)
 abbrev pub preorders : List Tree → List TreeNode
 preorders trees = flat_map preorder trees
 
--- some tree of any list; where the list is that of a tree, this tree
+-- some tree of any list; if the list is that of a tree, this tree
 abbrev pub tree_or_leaf : Option Tree → Tree
 tree_or_leaf None = open_leaf
 tree_or_leaf (Some tree) = tree

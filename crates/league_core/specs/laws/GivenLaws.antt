@@ -9,25 +9,25 @@ use Rattle.league_core.specs.game.Verdicts.{HasNoExample, IsClinched, IsLost, Is
 use Rattle.league_core.specs.search.GivenVerdicts.{IsExampleIn, HoldsNowhereIn, IsClinchedGiven}
 use Rattle.league_core.specs.search.GivenVerdicts.{IsLostGiven, IsPossibleGiven}
 
--- if no literal is asked for, a club has clinched a line exactly if it has in the season
+-- if no literal is asked for, a club has clinched a line exactly when it has in the season
 abbrev pub ClinchedGivenNothing : Type 0
 ClinchedGivenNothing =
     (sheet : Sheet) (season : Results) (club line : ℕ)
     → IsClinchedGiven sheet season [] club line ↔ IsClinched sheet season club line
 
--- it has lost it exactly if it has in the season
+-- it has lost it exactly when it has in the season
 abbrev pub LostGivenNothing : Type 0
 LostGivenNothing =
     (sheet : Sheet) (season : Results) (club line : ℕ)
     → IsLostGiven sheet season [] club line ↔ IsLost sheet season club line
 
--- and it is possible exactly if it is in the season
+-- and it is possible exactly when it is in the season
 abbrev pub PossibleGivenNothing : Type 0
 PossibleGivenNothing =
     (sheet : Sheet) (season : Results) (club line : ℕ)
     → IsPossibleGiven sheet season [] club line ↔ IsPossible sheet season club line
 
--- a question holds nowhere in a zone exactly if none of its examples is a member of the zone
+-- a question holds nowhere in a zone exactly when none of its examples is a member of the zone
 abbrev pub NowhereIsWithoutExample : Type 0
 NowhereIsWithoutExample =
     (sheet : Sheet) (season : Results) (question : Question) (zone : List Literal)

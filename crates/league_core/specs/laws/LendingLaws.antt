@@ -22,12 +22,12 @@ LoansAreAsManyAsZones =
 abbrev pub NumbersAreLentAmongAll : Type 0
 NumbersAreLentAmongAll = (number : ℕ) (tree : Tree) → times_lent number tree ≤ lent_count tree
 
--- where no number is lent no leaf is
+-- if no number is lent no leaf is
 abbrev pub LentLeavesHaveANumber : Type 0
 LentLeavesHaveANumber =
     (tree : Tree) → ((number : ℕ) → times_lent number tree ≡ 0) → lent_count tree ≡ 0
 
--- a tree is refuted exactly where no leaf is open and none is lent
+-- a tree is refuted exactly when no leaf is open and none is lent
 abbrev pub SettledTreesAreRefuted : Type 0
 SettledTreesAreRefuted =
     (tree : Tree)
@@ -50,13 +50,13 @@ PutLeavesKeepZones =
     (number : ℕ) (new tree : Tree) (zone : List Literal) → IsTrue (is_leaf new)
     → zones_from zone (put number new tree) ≡ zones_from zone tree
 
--- the number is lent nowhere, where the new tree does not lend it
+-- the number is lent nowhere, if the new tree does not lend it
 abbrev pub PutTakesTheNumber : Type 0
 PutTakesTheNumber =
     (number : ℕ) (new tree : Tree) (zone : List Literal) → times_lent number new ≡ 0
     → lent_zones number zone (put number new tree) ≡ []
 
--- another number is lent where it was, where the new tree does not lend it
+-- another number is lent where it was, if the new tree does not lend it
 abbrev pub PutKeepsOtherLoans : Type 0
 PutKeepsOtherLoans =
     (number other : ℕ) (new tree : Tree) (zone : List Literal) → other ≢ number
@@ -105,7 +105,7 @@ PutOpensLeaves =
     → has_open (put number new tree)
     ≡ (has_open tree || (nat_lt 0 (times_lent number tree) && has_open new))
 
--- a fact of all nodes that a `Bool` tells stays, where those of the new tree have it in each zone
+-- a fact of all nodes that a `Bool` decides stays, if those of the new tree have it in each zone
 -- that it comes into
 abbrev pub PutKeepsFacts : Type 0
 PutKeepsFacts =
@@ -115,7 +115,7 @@ PutKeepsFacts =
     (lent_zones number zone tree)
     → NodesMeet (λ z node. IsTrue (fact z node)) zone (put number new tree)
 
--- a fact that a `Bool` tells, and that open leaves share with lent ones, stays where leaves are
+-- a fact that a `Bool` decides, and that open leaves share with lent ones, stays when leaves are
 -- lent
 abbrev pub LendingKeepsFacts : Type 0
 LendingKeepsFacts =
@@ -124,14 +124,14 @@ LendingKeepsFacts =
     → NodesMeet (λ z node. IsTrue (fact z node)) zone (put number open_leaf tree)
     → NodesMeet (λ z node. IsTrue (fact z node)) zone tree
 
--- a fact of all nodes that a `Bool` tells is one of each leaf that is lent under a number
+-- a fact of all nodes that a `Bool` decides is one of each leaf that is lent under a number
 abbrev pub FactsAreOfLentLeaves : Type 0
 FactsAreOfLentLeaves =
     (fact : List Literal → TreeNode → Bool) (number : ℕ) (tree : Tree) (zone : List Literal)
     → NodesMeet (λ z node. IsTrue (fact z node)) zone tree
     → All (λ z. IsTrue (fact z (Lent number))) (lent_zones number zone tree)
 
--- a fact that a `Bool` tells, and that lent leaves share with open ones, stays where all leaves
+-- a fact that a `Bool` decides, and that lent leaves share with open ones, stays when all leaves
 -- are opened
 abbrev pub OpeningKeepsFacts : Type 0
 OpeningKeepsFacts =

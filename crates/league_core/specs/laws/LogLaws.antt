@@ -23,14 +23,14 @@ EventsKeepResults =
     (season : Results) (event : Event) → IsTrue (are_results season) → IsEventOf season event
     → IsTrue (are_results (event_applied season event))
 
--- all seasons of a sheet may be told the same events
+-- all seasons of a sheet may take the same events
 abbrev pub SeasonsTakeTheSameEvents : Type 0
 SeasonsTakeTheSameEvents =
     (sheet : Sheet) (season other : Results) (event : Event)
     → IsSeasonOf sheet season → IsSeasonOf sheet other
     → IsEventOf season event → IsEventOf other event
 
--- what a season of a sheet within the limits may be told has a code
+-- what a season of a sheet within the limits may take has a code
 abbrev pub EventsHaveCodes : Type 0
 EventsHaveCodes =
     (sheet : Sheet) (season : Results) (event : Event)
@@ -55,7 +55,7 @@ LogsGiveResults =
     (sheet : Sheet) (events : List Event) → AreEventsOf sheet events
     → IsTrue (are_results (season_after sheet events))
 
--- an event that the season of some events may be told is one more event of the sheet
+-- an event that the season of some events may take is one more event of the sheet
 abbrev pub EventsAreOfTheSheet : Type 0
 EventsAreOfTheSheet =
     (sheet : Sheet) (events : List Event) (event : Event) → AreEventsOf sheet events

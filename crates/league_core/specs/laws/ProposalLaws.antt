@@ -24,7 +24,7 @@ OptionOrderTellsApart =
     (home away : Bool) (score other : Score)
     → option_order home away score other ≡ Equal → score ≡ other
 
--- there is a first option where there is any
+-- there is a first option if there is any
 abbrev pub OptionsHaveAFirst : Type 0
 OptionsHaveAFirst =
     (home away : Bool) (options : List Score)

@@ -16,7 +16,7 @@ abbrev pub SeasonsHaveAFinish : Type 0
 SeasonsHaveAFinish =
     (sheet : Sheet) (season : Results) → IsTrue (has_finish sheet season [])
 
--- where a zone has a finish, a test of a score leaves one in one of the halves at least
+-- if a zone has a finish, a test of a score leaves one in one of the halves at least
 abbrev pub ScoreTestsLeaveAFinish : Type 0
 ScoreTestsLeaveAFinish =
     (sheet : Sheet) (season : Results) (zone : List Literal) (test : Test)
@@ -24,14 +24,14 @@ ScoreTestsLeaveAFinish =
     → IsTrue (has_finish sheet season (with_test zone test true)
     || has_finish sheet season (with_test zone test false))
 
--- a test of a rival leaves in each half a finish exactly where the zone has one
+-- a test of a rival leaves in each half a finish exactly when the zone has one
 abbrev pub RivalTestsLeaveFinishes : Type 0
 RivalTestsLeaveFinishes =
     (sheet : Sheet) (season : Results) (zone : List Literal) (test : Test) (holds : Bool)
     (rival : ℕ) → IsTrue (is_of_rival rival test)
     → has_finish sheet season (with_test zone test holds) ≡ has_finish sheet season zone
 
--- where a zone has a finish, so has each half by a proper split
+-- if a zone has a finish, so has each half by a proper split
 abbrev pub ProperHalvesHaveAFinish : Type 0
 ProperHalvesHaveAFinish =
     (sheet : Sheet) (season : Results) (question : Question) (zone : List Literal) (test : Test)
@@ -39,7 +39,7 @@ ProperHalvesHaveAFinish =
     → IsTrue (is_proper sheet season question zone test)
     → IsTrue (has_finish sheet season (with_test zone test holds))
 
--- so where the root's zone has a finish and each split is proper, each node's zone has a finish
+-- so if the root's zone has a finish and each split is proper, each node's zone has a finish
 abbrev pub ProperTreesHaveFinishes : Type 0
 ProperTreesHaveFinishes =
     (sheet : Sheet) (season : Results) (question : Question) (tree : Tree) (zone : List Literal)

@@ -49,9 +49,9 @@ TimesAreEnough =
     → lead_within times sheet season group club other
     ≡ lead_within more sheet season group club other
 
--- the rule as it is said: the head-to-head record; where that is one, the sums over all matches and
--- then the fixed rank if the clubs with that record are the whole group, else the lead among those
--- clubs
+-- the rule as it is said: the head-to-head record; if that is the same, the sums over all matches
+-- and then the fixed rank if the clubs with that record are the whole group, else the lead among
+-- those clubs
 abbrev pub lead_by_the_rule : Sheet → Results → List ℕ → ℕ → ℕ → Ordering
 lead_by_the_rule sheet season group club other =
     let level = level_with sheet season group club in

@@ -26,20 +26,20 @@ LentZonesAreOfLeaves =
     ≡ map (λ (leaf : Leaf). leaf.zone)
     (filter (λ (leaf : Leaf). is_lent_under number leaf.node) (leaves_from zone tree))
 
--- a tree has an open leaf exactly where one of its leaves is open
+-- a tree has an open leaf exactly when one of its leaves is open
 abbrev pub OpenTreesHaveAnOpenLeaf : Type 0
 OpenTreesHaveAnOpenLeaf =
     (tree : Tree) (zone : List Literal)
     → has_open tree ≡ list_any (λ (leaf : Leaf). is_open_leaf leaf.node) (leaves_from zone tree)
 
--- a tree is refuted exactly where each of its leaves is
+-- a tree is refuted exactly when each of its leaves is
 abbrev pub RefutedTreesHaveRefutedLeaves : Type 0
 RefutedTreesHaveRefutedLeaves =
     (tree : Tree) (zone : List Literal)
     → is_refuted tree
     ≡ list_all (λ (leaf : Leaf). is_refuted_leaf leaf.node) (leaves_from zone tree)
 
--- a fact of each node that a `Bool` tells is one of each leaf
+-- a fact of each node that a `Bool` decides is one of each leaf
 abbrev pub FactsOfNodesAreOfLeaves : Type 0
 FactsOfNodesAreOfLeaves =
     (fact : List Literal → TreeNode → Bool) (tree : Tree) (zone : List Literal)
@@ -60,17 +60,17 @@ LeavesAreOneMoreThanSplits =
 abbrev pub NewNodesAreNodes : Type 0
 NewNodesAreNodes = (tree : Tree) → new_count tree ≤ node_count tree
 
--- a list is read as a tree exactly where it is the tree's list
+-- a list is read as a tree exactly when it is the tree's list
 abbrev pub ReadingIsExact : Type 0
 ReadingIsExact =
     (nodes : List TreeNode) (tree : Tree) → (tree_of nodes ≡ Some tree) ↔ (preorder tree ≡ nodes)
 
--- nothing is read exactly where no tree has the list
+-- nothing is read exactly when no tree has the list
 abbrev pub UnreadListsHaveNoTree : Type 0
 UnreadListsHaveNoTree =
     (nodes : List TreeNode)
     → (tree_of nodes ≡ None) ↔ ((tree : Tree) → ¬ (preorder tree ≡ nodes))
 
 -- two trees with one list are one tree
-abbrev pub ListsTellTrees : Type 0
-ListsTellTrees = (tree other : Tree) → preorder tree ≡ preorder other → tree ≡ other
+abbrev pub ListsDetermineTrees : Type 0
+ListsDetermineTrees = (tree other : Tree) → preorder tree ≡ preorder other → tree ≡ other

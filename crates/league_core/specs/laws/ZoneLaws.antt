@@ -7,7 +7,7 @@ use Rattle.league_core.specs.game.Results.{Results}
 use Rattle.league_core.specs.game.Finishes.{IsFinishOf}
 use Rattle.league_core.specs.search.Options.{IsInBox}
 
--- a finish of the season takes an option of each fixture where no literal is asked for, and each
+-- a finish of the season takes an option of each fixture if no literal is asked for, and each
 -- choice of such options is a finish
 abbrev pub FinishesTakeOptions : Type 0
 FinishesTakeOptions =

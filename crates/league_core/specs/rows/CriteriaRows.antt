@@ -20,7 +20,7 @@ group_points_decide : places (for_b (vs 0 1 ∷ vs 1 2 ∷ []))
     (played (ended 1 0 ∷ ended 5 0 ∷ []) (0 ∷ 0 ∷ 0 ∷ 0 ∷ [])) b_draws_first ≡ 1 ∷ 2 ∷ 4 ∷ 3 ∷ []
 group_points_decide = refl
 
--- difference in the group: A won 2:0 at home and lost 0:1 away; B beat D 9:0 where A beat C 1:0
+-- difference in the group: A won 2:0 at home and lost 0:1 away; B beat D 9:0 and A beat C 1:0
 group_difference_decides : places (for_b (vs 0 1 ∷ vs 1 0 ∷ vs 0 2 ∷ vs 1 3 ∷ []))
     (played (ended 2 0 ∷ ended 1 0 ∷ ended 1 0 ∷ ended 9 0 ∷ []) (0 ∷ 0 ∷ 0 ∷ 0 ∷ []))
     b_draws_first ≡ 1 ∷ 2 ∷ 3 ∷ 4 ∷ []

@@ -28,7 +28,7 @@ nine_proposed : (proposed_finish nine nine_season nine_question nine_zone).score
 unfolding proposed_finish
 nine_proposed = refl
 
--- X marked before C is wished points too, also where it is marked after it as well; for a place
+-- X marked before C is wished points too, even if it is marked after it as well; for a place
 -- outside C and X marked after it are wished none, and all others are
 proposed_by_marks : map (λ (asked : Question × List Literal).
     (proposed_finish nine nine_season asked.0 asked.1).scores)

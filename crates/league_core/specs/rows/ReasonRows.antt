@@ -38,7 +38,7 @@ thirteen_high : has_reason thirteen thirteen_season thirteen_question (yes (Riva
 unfolding has_reason has_finish least_points_of most_points_of clubs_below
 thirteen_high = refl
 
--- where the first club won but one of its two matches it has 3 points, and a rival can come to that
+-- if the first club won but one of its two matches it has 3 points, and a rival can come to that
 thirteen_equality : has_reason thirteen
     (played 16 (ended 1 0 ∷ ended 0 1 ∷ None ∷ None ∷ None ∷ None ∷ None ∷ None ∷ None ∷ None ∷
     [])) thirteen_question (yes (Rival 15) ∷ []) (High (clubs 32768)) ≡ false

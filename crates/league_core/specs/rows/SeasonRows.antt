@@ -45,7 +45,7 @@ each_once = refl
 
 -- ---- how a fixture may end, at goal limit 5
 
--- a played match keeps its score, also one past the limit; an open one ends with at most the limit
+-- a played match keeps its score, even one past the limit; an open one ends with at most the limit
 endings : map (λ (p : Option Score × Option Score). may_end 5 p.0 p.1)
     ((ended 12 0, ended 12 0) ∷ (ended 12 0, ended 0 0) ∷ (None, ended 5 5) ∷ (None, ended 6 0) ∷
     (None, None) ∷ []) ≡ true ∷ false ∷ true ∷ false ∷ false ∷ []

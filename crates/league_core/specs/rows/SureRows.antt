@@ -93,8 +93,7 @@ unfolding has_reason has_finish sure_order
 ten_tie_parts = refl
 
 -- ---- A and B drew 0:0, C and D are to draw: whether C shares A's record in their group of four is
--- open until its goals are, and then B is behind A by rank, or level with it where their ranks are
--- one
+-- open until its goals are, and then B is behind A by rank, or level with it if their ranks are one
 
 abbrev open_third : List ℕ → Sheet
 open_third ranks = record (league 1 4 (vs 0 1 ∷ vs 2 3 ∷ []))
@@ -160,7 +159,7 @@ level_is_no_reason : map (λ (asked : Question × List Literal).
 unfolding has_reason has_finish sure_order
 level_is_no_reason = refl
 
--- ---- steps of the comparison where all is played, or goals are open
+-- ---- steps of the comparison if all is played, or goals are open
 
 -- the record of A, B and C leaves A and B level, and that of the two puts A first, although B's
 -- overall difference is greater

@@ -1,5 +1,5 @@
--- A tree worked by hand, computed when the crate is checked: a rival at the front or not, and where
--- it is at the front a match that is drawn or not.
+-- A tree worked by hand, computed when the crate is checked: a rival before the club or not, and if
+-- it is before it a match that is drawn or not.
 use Rattle.std.specs.Prelude.{◌≡◌, true, false, [], ◌∷◌, Some, None, map, refl}
 use Rattle.league_core.specs.declared.zone.Test.{Test}
 use Rattle.league_core.specs.declared.zone.Test.TheVariants.{Draw, Rival}
@@ -20,8 +20,7 @@ yes test = record { test = test; yes = true }
 abbrev no : Test → Literal
 no test = record { test = test; yes = false }
 
--- at the front and drawn: refuted in this epoch; at the front and not drawn: lent under 7; after:
--- open
+-- before and drawn: refuted in this epoch; before and not drawn: lent under 7; after: open
 abbrev rival_then_draw : Tree
 rival_then_draw =
     branch (Rival 3) false

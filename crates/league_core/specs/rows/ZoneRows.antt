@@ -171,7 +171,7 @@ eleven_proper : map (is_proper eleven eleven_season (full_question 0 1 Inside) [
 unfolding has_finish
 eleven_proper = refl
 
--- no reason holds where no finish is left
+-- no reason holds if no finish is left
 no_finish_no_reason : map
     (has_reason eleven eleven_season (full_question 0 1 Outside)
     (yes (HomeMost 0 2) ∷ no (Rival 1) ∷ [])) (Count ∷ Low (clubs 2) ∷ Tie ∷ [])

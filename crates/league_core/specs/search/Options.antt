@@ -20,13 +20,12 @@ scores_up_to limit =
     let goals = range_with_len 0 (limit + 1) in
     flat_map (λ home. map (score_of home) goals) goals
 
--- the scores with which a fixture may end: its own where it was played, all up to the limit
--- otherwise
+-- the scores with which a fixture may end: its own if it was played, all up to the limit otherwise
 abbrev pub endings : ℕ → Option Score → List Score
 endings limit None = scores_up_to limit
 endings limit (Some played) = played ∷ []
 
--- where the literal is of this fixture, the score makes it true
+-- if the literal is of this fixture, the score makes it true
 abbrev pub meets_literal : ℕ → Score → Literal → Bool
 meets_literal fixture score literal =
     not (is_on fixture literal.test) || is_as_said literal.yes (passes literal.test score)

@@ -35,7 +35,7 @@ abbrev pub widened : ℤ → Range → Range
 widened value range =
     record { least = int_min value range.least; greatest = int_max value range.greatest }
 
--- the least and the greatest value of the options; 0 where there is none
+-- the least and the greatest value of the options; 0 if there is none
 abbrev pub range_of : (Score → ℤ) → List Score → Range
 range_of value [] = one_value (pos 0)
 range_of value (score ∷ []) = one_value (value score)
@@ -57,13 +57,13 @@ total_of value (club ∷ clubs) = value club +ℤ total_of value clubs
 abbrev pub points_together : List ℕ → Fixture → Score → ℤ
 points_together clubs match score = total_of (λ club. worth_to match_points club match score) clubs
 
--- the match points that a score gives to its two sides, where each of them counts or not
+-- the match points that a score gives to its two sides, if each of them counts or not
 abbrev pub points_of_sides : Bool → Bool → Score → ℤ
 points_of_sides home away score =
     (if home then match_points score.home score.away false else pos 0)
     +ℤ (if away then match_points score.away score.home true else pos 0)
 
--- the points of a home win for the sides that count: three where the home side does
+-- the points of a home win for the sides that count: three if the home side does
 abbrev pub won_points : Bool → ℕ
 won_points home = if home then 3 else 0
 
@@ -71,7 +71,7 @@ won_points home = if home then 3 else 0
 abbrev pub drawn_points : Bool → Bool → ℕ
 drawn_points home away = (if home then 1 else 0) + (if away then 1 else 0)
 
--- the points of an away win: three where the away side counts
+-- the points of an away win: three if the away side counts
 abbrev pub lost_points : Bool → ℕ
 lost_points away = if away then 3 else 0
 
@@ -79,7 +79,7 @@ lost_points away = if away then 3 else 0
 abbrev pub deducted_from : Results → List ℕ → ℤ
 deducted_from season clubs = total_of (λ club. pos (slice_index season.deductions club)) clubs
 
--- the least and the most points of the clubs of a set, where the fixtures have these options: match
+-- the least and the most points of the clubs of a set, if the fixtures have these options: match
 -- points of all fixtures, less what is taken off
 abbrev pub points_range : Sheet → Results → List (List Score) → List ℕ → Range
 points_range sheet season options clubs =

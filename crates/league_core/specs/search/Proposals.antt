@@ -47,7 +47,7 @@ wishes_met home away score =
     ∷ pos score.home
     ∷ []
 
--- Less where the one score is taken before the other
+-- Less if the one score is taken before the other
 abbrev pub option_order : Bool → Bool → Score → Score → Ordering
 option_order home away score other =
     by_first_difference (wishes_met home away score) (wishes_met home away other)
@@ -57,7 +57,7 @@ abbrev pub first_of_two : Bool → Bool → Score → Score → Score
 first_of_two home away score other =
     if is_lt (option_order home away other score) then other else score
 
--- the option that is taken before all others; none where there is no option
+-- the option that is taken before all others; none if there is no option
 abbrev pub first_option : Bool → Bool → List Score → Option Score
 first_option home away [] = None
 first_option home away (score ∷ options) = Some (fold (first_of_two home away) score options)

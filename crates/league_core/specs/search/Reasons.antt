@@ -1,4 +1,4 @@
--- Reasons: why a question holds nowhere in a zone. Each is one only where the zone has a finish.
+-- Reasons: why a question holds nowhere in a zone. Each is one only if the zone has a finish.
 use Rattle.std.specs.Prelude.{ℕ, ℤ, pos, ◌-◌, ◌*ℤ◌, Bool, false, true, ◌&&◌, ◌||◌, nat_le, int_lt}
 use Rattle.std.specs.Prelude.{List, [], ◌∷◌, length, count_by}
 use Rattle.std.specs.List.{list_all, list_any}
@@ -17,8 +17,8 @@ use Rattle.league_core.specs.search.PointRanges.{least_points_of, most_points_of
 use Rattle.league_core.specs.search.PointRanges.{own_least}
 use Rattle.league_core.specs.search.SureOrder.{sure_order, is_above, is_below}
 
--- too many rivals are at the front for a place inside the line: as many as it has places; or too
--- many are behind for a place outside it: as many as it leaves
+-- too many rivals are ahead for a place inside the line: as many as it has places; or too many are
+-- behind for a place outside it: as many as it leaves
 abbrev pub too_many : Sheet → Question → (ℕ → Bool) → (ℕ → Bool) → Claim → Bool
 too_many sheet question front back Inside =
     nat_le question.line (count_by front (rivals_of sheet question.club))

@@ -57,8 +57,8 @@ are_all_marked sheet question zone = list_all (is_marked zone) (rivals_of sheet 
 abbrev pub are_outcomes_fixed : Sheet → Results → List Literal → Bool
 are_outcomes_fixed sheet season zone = list_all has_one_outcome (options_in sheet season zone)
 
--- said of a proper split, the order in which a zone is split: by rivals first, by outcomes where
--- all rivals are marked, by goals where all outcomes are fixed too
+-- said of a proper split, the order in which a zone is split: by rivals first, by outcomes once all
+-- rivals are marked, by goals once all outcomes are fixed too
 abbrev pub is_due : Sheet → Results → Question → List Literal → Test → Bool
 is_due sheet season question zone (Home fixture) =
     are_all_marked sheet question zone && not (are_outcomes_fixed sheet season zone)

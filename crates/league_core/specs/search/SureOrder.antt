@@ -33,7 +33,7 @@ sure_by_range rival club =
     else if has_one_value rival && has_one_value club then Level
     else Unknown
 
--- where one step leaves the two level, the next decides
+-- if one step leaves the two level, the next decides
 abbrev pub sure_then : Sure → Sure → Sure
 sure_then Above next = Above
 sure_then Below next = Below
@@ -120,7 +120,7 @@ is_surely_in sheet options group club other =
     is_level (by_record_ranges sheet options group other club)
 
 -- a club of the group surely has another record there: a part misses the club's own value. It is
--- used only where each part of the club's record has one value
+-- used only if each part of the club's record has one value
 abbrev pub is_surely_out : Sheet → List (List Score) → List ℕ → ℕ → ℕ → Bool
 is_surely_out sheet options group club other =
     is_apart (record_ranges sheet options group other) (record_ranges sheet options group club)
@@ -131,11 +131,11 @@ are_all_sure sheet options group club =
     list_all (λ other. is_surely_in sheet options group club other
     || is_surely_out sheet options group club other) group
 
--- the rival against the club within a group, with the head-to-head taken at most so many times:
--- where their records are level and it is sure who shares them, it is taken again over those clubs,
--- and where these are the whole group the sums over all matches decide, and then the fixed rank. As
--- many times as the group has clubs are enough for a club of the group, so that Level is said only
--- where all sums and the ranks are level
+-- the rival against the club within a group, with the head-to-head taken at most so many times: if
+-- their records are level and it is sure who shares them, it is taken again over those clubs, and
+-- if these are the whole group the sums over all matches decide, and then the fixed rank. As many
+-- times as the group has clubs are enough for a club of the group, so that Level is said only if
+-- all sums and the ranks are level
 abbrev pub sure_within : ℕ → Sheet → List (List Score) → List ℕ → ℕ → ℕ → Sure
 sure_within zero sheet options group rival club = Level
 sure_within (suc times) sheet options group rival club =
@@ -172,7 +172,7 @@ is_surely_level_overall sheet options club other =
     is_level (by_first_sum_ranges sheet options other club)
 
 -- a club surely has another difference or other goals: one of the two misses the club's own value.
--- It is used only where the club's difference and goals have one value each
+-- It is used only if the club's difference and goals have one value each
 abbrev pub is_surely_apart_overall : Sheet → List (List Score) → ℕ → ℕ → Bool
 is_surely_apart_overall sheet options club other =
     is_apart (first_sum_ranges sheet options other) (first_sum_ranges sheet options club)
@@ -189,7 +189,7 @@ surely_level_overall sheet options group club =
     filter (is_surely_level_overall sheet options club) group
 
 -- the rival against the club within a group by an order of the criteria: with the head-to-head
--- first; or by difference and goals over all matches, and where these are level and it is sure who
+-- first; or by difference and goals over all matches, and if these are level and it is sure who
 -- shares them, with the head-to-head among those clubs
 abbrev pub sure_by : Order → Sheet → List (List Score) → List ℕ → ℕ → ℕ → Sure
 sure_by HeadFirst sheet options group rival club = sure_in sheet options group rival club

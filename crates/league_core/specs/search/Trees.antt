@@ -23,7 +23,7 @@ pub data Tree : Type 0 where
   refuted_leaf : Reason → Bool → Tree
   branch : Test → Bool → Tree → Tree → Tree
 
--- the zones of a tree's leaves, where its root has this zone: a zone is the list of the literals on
+-- the zones of a tree's leaves, if its root has this zone: a zone is the list of the literals on
 -- the way from the root
 abbrev pub zones_from : List Literal → Tree → List (List Literal)
 zones_from zone open_leaf = zone ∷ []

@@ -55,7 +55,7 @@ abbrev pub has_passed : Test → Option Score → Bool
 has_passed test None = false
 has_passed test (Some score) = passes test score
 
--- the test is true at a finish with lots, where the question is of this club
+-- the test is true at a finish with lots, if the question is of this club
 abbrev pub is_test_true : Sheet → ℕ → Results → List ℕ → Test → Bool
 is_test_true sheet club finish lots (Home fixture) =
     has_passed (Home fixture) (slice_index_or finish.scores fixture None)

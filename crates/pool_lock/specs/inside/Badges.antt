@@ -16,7 +16,7 @@ pub record BadgeView : Type 0 where
   pub list : List Event
   pub loads : ℕ
   pub newest : ℕ
-  pub is_alone : Bool
+  pub is_sole : Bool
   pub is_over : Bool
 
 -- the eye of a badge
@@ -30,23 +30,23 @@ eye_of badge = record {
 
 -- a badge by which nothing was taken so far
 abbrev pub new_badge : Bool → EyeView → BadgeView
-new_badge is_alone eye = record {
+new_badge is_sole eye = record {
   table = eye.table;
   list = eye.list;
   loads = eye.loads;
   newest = eye.newest;
-  is_alone = is_alone;
+  is_sole = is_sole;
   is_over = false;
 }
 
--- a badge for each eye; one eye alone makes a badge without company
+-- a badge for each eye; of one eye alone the badge is the only one
 abbrev pub badges_for : List EyeView → List BadgeView
 badges_for eyes = map (new_badge (length eyes == 1)) eyes
 
 -- the badge looks at the word, and nothing else of it changes
 pub record LooksBy (old new : BadgeView) : Type 0 where
   pub eye : Looks (eye_of old) (eye_of new)
-  pub is_alone : new.is_alone ≡ old.is_alone
+  pub is_sole : new.is_sole ≡ old.is_sole
   pub is_over : new.is_over ≡ old.is_over
 
 -- whether the pool's answer to a taking is that all is over

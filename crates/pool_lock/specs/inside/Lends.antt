@@ -1,4 +1,4 @@
--- What is lent through the lock, and what is told of what comes back: both by the events that the
+-- What is lent through the lock, and what becomes of what comes back: both by the events that the
 -- worker has seen by then.
 use Rattle.std.specs.Prelude.{◌≡◌, IsTrue, List, length}
 use Rattle.league_core.specs.declared.sheet.Sheet.{Sheet}
@@ -67,8 +67,8 @@ abbrev pub LendsFrom : Sheet → List Question → List Event → LentOut → Ty
 LendsFrom sheet questions events (Work ticket) = IsTakenFrom sheet questions events ticket
 LendsFrom sheet questions events Over = Unit {0}
 
--- what was given back is kept only where its ticket is of the epoch of these events; what is stale
--- is told their epoch
+-- what was given back is kept only if its ticket is of the epoch of these events; what is stale
+-- comes with their epoch
 abbrev pub IsEpochSaidAfter : List Event → Ticket → Gave → Type 0
 IsEpochSaidAfter events ticket Kept = ticket.epoch ≡ length events
 IsEpochSaidAfter events ticket (Stale epoch) = epoch ≡ length events

@@ -12,7 +12,7 @@ use Rattle.branch_pool.specs.inside.Goodness.{IsGood}
 use Rattle.branch_pool.specs.inside.Steps.{Gives}
 use Rattle.branch_pool.specs.inside.Calls.{Taking}
 
--- the pool, and whether the one who reports may have lines in hand that the pool has not been told
+-- the pool, and whether the one who reports may have lines in hand that are not yet reported
 pub record GuardedView : Type 0 where
   pub pool : PoolView
   pub feeder_busy : Bool
@@ -31,5 +31,5 @@ pub record Swaps (old : GuardedView) (ticket : Ticket) (done : Done) (gave : Gav
   pub between : PoolView
   pub gives : Gives old.pool ticket done gave between
   pub taking : old.feeder_busy ≡ false → Taking between took new.pool
-  pub rest : old.feeder_busy ≡ true → (took ≡ Rest) × (new.pool ≡ between)
+  pub unchanged : old.feeder_busy ≡ true → (took ≡ Rest) × (new.pool ≡ between)
   pub busy : new.feeder_busy ≡ old.feeder_busy

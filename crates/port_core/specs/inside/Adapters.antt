@@ -1,5 +1,5 @@
 -- std's readers and writers as devices: what becomes of the bytes of the reader or writer itself,
--- where those are known.
+-- if those are known.
 use Rattle.std.specs.Prelude.{◌≡◌, ℕ, Bool, List, take, Option}
 use Rattle.std.specs.Io.KnownBytes.{Appends, Consumes, IsAtEnd, Keeps}
 use Rattle.port_core.specs.declared.ports.Got.{Got}
@@ -16,7 +16,7 @@ use Rattle.port_core.specs.Ports.{IsBytePrefix}
 abbrev pub reader_of : {I : Type 0} → StdSource I → I
 reader_of source = source.input
 
--- the errors that it answered so far, which stay at the last value of a u64
+-- the errors that it gave so far, which stay at the last value of a u64
 abbrev pub read_faults : {I : Type 0} → StdSource I → ℕ
 read_faults source = source.faults
 

@@ -40,7 +40,7 @@ abbrev pub EndsAt : List ℕ → ℕ → Type 0
 EndsAt bytes place = HasNoLineFeed (take place bytes)
     × (bytes ≡ take place bytes ++ line_feed ∷ drop (place + 1) bytes)
 
--- more bytes without LF stand at the front than a line may have
+-- more bytes without LF stand in hand than a line may have
 abbrev pub IsOverlong : List ℕ → Type 0
 IsOverlong bytes = (line_limit < length bytes) × HasNoLineFeed (take (line_limit + 1) bytes)
 
@@ -88,12 +88,12 @@ StopsReading left reads most held held' before after due.Failed = Unit {0}
 StopsReading left reads most held held' before after _ =
     ((after ≡ before) × (held' ≡ held)) ⊎ LastFill left reads most held held' before after
 
--- the end of the input is told where the wait met it, and stays told
+-- the end of the input is marked if the wait met it, and stays marked
 abbrev pub EndSeen : Bool → Bool → Due → Type 0
 EndSeen before now Open = now ≡ true
 EndSeen before now _ = now ≡ false → before ≡ false
 
--- waiting for a line fails only where the source's count rose, and else leaves that count
+-- waiting for a line fails only if the source's count rose, and else leaves that count
 abbrev pub CountsDue : ℕ → ℕ → Due → Type 0
 CountsDue before now due.Failed = Rose before now
 CountsDue before now _ = now ≡ before

@@ -39,7 +39,7 @@ is_failing fail call = list_any (λ number. number == call) fail
 abbrev pub bytes_read : MemSourceView → ℕ → ℕ
 bytes_read supply size = min (min supply.piece size) (length supply.left)
 
--- what a read into a piece of this size answers
+-- what a read into a piece of this size returns
 abbrev pub supply_answer : MemSourceView → ℕ → Got
 supply_answer supply size =
     if is_failing supply.fail (next_count supply.calls) then got.Failed
@@ -70,7 +70,7 @@ abbrev pub refuses_next : MemSinkView → Bool
 refuses_next store = is_failing store.fail (next_count store.calls)
     || nat_le store.room (length store.holds)
 
--- what a write of a piece of this size answers
+-- what a write of a piece of this size returns
 abbrev pub store_answer : MemSinkView → ℕ → Put
 store_answer store size = if refuses_next store then put.Failed else Took (bytes_taken store size)
 

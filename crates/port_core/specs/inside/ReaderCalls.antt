@@ -1,4 +1,4 @@
--- What a call for the next content answers, and what the reader has in hand then; and the same of
+-- What a call for the next content returns, and what the reader has in hand then; and the same of
 -- each line that such a call passes on its way.
 use Rattle.std.specs.Prelude.{◌≡◌, ℕ, ◌+◌, ◌-◌, ◌<◌, ◌≤◌, Bool, false, not, ◌==◌, ◌⊎◌, nat_le}
 use Rattle.std.specs.Prelude.{MatchBool, List, [], ◌∷◌, ◌++◌, length, take, drop, Option}
@@ -25,7 +25,7 @@ use Rattle.port_core.specs.Readers.{HasAnswer}
 abbrev pub HasStop : LineReaderView → ReadStop → Type 0
 HasStop reader stop = stop_due reader.position (lines_of reader.held) ≡ Some stop
 
--- what was still to come before the call and after it, where the source tells its bytes: the first
+-- what was still to come before the call and after it, if the source shows its bytes: the first
 -- content is given; or nothing was left but the ending, which stays; or nothing changes
 abbrev pub NextGives :
     Option Contents → Option Contents → List ℕ → Result Line ReadStop → Type 0
@@ -40,8 +40,8 @@ NextGives before after text (Err (InputTooLong number)) =
 
 -- lines were passed from one position in an input to another: they are the first of the bytes from
 -- the one position on, those from the other position on are what comes after them, and whatever
--- follows them, they give these contents and no stop; unless the end was told, each of them ended,
--- and an end told before is told
+-- follows them, they give these contents and no stop; unless the end was marked, each of them
+-- ended, and an end marked before stays marked
 pub record Passes (from : Position) (before : List ℕ) (ended : Bool)
     (to : Position) (after : List ℕ) (ended' : Bool) (given : List (ℕ × List ℕ)) : Type 0 where
   pub lines : List (List ℕ)
@@ -51,7 +51,7 @@ pub record Passes (from : Position) (before : List ℕ) (ended : Bool)
   pub whole : ended' ≡ false → AreEndedLines lines
   pub told : ended' ≡ false → ended ≡ false
 
--- the same, where the source tells its bytes
+-- the same, if the source shows its bytes
 abbrev pub PassesKnown : Position → Option (List ℕ) → Bool → Position → Option (List ℕ) → Bool
     → List (ℕ × List ℕ) → Type 0
 PassesKnown from None ended to None ended' given = Unit {0}
@@ -92,13 +92,13 @@ MovesOn old new (Ok (Text number)) =
     (old.position.bytes < new.position.bytes) × (new.position.bytes ≤ input_limit)
 MovesOn old new _ = Unit {0}
 
--- the content last given stays where none is given
+-- the content last given stays if none is given
 abbrev pub KeepsText : LineReaderView → LineReaderView → Result Line ReadStop → Type 0
 KeepsText old new (Ok (Text number)) = Unit {0}
 KeepsText old new (Ok (End number)) = new.text ≡ old.text
 KeepsText old new (Err stop) = new.text ≡ old.text
 
--- a fault is answered only where the source's count rose, and else that count stays
+-- a fault is returned only if the source's count rose, and else that count stays
 abbrev pub CountsNext : ℕ → ℕ → Result Line ReadStop → Type 0
 CountsNext before now (Err ReadFault) = Rose before now
 CountsNext before now _ = now ≡ before
@@ -130,14 +130,14 @@ abbrev pub StopsAtAnswer : {S : Type 0} → (S → Option (List ℕ)) → (S →
 StopsAtAnswer left reads old new before after (Err ReadFault) = Unit {0}
 StopsAtAnswer left reads old new before after _ = ReadsInNeed left reads old new before after
 
--- a reader that has a stop in hand answers it, and stays as it is
+-- a reader that has a stop in hand returns it, and stays as it is
 abbrev pub StaysStopped : LineReaderView → LineReaderView → Result Line ReadStop → Type 0
 StaysStopped old new result =
     (stop : ReadStop) → HasStop old stop → (result ≡ Err stop) × (new ≡ old)
 
 -- ---- one line
 
--- the content of a text is kept where it is given
+-- the content of a text is kept if it is given
 abbrev pub KeepsContent : LineReaderView → LineReaderView → List ℕ → Bool → Type 0
 KeepsContent old new text given =
     let skipped = is_skipped (content_at old.position text) in
@@ -162,19 +162,19 @@ abbrev pub GivesLine :
 GivesLine old new end behind result =
     (line : Option Line) × (result ≡ option_map Ok line) × PassesLine old new end behind line
 
--- a stop is answered, and the reader stays as it is
+-- a stop is returned, and the reader stays as it is
 abbrev pub Stops : LineReaderView → LineReaderView → ReadStop → Option (Result Line ReadStop)
     → Type 0
 Stops old new stop result = (result ≡ Some (Err stop)) × (new ≡ old)
 
--- a line ends with the LF at this place in hand, where that is not past the input's limit
+-- a line ends with the LF at this place in hand, if that is not past the input's limit
 abbrev pub EndsLine : LineReaderView → LineReaderView → ℕ → Option (Result Line ReadStop) → Type 0
 EndsLine old new at result =
     MatchBool (nat_le input_limit (old.position.bytes + at))
     (Stops old new (InputTooLong (number_at old.position)) result)
     (GivesLine old new at (at + 1) result)
 
--- the input ends behind the bytes in hand: they are its last line, where there are any
+-- the input ends after the bytes in hand: they are its last line, if there are any
 abbrev pub EndsInput : LineReaderView → LineReaderView → Option (Result Line ReadStop) → Type 0
 EndsInput old new result =
     MatchBool (length old.held == 0)
@@ -212,7 +212,7 @@ pub record Waits (old new : LineReaderView) (left left' : Option (List ℕ)) (du
     pub takes : TakesInput old new left left'
     pub ready : HasAnswer old → new ≡ old
 
--- the next answer, or none where one line was passed over
+-- the next answer, or none if one line was passed over
 abbrev pub LineGives :
     Option Contents → Option Contents → List ℕ → Option (Result Line ReadStop) → Type 0
 LineGives before after text None = before ≡ after
@@ -234,12 +234,12 @@ abbrev pub LineMovesOn : LineReaderView → LineReaderView → Option (Result Li
 LineMovesOn old new None = Unit {0}
 LineMovesOn old new (Some result) = MovesOn old new result
 
--- the content last given stays where none is given
+-- the content last given stays if none is given
 abbrev pub LineKeepsText : LineReaderView → LineReaderView → Option (Result Line ReadStop) → Type 0
 LineKeepsText old new None = new.text ≡ old.text
 LineKeepsText old new (Some result) = KeepsText old new result
 
--- a fault is answered only where the source's count rose, and else that count stays
+-- a fault is returned only if the source's count rose, and else that count stays
 abbrev pub CountsLine : ℕ → ℕ → Option (Result Line ReadStop) → Type 0
 CountsLine before now None = now ≡ before
 CountsLine before now (Some result) = CountsNext before now result
@@ -252,12 +252,12 @@ LineStopsReading left reads old new before after None =
 LineStopsReading left reads old new before after (Some result) =
     StopsAtAnswer left reads old new before after result
 
--- an answer in hand stays in hand where a line was passed over
+-- an answer in hand stays in hand if a line was passed over
 abbrev pub KeepsAnswer : LineReaderView → LineReaderView → Option (Result Line ReadStop) → Type 0
 KeepsAnswer old new None = HasAnswer old → HasAnswer new
 KeepsAnswer old new (Some result) = Unit {0}
 
--- a reader that has a stop in hand answers it, and stays as it is
+-- a reader that has a stop in hand returns it, and stays as it is
 abbrev pub AnswersStop : LineReaderView → LineReaderView → Option (Result Line ReadStop) → Type 0
 AnswersStop old new result =
     (stop : ReadStop) → HasStop old stop → (result ≡ Some (Err stop)) × (new ≡ old)

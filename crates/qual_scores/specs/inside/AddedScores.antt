@@ -3,8 +3,8 @@ use Rattle.std.specs.Prelude.{◌≡◌, ℕ, List, ◌++◌, length}
 use Rattle.std.specs.List.{flat_map}
 use Rattle.league_core.specs.declared.sheet.Sheet.{Sheet}
 use Rattle.league_core.specs.game.Results.{Results}
-use Rattle.verdict_run.specs.Items.{answer_rows_of}
-use Rattle.score_answers.specs.declared.bound.ClubScores.{ClubScores}
+use Rattle.answer_rows.specs.Items.{answer_rows_of}
+use Rattle.answer_rows.specs.declared.bound.ClubScores.{ClubScores}
 use Rattle.qual_scores.specs.AllScores.{AreScoresFor}
 
 -- the numbers about the first lines

@@ -11,7 +11,7 @@ use Rattle.league_core.specs.game.Questions.{IsQuestionOf, full_question}
 use Rattle.qual_scores.specs.Scores.{IsLeastOf, IsPossibleScore, HasNoPossibleScore}
 use Rattle.qual_scores.specs.Scores.{IsGuaranteedScore}
 use Rattle.qual_scores.specs.Bisections.{HoldsOfPoints, IsNotAbove}
-use Rattle.score_answers.specs.declared.bound.ClubScores.{ClubScores}
+use Rattle.answer_rows.specs.declared.bound.ClubScores.{ClubScores}
 use Rattle.qual_scores.specs.AllScores.{AreScoresOf}
 
 -- a club has a possible score for a line, or none

@@ -8,11 +8,11 @@ use Rattle.league_core.specs.declared.question.Question.{Question}
 use Rattle.league_core.specs.game.Limits.{least_points, most_points}
 use Rattle.league_core.specs.game.Results.{Results}
 use Rattle.cert_text.specs.Ranges.{is_in_range}
-use Rattle.qual_scores.specs.declared.span.PointSpan.{PointSpan}
+use Rattle.qual_scores.specs.declared.point_range.PointRange.{PointRange}
 use Rattle.qual_scores.specs.declared.window.ScoreQuery.{ScoreQuery}
 use Rattle.qual_scores.specs.declared.window.WindowAnswer.{WindowAnswer}
 use Rattle.qual_scores.specs.declared.window.WindowAnswer.TheVariants.{NotAbove, Above, Spent}
-use Rattle.qual_scores.specs.Bisections.{HoldsOfPoints, IsNotAbove, IsOnTheWay, first_span}
+use Rattle.qual_scores.specs.Bisections.{HoldsOfPoints, IsNotAbove, IsOnTheWay, first_range}
 use Rattle.qual_scores.specs.Bisections.{window_question}
 use Rattle.qual_scores.specs.Bounds.{ShowsWindowSpent}
 
@@ -54,20 +54,20 @@ IsWindowAnswer sheet season sought points (Spent lines) =
     × IsTrue (list_all is_in_range lines.items)
 
 -- the points that a club can reach, which no window leaves out
-pub record IsFirstReach (sheet : Sheet) (season : Results) (club : ℕ) (span : PointSpan)
+pub record IsFirstReach (sheet : Sheet) (season : Results) (club : ℕ) (range : PointRange)
     : Type 0 where
-  pub is : span ≡ first_span sheet season club Inside
-  pub least : least_points ≤ℤ span.low
-  pub in_order : span.low ≤ℤ span.high
-  pub most : span.high ≤ℤ most_points
+  pub is : range ≡ first_range sheet season club Inside
+  pub least : least_points ≤ℤ range.low
+  pub in_order : range.low ≤ℤ range.high
+  pub most : range.high ≤ℤ most_points
 
--- a range on the way: the number is not above it, and not below it where there is one
-pub record IsNarrowed (sheet : Sheet) (season : Results) (sought : ScoreQuery) (span : PointSpan)
+-- a range on the way: the number is not above it, and not below it if there is one
+pub record IsNarrowed (sheet : Sheet) (season : Results) (sought : ScoreQuery) (range : PointRange)
     : Type 0 where
   pub on_the_way : IsOnTheWay (HoldsOf sheet season sought)
-      (first_span sheet season sought.club sought.claim) span
-  pub not_above : IsNotAbove (HoldsOf sheet season sought) span.high
-  pub none_below : (points : ℤ) → HoldsOf sheet season sought points → span.low ≤ℤ points
-  pub in_order : span.low ≤ℤ span.high
-  pub least : least_asked sought.claim ≤ℤ span.low
-  pub most : span.high ≤ℤ (most_points +ℤ pos 1)
+      (first_range sheet season sought.club sought.claim) range
+  pub not_above : IsNotAbove (HoldsOf sheet season sought) range.high
+  pub none_below : (points : ℤ) → HoldsOf sheet season sought points → range.low ≤ℤ points
+  pub in_order : range.low ≤ℤ range.high
+  pub least : least_asked sought.claim ≤ℤ range.low
+  pub most : range.high ≤ℤ (most_points +ℤ pos 1)

@@ -31,7 +31,7 @@ PointsAreInTheirRange =
     → (least_points_of sheet season zone clubs ≤ℤ total_of (points_of sheet finish) clubs)
     × (total_of (points_of sheet finish) clubs ≤ℤ most_points_of sheet season zone clubs)
 
--- where a reason holds, the question holds at no member of the zone, whatever the lots
+-- if a reason holds, the question holds at no member of the zone, whatever the lots
 abbrev pub ReasonsAreSound : Type 0
 ReasonsAreSound =
     (sheet : Sheet) (season : Results) (question : Question) (zone : List Literal)
@@ -41,15 +41,15 @@ ReasonsAreSound =
     → IsMember sheet season question.club zone finish lots
     → ¬ IsTrue (holds_at sheet question finish lots)
 
--- where each fixture has one option, one finish takes them, and no other does
+-- if each fixture has one option, one finish takes them, and no other does
 abbrev pub SingleZonesHaveOneFinish : Type 0
 SingleZonesHaveOneFinish =
     (sheet : Sheet) (season : Results) (zone : List Literal) → IsTrue (is_single sheet season zone)
     → (finish : Results) × IsInBox sheet season zone finish
     × ((other : Results) → IsInBox sheet season zone other → other ≡ finish)
 
--- where each fixture has one option, and neither the window nor the criteria are a reason, the
--- finish that takes these options is an example with any lots that favour the claim
+-- if each fixture has one option, and neither the window nor the criteria are a reason, the finish
+-- that takes these options is an example with any lots that favour the claim
 abbrev pub SingleZonesAreDecided : Type 0
 SingleZonesAreDecided =
     (sheet : Sheet) (season : Results) (question : Question) (zone : List Literal)

@@ -10,7 +10,7 @@ use Rattle.league_core.specs.search.GivenVerdicts.{HasExampleIn, HoldsNowhereIn,
 use Rattle.league_core.specs.search.GivenVerdicts.{IsLostGiven}
 use Rattle.league_core.specs.search.OutcomeZones.{home_win_zone, draw_zone, away_win_zone}
 
--- a question has no example exactly if it has none whichever way the match ends
+-- a question has no example exactly when it has none whichever way the match ends
 abbrev pub OutcomesRefute : Type 0
 OutcomesRefute =
     (sheet : Sheet) (season : Results) (question : Question) (fixture : ℕ)
@@ -19,7 +19,7 @@ OutcomesRefute =
     × HoldsNowhereIn sheet season question (draw_zone fixture)
     × HoldsNowhereIn sheet season question (away_win_zone fixture))
 
--- it has an example exactly if it has one with one of the three outcomes
+-- it has an example exactly when it has one with one of the three outcomes
 abbrev pub OutcomesShow : Type 0
 OutcomesShow =
     (sheet : Sheet) (season : Results) (question : Question) (fixture : ℕ)
@@ -28,7 +28,7 @@ OutcomesShow =
     ⊎ HasExampleIn sheet season question (draw_zone fixture)
     ⊎ HasExampleIn sheet season question (away_win_zone fixture))
 
--- a club has clinched a line exactly if it has whichever way the match ends
+-- a club has clinched a line exactly when it has whichever way the match ends
 abbrev pub ClinchedByOutcomes : Type 0
 ClinchedByOutcomes =
     (sheet : Sheet) (season : Results) (club line fixture : ℕ)
@@ -37,7 +37,7 @@ ClinchedByOutcomes =
     × IsClinchedGiven sheet season (draw_zone fixture) club line
     × IsClinchedGiven sheet season (away_win_zone fixture) club line)
 
--- and has lost it exactly if it has whichever way the match ends
+-- and has lost it exactly when it has whichever way the match ends
 abbrev pub LostByOutcomes : Type 0
 LostByOutcomes =
     (sheet : Sheet) (season : Results) (club line fixture : ℕ)

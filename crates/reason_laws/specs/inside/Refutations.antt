@@ -45,7 +45,7 @@ RefutedTreesDecideZones =
     → NodesMeet (IsRefutedLeaf sheet season question) zone tree
     → HoldsNowhereIn sheet season question zone
 
--- a tree is such a tree exactly where each leaf is refuted and the reasons of the refuted ones hold
+-- a tree is such a tree exactly when each leaf is refuted and the reasons of the refuted ones hold
 abbrev pub RefutedTreesHaveTrueReasons : Type 0
 RefutedTreesHaveTrueReasons =
     (sheet : Sheet) (season : Results) (question : Question) (zone : List Literal) (tree : Tree)
@@ -58,8 +58,8 @@ is_unsettled_at sheet question finish lots leaf =
     not (is_refuted_leaf leaf.node)
     && are_literals_true sheet question.club finish lots leaf.zone
 
--- where the reasons of the refuted leaves hold, each member of the root's zone at which the
--- question holds lies in the zone of a leaf that is open or lent
+-- if the reasons of the refuted leaves hold, each member of the root's zone at which the question
+-- holds lies in the zone of a leaf that is open or lent
 abbrev pub ExamplesAreInUnsettledLeaves : Type 0
 ExamplesAreInUnsettledLeaves =
     (sheet : Sheet) (season : Results) (question : Question) (zone : List Literal) (tree : Tree)

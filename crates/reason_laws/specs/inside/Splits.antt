@@ -15,7 +15,7 @@ use Rattle.league_core.specs.search.Trees.{Tree, zones_from, zones_of, NodesMeet
 use Rattle.league_core.specs.search.Trees.{IsCoverOf}
 use Rattle.league_core.specs.search.Splits.{IsProperNode}
 
--- a finish with lots is in a zone exactly where it is in one of the halves by a test
+-- a finish with lots is in a zone exactly when it is in one of the halves by a test
 abbrev pub HalvesCover : Type 0
 HalvesCover =
     (sheet : Sheet) (season : Results) (club : ℕ) (zone : List Literal) (test : Test)
@@ -52,14 +52,14 @@ HoldsAtNoLeaf sheet season question zone (Lent number) = HoldsNowhereIn sheet se
 HoldsAtNoLeaf sheet season question zone (Refuted reason fresh) =
     HoldsNowhereIn sheet season question zone
 
--- where the question holds in no leaf's zone, it has no example
+-- if the question holds in no leaf's zone, it has no example
 abbrev pub LeavesDecide : Type 0
 LeavesDecide =
     (sheet : Sheet) (season : Results) (question : Question) (tree : Tree)
     → NodesMeet (HoldsAtNoLeaf sheet season question) [] tree
     → HasNoExample sheet season question
 
--- where it holds in the zone of no leaf below a zone, it holds nowhere in this zone
+-- if it holds in the zone of no leaf below a zone, it holds nowhere in this zone
 abbrev pub LeavesDecideZones : Type 0
 LeavesDecideZones =
     (sheet : Sheet) (season : Results) (question : Question) (zone : List Literal) (tree : Tree)

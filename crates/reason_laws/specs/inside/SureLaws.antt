@@ -44,7 +44,7 @@ sure_of Less = Above
 sure_of Equal = Level
 sure_of Greater = Below
 
--- where each fixture has one option it is always known how two clubs stand
+-- if each fixture has one option it is always known how two clubs stand
 abbrev pub SingleZonesAreClear : Type 0
 SingleZonesAreClear =
     (sheet : Sheet) (season : Results) (zone : List Literal) (rival club : ℕ)

@@ -93,8 +93,8 @@ HalvesWeighLess =
     × (weight_of sheet season question (with_test zone test holds)
     < weight_of sheet season question zone)
 
--- a tree whose splits are proper has fewer nodes than twice the weight of its root's zone, where
--- that has a finish
+-- a tree whose splits are proper has fewer nodes than twice the weight of its root's zone, if that
+-- has a finish
 abbrev pub WeightsBoundTrees : Type 0
 WeightsBoundTrees =
     (sheet : Sheet) (season : Results) (question : Question) (zone : List Literal) (tree : Tree)

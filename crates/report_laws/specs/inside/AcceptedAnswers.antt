@@ -8,10 +8,10 @@ use Rattle.cert_check.specs.declared.expected.RowWord.TheVariants as row
 use Rattle.cert_check.specs.Machine.{ending_of, whole_at, part_of_ask}
 use Rattle.cert_check.specs.Machine.{basis_of}
 use Rattle.cert_check.specs.inside.Answers.{ShownItem, answer_tokens}
-use Rattle.verdict_run.specs.declared.word.Word.{Word}
-use Rattle.verdict_run.specs.declared.word.Word.TheVariants.{Clinched, Lost, Possible, Unsettled}
-use Rattle.verdict_run.specs.declared.word.Verdict.{Verdict}
-use Rattle.verdict_run.specs.Items.{AreVerdictsOf}
+use Rattle.answer_rows.specs.declared.word.Word.{Word}
+use Rattle.answer_rows.specs.declared.word.Word.TheVariants.{Clinched, Lost, Possible, Unsettled}
+use Rattle.answer_rows.specs.declared.word.Verdict.{Verdict}
+use Rattle.answer_rows.specs.Items.{AreVerdictsOf}
 
 -- the word of a row for the word of a verdict
 abbrev pub row_word : Word → RowWord
@@ -30,7 +30,7 @@ item_of_verdict verdict =
       lines = verdict.proof.items;
     }
 
--- one, where the word leaves it unsettled
+-- one, if the word leaves it unsettled
 abbrev pub unsettled_one : Word → ℕ
 unsettled_one Clinched = 0
 unsettled_one Lost = 0

@@ -8,14 +8,14 @@ use Rattle.port_core.specs.Lines.{lines_of}
 use Rattle.port_core.specs.Contents.{Position, contents_from}
 use Rattle.result_log.specs.declared.entry.Entry.{Entry}
 use Rattle.cert_check.specs.declared.token.Token.{Token}
-use Rattle.check_run.specs.declared.outcome.CheckOutcome.TheVariants.{Accepted}
-use Rattle.check_run.specs.Outcomes.{outcome_of_report}
-use Rattle.check_run.specs.inside.WrittenReports.{AreRead, written}
+use Rattle.cert_check.specs.declared.outcome.CheckOutcome.TheVariants.{Accepted}
+use Rattle.cert_check.specs.Outcomes.{outcome_of_report}
+use Rattle.cert_check.specs.inside.WrittenReports.{AreRead, written}
 use Rattle.report_laws.specs.inside.AcceptedReports.{AreAnswersWritten, rows_written}
 
--- where an input has a sheet, a feed and the record `proofs`, and after them the bytes of the
--- answers of all asks of that feed, and is read to its end, the report is accepted, with all rows
--- of the answers and with as many unsettled ones as they have
+-- if an input has a sheet, a feed and the record `proofs`, and after them the bytes of the answers
+-- of all asks of that feed, and is read to its end, the report is accepted, with all rows of the
+-- answers and with as many unsettled ones as they have
 abbrev pub WrittenAnswersAreAccepted : Type 0
 WrittenAnswersAreAccepted =
     (sheet : Sheet) (entries : List Entry) (told : List Token) (unsettled : ℕ)

@@ -9,10 +9,10 @@ use Rattle.result_log.specs.declared.entry.Entry.TheVariants.{Change, Ask, Proof
 use Rattle.result_log.specs.Feeds.{season_with, count_with}
 use Rattle.cert_check.specs.declared.token.Token.{Token}
 use Rattle.cert_check.specs.LineLists.{tokens_of}
-use Rattle.check_run.specs.declared.outcome.CheckOutcome.TheVariants.{Accepted}
-use Rattle.check_run.specs.Outcomes.{ReportInput, first_progress, outcome_from}
-use Rattle.verdict_run.specs.declared.word.Verdict.{Verdict}
-use Rattle.verdict_run.specs.Items.{AreVerdictsOf}
+use Rattle.cert_check.specs.declared.outcome.CheckOutcome.TheVariants.{Accepted}
+use Rattle.cert_check.specs.Outcomes.{ReportInput, first_progress, outcome_from}
+use Rattle.answer_rows.specs.declared.word.Verdict.{Verdict}
+use Rattle.answer_rows.specs.Items.{AreVerdictsOf}
 use Rattle.report_laws.specs.inside.AcceptedAnswers.{answer_written, unsettled_count}
 
 -- the lines are the answers of the asks among these entries, in their order, each of its own season
@@ -33,7 +33,7 @@ AreAnswersWritten sheet (Proofs ∷ entries) season epoch lines unsettled =
 AreAnswersWritten sheet (End ∷ entries) season epoch lines unsettled =
     AreAnswersWritten sheet entries season epoch lines unsettled
 
--- how many rows of verdicts the answers have, where each has so many
+-- how many rows of verdicts the answers have, if each has so many
 abbrev pub rows_written : ℕ → List Entry → ℕ
 rows_written each [] = 0
 rows_written each (Change event ∷ entries) = rows_written each entries

@@ -1,12 +1,10 @@
 -- What the calls answer.
 use Rattle.std.specs.Prelude.{◌≡◌, ◌<◌, ◌≤◌, ℕ, Bool, List, ◌++◌, All, Option, None, Some}
-use Rattle.std.specs.Prelude.{option_map, Result, Ok}
-use Rattle.std.specs.Prelude.{Err}
+use Rattle.std.specs.Prelude.{option_map, Result, Ok, Err}
 use Rattle.port_core.specs.declared.line.Line.{Line}
 use Rattle.port_core.specs.declared.line.Line.TheVariants as line
 use Rattle.port_core.specs.declared.line.ReadStop.{ReadStop}
-use Rattle.port_core.specs.declared.line.ReadStop.TheVariants.{ReadFault, LineTooLong}
-use Rattle.port_core.specs.declared.line.ReadStop.TheVariants.{InputTooLong}
+use Rattle.port_core.specs.declared.line.ReadStop.TheVariants.{ReadFault, LineTooLong, InputTooLong}
 use Rattle.port_core.specs.Contents.{Contents, with_line, with_lines, input_limit, number_at}
 use Rattle.port_core.specs.Readers.{LineReaderView}
 use Rattle.port_core.specs.inside.ReaderCalls.{PassesTo, given_by}
@@ -19,11 +17,7 @@ use Rattle.result_log.specs.declared.fault.ContentStop.{ContentStop}
 use Rattle.result_log.specs.declared.fault.ContentStop.TheVariants as content_stop
 use Rattle.result_log.specs.declared.fault.FeedStop.{FeedStop}
 use Rattle.result_log.specs.declared.fault.FeedStop.TheVariants.{Fault, Read, OutOfMemory}
-use Rattle.result_log.specs.inside.FeedParts.{entry_reading_of}
-
--- what a line's content is as an entry
-abbrev pub LineEntry : Type 0
-LineEntry = List ℕ → Result (Option Entry) FeedFault
+use Rattle.result_log.specs.inside.FeedParts.{LineEntry, entry_reading_of}
 
 -- ---- one line
 
@@ -50,7 +44,7 @@ PassesBareLine entry before after =
     (number : ℕ) × (content : List ℕ)
     × (before ≡ option_map (with_line number content) after) × (entry content ≡ Ok None)
 
--- the contents, where they are told, are read as the definition says
+-- the contents, if they are shown, are read as the definition says
 abbrev pub ReadsEntryAs :
     LineEntry → Option Contents → Option Contents → Result Entry FeedStop → Type 0
 ReadsEntryAs entry before after result =
@@ -161,7 +155,7 @@ abbrev pub MovesToRecord :
 MovesToRecord old new None = PassesBytes old new
 MovesToRecord old new (Some result) = MovesToEntry old new result
 
--- a fault of the source is answered only where its count rose, and else that count stays
+-- a fault of the source is answered only if its count rose, and otherwise that count stays
 abbrev pub CountsEntry : ℕ → ℕ → Result Entry FeedStop → Type 0
 CountsEntry before now (Err (Read ReadFault)) = Rose before now
 CountsEntry before now _ = now ≡ before

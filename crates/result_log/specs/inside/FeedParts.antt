@@ -13,6 +13,21 @@ use Rattle.result_log.specs.declared.fault.FeedStop.{FeedStop}
 use Rattle.result_log.specs.declared.fault.FeedStop.TheVariants.{Fault}
 use Rattle.result_log.specs.Feeds.{entry_in, entry_given_at_end}
 
+-- ---- how lines are read
+
+-- what a line's content is as an entry
+abbrev pub LineEntry : Type 0
+LineEntry = List ℕ → Result (Option Entry) FeedFault
+
+-- the same of each line of an input, by the events before it
+abbrev pub LiveReading : Type 0
+LiveReading = List Event → LineEntry
+
+-- a feed is read so: each line in the season of the events before it
+abbrev pub entry_after : Sheet → Bool → LiveReading
+entry_after sheet proofs events =
+    entry_in sheet (season_after sheet events) (epoch_of events) proofs
+
 -- ---- the next entry
 
 -- a reading of one entry: what it gives, and the contents after what it read
@@ -31,16 +46,15 @@ entry_reading_by number rest onward (Err fault) =
 
 -- the reading of the first entry of these lines and this ending, where `entry` says what a line is
 abbrev pub entry_reading_from :
-    (List ℕ → Result (Option Entry) FeedFault) → List (ℕ × List ℕ) → Result ℕ ReadStop
-    → EntryReading
-entry_reading_from entry
-    [] ending = record { gives = entry_given_at_end ending; rest = ended ending }
+    LineEntry → List (ℕ × List ℕ) → Result ℕ ReadStop → EntryReading
+entry_reading_from entry [] ending =
+    record { gives = entry_given_at_end ending; rest = ended ending }
 entry_reading_from entry (line ∷ lines) ending =
     entry_reading_by line.0 (record { lines = lines; ending = ending })
     (entry_reading_from entry lines ending) (entry line.1)
 
 -- the same of contents
-abbrev pub entry_reading_of : (List ℕ → Result (Option Entry) FeedFault) → Contents → EntryReading
+abbrev pub entry_reading_of : LineEntry → Contents → EntryReading
 entry_reading_of entry contents = entry_reading_from entry contents.lines contents.ending
 
 -- ---- the whole feed
@@ -88,14 +102,16 @@ round_by number rest onward events (Err fault) = round_closed (Err (Fault number
 
 -- the round of these lines and this ending, after these events
 abbrev pub round_from :
-    Sheet → Bool → List (ℕ × List ℕ) → Result ℕ ReadStop → List Event → Round
-round_from sheet proofs [] ending events = round_closed (entry_given_at_end ending) (ended ending)
-round_from sheet proofs (line ∷ lines) ending events =
+    LiveReading → List (ℕ × List ℕ) → Result ℕ ReadStop → List Event → Round
+round_from live [] ending events = round_closed (entry_given_at_end ending) (ended ending)
+round_from live (line ∷ lines) ending events =
     round_by line.0 (record { lines = lines; ending = ending })
-    (round_from sheet proofs lines ending) events
-    (entry_in sheet (season_after sheet events) (epoch_of events) proofs line.1)
+    (round_from live lines ending) events (live events line.1)
 
 -- the first round of contents, after these events: up to the first ask, the end, or a stop
-abbrev pub round_of : Sheet → Bool → Contents → List Event → Round
-round_of sheet proofs contents events =
-    round_from sheet proofs contents.lines contents.ending events
+abbrev pub round_of : LiveReading → Contents → List Event → Round
+round_of live contents events = round_from live contents.lines contents.ending events
+
+-- these events before a round
+abbrev pub round_after : List Event → Round → Round
+round_after events round = record round { events = events ++ round.events }

@@ -1,20 +1,24 @@
 -- What holds of every feed, by the definitions alone: each statement is the contract of a
 -- function of src/laws.rt that does nothing.
-use Rattle.std.specs.Prelude.{◌≡◌, ◌≢◌, ◌≤◌, ℕ, Bool, List, ◌∷◌, [], ◌++◌, Result, Ok, Err}
+use Rattle.std.specs.Prelude.{◌≡◌, ◌≢◌, ◌≤◌, ℕ, Bool, List, ◌∷◌, [], ◌++◌, Some, Result, Ok, Err}
 use Rattle.league_core.specs.declared.sheet.Sheet.{Sheet}
 use Rattle.league_core.specs.declared.season.Event.{Event}
 use Rattle.league_core.specs.game.Results.{Results}
 use Rattle.league_core.specs.game.Seasons.{AreEventsOf, IsSeasonOf, epoch_of, season_after}
-use Rattle.port_core.specs.Contents.{Contents}
+use Rattle.port_core.specs.Contents.{Contents, with_line, with_lines}
 use Rattle.result_log.specs.declared.entry.Entry.{Entry}
 use Rattle.result_log.specs.declared.entry.Entry.TheVariants.{Change, Ask, Proofs, End}
+use Rattle.result_log.specs.declared.fault.FeedFault.{FeedFault}
 use Rattle.result_log.specs.declared.fault.FeedStop.{FeedStop}
+use Rattle.result_log.specs.declared.fault.FeedStop.TheVariants.{Fault}
 use Rattle.league_core.specs.game.Limits.{most_events}
 use Rattle.result_log.specs.Records.{IsEntryAt, entry_of}
 use Rattle.result_log.specs.Feeds.{Feed, closed, count_with, entry_in, feed_of, season_with}
 use Rattle.result_log.specs.Feeds.{with_entry}
-use Rattle.result_log.specs.inside.FeedParts.{events_after, events_with, round_of}
-use Rattle.result_log.specs.inside.FeedParts.{entry_reading_of}
+use Rattle.result_log.specs.inside.FeedParts.{LiveReading, entry_after, entry_reading_of}
+use Rattle.result_log.specs.inside.FeedParts.{events_after, events_with, round_after, round_closed}
+use Rattle.result_log.specs.inside.FeedParts.{round_of}
+use Rattle.result_log.specs.inside.Rounds.{ReadsEvents}
 
 -- ---- one entry
 
@@ -89,12 +93,12 @@ abbrev pub with_events : List Event → Feed → Feed
 with_events [] feed = feed
 with_events (event ∷ events) feed = with_entry (Change event) (with_events events feed)
 
--- a feed is its first round and what comes after it: where an ask ended the round, the feed of the
+-- a feed is its first round and what comes after it: if an ask ended the round, the feed of the
 -- contents after it, after the round's events too
 abbrev pub FeedsAreReadByRounds : Type 0
 FeedsAreReadByRounds =
     (sheet : Sheet) (proofs : Bool) (contents : Contents) (events : List Event)
-    → let round = round_of sheet proofs contents events in
+    → let round = round_of (entry_after sheet proofs) contents events in
     feed_of sheet proofs contents events
     ≡ with_events round.events
     (feed_after sheet proofs (events ++ round.events) round.rest round.close)
@@ -102,5 +106,29 @@ FeedsAreReadByRounds =
 -- no event ends a round
 abbrev pub RoundsEndOtherwise : Type 0
 RoundsEndOtherwise =
-    (sheet : Sheet) (proofs : Bool) (contents : Contents) (events : List Event) (event : Event)
-    → (round_of sheet proofs contents events).close ≢ Ok (Change event)
+    (live : LiveReading) (contents : Contents) (events : List Event) (event : Event)
+    → (round_of live contents events).close ≢ Ok (Change event)
+
+-- lines that tell events begin a round with these events, whatever follows them
+abbrev pub EventLinesBeginRounds : Type 0
+EventLinesBeginRounds =
+    (live : LiveReading) (log log' : List Event) (lines : List (ℕ × List ℕ))
+    → ReadsEvents live log lines log'
+    → (told : List Event) × (log' ≡ log ++ told)
+    × ((rest : Contents) → round_of live (with_lines lines rest) log
+    ≡ round_after told (round_of live rest log'))
+
+-- a line that asks closes a round, and so does one that is refused
+pub record ClosesRound (live : LiveReading) (log : List Event) (number : ℕ) (text : List ℕ)
+    (rest : Contents) : Type 0 where
+  pub ask : live log text ≡ Ok (Some Ask)
+      → round_of live (with_line number text rest) log ≡ round_closed (Ok Ask) rest
+  pub refused : (fault : FeedFault) → live log text ≡ Err fault
+      → round_of live (with_line number text rest) log
+      ≡ round_closed (Err (Fault number fault)) rest
+
+-- this holds of every line
+abbrev pub LastLinesCloseRounds : Type 0
+LastLinesCloseRounds =
+    (live : LiveReading) (log : List Event) (number : ℕ) (text : List ℕ) (rest : Contents)
+    → ClosesRound live log number text rest

@@ -7,7 +7,7 @@ use Rattle.league_core.specs.declared.season.Score.{Score}
 use Rattle.league_core.specs.search.Options.{is_home_win, is_draw, is_away_win, same_outcome}
 use Rattle.league_core.specs.search.Options.{has_score}
 use Rattle.score_box.specs.declared.cell.Cell.{Cell}
-use Rattle.score_box.specs.declared.cell.goals.GoalRange.{GoalRange}
+use Rattle.score_box.specs.declared.cell.goals.ScoreRange.{ScoreRange}
 
 -- so many goals are in a range
 abbrev pub is_within : ℕ → ℕ → ℕ → Bool
@@ -43,34 +43,34 @@ abbrev pub AllowsNone : Cell → (Score → Bool) → Type 0
 AllowsNone cell test = (score : Score) → ¬ IsAllowed cell test score
 
 -- the score's goals lie between these ends
-pub record IsBetween (goals : GoalRange) (score : Score) : Type 0 where
+pub record IsBetween (goals : ScoreRange) (score : Score) : Type 0 where
   pub home_least : goals.home_least ≤ score.home
   pub home_most : score.home ≤ goals.home_most
   pub away_least : goals.away_least ≤ score.away
   pub away_most : score.away ≤ goals.away_most
 
 -- the goals of the cell's scores that pass: all lie between these ends, and each end is reached
-pub record IsSpanOf (cell : Cell) (test : Score → Bool) (goals : GoalRange) : Type 0 where
+pub record IsScoreRangeOf (cell : Cell) (test : Score → Bool) (goals : ScoreRange) : Type 0 where
   pub within : (score : Score) → IsAllowed cell test score → IsBetween goals score
   pub home_least : (score : Score) × IsAllowed cell test score × (score.home ≡ goals.home_least)
   pub home_most : (score : Score) × IsAllowed cell test score × (score.home ≡ goals.home_most)
   pub away_least : (score : Score) × IsAllowed cell test score × (score.away ≡ goals.away_least)
   pub away_most : (score : Score) × IsAllowed cell test score × (score.away ≡ goals.away_most)
 
--- whether the cell has a score that passes: where it has, such scores have these goals
+-- whether the cell has a score that passes: if it has, such scores have these goals
 pub record HasPassing (cell : Cell) (test : Score → Bool) (has : Bool) : Type 0 where
-  pub goals : Option GoalRange
-  pub says : MatchOption goals (AllowsNone cell test) (IsSpanOf cell test)
+  pub goals : Option ScoreRange
+  pub says : MatchOption goals (AllowsNone cell test) (IsScoreRangeOf cell test)
   pub is : has ≡ is_some goals
 
--- the cell keeps an outcome exactly where it has a score of it
+-- the cell keeps an outcome exactly when it has a score of it
 pub record IsExactCell (cell : Cell) : Type 0 where
   pub home_win : HasPassing cell is_home_win cell.home_win
   pub draw : HasPassing cell is_draw cell.draw
   pub away_win : HasPassing cell is_away_win cell.away_win
 
 -- all four ends are at the goals of this score
-pub record IsAt (score : Score) (goals : GoalRange) : Type 0 where
+pub record IsAt (score : Score) (goals : ScoreRange) : Type 0 where
   pub home_least : goals.home_least ≡ score.home
   pub home_most : goals.home_most ≡ score.home
   pub away_least : goals.away_least ≡ score.away

@@ -34,7 +34,7 @@ pub record IsMatch (match : Fixture) : Type 0 where
   pub apart : match.home ≢ match.away
 
 -- the least and the most match points of each club
-pub record AreSpans (fixtures : List Fixture) (options : List (List Score)) (lows highs : List ℤ)
+pub record AreRanges (fixtures : List Fixture) (options : List (List Score)) (lows highs : List ℤ)
     : Type 0 where
   pub many_lows : length lows ≡ 24
   pub many_highs : length highs ≡ 24
@@ -46,7 +46,7 @@ pub record AreSpans (fixtures : List Fixture) (options : List (List Score)) (low
 -- these, and the two counts
 pub record AreEnds (fixtures : List Fixture) (options : List (List Score)) (ends : Ends) : Type 0
   where
-    pub spans : AreSpans fixtures options ends.lows ends.highs
+    pub ranges : AreRanges fixtures options ends.lows ends.highs
     pub empty : ends.empty ≡ empty_in options
     pub several : ends.several ≡ open_outcomes_in options
 
@@ -62,8 +62,8 @@ HasEndsAt fixtures number cell ends =
     × AreEnds fixtures options ends × IsCellOf cell (slice_index_or options number [])
 
 -- the clubs of a match take what its new cell leaves them, in place of what the old one left
-abbrev pub MovesSpans : Fixture → Cell → Cell → List ℤ → List ℤ → List ℤ → List ℤ → Type 0
-MovesSpans match was now lows_old lows_new highs_old highs_new =
+abbrev pub MovesRanges : Fixture → Cell → Cell → List ℤ → List ℤ → List ℤ → List ℤ → Type 0
+MovesRanges match was now lows_old lows_new highs_old highs_new =
     (club : ℕ) (before after : List Score) → IsCellOf was before → IsCellOf now after
     → (end_at lows_new club +ℤ (alone_in club match before).least
     ≡ end_at lows_old club +ℤ (alone_in club match after).least)

@@ -14,7 +14,7 @@ use Rattle.score_box.specs.declared.cell.Cell.{Cell}
 use Rattle.score_box.specs.declared.ends.Ends.{Ends}
 use Rattle.score_box.specs.declared.trail.Undo.{Undo}
 use Rattle.score_box.specs.inside.Cells.{IsCellOf, IsExactCell}
-use Rattle.score_box.specs.inside.Settings.{ZoneBoxView}
+use Rattle.score_box.specs.inside.ZoneBoxViews.{ZoneBoxView}
 use Rattle.score_box.specs.inside.Unplayed.{unplayed_in}
 use Rattle.score_box.specs.inside.Boxes.{AreCellsOf, IsSetOf}
 use Rattle.score_box.specs.inside.Ends.{AreEnds}
@@ -82,7 +82,7 @@ TakesOneMore fixtures cells_old cells_new ends_old ends_new literal =
     → AreCellsOf cells_new (options_from limit (zone ++ literal ∷ []) 0 scores)
     × AreEnds fixtures (options_from limit (zone ++ literal ∷ []) 0 scores) ends_new
 
--- the other way: the last literal is taken back, where the cell is the one from before it
+-- the other way: the last literal is taken back, if the cell is the one from before it
 abbrev pub TakesOneLess : List Fixture → List Cell → List Cell → Ends → Ends → Literal → Cell
     → Type 0
 TakesOneLess fixtures cells_old cells_new ends_old ends_new literal cell =

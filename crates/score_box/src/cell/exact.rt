@@ -1,5 +1,5 @@
 //! The outcomes that a cell keeps. A cell of a box keeps those alone that it has a score of, so
-//! that which ones are left is a look.
+//! that a look shows which ones are left.
 
 ghost use Rattle.std.specs.Prelude.{◌≡◌};
 ghost use Rattle.league_core.specs.declared.season.Score.{Score};

@@ -4,7 +4,7 @@
 ghost use Rattle.std.specs.Prelude.{◌≡◌, IsTrue, ◌↔◌, MatchOption, IfSome};
 ghost use Rattle.league_core.specs.declared.season.Score.{Score};
 ghost use Rattle.league_core.specs.search.Options.{score_of, is_home_win, is_draw, is_away_win};
-ghost use Rattle.score_box.specs.inside.Cells.{allows, IsAllowed, AllowsNone, IsSpanOf, IsAt};
+ghost use Rattle.score_box.specs.inside.Cells.{allows, IsAllowed, AllowsNone, IsScoreRangeOf, IsAt};
 ghost use Rattle.score_box.specs.inside.Cells.{IsEmptyCell, HasOneScore, HasOneOutcome};
 ghost use Rattle.score_box.specs.inside.Cells.{at_most_one};
 
@@ -13,14 +13,14 @@ use league_core::Score;
 
 /// The least and the most goals of each side over the scores of one outcome.
 #[derive(Clone, Copy, Debug, PartialEq, Eq)]
-pub struct GoalRange {
+pub struct ScoreRange {
     pub home_least: u8,
     pub home_most: u8,
     pub away_least: u8,
     pub away_most: u8,
 }
 
-impl GoalRange {
+impl ScoreRange {
     /// All the goals are those of this score.
     pub fn are_of(&self, score: &Score) -> bool
         ensures { IsTrue result ↔ IsAt score.now self.now }
@@ -33,11 +33,11 @@ impl GoalRange {
 }
 
 impl Cell {
-    /// The goals of the home wins in the cell; `None` where it has none. The widest win is one of
+    /// The goals of the home wins in the cell; `None` if it has none. The widest win is one of
     /// them.
-    pub fn home_wins(&self) -> Option<GoalRange>
+    pub fn home_wins(&self) -> Option<ScoreRange>
         ensures goals { MatchOption result (AllowsNone self.now is_home_win)
-            (IsSpanOf self.now is_home_win) }
+            (IsScoreRangeOf self.now is_home_win) }
         ensures widest { IfSome result
             (λ goals. IsAllowed self.now is_home_win (score_of goals.home_most goals.away_least)) }
     {
@@ -46,7 +46,7 @@ impl Cell {
             && self.away_least <= self.away_most
             && self.away_least < self.home_most
         {
-            Some(GoalRange {
+            Some(ScoreRange {
                 home_least: self.home_least.max(self.away_least + 1),
                 home_most: self.home_most,
                 away_least: self.away_least,
@@ -57,17 +57,17 @@ impl Cell {
         }
     }
 
-    /// The goals of the draws in the cell; `None` where it has none. The least of them is one.
-    pub fn draws(&self) -> Option<GoalRange>
+    /// The goals of the draws in the cell; `None` if it has none. The least of them is one.
+    pub fn draws(&self) -> Option<ScoreRange>
         ensures goals { MatchOption result (AllowsNone self.now is_draw)
-            (IsSpanOf self.now is_draw) }
+            (IsScoreRangeOf self.now is_draw) }
         ensures least { IfSome result
             (λ goals. IsAllowed self.now is_draw (score_of goals.home_least goals.away_least)) }
     {
         let least = self.home_least.max(self.away_least);
         let most = self.home_most.min(self.away_most);
         if self.draw && least <= most {
-            Some(GoalRange {
+            Some(ScoreRange {
                 home_least: least,
                 home_most: most,
                 away_least: least,
@@ -78,11 +78,11 @@ impl Cell {
         }
     }
 
-    /// The goals of the away wins in the cell; `None` where it has none. The widest win is one of
+    /// The goals of the away wins in the cell; `None` if it has none. The widest win is one of
     /// them.
-    pub fn away_wins(&self) -> Option<GoalRange>
+    pub fn away_wins(&self) -> Option<ScoreRange>
         ensures goals { MatchOption result (AllowsNone self.now is_away_win)
-            (IsSpanOf self.now is_away_win) }
+            (IsScoreRangeOf self.now is_away_win) }
         ensures widest { IfSome result
             (λ goals. IsAllowed self.now is_away_win (score_of goals.home_least goals.away_most)) }
     {
@@ -91,7 +91,7 @@ impl Cell {
             && self.away_least <= self.away_most
             && self.home_least < self.away_most
         {
-            Some(GoalRange {
+            Some(ScoreRange {
                 home_least: self.home_least,
                 home_most: self.home_most.min(self.away_most - 1),
                 away_least: self.away_least.max(self.home_least + 1),
@@ -165,7 +165,7 @@ impl Cell {
 }
 
 // The goals of an outcome, if it has any, are those of the score alone.
-fn are_at(goals: Option<GoalRange>, score: &Score) -> bool
+fn are_at(goals: Option<ScoreRange>, score: &Score) -> bool
     ensures { IsTrue result ↔ IfSome goals (IsAt score.now) }
 {
     match goals {

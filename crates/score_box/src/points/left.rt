@@ -45,7 +45,7 @@ impl OutcomesLeft {
         at_most_one(self.home_win, self.draw, self.away_win)
     }
 
-    /// What the cell leaves to the sides that count; nothing where no score is left.
+    /// What the cell leaves to the sides that count; nothing if no score is left.
     pub fn points(self, home: bool, away: bool) -> MatchPoints
         ensures { (cell : Cell) → AreOutcomesLeft cell self → IsPointsOf cell home away result }
     {

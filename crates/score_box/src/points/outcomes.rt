@@ -16,7 +16,7 @@ pub struct MatchPoints {
 }
 
 impl MatchPoints {
-    /// What a cell that is not empty leaves to its two sides, where each of them counts or not.
+    /// What a cell that is not empty leaves to its two sides, if each of them counts or not.
     pub fn of(cell: &Cell, home: bool, away: bool) -> MatchPoints
         requires { ¬ IsEmptyCell cell.now }
         ensures { IsPointsOf cell.now home away result }

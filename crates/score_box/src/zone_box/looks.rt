@@ -13,7 +13,7 @@ ghost use Rattle.score_box.specs.inside.Boxes.{open_outcomes_in};
 ghost use Rattle.score_box.specs.inside.Points.{most_taken_off, AreOutcomesAmong, AreOutcomesLeft};
 ghost use Rattle.score_box.specs.declared.cell.Cell.{Cell};
 ghost use Rattle.score_box.specs.inside.Cells.{IsCellOf};
-ghost use Rattle.score_box.specs.inside.Settings.{HasFinish};
+ghost use Rattle.score_box.specs.inside.ZoneBoxViews.{HasFinish};
 ghost use Rattle.score_box.specs.inside.Unplayed.{unplayed_in};
 
 use super::ZoneBox;
@@ -22,8 +22,8 @@ use crate::totals::Totals;
 use league_core::{ClubSet, Literal};
 
 impl<'a> ZoneBox<'a> {
-    /// The least points of a club, deductions taken off, where the zone has a finish. Clubs count
-    /// from 0.
+    /// The least points of a club, deductions taken off, if the zone has a finish. Clubs count from
+    /// 0.
     pub fn low(&self, club: u8) -> i32
         requires has_finish { HasFinish self.now }
         requires in_range { club < length self.now.sheet.clubs }
@@ -35,8 +35,8 @@ impl<'a> ZoneBox<'a> {
         self.ends.lows[club as usize] - off
     }
 
-    /// The most points of a club, deductions taken off, where the zone has a finish. Clubs count
-    /// from 0.
+    /// The most points of a club, deductions taken off, if the zone has a finish. Clubs count from
+    /// 0.
     pub fn high(&self, club: u8) -> i32
         requires has_finish { HasFinish self.now }
         requires in_range { club < length self.now.sheet.clubs }

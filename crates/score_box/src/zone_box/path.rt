@@ -49,7 +49,7 @@ impl<'a> ZoneBox<'a> {
         Ok(())
     }
 
-    /// Takes the last literal off the zone, which must have one, and answers it. It takes no
+    /// Takes the last literal off the zone, which must have one, and returns it. It takes no
     /// memory.
     pub fn uncut(&mut self) -> Literal
         requires { self.old.zone ≢ [] }

@@ -10,31 +10,31 @@ use Rattle.league_core.specs.game.Ahead.{rank_of}
 use Rattle.league_core.specs.search.PointRanges.{Range, one_value}
 use Rattle.league_core.specs.search.SureOrder.{sure_by_ranges, sure_then, is_above, is_below}
 use Rattle.league_core.specs.search.SureOrder.{is_level, is_apart, sure_by_points}
-use Rattle.score_box.specs.inside.Settings.{ZoneBoxView}
+use Rattle.score_box.specs.inside.ZoneBoxViews.{ZoneBoxView}
 use Rattle.tie_bound.specs.declared.answer_sets.Answers.{Answers}
 use Rattle.tie_bound.specs.declared.parts.Parts.{Parts}
 use Rattle.tie_bound.specs.declared.parts.Parts.TheVariants.{Record, FirstSums}
 use Rattle.tie_bound.specs.declared.sums.Sums.{Sums}
-use Rattle.tie_bound.specs.inside.Spans.{as_range}
+use Rattle.tie_bound.specs.inside.IntRanges.{as_range}
 use Rattle.tie_bound.specs.inside.Sums.{sums_at}
 use Rattle.tie_bound.specs.inside.Boxes.{options_in_box}
 
 -- the ranges of a club's head-to-head record, from its sums over the matches of a group
-abbrev pub record_spans_of : Sums → List Range
-record_spans_of sums = as_range sums.points ∷ as_range sums.difference ∷ as_range sums.goals ∷ []
+abbrev pub record_ranges_of : Sums → List Range
+record_ranges_of sums = as_range sums.points ∷ as_range sums.difference ∷ as_range sums.goals ∷ []
 
 -- those of difference and goals, from the sums over all matches
-abbrev pub first_spans_of : Sums → List Range
-first_spans_of sums = as_range sums.difference ∷ as_range sums.goals ∷ []
+abbrev pub first_ranges_of : Sums → List Range
+first_ranges_of sums = as_range sums.difference ∷ as_range sums.goals ∷ []
 
 -- the ranges of the parts that are compared
 abbrev pub ranges_of : Parts → Sums → List Range
-ranges_of Record sums = record_spans_of sums
-ranges_of FirstSums sums = first_spans_of sums
+ranges_of Record sums = record_ranges_of sums
+ranges_of FirstSums sums = first_ranges_of sums
 
 -- the ranges of what decides last, from the sums over all matches and the fixed rank
-abbrev pub overall_spans_of : Sums → ℕ → List Range
-overall_spans_of sums rank =
+abbrev pub overall_ranges_of : Sums → ℕ → List Range
+overall_ranges_of sums rank =
     as_range sums.difference
     ∷ as_range sums.goals
     ∷ as_range sums.away_goals
@@ -51,8 +51,8 @@ by_table parts table club rival =
 -- its sums over all matches, and its rank, against the club's
 abbrev pub by_overall_table : Sheet → List Sums → ℕ → ℕ → Sure
 by_overall_table sheet table club rival =
-    sure_by_ranges (overall_spans_of (sums_at table rival) (rank_of sheet rival))
-    (overall_spans_of (sums_at table club) (rank_of sheet club))
+    sure_by_ranges (overall_ranges_of (sums_at table rival) (rank_of sheet rival))
+    (overall_ranges_of (sums_at table club) (rank_of sheet club))
 
 -- it is sure whether a club has the club's parts
 abbrev pub is_sure_by : Parts → List Sums → ℕ → ℕ → Bool
@@ -77,7 +77,7 @@ AreByPoints box club answers =
     (rival : ℕ) → answer_at answers rival ≡ (if nat_lt rival (length box.sheet.clubs)
     then sure_by_points box.sheet box.season (options_in_box box) rival club else Unknown)
 
--- where one of so many clubs was level so far, the next step decides
+-- if one of so many clubs was level so far, the next step decides
 abbrev pub StepDecides : ℕ → (ℕ → Sure) → Answers → Answers → Type 0
 StepDecides clubs next old new =
     (club : ℕ) → club < clubs → answer_at new club ≡ sure_then (answer_at old club) (next club)

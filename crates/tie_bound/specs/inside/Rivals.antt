@@ -7,7 +7,7 @@ use Rattle.league_core.specs.game.ClubSets.{clubs_in}
 use Rattle.league_core.specs.search.Zones.{rivals_of, marked_before, marked_after}
 use Rattle.league_core.specs.search.Reasons.{too_many, is_surely_above, is_surely_below}
 use Rattle.score_box.specs.inside.Boxes.{IsSetOf}
-use Rattle.score_box.specs.inside.Settings.{ZoneBoxView}
+use Rattle.score_box.specs.inside.ZoneBoxViews.{ZoneBoxView}
 use Rattle.tie_bound.specs.declared.rivals.Rivals.{Rivals}
 
 -- these sets are those of the club's rivals in the box

@@ -7,7 +7,7 @@ use Rattle.tie_criteria.specs.declared.measure.Measure.{Measure}
 use Rattle.tie_criteria.specs.inside.Measures.{worth_of}
 use Rattle.score_box.specs.declared.cell.Cell.{Cell}
 use Rattle.score_box.specs.inside.Cells.{allows, IsCellOf}
-use Rattle.tie_bound.specs.declared.int_range.GoalSpan.{GoalSpan}
+use Rattle.tie_bound.specs.declared.int_range.GoalRange.{GoalRange}
 use Rattle.tie_bound.specs.declared.sums.Sums.{Sums}
 use Rattle.tie_bound.specs.inside.Sums.{range_by, AreNear}
 
@@ -22,7 +22,7 @@ to_side worth away score = worth (goals_by away score) (goals_by (not away) scor
 
 -- the goals of a side over the scores of a cell: all lie between these ends, and each end is
 -- reached
-pub record AreGoalsOf (cell : Cell) (away : Bool) (goals : GoalSpan) : Type 0 where
+pub record AreGoalsOf (cell : Cell) (away : Bool) (goals : GoalRange) : Type 0 where
   pub within : (score : Score) → allows cell score ≡ true → (goals.least ≤ goals_by away score)
       × (goals_by away score ≤ goals.most)
   pub least : (score : Score) × (allows cell score ≡ true) × (goals_by away score ≡ goals.least)

@@ -6,7 +6,7 @@ use Rattle.tie_criteria.specs.declared.measure.Measure.TheVariants.{Points, Diff
 use Rattle.tie_criteria.specs.declared.measure.Measure.TheVariants.{AwayGoals, Wins, AwayWins}
 use Rattle.tie_bound.specs.declared.int_range.IntRange.{IntRange}
 use Rattle.tie_bound.specs.declared.sums.Sums.{Sums}
-use Rattle.tie_bound.specs.inside.Spans.{as_range, IsSpanNear}
+use Rattle.tie_bound.specs.inside.IntRanges.{as_range, IsRangeNear}
 
 -- the range of the sum by a measure
 abbrev pub range_by : Sums → Measure → Range
@@ -38,10 +38,10 @@ sums_at table club = slice_index_or table club no_sums
 
 -- all of a club's sums are near zero
 abbrev pub AreNear : ℕ → Sums → Type 0
-AreNear bound sums = (measure : Measure) → IsSpanNear bound (range_by sums measure)
+AreNear bound sums = (measure : Measure) → IsRangeNear bound (range_by sums measure)
 
 -- each sum grows by what a match adds to it
-pub record SpansGrowBy (value : Measure → Range) (old new : Sums) : Type 0 where
+pub record RangesGrowBy (value : Measure → Range) (old new : Sums) : Type 0 where
   pub sums : (measure : Measure) → range_by new measure ≡ added (range_by old measure)
       (value measure)
   pub near : (bound : ℕ) → AreNear bound old → AreNear (bound + 255) new

@@ -9,9 +9,9 @@ use Rattle.tie_criteria.specs.inside.Measures.{worth_of}
 use Rattle.score_box.specs.declared.cell.Cell.{Cell}
 use Rattle.score_box.specs.inside.Cells.{IsCellOf}
 use Rattle.tie_bound.specs.declared.sums.Sums.{Sums}
-use Rattle.tie_bound.specs.inside.Sums.{range_by, sums_at, AreNear, SpansGrowBy}
+use Rattle.tie_bound.specs.inside.Sums.{range_by, sums_at, AreNear, RangesGrowBy}
 
--- what a match is worth to a club, where a worth and a club are given
+-- what a match is worth to a club, if a worth and a club are given
 abbrev pub Value : Type 0
 Value = Worth → ℕ → Fixture → Score → ℤ
 
@@ -24,10 +24,10 @@ pub record AreSums (value : Value) (fixtures : List Fixture) (options : List (Li
   pub near : (club : ℕ) → AreNear 6000000 (sums_at table club)
 
 -- each club's sums grow by what the options of the match are worth to it
-abbrev pub AddsSpansOfMatch : Value → Fixture → Cell → List Sums → List Sums → Type 0
-AddsSpansOfMatch value match cell old new =
+abbrev pub AddsRangesOfMatch : Value → Fixture → Cell → List Sums → List Sums → Type 0
+AddsRangesOfMatch value match cell old new =
     (options : List Score) → IsCellOf cell options → (club : ℕ)
-    → SpansGrowBy (λ measure. range_of (value (worth_of measure) club match) options)
+    → RangesGrowBy (λ measure. range_of (value (worth_of measure) club match) options)
     (sums_at old club) (sums_at new club)
 
 -- of so many clubs this is a wanted one, or it is a number that is no club's
@@ -45,12 +45,12 @@ abbrev pub AreSumsFor : List ℕ → ℕ → List Fixture → List (List Score) 
 AreSumsFor group club =
     AreSumsOfThose (λ other. (has_club group other ≡ true) ⊎ (other ≡ club))
 
--- a club's sums grow by what the options of the match are worth to it, where it is wanted or plays
+-- a club's sums grow by what the options of the match are worth to it, if it is wanted or plays
 -- another match; and none grows much
-abbrev pub AddsSpansFor : List ℕ → Fixture → Cell → List Sums → List Sums → Type 0
-AddsSpansFor wanted match cell old new =
+abbrev pub AddsRangesFor : List ℕ → Fixture → Cell → List Sums → List Sums → Type 0
+AddsRangesFor wanted match cell old new =
     (options : List Score) → IsCellOf cell options → (club : ℕ)
     → (((match.home ≡ club) ⊎ (match.away ≡ club) → has_club wanted club ≡ true)
-    → SpansGrowBy (λ measure. range_of (worth_to (worth_of measure) club match) options)
+    → RangesGrowBy (λ measure. range_of (worth_to (worth_of measure) club match) options)
     (sums_at old club) (sums_at new club))
     × ((bound : ℕ) → AreNear bound (sums_at old club) → AreNear (bound + 255) (sums_at new club))

@@ -20,7 +20,7 @@ worth_of AwayGoals = away_goals
 worth_of Wins = wins
 worth_of AwayWins = away_wins
 
--- what a match is worth to a club where only these matches count
+-- what a match is worth to a club if only these matches count
 abbrev pub value_in : Matches → Worth → ℕ → Fixture → Score → ℤ
 value_in All worth club = worth_to worth club
 value_in (Among group) worth club = worth_among (clubs_in group) worth club

@@ -75,7 +75,7 @@ abbrev pub AllWithin : List Node → Type 0
 AllWithin [] = Unit {0}
 AllWithin (node ∷ nodes) = AreHalvesWithin node.kind (length nodes) × AllWithin nodes
 
--- the node with this number is the half of a split with that number, on the side where its test is
+-- the node with this number is the half of a split with that number, on the side if its test is
 -- true or false
 abbrev pub IsHalf : Kind → Bool → ℕ → ℕ → Type 0
 IsHalf Open side parent at = ⊥
@@ -209,7 +209,7 @@ HasRoomFor (Lent number) at = Unit {0}
 HasRoomFor (Refuted reason fresh) at = Unit {0}
 HasRoomFor (Split test fresh half) at = suc (suc (at + half)) < MOST_NUMBERS
 
--- the trees below all nodes, where some nodes stand for trees that are given
+-- the trees below all nodes, if some nodes stand for trees that are given
 abbrev pub filled : List (Option Tree) → List Node → List Tree
 filled given [] = []
 filled [] (node ∷ nodes) = shape_over node.kind (filled [] nodes) ∷ filled [] nodes

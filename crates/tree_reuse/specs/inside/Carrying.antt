@@ -13,7 +13,7 @@ use Rattle.league_core.specs.search.Zones.{is_test_of}
 use Rattle.league_core.specs.search.Reasons.{has_reason}
 use Rattle.league_core.specs.search.Trees.{Tree, preorder}
 use Rattle.league_core.specs.inside.TreeLists.{trees_of}
-use Rattle.score_box.specs.inside.Settings.{ZoneBoxView}
+use Rattle.score_box.specs.inside.ZoneBoxViews.{ZoneBoxView}
 use Rattle.tree_reuse.specs.declared.halves.Halves.{Halves}
 use Rattle.tree_reuse.specs.declared.halves.Halves.TheVariants.{Both, YesAlone, NoAlone}
 use Rattle.tree_reuse.specs.declared.carry.Part.{Part}
@@ -74,7 +74,7 @@ parts_dropped (Lent number) parts = parts
 parts_dropped (Refuted reason fresh) parts = parts
 parts_dropped (Split test fresh) parts = Dropped ∷ Dropped ∷ parts
 
--- the parts after a node of this part, where the way is that of its zone
+-- the parts after a node of this part, if the way is that of its zone
 abbrev pub parts_next : Sheet → Results → List Literal → Part → TreeNode → List Part → List Part
 parts_next sheet season zone_box Dropped node parts = parts_dropped node parts
 parts_next sheet season zone_box (Kept depth literal) node parts =

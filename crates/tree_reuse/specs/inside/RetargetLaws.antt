@@ -44,14 +44,14 @@ pub record IsKeptNode (sheet : Sheet) (season : Results) (question : Question)
   pub some : IsTrue (has_finish sheet season zone)
   pub not_new : is_new node ≡ false
 
--- where the splits were proper in the season before, each node is good in the new one
+-- if the splits were proper in the season before, each node is good in the new one
 abbrev pub RetargetedTreesAreGood : Type 0
 RetargetedTreesAreGood =
     (sheet : Sheet) (before season : Results) (question : Question) (tree : Tree)
     → NodesMeet (IsProperNode sheet before question) [] tree
     → NodesMeet (IsKeptNode sheet season question) [] (retargeted sheet season question tree)
 
--- where the splits are proper in some season, the tests are of the sheet's fixtures and clubs
+-- if the splits are proper in some season, the tests are of the sheet's fixtures and clubs
 abbrev pub ProperTreesAreOfTheSheet : Type 0
 ProperTreesAreOfTheSheet =
     (sheet : Sheet) (season : Results) (question : Question) (tree : Tree)

@@ -28,7 +28,7 @@ halves_by false true = NoAlone
 halves_by false false = NoAlone
 
 -- which halves a split by this test keeps in the season: of a score's test those with a finish, of
--- a rival's test both. Where the zone has a finish, one half has one too
+-- a rival's test both. If the zone has a finish, one half has one too
 abbrev pub halves_in : Sheet → Results → List Literal → Test → Halves
 halves_in sheet season zone (Home fixture) =
     halves_by (has_finish sheet season (with_test zone (Home fixture) true))

@@ -1,5 +1,5 @@
--- How an answer tells what the pool keeps of its questions: an example that is kept is shown, a
--- tree that is refuted refutes, and the budget is said to be spent only where the pool answers so.
+-- How an answer shows what the pool keeps of its questions: an example that is kept is shown, a
+-- tree that is refuted refutes, and the budget is said to be spent only if the pool answers so.
 use Rattle.std.specs.Prelude.{◌≡◌, ◌≢◌, ℕ, ◌+◌, ◌*◌, Bool, false, IsTrue, List, ◌++◌}
 use Rattle.std.specs.Prelude.{Option, Some, None}
 use Rattle.std.specs.List.{slice_get}
@@ -14,13 +14,13 @@ use Rattle.branch_pool.specs.declared.question_state.QuestionState.{QuestionStat
 use Rattle.branch_pool.specs.declared.ticket.Answer.TheVariants as answer
 use Rattle.branch_pool.specs.inside.States.{PoolView}
 use Rattle.branch_pool.specs.inside.Calls.{answer_of}
-use Rattle.verdict_run.specs.declared.word.Word.{Word}
-use Rattle.verdict_run.specs.declared.word.Word.TheVariants.{Clinched, Lost, Possible, Unsettled}
-use Rattle.verdict_run.specs.declared.word.Verdict.{Verdict}
+use Rattle.answer_rows.specs.declared.word.Word.{Word}
+use Rattle.answer_rows.specs.declared.word.Word.TheVariants.{Clinched, Lost, Possible, Unsettled}
+use Rattle.answer_rows.specs.declared.word.Verdict.{Verdict}
 use Rattle.verdict_run.specs.declared.part.Part.{Part}
 use Rattle.verdict_run.specs.declared.part.Known.TheVariants.{Refuted}
-use Rattle.verdict_run.specs.NewTrees.{is_all_new}
-use Rattle.verdict_run.specs.Items.{ShowsPart}
+use Rattle.answer_rows.specs.NewTrees.{is_all_new}
+use Rattle.answer_rows.specs.Items.{ShowsPart}
 
 -- ---- one question
 
@@ -32,10 +32,10 @@ lines_of_refuted seat = with_tree_head seat.question.claim (plain_lines seat.tre
 abbrev pub lines_of_spent : QuestionState → List ProofLine
 lines_of_spent seat = with_spent_head seat.question.claim (marked_lines seat.tree)
 
--- the lines stand for a question that is not refuted: those of the example that is kept of it;
--- where none is, the pool answers that its budget was spent, and the lines are those of its tree if
--- all of that is of the present epoch, and else what came of work on the question once more from
--- its root, such a tree or an example
+-- the lines stand for a question that is not refuted: those of the example that is kept of it; if
+-- none is, the pool answers that its budget was spent, and the lines are those of its tree if all
+-- of that is of the present epoch, and else what came of work on the question once more from its
+-- root, such a tree or an example
 abbrev pub TellsExample : Sheet → Results → QuestionState → Option Example → List ProofLine → Type 0
 TellsExample sheet season seat (Some example) lines =
     lines ≡ example_lines seat.question.claim season example.finish example.lots
@@ -48,7 +48,7 @@ TellsExample sheet season seat None lines =
 abbrev pub TellsSeat : Sheet → Results → QuestionState → List ProofLine → Type 0
 TellsSeat sheet season seat lines = TellsExample sheet season seat seat.example lines
 
--- a part of an answer comes from what is kept of its question: from the refuted tree where the pool
+-- a part of an answer comes from what is kept of its question: from the refuted tree if the pool
 -- answers by that, and else, unless a refutation was found since, from the example or a spent
 -- budget
 pub record IsOfSeat (sheet : Sheet) (season : Results) (seat : QuestionState) (part : Part) : Type 0
@@ -63,7 +63,7 @@ IsOfPlace pool place part =
     (seat : QuestionState) → slice_get pool.seats place ≡ Some seat
     → IsOfSeat pool.sheet pool.season seat part
 
--- what is found of a question that may be refuted: its refutation, or nothing where it is not
+-- what is found of a question that may be refuted: its refutation, or nothing if it is not
 abbrev pub IsFoundIfRefuted : QuestionState → Option Part → Type 0
 IsFoundIfRefuted seat None = is_refuted seat.tree ≡ false
 IsFoundIfRefuted seat (Some part) = part.lines.items ≡ lines_of_refuted seat
@@ -75,8 +75,8 @@ IsFoundAt pool place found =
 
 -- ---- verdicts
 
--- where the pool answers that the question at a place is refuted, this is the word, and the lines
--- are the refutation that it keeps
+-- if the pool answers that the question at a place is refuted, this is the word, and the lines are
+-- the refutation that it keeps
 abbrev pub TellsRefuted : PoolView → ℕ → Word → Verdict → Type 0
 TellsRefuted pool place word verdict =
     (seat : QuestionState) → slice_get pool.seats place ≡ Some seat

@@ -13,15 +13,15 @@ use Rattle.cert_text.specs.ExampleLines.{IsExampleInLines}
 use Rattle.branch_pool.specs.declared.question_state.QuestionState.{QuestionState}
 use Rattle.branch_pool.specs.inside.States.{PoolView}
 use Rattle.branch_pool.specs.inside.Goodness.{IsGoodSeat}
-use Rattle.verdict_run.specs.declared.word.Word.{Word}
-use Rattle.verdict_run.specs.declared.word.Word.TheVariants.{Clinched, Lost, Possible, Unsettled}
-use Rattle.verdict_run.specs.declared.word.Verdict.{Verdict}
+use Rattle.answer_rows.specs.declared.word.Word.{Word}
+use Rattle.answer_rows.specs.declared.word.Word.TheVariants.{Clinched, Lost, Possible, Unsettled}
+use Rattle.answer_rows.specs.declared.word.Verdict.{Verdict}
 use Rattle.verdict_run.specs.declared.part.Part.{Part}
 use Rattle.verdict_run.specs.declared.part.Known.{Known}
 use Rattle.verdict_run.specs.declared.part.Known.TheVariants.{Won, Refuted, Spent}
-use Rattle.verdict_run.specs.Items.{AnswerRow, RefutesIfAsked, ShowsSpentNow, answer_row}
-use Rattle.verdict_run.specs.Items.{IsShownVerdict}
-use Rattle.verdict_run.specs.inside.ItemRanges.{IsInRange}
+use Rattle.answer_rows.specs.Items.{AnswerRow, RefutesIfAsked, ShowsSpentNow, answer_row}
+use Rattle.answer_rows.specs.Items.{IsShownVerdict}
+use Rattle.answer_rows.specs.inside.ItemRanges.{IsInRange}
 use Rattle.verdict_run.specs.inside.Working.{IsEnough, is_settled}
 
 -- the lines show what is known of the question
@@ -85,8 +85,7 @@ pub record AsksBoth (pool : PoolView) (place : ℕ) (row : AnswerRow) : Type 0 w
   pub outside :
       slice_get pool.questions (place + 1) ≡ Some (full_question row.club row.line Outside)
 
--- the verdict is about the row, right and shown, in range, and known where the budget is great
--- enough
+-- the verdict is about the row, right and shown, in range, and known if the budget is great enough
 pub record IsAnswered (pool : PoolView) (row : AnswerRow) (verdict : Verdict) : Type 0 where
   pub is_row : answer_row verdict ≡ row
   pub shown : IsShownVerdict pool.sheet pool.season verdict

@@ -4,19 +4,19 @@ use Rattle.std.specs.Prelude.{◌≢◌, ℕ, true, false, List, All}
 use Rattle.league_core.specs.declared.sheet.Sheet.{Sheet}
 use Rattle.league_core.specs.game.Results.{Results}
 use Rattle.cert_text.specs.declared.proof_line.ProofLine.{ProofLine}
-use Rattle.verdict_run.specs.declared.word.Word.{Word}
-use Rattle.verdict_run.specs.declared.word.Word.TheVariants.{Unsettled}
-use Rattle.verdict_run.specs.declared.word.Verdict.{Verdict}
+use Rattle.answer_rows.specs.declared.word.Word.{Word}
+use Rattle.answer_rows.specs.declared.word.Word.TheVariants.{Unsettled}
+use Rattle.answer_rows.specs.declared.word.Verdict.{Verdict}
 use Rattle.verdict_run.specs.inside.Working.{IsEnough}
-use Rattle.verdict_run.specs.Items.{IsItemShown}
-use Rattle.verdict_run.specs.inside.ItemRanges.{lines_shown}
+use Rattle.answer_rows.specs.Items.{IsItemShown}
+use Rattle.answer_rows.specs.inside.ItemRanges.{lines_shown}
 
--- where the budget is great enough, no club is unsettled
+-- if the budget is great enough, no club is unsettled
 abbrev pub AreKnownIfEnough : Sheet → Results → List Verdict → Type 0
 AreKnownIfEnough sheet season verdicts =
     IsEnough sheet season → All (λ (verdict : Verdict). verdict.word ≢ Unsettled) verdicts
 
--- an item with proofs is one without them, where the lines of refutations are left out
+-- an item with proofs is one without them, if the lines of refutations are left out
 abbrev pub ItemsWithoutProofs : Type 0
 ItemsWithoutProofs =
     (sheet : Sheet) (season : Results) (line club : ℕ) (word : Word) (proof : List ProofLine)

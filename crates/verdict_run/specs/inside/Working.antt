@@ -12,7 +12,7 @@ use Rattle.branch_pool.specs.declared.ticket.Answer.TheVariants.{NotYet}
 use Rattle.branch_pool.specs.inside.States.{PoolView, out_count}
 use Rattle.branch_pool.specs.inside.Calls.{pool_answer}
 use Rattle.branch_pool.specs.inside.Runs.{WorksNext}
-use Rattle.verdict_run.specs.NewTrees.{is_all_new}
+use Rattle.answer_rows.specs.NewTrees.{is_all_new}
 
 -- the pool after any number of turns
 pub data WorksTo : PoolView → PoolView → Type 0 where

@@ -1,5 +1,5 @@
 use Rattle.std.proofs.Common.{arith, ◌∙◌}
-use Rattle.branch_pool.specs.inside.Seats.{tree_for}
+use Rattle.branch_pool.specs.inside.QuestionStates.{tree_for}
 use Rattle.branch_pool.specs.inside.Steps.{seat_changed}
 use Rattle.branch_pool.proofs.SlotLemmas.{drop_more, drop_written, each_step}
 use Rattle.branch_pool.proofs.questions.change_seats.Goals as goal

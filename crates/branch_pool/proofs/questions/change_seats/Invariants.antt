@@ -1,5 +1,5 @@
 use Rattle.std.proofs.Common.{◌≡◌, ◌++◌, map, take, drop}
-use Rattle.branch_pool.specs.inside.Seats.{tree_for}
+use Rattle.branch_pool.specs.inside.QuestionStates.{tree_for}
 use Rattle.branch_pool.specs.inside.Steps.{seat_changed}
 use Rattle.branch_pool.proofs.questions.change_seats.Given as goal
 

@@ -1,5 +1,5 @@
 use Rattle.std.proofs.Common.{◌≡◌, map, take}
-use Rattle.branch_pool.specs.inside.Seats.{tree_for}
+use Rattle.branch_pool.specs.inside.QuestionStates.{tree_for}
 use Rattle.branch_pool.proofs.questions.trees_by.Given as goal
 
 -- one tree for each seat so far, and the box stands at the root

@@ -1,5 +1,4 @@
--- The best so far splits; where there is none, the fixtures so far have one score each, if they
--- have
+-- The best so far splits; if there is none, the fixtures so far have one score each, if they have
 -- one outcome.
 use Rattle.std.proofs.Common.{◌≡◌, ◌<◌, ℕ, IsTrue, IfSome, None, get_or}
 use Rattle.league_core.specs.search.Options.{has_one_outcome, has_one_score}

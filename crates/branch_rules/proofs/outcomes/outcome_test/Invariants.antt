@@ -1,4 +1,4 @@
--- The best so far splits; where there is none, the fixtures so far have one outcome each.
+-- The best so far splits; if there is none, the fixtures so far have one outcome each.
 use Rattle.std.proofs.Common.{◌≡◌, ◌<◌, ℕ, IsTrue, IfSome, None, get_or}
 use Rattle.league_core.specs.search.Options.{has_one_outcome}
 use Rattle.branch_rules.specs.declared.rated.Rated.{Rated}

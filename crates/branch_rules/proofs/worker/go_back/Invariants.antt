@@ -1,4 +1,4 @@
--- The zone has the front that is to be left, and no less.
+-- The zone has the prefix that is to be left, and no less.
 use Rattle.std.proofs.Common.{◌≡◌, ◌≤◌, length, take}
 use Rattle.branch_rules.proofs.worker.go_back.Given as goal
 

@@ -1,6 +1,6 @@
 use Rattle.std.proofs.Common.{◌-◌, IsTrue, length, sym, ap, subst}
 use Rattle.league_core.specs.declared.sheet.Sheet.{Sheet}
-use Rattle.score_box.specs.inside.Settings.{ZoneBoxView}
+use Rattle.score_box.specs.inside.ZoneBoxViews.{ZoneBoxView}
 use Rattle.std.proofs.Common.{take, drop}
 use Rattle.league_core.specs.search.Zones.{is_zone_of}
 use Rattle.branch_rules.proofs.FoundLemmas.{zone_part}

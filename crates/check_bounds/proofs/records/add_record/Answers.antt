@@ -1,4 +1,4 @@
--- Where the match counts each table takes it, and none where it does not.
+-- If the match counts each table takes it, and none if it does not.
 use Rattle.league_core.specs.game.Sums.{worth_to, goal_difference, goals, match_points}
 use Rattle.check_bounds.proofs.TableLemmas.{adds_when, adds_unless}
 use Rattle.check_bounds.proofs.records.add_record.Goals as goal

@@ -1,4 +1,4 @@
--- A literal cuts the scope of its fixture, or none; what the scope was puts it back.
+-- A literal cuts the domain of its fixture, or none; what the domain was puts it back.
 use Rattle.std.proofs.Common.{◌<◌, ◌&&◌, List, length, set, subst, sym, ap, ◌∙◌, arith}
 use Rattle.std.proofs.lemmas.List.{length-set, set-set, set-get_or}
 use Rattle.league_core.specs.search.Zones.{is_as_said, passes}

@@ -1,4 +1,4 @@
--- Where the match counts the table takes it, and not where it does not.
+-- If the match counts the table takes it, and not if it does not.
 use Rattle.league_core.specs.game.Sums.{worth_to}
 use Rattle.check_bounds.specs.inside.Terms.{worth_by}
 use Rattle.check_bounds.proofs.TableLemmas.{adds_when, adds_unless}

@@ -10,12 +10,12 @@ returns c = record {
   long = c.add-2.ensures.long ∙ c.add.ensures.long;
   sums = λ club.
       match_adds c.args.kind c.args.fixture c.args.corners.now
-      c.args.table.now c.add.new.table c.add-2.new.table c.span_of.result
-      c.span_of-2.result
+      c.args.table.now c.add.new.table c.add-2.new.table c.look_range.result
+      c.look_range-2.result
       (clubs_apart 24 c.args.fixture c.requires.team)
-      (c.span_of.ensures.range
+      (c.look_range.ensures.range
       ∙ ap (range_of (side_worth c.args.kind false)) c.as_slice-scores.ensures)
-      (c.span_of-2.ensures.range
+      (c.look_range-2.ensures.range
       ∙ ap (range_of (side_worth c.args.kind true)) c.as_slice-scores.ensures)
       c.add.ensures.own c.add.ensures.others c.add-2.ensures.own
       c.add-2.ensures.others club;

@@ -1,4 +1,4 @@
--- Each sum decides where those before left a rival of the group level.
+-- Each sum decides if those before left a rival of the group level.
 use Rattle.std.proofs.Common.{◌≡◌, ◌≢◌, ◌∷◌, [], inl, inr, true, false, not, ◌&&◌, ◌||◌, ◌==◌}
 use Rattle.std.proofs.Common.{◌-◌, length, take, drop, get_or, refl, ap, sym, ◌∙◌, arith}
 use Rattle.std.proofs.lemmas.Bool.{or_right, eq-eqb, eqb-false, ne_eqb, false≢true}

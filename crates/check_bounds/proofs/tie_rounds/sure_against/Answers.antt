@@ -1,4 +1,4 @@
--- Points decide first; where no rival is level, they decide alone.
+-- Points decide first; if no rival is level, they decide alone.
 use Rattle.std.proofs.Common.{◌≡◌, ℕ, ◌<◌, ◌≤◌, Bool, ◌&&◌, true, List, [], ◌∷◌, filter, length}
 use Rattle.std.proofs.Common.{ap, sym, ◌∙◌, arith}
 use Rattle.std.specs.List.{range_with_len}
@@ -16,7 +16,7 @@ use Rattle.league_core.specs.search.SureOrder.{is_level, level_on_points}
 use Rattle.league_core.proofs.ClubSetLemmas.{filter_agree_in, has_club-range, has_club-filter}
 use Rattle.league_core.proofs.SureLemmas.{sure_then-level}
 use Rattle.check_bounds.specs.declared.int_range.IntRange.{IntRange}
-use Rattle.check_bounds.specs.inside.IntRanges.{range_of_span, span_at}
+use Rattle.check_bounds.specs.inside.IntRanges.{as_sum_range, range_at}
 use Rattle.check_bounds.specs.inside.Steps.{sure_at, sure_by_tables, is_level_by_tables}
 use Rattle.check_bounds.proofs.StepLemmas.{stays}
 use Rattle.check_bounds.proofs.RivalLemmas.{rival_below, rival_parts, alone_is}
@@ -25,7 +25,7 @@ use Rattle.check_bounds.proofs.tie_rounds.sure_against.Goals as goal
 -- the table has each club's points
 abbrev HasPoints : Sheet → Results → List (List Score) → List IntRange → Type 0
 HasPoints sheet season corners table = (club : ℕ) → club < 32
-    → range_of_span (span_at table club) ≡ points_range sheet season corners (club ∷ [])
+    → as_sum_range (range_at table club) ≡ points_range sheet season corners (club ∷ [])
 
 -- what such a table says of a club is what the points say
 by_points : (sheet : Sheet) (season : Results) (corners : List (List Score)) (table : List IntRange)

@@ -1,4 +1,4 @@
--- Where neither side counts, each score gives nothing.
+-- If neither side counts, each score gives nothing.
 use Rattle.std.proofs.Common.{sym, ◌∙◌}
 use Rattle.league_core.specs.search.PointRanges.{range_of, points_of_sides}
 use Rattle.league_core.proofs.RangeLemmas.{range_of-none}

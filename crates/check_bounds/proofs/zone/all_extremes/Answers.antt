@@ -1,4 +1,4 @@
--- The next scope's corners are those of the next scope.
+-- The next domain's extremes are those of the next domain.
 use Rattle.std.proofs.Common.{◌≡◌, ℕ, length, get_or, arith, subst}
 use Rattle.std.proofs.lemmas.List.{length_push, get_or_default}
 use Rattle.check_bounds.specs.declared.score_domain.ScoreDomain.{ScoreDomain}

@@ -1,4 +1,4 @@
--- The next score makes the next scope.
+-- The next score makes the next domain.
 use Rattle.std.proofs.Common.{◌≡◌, ℕ, length, get_or, [], Some, None, arith, subst, sym, ap, ◌∙◌}
 use Rattle.std.proofs.lemmas.List.{length_push, get_or_default}
 use Rattle.league_core.specs.game.Finishes.{may_end}

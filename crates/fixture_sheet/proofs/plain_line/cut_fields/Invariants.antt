@@ -3,7 +3,7 @@ use Rattle.std.specs.List.{between}
 use Rattle.fixture_sheet.specs.inside.PlainLines.{between_commas, with_prefix}
 use Rattle.fixture_sheet.proofs.plain_line.cut_fields.Given as goal
 
--- the fields so far, and then those of the rest, the bytes since the last comma at the front
+-- the fields so far, and then those of the rest, with the bytes since the last comma before them
 abbrev pub invariant-loop-place : goal.invariant-loop-place
 invariant-loop-place l = record {
   inside : l.start ≤ l.place;

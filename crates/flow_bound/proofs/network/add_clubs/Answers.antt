@@ -1,4 +1,4 @@
--- The next club has its arc, or none where it is not in the set.
+-- The next club has its arc, or none if it is not in the set.
 use mir.Syntax.{w64}
 use mir.Val.{to_z, of_z}
 use Rattle.std.proofs.Common.{◌≡◌, ℕ, pos, ◌+ℤ◌, Bool, cond, List, [], ◌∷◌, length, refl, ap, subst}

@@ -12,7 +12,7 @@ use Rattle.score_box.specs.declared.cell.Cell.{Cell}
 use Rattle.score_box.specs.declared.points.left.OutcomesLeft.{OutcomesLeft}
 use Rattle.score_box.specs.inside.Cells.{IsCellOf}
 use Rattle.score_box.specs.inside.Points.{AreOutcomesLeft}
-use Rattle.score_box.specs.inside.Settings.{HasFinish, ZoneBoxView}
+use Rattle.score_box.specs.inside.ZoneBoxViews.{HasFinish, ZoneBoxView}
 use Rattle.score_box.proofs.SplitLemmas.{no_match}
 use Rattle.score_box.proofs.BoxLemmas.{cell_of_option}
 use Rattle.flow_bound.specs.declared.cut.Cut.{Cut}

@@ -1,4 +1,4 @@
--- The next match gives its pair, where both its clubs are in the set.
+-- The next match gives its pair, if both its clubs are in the set.
 use Rattle.std.proofs.Common.{◌≡◌, ℕ, ◌<◌, ◌≤◌, cond, List, get_or, length, subst, sym, ap}
 use Rattle.std.proofs.Common.{◌∙◌, arith}
 use Rattle.std.proofs.lemmas.List.{take_all}

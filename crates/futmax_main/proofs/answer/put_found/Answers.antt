@@ -1,5 +1,5 @@
-use Rattle.ask_answers.specs.inside.Verdicts.{text_of_verdicts}
-use Rattle.futmax_main.specs.declared.session.Answering.TheVariants.{Verdicts}
+use Rattle.answer_rows.specs.inside.Verdicts.{text_of_verdicts}
+use Rattle.command_words.specs.declared.command.Mode.TheVariants.{Verdicts}
 use Rattle.futmax_main.proofs.AnswerLemmas.{puts-answer, verdicts-answer}
 use Rattle.futmax_main.proofs.answer.put_found.Goals as goal
 

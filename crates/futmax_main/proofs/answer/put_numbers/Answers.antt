@@ -1,5 +1,5 @@
-use Rattle.score_answers.specs.ScoreTexts.{text_of_scores}
-use Rattle.futmax_main.specs.declared.session.Answering.TheVariants.{Scores}
+use Rattle.answer_rows.specs.ScoreTexts.{text_of_scores}
+use Rattle.command_words.specs.declared.command.Mode.TheVariants.{Scores}
 use Rattle.futmax_main.proofs.AnswerLemmas.{puts-answer, scores-answer}
 use Rattle.futmax_main.proofs.answer.put_numbers.Goals as goal
 

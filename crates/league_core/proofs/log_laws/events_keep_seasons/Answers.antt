@@ -7,5 +7,5 @@ returns-clause-sheet c = IsSeasonOf-applied
 pub returns-clause-results : goal.returns-clause-results
 returns-clause-results c = are_results-applied
 
-pub returns-clause-told : goal.returns-clause-told
-returns-clause-told c = IsEventOf-same
+pub returns-clause-same_events : goal.returns-clause-same_events
+returns-clause-same_events c = IsEventOf-same

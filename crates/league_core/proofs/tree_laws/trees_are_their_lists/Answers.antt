@@ -7,5 +7,5 @@ returns-clause-read c = reading_exact
 pub returns-clause-unread : goal.returns-clause-unread
 returns-clause-unread c = unread_exact
 
-pub returns-clause-told : goal.returns-clause-told
-returns-clause-told c = preorder_injective
+pub returns-clause-one_tree : goal.returns-clause-one_tree
+returns-clause-one_tree c = preorder_injective

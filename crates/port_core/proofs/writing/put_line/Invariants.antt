@@ -2,7 +2,7 @@ use Rattle.std.proofs.Common.{◌≡◌, ◌-◌, ◌≤◌, length, take}
 use Rattle.std.specs.Io.KnownBytes.{append_known}
 use Rattle.port_core.proofs.writing.put_line.Given as goal
 
--- what was taken so far is the front of the line
+-- what was taken so far is the start of the line
 abbrev pub invariant-offers : goal.invariant-offers
 invariant-offers g l =
     (l.done ≤ length l.line)

@@ -1,12 +1,12 @@
 use Rattle.std.proofs.Common.{◌≡◌, ◌≤ℤ◌, negsuc, [], ◌∷◌, ap, ◌∙◌, arith}
 use Rattle.std.proofs.lemmas.Int.{ints}
-use Rattle.score_box.specs.inside.Settings.{ZoneBoxView}
+use Rattle.score_box.specs.inside.ZoneBoxViews.{ZoneBoxView}
 use Rattle.score_box.specs.inside.PlayedViews.{PlayedView}
 use Rattle.league_core.specs.game.ClubSets.{clubs_in}
 use Rattle.league_core.specs.search.Options.{has_finish}
 use Rattle.league_core.specs.search.PointRanges.{least_points_of}
 use Rattle.league_core.proofs.HalfLemmas.{root_has_finish}
-use Rattle.qual_scores.proofs.SpanLemmas.{kept}
+use Rattle.qual_scores.proofs.PointRangeLemmas.{kept}
 use Rattle.qual_scores.proofs.LeastLemmas.{least_reach}
 use Rattle.qual_scores.proofs.reach.reach_of.Goals as goal
 

@@ -3,7 +3,7 @@ use Rattle.std.specs.Int.{int_max}
 use Rattle.std.proofs.lemmas.Int.{ints}
 use Rattle.league_core.specs.declared.question.Claim.TheVariants.{Outside}
 use Rattle.qual_scores.specs.inside.Searching.{IsNarrowed}
-use Rattle.qual_scores.proofs.SpanLemmas.{kept}
+use Rattle.qual_scores.proofs.PointRangeLemmas.{kept}
 use Rattle.qual_scores.proofs.SearchLemmas.{past_reach, max_kept}
 use Rattle.qual_scores.proofs.search.guaranteed_score.Goals as goal
 

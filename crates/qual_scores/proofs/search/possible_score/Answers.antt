@@ -2,7 +2,7 @@ use Rattle.std.proofs.Common.{ℤ, subst, arith}
 use Rattle.std.proofs.lemmas.Int.{ints}
 use Rattle.league_core.specs.declared.question.Claim.TheVariants.{Inside}
 use Rattle.qual_scores.specs.inside.Searching.{IsWindowAnswer}
-use Rattle.qual_scores.proofs.SpanLemmas.{kept}
+use Rattle.qual_scores.proofs.PointRangeLemmas.{kept}
 use Rattle.qual_scores.proofs.SearchLemmas.{reach_narrowed, reach_none, spent_first}
 use Rattle.qual_scores.proofs.search.possible_score.Goals as goal
 

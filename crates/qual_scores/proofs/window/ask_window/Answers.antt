@@ -1,7 +1,7 @@
 use Rattle.std.proofs.Common.{ap, ◌∙◌, arith}
 use Rattle.std.proofs.lemmas.Int.{ints}
 use Rattle.qual_scores.specs.inside.Searching.{question_sought}
-use Rattle.qual_scores.proofs.SpanLemmas.{kept}
+use Rattle.qual_scores.proofs.PointRangeLemmas.{kept}
 use Rattle.qual_scores.proofs.WindowLemmas.{won_says, refuted_says, spent_says, least_full}
 use Rattle.qual_scores.proofs.window.ask_window.Goals as goal
 

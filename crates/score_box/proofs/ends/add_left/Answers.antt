@@ -19,15 +19,15 @@ loop-i-init c = (
       (omega (arith, ints, high.0), omega (arith, ints, high.1)),
 )
 
-pub move_spans-requires-clause-low : goal.move_spans-requires-clause-low
-move_spans-requires-clause-low c = λ club.
+pub move_ranges-requires-clause-low : goal.move_ranges-requires-clause-low
+move_ranges-requires-clause-low c = λ club.
     let low = c.loop-i.invariant.1 club in (
       omega (arith, ints, low.0),
       omega (arith, ints, low.1, c.requires.few, c.loop-i-test.true),
     )
 
-pub move_spans-requires-clause-high : goal.move_spans-requires-clause-high
-move_spans-requires-clause-high c = λ club.
+pub move_ranges-requires-clause-high : goal.move_ranges-requires-clause-high
+move_ranges-requires-clause-high c = λ club.
     let high = c.loop-i.invariant.2 club in (
       omega (arith, ints, high.0),
       omega (arith, ints, high.1, c.requires.few, c.loop-i-test.true),
@@ -43,7 +43,7 @@ loop-i-preserved c =
     let in_fixtures : number < length fixtures = c.requires.in_range i 0 within in
     let in_cells : number < length c.args.cells.now = omega
     (arith, in_fixtures, c.requires.many) in
-    let moves = c.move_spans.ensures c.none-empty.result _ c.of-none.ensures c.left-left.ensures in
+    let moves = c.move_ranges.ensures c.none-empty.result _ c.of-none.ensures c.left-left.ensures in
     let some = c.requires.some in (
       λ options are club.
           let move = moves club [] (get_or options number []) c.none-empty.ensures

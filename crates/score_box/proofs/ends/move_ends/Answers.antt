@@ -9,11 +9,11 @@ use Rattle.score_box.specs.declared.points.left.OutcomesLeft.{OutcomesLeft}
 use Rattle.score_box.specs.inside.Cells.{IsCellOf, at_most_one}
 use Rattle.score_box.specs.inside.Points.{AreOutcomesLeft}
 use Rattle.score_box.proofs.LeftLemmas.{none_left, left_none, one_left, left_one}
-use Rattle.score_box.proofs.EndLemmas.{spans_small, spans_moved, empty_set, several_set}
+use Rattle.score_box.proofs.EndLemmas.{ranges_small, ranges_moved, empty_set, several_set}
 use Rattle.score_box.proofs.EndLemmas.{empty_counts, several_counts, empty_is, outcome_is}
 use Rattle.score_box.proofs.ends.move_ends.Goals as goal
 
--- where none is left, the options count as none
+-- if none is left, the options count as none
 empty_counted : (cell : Cell) (left : OutcomesLeft) (options : List Score) (none : Bool)
     → AreOutcomesLeft cell left → IsCellOf cell options
     → none ≡ not (left.home_win || left.draw || left.away_win)
@@ -23,7 +23,7 @@ empty_counted cell left options none are is same =
     (λ e. none_left cell left are (sym same ∙ e))
     (λ empty. same ∙ left_none cell left are empty))
 
--- and where several are, as several
+-- and if several are, as several
 several_counted : (cell : Cell) (left : OutcomesLeft) (options : List Score) (one : Bool)
     → AreOutcomesLeft cell left → IsCellOf cell options
     → one ≡ at_most_one left.home_win left.draw left.away_win
@@ -33,18 +33,18 @@ several_counted cell left options one are is same =
     (λ e. one_left cell left are (sym same ∙ e))
     (λ has. same ∙ left_one cell left are has))
 
-pub move_spans-requires-clause-low : goal.move_spans-requires-clause-low
-move_spans-requires-clause-low c = λ club.
+pub move_ranges-requires-clause-low : goal.move_ranges-requires-clause-low
+move_ranges-requires-clause-low c = λ club.
     let small =
-    (spans_small c.args.fixtures.now c.requires.ends.0 c.args.ends.now.lows c.args.ends.now.highs
-    c.requires.few c.requires.ends.2.spans club).0 in
+    (ranges_small c.args.fixtures.now c.requires.ends.0 c.args.ends.now.lows c.args.ends.now.highs
+    c.requires.few c.requires.ends.2.ranges club).0 in
     (omega (arith, ints, small.0), omega (arith, ints, small.1))
 
-pub move_spans-requires-clause-high : goal.move_spans-requires-clause-high
-move_spans-requires-clause-high c = λ club.
+pub move_ranges-requires-clause-high : goal.move_ranges-requires-clause-high
+move_ranges-requires-clause-high c = λ club.
     let small =
-    (spans_small c.args.fixtures.now c.requires.ends.0 c.args.ends.now.lows c.args.ends.now.highs
-    c.requires.few c.requires.ends.2.spans club).1 in
+    (ranges_small c.args.fixtures.now c.requires.ends.0 c.args.ends.now.lows c.args.ends.now.highs
+    c.requires.few c.requires.ends.2.ranges club).1 in
     (omega (arith, ints, small.0), omega (arith, ints, small.1))
 
 pub moved_count-ends-requires-clause-counted : goal.moved_count-ends-requires-clause-counted
@@ -79,11 +79,11 @@ returns c options after many are was_is now_is =
     let now_one = several_counted c.args.now.now c.left-after.result after c.are_one-2.result
     c.left-after.ensures now_is c.are_one-2.ensures in
     record {
-      spans = spans_moved c.args.fixtures.now options number _ c.args.was.now c.args.now.now after
-          c.args.ends.now.lows c.move_spans.new.lows c.args.ends.now.highs c.move_spans.new.highs
-          c.requires.in_range many are.spans
-          (c.move_spans.ensures c.args.was.now c.args.now.now c.left-before.ensures
-          c.left-after.ensures) was_is now_is c.move_spans.auto.lows c.move_spans.auto.highs;
+      ranges = ranges_moved c.args.fixtures.now options number _ c.args.was.now c.args.now.now after
+          c.args.ends.now.lows c.move_ranges.new.lows c.args.ends.now.highs c.move_ranges.new.highs
+          c.requires.in_range many are.ranges
+          (c.move_ranges.ensures c.args.was.now c.args.now.now c.left-before.ensures
+          c.left-after.ensures) was_is now_is c.move_ranges.auto.lows c.move_ranges.auto.highs;
       empty = omega (
         arith,
         c.moved_count-ends.ensures,

@@ -1,4 +1,4 @@
--- The next cell counts where it has several outcomes.
+-- The next cell counts if it has several outcomes.
 use Rattle.std.proofs.Common.{◌≡◌, ◌<◌, not, cond, [], length, get_or, List}
 use Rattle.std.proofs.Common.{sym, ap, ◌∙◌, arith}
 use Rattle.league_core.specs.declared.season.Score.{Score}

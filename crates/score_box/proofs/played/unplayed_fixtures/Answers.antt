@@ -1,4 +1,4 @@
--- The next fixture is kept where it has no score.
+-- The next fixture is kept if it has no score.
 use Rattle.std.proofs.Common.{◌≡◌, ◌++◌, [], ◌∷◌, cond, get_or, None, sym, ap, ◌∙◌}
 use Rattle.std.proofs.lemmas.List.{get_or_default}
 use Rattle.score_box.specs.inside.Unplayed.{is_unplayed, unplayed_below}

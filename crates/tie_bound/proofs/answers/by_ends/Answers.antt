@@ -3,7 +3,7 @@ use Rattle.league_core.specs.declared.sheet.Sheet.{Sheet}
 use Rattle.league_core.specs.declared.sure.Sure.TheVariants.{Unknown}
 use Rattle.league_core.specs.search.PointRanges.{Range, points_range}
 use Rattle.league_core.specs.search.SureOrder.{sure_by_points, sure_by_range}
-use Rattle.tie_bound.specs.inside.Spans.{as_range}
+use Rattle.tie_bound.specs.inside.IntRanges.{as_range}
 use Rattle.tie_bound.specs.inside.Boxes.{options_in_box}
 use Rattle.tie_bound.proofs.AnswerLemmas.{none_below, next_open, answers_more}
 use Rattle.tie_bound.proofs.answers.by_ends.Goals as goal
@@ -14,12 +14,12 @@ loop-rival-preserved c =
     let club = c.args.club in
     let rival = c.loop-rival.rival in
     let answer =
-    c.by_span-answer.ensures
+    c.by_range-answer.ensures
     ∙ ap (λ (r : Range). sure_by_range r (as_range c.ends_of-own.result)) c.ends_of.ensures
     ∙ ap (λ (r : Range). sure_by_range (points_range box.sheet box.season (options_in_box box)
     (rival ∷ [])) r) c.ends_of-own.ensures in
     answers_more (λ k. sure_by_points box.sheet box.season (options_in_box box) k club) rival
-    c.by_span-answer.result c.loop-rival.answers c.with-answers.result c.loop-rival.invariant
+    c.by_range-answer.result c.loop-rival.answers c.with-answers.result c.loop-rival.invariant
     (record { is = c.with-answers.ensures }) answer
 
 pub with-answers-requires-clause-nothing : goal.with-answers-requires-clause-nothing

@@ -3,7 +3,7 @@ use Rattle.league_core.specs.game.Ahead.{rank_of}
 use Rattle.league_core.specs.search.SureOrder.{sure_by_ranges}
 use Rattle.league_core.proofs.WalkLemmas.{comes_to}
 use Rattle.tie_bound.specs.inside.Sums.{sums_at}
-use Rattle.tie_bound.specs.inside.Answers.{overall_spans_of, by_overall_table, answer_at}
+use Rattle.tie_bound.specs.inside.Answers.{overall_ranges_of, by_overall_table, answer_at}
 use Rattle.tie_bound.proofs.AnswerLemmas.{step_begins, step_goes_on}
 use Rattle.tie_bound.proofs.AnswerLemmas.{by_overall_table-read, next_is}
 use Rattle.tie_bound.proofs.answers.take_overall.Goals as goal
@@ -37,6 +37,6 @@ loop-rival-preserved c =
     (record { is = c.put-now.ensures })
     (next_is (answer_at now) (by_overall_table sheet table club) c.then_overall-answer.result
     c.of.result
-    (sure_by_ranges (overall_spans_of (sums_at table rival) (rank_of sheet rival))
-    (overall_spans_of own own_rank)) rival
+    (sure_by_ranges (overall_ranges_of (sums_at table rival) (rank_of sheet rival))
+    (overall_ranges_of own own_rank)) rival
     c.then_overall-answer.ensures c.of.ensures next)

@@ -1,4 +1,4 @@
--- No fixture has several outcomes exactly where each has one.
+-- No fixture has several outcomes exactly when each has one.
 use Rattle.std.proofs.Common.{◌==◌, ap, ◌∙◌}
 use Rattle.league_core.specs.search.Options.{has_one_outcome}
 use Rattle.tie_bound.specs.inside.Boxes.{options_in_box}

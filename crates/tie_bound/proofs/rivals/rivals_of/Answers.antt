@@ -1,4 +1,4 @@
--- All clubs of the sheet, where the one is none of them, and else all but the one.
+-- All clubs of the sheet, if the one is none of them, and else all but the one.
 use Rattle.std.proofs.Common.{◌≡◌, ℕ, ◌≤◌, ◌&&◌, ◌||◌, ◌==◌, false, not, nat_lt}
 use Rattle.std.proofs.Common.{length, sym, ap, ◌∙◌, inl, inr, arith, List}
 use Rattle.std.proofs.lemmas.Bool.{cases_eq, cases_lt, eq-eqb, ne_eqb, lt-ltb, le-ltb}

@@ -11,7 +11,7 @@ returns c = λ cell draws own.
       points = c.only.result;
       difference = c.only-2.result;
       goals =
-          c.span.result;
+          c.as_int_range.result;
       away_goals = c.only_if.result;
       wins = c.only-3.result;
       away_wins =
@@ -23,9 +23,9 @@ returns c = λ cell draws own.
     (record {
       points = c.only.ensures;
       difference = c.only-2.ensures;
-      goals = c.span.ensures;
+      goals = c.as_int_range.ensures;
       away_goals = c.only_if.ensures ∙ ap (λ (r : Range). cond away r (one_value (pos 0)))
-          c.span-2.ensures;
+          c.as_int_range-2.ensures;
       wins = c.only-3.ensures;
       away_wins = c.only-4.ensures;
     })

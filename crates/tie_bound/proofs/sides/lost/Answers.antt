@@ -1,7 +1,7 @@
 use Rattle.std.proofs.Common.{cond, ap, ◌∙◌, pos, arith}
 use Rattle.league_core.specs.search.PointRanges.{Range, one_value}
 use Rattle.tie_bound.specs.declared.sums.Sums.{Sums}
-use Rattle.tie_bound.specs.inside.Spans.{as_range}
+use Rattle.tie_bound.specs.inside.IntRanges.{as_range}
 use Rattle.tie_bound.proofs.SideLemmas.{lost_sums}
 use Rattle.tie_bound.proofs.sides.lost.Goals as goal
 
@@ -12,7 +12,7 @@ returns c = λ cell loses own other.
       points = c.only.result;
       difference = c.negated.result;
       goals =
-          c.span.result;
+          c.as_int_range.result;
       away_goals = c.only_if.result;
       wins = c.only-2.result;
       away_wins =
@@ -29,9 +29,9 @@ returns c = λ cell loses own other.
     (record {
       points = c.only.ensures;
       difference = (as_range c.margin.result, c.margin.ensures, c.negated.ensures);
-      goals = c.span.ensures;
+      goals = c.as_int_range.ensures;
       away_goals = c.only_if.ensures ∙ ap (λ (r : Range). cond away r (one_value (pos 0)))
-          c.span-2.ensures;
+          c.as_int_range-2.ensures;
       wins = c.only-2.ensures;
       away_wins = c.only-3.ensures;
     })

@@ -11,7 +11,7 @@ returns c = λ cell wins own other.
       points = c.only.result;
       difference = c.margin.result;
       goals =
-          c.span.result;
+          c.as_int_range.result;
       away_goals = c.only_if.result;
       wins = c.only-2.result;
       away_wins =
@@ -28,9 +28,9 @@ returns c = λ cell wins own other.
     (record {
       points = c.only.ensures;
       difference = c.margin.ensures;
-      goals = c.span.ensures;
+      goals = c.as_int_range.ensures;
       away_goals = c.only_if.ensures ∙ ap (λ (r : Range). cond away r (one_value (pos 0)))
-          c.span-2.ensures;
+          c.as_int_range-2.ensures;
       wins = c.only-2.ensures;
       away_wins = c.only_if-2.ensures ∙ ap (λ (r : Range). cond away r (one_value (pos 0)))
           c.only-3.ensures;

@@ -1,4 +1,4 @@
--- The zone has a finish, so the reason is what it says of the zone; and it says nothing where an
+-- The zone has a finish, so the reason is what it says of the zone; and it says nothing if an
 -- outcome is open.
 use Rattle.std.proofs.Common.{◌&&◌, ◌||◌, sym, ap, ◌∙◌}
 use Rattle.std.specs.List.{list_any}

@@ -1,4 +1,4 @@
--- The box has the front that is to be left, and no less.
+-- The box has the prefix that is to be left, and no less.
 use Rattle.std.proofs.Common.{◌≡◌, ◌≤◌, length, take}
 use Rattle.tree_reuse.proofs.box_moves.back_to.Given as goal
 

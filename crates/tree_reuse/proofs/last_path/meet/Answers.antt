@@ -1,4 +1,4 @@
-use Rattle.tree_reuse.proofs.KeptWayLemmas.{second_climbs}
+use Rattle.tree_reuse.proofs.LastPathLemmas.{second_climbs}
 use Rattle.tree_reuse.proofs.last_path.meet.Goals as goal
 
 pub loop-one-preserved : goal.loop-one-preserved

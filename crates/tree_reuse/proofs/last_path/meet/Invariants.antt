@@ -1,5 +1,5 @@
 use Rattle.std.proofs.Common.{◌+◌}
-use Rattle.tree_reuse.specs.inside.KeptWays.{AreClimbing}
+use Rattle.tree_reuse.specs.inside.LastPaths.{AreClimbing}
 use Rattle.tree_reuse.proofs.last_path.meet.Given as goal
 
 abbrev pub invariant-loop-one : goal.invariant-loop-one

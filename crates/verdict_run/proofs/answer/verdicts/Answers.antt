@@ -1,8 +1,8 @@
 use Rattle.std.proofs.Common.{◌≡◌, ◌*◌, ◌<◌, ◌≤◌, List, length, ap, sym, ◌∙◌, subst, arith}
 use Rattle.std.proofs.Common.{get_or}
 use Rattle.league_core.specs.declared.question.Question.{Question}
-use Rattle.verdict_run.specs.declared.word.Verdict.{Verdict}
-use Rattle.verdict_run.specs.Items.{AnswerRow, answer_rows}
+use Rattle.answer_rows.specs.declared.word.Verdict.{Verdict}
+use Rattle.answer_rows.specs.Items.{AnswerRow, answer_rows}
 use Rattle.verdict_run.proofs.VerdictLemmas.{none_answered, one_answered, all_answered}
 use Rattle.verdict_run.proofs.VerdictLemmas.{asks_both, two_a_row, AreAnswered}
 use Rattle.verdict_run.proofs.answer.verdicts.Goals as goal

@@ -1,6 +1,6 @@
 use Rattle.std.proofs.Common.{ap, ◌∙◌}
 use Rattle.std.specs.List.{list_all}
-use Rattle.verdict_run.specs.NewTrees.{is_not_old}
+use Rattle.answer_rows.specs.NewTrees.{is_not_old}
 use Rattle.verdict_run.proofs.PartLemmas.{is_all_new-list}
 use Rattle.verdict_run.proofs.part.all_new.Goals as goal
 

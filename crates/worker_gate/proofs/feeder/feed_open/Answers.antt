@@ -1,130 +1,56 @@
 -- One event more was reported, or the round is over.
-use Rattle.std.proofs.Common.{inl, refl, sym, ◌∙◌, ◌++◌, ◌∷◌, [], ◌≡◌, Ok, Err}
-use Rattle.result_log.specs.declared.entry.Entry.TheVariants.{Change, Ask, End}
-use Rattle.worker_gate.specs.inside.Feeding.{IsSeasonReported}
-use Rattle.worker_gate.proofs.RoundLemmas.{goes-further, goes-further-to, goes-nowhere, live-as}
-use Rattle.worker_gate.proofs.RoundLemmas.{next-as, ok-holds, round-ends, told-of-sheet}
-use Rattle.worker_gate.proofs.LastReadLemmas.{entry-stops-as, round-further, round-stops}
+use Rattle.std.proofs.Common.{sym, ◌∙◌, ◌++◌, ◌∷◌, [], ◌≡◌, List, Ok, Err, subst}
+use Rattle.league_core.specs.declared.season.Event.{Event}
+use Rattle.result_log.specs.declared.entry.Entry.TheVariants.{Ask, End}
+use Rattle.result_log.specs.inside.Rounds.{live_entry}
+use Rattle.worker_gate.specs.inside.Feeding.{HasComeOn, IsSeasonReported}
+use Rattle.worker_gate.proofs.FeedingLemmas.{come-further, come-nowhere, come-off, come-over}
+use Rattle.worker_gate.proofs.FeedingLemmas.{ok-holds}
 use Rattle.worker_gate.proofs.feeder.feed_open.Goals as goal
 
 pub entries-init : goal.entries-init
 entries-init g c = record {
-  told = c.requires.told;
-  goes = goes-nowhere g.J.Job.sheet c.args.desk.now.front _;
-  last = inl (refl, refl);
+  reported = c.requires.reported;
+  come = come-nowhere (live_entry g.J.Job.sheet) c.args.feeder.now.front _ _;
 }
-
-pub await_next-requires-clause-of_sheet : goal.await_next-requires-clause-of_sheet
-await_next-requires-clause-of_sheet g c =
-    told-of-sheet c.args.sheet.now g.J.Job.sheet c.entries.desk.front c.entries.desk.season
-    c.entries.desk.events c.requires.of_job c.entries.invariant.told
 
 pub entries-preserved : goal.entries-preserved
 entries-preserved g c =
-    let before = c.entries.invariant in
-    let next = rw c.in-Ok-Change.field-0-is at c.in-Ok-Change.ensures.next in
     let fine = sym c.is_err.ensures.value ∙ c.if-is_err.false in
     let log = ok-holds c.report.result
-    (c.report.new.self.front ≡ c.entries.desk.front ++ c.in-Ok-Change.event ∷ [])
-    fine c.report.ensures.front in
+    (c.report.new.self.front ≡ c.entries.feeder.front ++ c.in-Ok-Change.event ∷ []) fine
+    c.report.ensures.front in
+    let P : List Event → Type 0 =
+    λ all. HasComeOn g.S.Source.left g.S.Source.ended g.S.Source.faults g.S.Source.reads
+    (live_entry g.J.Job.sheet) c.args.feeder.now.front all c.args.reader.now
+    c.await_next.new.reader c.args.source.now c.await_next.new.source in
     record {
-      told = ok-holds c.report.result (IsSeasonReported g.J.Job.sheet c.report.new.self.front
-          c.report.new.self.season c.report.new.self.events) fine c.report.ensures.told;
-      goes = goes-further-to g.J.Job.sheet c.args.desk.now.front c.entries.desk.front
-          c.report.new.self.front c.in-Ok-Change.event _ _ _ log before.goes
-          (next-as _ _ _ _ (Ok (Change c.in-Ok-Change.event))
-          (live-as c.args.sheet.now g.J.Job.sheet c.entries.desk.front c.entries.desk.season
-          c.entries.desk.events c.requires.of_job before.told) next);
-      last = round-further g.S.Source.left g.S.Source.reads g.J.Job.sheet c.args.desk.now.front
-          c.entries.desk.front c.args.reader.now c.entries.reader c.await_next.new.reader _ _ _ _ _
-          _ _ before.goes before.last
-          (entry-stops-as _ _ _ _ _ _ _ _ (Ok (Change c.in-Ok-Change.event))
-          (live-as c.args.sheet.now g.J.Job.sheet c.entries.desk.front c.entries.desk.season
-          c.entries.desk.events c.requires.of_job before.told)
-          c.in-Ok-Change.ensures.last);
+      reported = ok-holds c.report.result (IsSeasonReported g.J.Job.sheet
+          c.report.new.self.front c.report.new.self.season c.report.new.self.events) fine
+          c.report.ensures.reported;
+      come = subst P (sym log) (come-further c.entries.invariant.come c.in-Ok-Change.event
+          (rw c.in-Ok-Change.field-0-is at c.in-Ok-Change.ensures.next));
     }
 
-pub returns-then-is_err-clause-feeds : goal.returns-then-is_err-clause-feeds
-returns-then-is_err-clause-feeds g c =
-    let before = c.entries.invariant in
-    let next = rw c.in-Ok-Change.field-0-is at c.in-Ok-Change.ensures.next in (
-      _,
-      goes-further g.J.Job.sheet c.args.desk.now.front c.entries.desk.front
-          c.in-Ok-Change.event _ _ _ before.goes
-          (next-as _ _ _ _ (Ok (Change c.in-Ok-Change.event))
-          (live-as c.args.sheet.now g.J.Job.sheet c.entries.desk.front c.entries.desk.season
-          c.entries.desk.events c.requires.of_job before.told) next),
-    )
+pub returns-then-is_err : goal.returns-then-is_err
+returns-then-is_err g c = record {
+  feeds = come-off c.entries.invariant.come c.in-Ok-Change.event
+      (rw c.in-Ok-Change.field-0-is at c.in-Ok-Change.ensures.next);
+}
 
-pub returns-in-Ok-Ask-clause-feeds : goal.returns-in-Ok-Ask-clause-feeds
-returns-in-Ok-Ask-clause-feeds g c =
-    let before = c.entries.invariant in
-    let next = rw c.in-Ok-Ask.field-0-is at c.in-Ok-Ask.ensures.next in
-    round-ends g.J.Job.sheet c.args.desk.now.front c.entries.desk.front (Ok Ask) _ _ _
-    before.goes
-    (next-as _ _ _ _ (Ok Ask)
-    (live-as c.args.sheet.now g.J.Job.sheet c.entries.desk.front c.entries.desk.season
-    c.entries.desk.events c.requires.of_job before.told) next)
+pub returns-in-Ok-Ask : goal.returns-in-Ok-Ask
+returns-in-Ok-Ask g c = record {
+  feeds = come-over c.entries.invariant.come (Ok Ask)
+      (rw c.in-Ok-Ask.field-0-is at c.in-Ok-Ask.ensures.next);
+}
 
-pub returns-in-Ok-End-clause-feeds : goal.returns-in-Ok-End-clause-feeds
-returns-in-Ok-End-clause-feeds g c =
-    let before = c.entries.invariant in
-    let next = rw c.in-Ok-End.field-0-is at c.in-Ok-End.ensures.next in
-    round-ends g.J.Job.sheet c.args.desk.now.front c.entries.desk.front (Ok End) _ _ _
-    before.goes
-    (next-as _ _ _ _ (Ok End)
-    (live-as c.args.sheet.now g.J.Job.sheet c.entries.desk.front c.entries.desk.season
-    c.entries.desk.events c.requires.of_job before.told) next)
+pub returns-in-Ok-End : goal.returns-in-Ok-End
+returns-in-Ok-End g c = record {
+  feeds = come-over c.entries.invariant.come (Ok End)
+      (rw c.in-Ok-End.field-0-is at c.in-Ok-End.ensures.next);
+}
 
-pub returns-in-Err-clause-feeds : goal.returns-in-Err-clause-feeds
-returns-in-Err-clause-feeds g c =
-    let before = c.entries.invariant in
-    round-ends g.J.Job.sheet c.args.desk.now.front c.entries.desk.front (Err c.in-Err.stop)
-    _ _ _ before.goes
-    (next-as _ _ _ _ (Err c.in-Err.stop)
-    (live-as c.args.sheet.now g.J.Job.sheet c.entries.desk.front c.entries.desk.season
-    c.entries.desk.events c.requires.of_job before.told) c.in-Err.ensures.next)
-
-pub returns-then-is_err-clause-last : goal.returns-then-is_err-clause-last
-returns-then-is_err-clause-last g c =
-    let before = c.entries.invariant in
-    round-further g.S.Source.left g.S.Source.reads g.J.Job.sheet c.args.desk.now.front
-    c.entries.desk.front c.args.reader.now c.entries.reader c.await_next.new.reader _ _ _ _ _
-    _ _ before.goes before.last
-    (entry-stops-as _ _ _ _ _ _ _ _ (Ok (Change c.in-Ok-Change.event))
-    (live-as c.args.sheet.now g.J.Job.sheet c.entries.desk.front c.entries.desk.season
-    c.entries.desk.events c.requires.of_job before.told)
-    c.in-Ok-Change.ensures.last)
-
-pub returns-in-Ok-Ask-clause-last : goal.returns-in-Ok-Ask-clause-last
-returns-in-Ok-Ask-clause-last g c =
-    let before = c.entries.invariant in
-    round-stops g.S.Source.left g.S.Source.reads g.J.Job.sheet c.args.desk.now.front
-    c.entries.desk.front c.args.reader.now c.entries.reader c.await_next.new.reader _ _ _ _ _
-    _ _ before.goes before.last (Ok Ask)
-    (entry-stops-as _ _ _ _ _ _ _ _ (Ok Ask)
-    (live-as c.args.sheet.now g.J.Job.sheet c.entries.desk.front c.entries.desk.season
-    c.entries.desk.events c.requires.of_job before.told)
-    c.in-Ok-Ask.ensures.last)
-
-pub returns-in-Ok-End-clause-last : goal.returns-in-Ok-End-clause-last
-returns-in-Ok-End-clause-last g c =
-    let before = c.entries.invariant in
-    round-stops g.S.Source.left g.S.Source.reads g.J.Job.sheet c.args.desk.now.front
-    c.entries.desk.front c.args.reader.now c.entries.reader c.await_next.new.reader _ _ _ _ _
-    _ _ before.goes before.last (Ok End)
-    (entry-stops-as _ _ _ _ _ _ _ _ (Ok End)
-    (live-as c.args.sheet.now g.J.Job.sheet c.entries.desk.front c.entries.desk.season
-    c.entries.desk.events c.requires.of_job before.told)
-    c.in-Ok-End.ensures.last)
-
-pub returns-in-Err-clause-last : goal.returns-in-Err-clause-last
-returns-in-Err-clause-last g c =
-    let before = c.entries.invariant in
-    round-stops g.S.Source.left g.S.Source.reads g.J.Job.sheet c.args.desk.now.front
-    c.entries.desk.front c.args.reader.now c.entries.reader c.await_next.new.reader _ _ _ _ _
-    _ _ before.goes before.last (Err c.in-Err.stop)
-    (entry-stops-as _ _ _ _ _ _ _ _ (Err c.in-Err.stop)
-    (live-as c.args.sheet.now g.J.Job.sheet c.entries.desk.front c.entries.desk.season
-    c.entries.desk.events c.requires.of_job before.told)
-    c.in-Err.ensures.last)
+pub returns-in-Err : goal.returns-in-Err
+returns-in-Err g c = record {
+  feeds = come-over c.entries.invariant.come (Err c.in-Err.stop) c.in-Err.ensures.next;
+}

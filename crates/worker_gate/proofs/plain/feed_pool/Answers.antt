@@ -1,11 +1,12 @@
 -- One event more was told, or the round is over.
-use Rattle.std.proofs.Common.{ap, inl, refl, sym, ◌∙◌, ◌++◌, ◌∷◌, [], ◌≡◌, Ok, Err}
-use Rattle.result_log.specs.declared.entry.Entry.TheVariants.{Change, Ask, End}
+use Rattle.std.proofs.Common.{ap, refl, sym, ◌∙◌, ◌++◌, ◌∷◌, [], ◌≡◌, List, Ok, Err, subst}
+use Rattle.league_core.specs.declared.season.Event.{Event}
+use Rattle.result_log.specs.declared.entry.Entry.TheVariants.{Ask, End}
 use Rattle.branch_pool.specs.inside.States.{out_count}
-use Rattle.worker_gate.specs.inside.Rounds.{live_entry}
-use Rattle.worker_gate.proofs.RoundLemmas.{goes-further, goes-further-to, goes-nowhere, next-as}
-use Rattle.worker_gate.proofs.RoundLemmas.{ok-holds, round-ends}
-use Rattle.worker_gate.proofs.LastReadLemmas.{entry-stops-as, round-further, round-stops}
+use Rattle.result_log.specs.inside.Rounds.{live_entry}
+use Rattle.worker_gate.specs.inside.Feeding.{HasComeOn}
+use Rattle.worker_gate.proofs.FeedingLemmas.{come-further, come-nowhere, come-off, come-over}
+use Rattle.worker_gate.proofs.FeedingLemmas.{next-read-as, ok-holds}
 use Rattle.worker_gate.proofs.plain.feed_pool.Goals as goal
 
 pub entries-init : goal.entries-init
@@ -13,103 +14,48 @@ entries-init g c = record {
   sheet = refl;
   questions = refl;
   home = refl;
-  goes = goes-nowhere c.args.pool.now.sheet c.args.pool.now.log _;
-  last = inl (refl, refl);
+  come = come-nowhere (live_entry c.args.pool.now.sheet) c.args.pool.now.log _ _;
 }
 
 pub entries-preserved : goal.entries-preserved
 entries-preserved g c =
     let before = c.entries.invariant in
-    let next = rw c.in-Ok-Change.field-0-is at c.in-Ok-Change.ensures.next in
     let log = ok-holds c.change_with_room.result
     (c.change_with_room.new.self.log ≡ c.entries.pool.log ++ c.in-Ok-Change.event ∷ [])
     (sym c.is_err.ensures.value ∙ c.if-is_err.false) c.change_with_room.ensures.log in
+    let P : List Event → Type 0 =
+    λ all. HasComeOn g.S.Source.left g.S.Source.ended g.S.Source.faults g.S.Source.reads
+    (live_entry c.args.pool.now.sheet) c.args.pool.now.log all c.args.reader.now
+    c.next_of.new.reader c.args.source.now c.next_of.new.source in
     record {
       sheet = c.change_with_room.ensures.sheet ∙ before.sheet;
       questions = c.change_with_room.ensures.questions ∙ before.questions;
       home = ap out_count c.change_with_room.ensures.home ∙ before.home;
-      goes = goes-further-to c.args.pool.now.sheet c.args.pool.now.log c.entries.pool.log
-          c.change_with_room.new.self.log c.in-Ok-Change.event _ _ _ log before.goes
-          (next-as _ _ _ _ (Ok (Change c.in-Ok-Change.event))
-          (ap (λ sheet. live_entry sheet c.entries.pool.log) before.sheet) next);
-      last = round-further g.S.Source.left g.S.Source.reads c.args.pool.now.sheet
-          c.args.pool.now.log c.entries.pool.log c.args.reader.now c.entries.reader
-          c.next_of.new.reader _ _ _ _ _ _ _ before.goes before.last
-          (entry-stops-as _ _ _ _ _ _ _ _ (Ok (Change c.in-Ok-Change.event))
-          (ap (λ sheet. live_entry sheet c.entries.pool.log) before.sheet)
-          c.in-Ok-Change.ensures.last);
+      come = subst P (sym log) (come-further before.come c.in-Ok-Change.event
+          (next-read-as (ap (λ sheet. live_entry sheet c.entries.pool.log) before.sheet)
+          (rw c.in-Ok-Change.field-0-is at c.in-Ok-Change.ensures.next)));
     }
 
-pub returns-then-is_err-clause-err : goal.returns-then-is_err-clause-err
-returns-then-is_err-clause-err g c =
-    let before = c.entries.invariant in
-    let next = rw c.in-Ok-Change.field-0-is at c.in-Ok-Change.ensures.next in (
-      _,
-      goes-further c.args.pool.now.sheet c.args.pool.now.log c.entries.pool.log
-          c.in-Ok-Change.event _ _ _ before.goes
-          (next-as _ _ _ _ (Ok (Change c.in-Ok-Change.event))
-          (ap (λ sheet. live_entry sheet c.entries.pool.log) before.sheet) next),
-    )
+pub returns-then-is_err-clause-feeds : goal.returns-then-is_err-clause-feeds
+returns-then-is_err-clause-feeds g c =
+    come-off c.entries.invariant.come c.in-Ok-Change.event
+    (next-read-as (ap (λ sheet. live_entry sheet c.entries.pool.log) c.entries.invariant.sheet)
+    (rw c.in-Ok-Change.field-0-is at c.in-Ok-Change.ensures.next))
 
-pub returns-in-Ok-Ask-clause-ends : goal.returns-in-Ok-Ask-clause-ends
-returns-in-Ok-Ask-clause-ends g c =
-    let next = rw c.in-Ok-Ask.field-0-is at c.in-Ok-Ask.ensures.next in
-    round-ends c.args.pool.now.sheet c.args.pool.now.log c.entries.pool.log (Ok Ask) _ _ _
-    c.entries.invariant.goes
-    (next-as _ _ _ _ (Ok Ask) (ap (λ sheet. live_entry sheet c.entries.pool.log)
-    c.entries.invariant.sheet) next)
+pub returns-in-Ok-Ask-clause-feeds : goal.returns-in-Ok-Ask-clause-feeds
+returns-in-Ok-Ask-clause-feeds g c =
+    come-over c.entries.invariant.come (Ok Ask)
+    (next-read-as (ap (λ sheet. live_entry sheet c.entries.pool.log) c.entries.invariant.sheet)
+    (rw c.in-Ok-Ask.field-0-is at c.in-Ok-Ask.ensures.next))
 
-pub returns-in-Ok-End-clause-ends : goal.returns-in-Ok-End-clause-ends
-returns-in-Ok-End-clause-ends g c =
-    let next = rw c.in-Ok-End.field-0-is at c.in-Ok-End.ensures.next in
-    round-ends c.args.pool.now.sheet c.args.pool.now.log c.entries.pool.log (Ok End) _ _ _
-    c.entries.invariant.goes
-    (next-as _ _ _ _ (Ok End) (ap (λ sheet. live_entry sheet c.entries.pool.log)
-    c.entries.invariant.sheet) next)
+pub returns-in-Ok-End-clause-feeds : goal.returns-in-Ok-End-clause-feeds
+returns-in-Ok-End-clause-feeds g c =
+    come-over c.entries.invariant.come (Ok End)
+    (next-read-as (ap (λ sheet. live_entry sheet c.entries.pool.log) c.entries.invariant.sheet)
+    (rw c.in-Ok-End.field-0-is at c.in-Ok-End.ensures.next))
 
-pub returns-in-Err-clause-ends : goal.returns-in-Err-clause-ends
-returns-in-Err-clause-ends g c =
-    round-ends c.args.pool.now.sheet c.args.pool.now.log c.entries.pool.log (Err c.in-Err.stop)
-    _ _ _ c.entries.invariant.goes
-    (next-as _ _ _ _ (Err c.in-Err.stop) (ap (λ sheet. live_entry sheet c.entries.pool.log)
-    c.entries.invariant.sheet) c.in-Err.ensures.next)
-
-pub returns-then-is_err-clause-err_last : goal.returns-then-is_err-clause-err_last
-returns-then-is_err-clause-err_last g c =
-    let before = c.entries.invariant in
-    round-further g.S.Source.left g.S.Source.reads c.args.pool.now.sheet c.args.pool.now.log
-    c.entries.pool.log c.args.reader.now c.entries.reader c.next_of.new.reader _ _ _ _ _ _ _
-    before.goes before.last
-    (entry-stops-as _ _ _ _ _ _ _ _ (Ok (Change c.in-Ok-Change.event))
-    (ap (λ sheet. live_entry sheet c.entries.pool.log) before.sheet)
-    c.in-Ok-Change.ensures.last)
-
-pub returns-in-Ok-Ask-clause-last : goal.returns-in-Ok-Ask-clause-last
-returns-in-Ok-Ask-clause-last g c =
-    let before = c.entries.invariant in
-    round-stops g.S.Source.left g.S.Source.reads c.args.pool.now.sheet c.args.pool.now.log
-    c.entries.pool.log c.args.reader.now c.entries.reader c.next_of.new.reader _ _ _ _ _ _ _
-    before.goes before.last (Ok Ask)
-    (entry-stops-as _ _ _ _ _ _ _ _ (Ok Ask)
-    (ap (λ sheet. live_entry sheet c.entries.pool.log) before.sheet)
-    c.in-Ok-Ask.ensures.last)
-
-pub returns-in-Ok-End-clause-last : goal.returns-in-Ok-End-clause-last
-returns-in-Ok-End-clause-last g c =
-    let before = c.entries.invariant in
-    round-stops g.S.Source.left g.S.Source.reads c.args.pool.now.sheet c.args.pool.now.log
-    c.entries.pool.log c.args.reader.now c.entries.reader c.next_of.new.reader _ _ _ _ _ _ _
-    before.goes before.last (Ok End)
-    (entry-stops-as _ _ _ _ _ _ _ _ (Ok End)
-    (ap (λ sheet. live_entry sheet c.entries.pool.log) before.sheet)
-    c.in-Ok-End.ensures.last)
-
-pub returns-in-Err-clause-last : goal.returns-in-Err-clause-last
-returns-in-Err-clause-last g c =
-    let before = c.entries.invariant in
-    round-stops g.S.Source.left g.S.Source.reads c.args.pool.now.sheet c.args.pool.now.log
-    c.entries.pool.log c.args.reader.now c.entries.reader c.next_of.new.reader _ _ _ _ _ _ _
-    before.goes before.last (Err c.in-Err.stop)
-    (entry-stops-as _ _ _ _ _ _ _ _ (Err c.in-Err.stop)
-    (ap (λ sheet. live_entry sheet c.entries.pool.log) before.sheet)
-    c.in-Err.ensures.last)
+pub returns-in-Err-clause-feeds : goal.returns-in-Err-clause-feeds
+returns-in-Err-clause-feeds g c =
+    come-over c.entries.invariant.come (Err c.in-Err.stop)
+    (next-read-as (ap (λ sheet. live_entry sheet c.entries.pool.log) c.entries.invariant.sheet)
+    c.in-Err.ensures.next)

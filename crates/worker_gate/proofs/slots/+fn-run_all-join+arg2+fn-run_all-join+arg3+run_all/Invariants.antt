@@ -11,4 +11,4 @@ decreases-join+arg3 g l = 2 * length l.right.now + 1
 
 -- so many workers are to begin
 abbrev pub decreases-run_all : goal.decreases-run_all
-decreases-run_all g l = 2 * length l.posts.now
+decreases-run_all g l = 2 * length l.slots.now

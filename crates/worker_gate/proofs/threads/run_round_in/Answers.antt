@@ -1,13 +1,17 @@
--- Where the round does not begin, nothing was passed and nothing was read.
+-- If the round does not begin, nothing was passed and nothing was read.
 use Rattle.std.proofs.Common.{inl, refl}
-use Rattle.worker_gate.proofs.RoundLemmas.{goes-nowhere}
-use Rattle.worker_gate.proofs.threads.run_round_in.Goals as goal
 use Rattle.league_core.proofs.PlainLemmas.{err-holds}
+use Rattle.result_log.specs.inside.Rounds.{live_entry}
+use Rattle.result_log.proofs.LiveLemmas.{goes-nowhere}
+use Rattle.worker_gate.proofs.threads.run_round_in.Goals as goal
 
 pub returns-in_err-lock-clause-err : goal.returns-in_err-lock-clause-err
 returns-in_err-lock-clause-err g c =
-    err-holds c.from_residual.result _
-    (c.args.pool.log, goes-nowhere c.args.pool.sheet c.args.pool.log _)
+    err-holds c.from_residual.result _ (
+      c.args.start.pool.log,
+      goes-nowhere (live_entry c.args.start.pool.sheet)
+          c.args.start.pool.log _,
+    )
 
 pub returns-in_err-lock-clause-err_last : goal.returns-in_err-lock-clause-err_last
 returns-in_err-lock-clause-err_last g c = err-holds c.from_residual.result _ (inl (refl, refl))

@@ -4,7 +4,7 @@ use Rattle.league_core.specs.game.Limits.{most_events}
 use Rattle.league_core.specs.game.Seasons.{IsEventOf}
 use Rattle.league_core.proofs.LogLemmas.{IsSeasonOf-applied}
 use Rattle.branch_pool.specs.inside.States.{PoolView}
-use Rattle.branch_pool.specs.inside.Seats.{MayBeCarried}
+use Rattle.branch_pool.specs.inside.QuestionStates.{MayBeCarried}
 use Rattle.branch_pool.specs.inside.Views.{state_of}
 use Rattle.branch_pool.proofs.FromLemmas.{work_from_start}
 use Rattle.branch_pool.proofs.GoodLemmas.{seats_ready, sound_season}

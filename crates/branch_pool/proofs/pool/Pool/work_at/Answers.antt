@@ -1,6 +1,6 @@
 use Rattle.std.proofs.Common.{◌≡◌, Some, refl, sym, ap, ◌∙◌, subst}
 use Rattle.branch_pool.specs.inside.States.{PoolView, free_number, out_count}
-use Rattle.branch_pool.specs.inside.Seats.{MayLend, WorksSeat, with_slot}
+use Rattle.branch_pool.specs.inside.QuestionStates.{MayLend, WorksSeat, with_slot}
 use Rattle.branch_pool.specs.inside.Calls.{next_place}
 use Rattle.branch_pool.specs.inside.Views.{state_of}
 use Rattle.branch_pool.proofs.FromLemmas.{work_from_set}
@@ -90,8 +90,8 @@ returns-clause-ok g c =
     c.self.invariant.0 next found worked loans in
     rw (← c.self.view_is) turn
 
-pub returns-clause-rest : goal.returns-clause-rest
-returns-clause-rest g c =
+pub returns-clause-unchanged : goal.returns-clause-unchanged
+returns-clause-unchanged g c =
     let pool : PoolView = state_of c.self.inside in
     let number = c.free_number-number.ensures ∙ ap free_number c.as_slice.ensures in
     let loans = c.keep_slot.ensures

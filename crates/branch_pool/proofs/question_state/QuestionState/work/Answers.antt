@@ -1,5 +1,5 @@
 use Rattle.branch_pool.proofs.GoodLemmas.{lent_zone_fits}
-use Rattle.branch_pool.proofs.SeatLemmas.{lent_once}
+use Rattle.branch_pool.proofs.QuestionStateLemmas.{lent_once}
 use Rattle.branch_pool.proofs.question_state.QuestionState.work.Goals as goal
 
 pub solve-requires-clause-of_zone : goal.solve-requires-clause-of_zone
@@ -20,8 +20,8 @@ solve-requires-clause-has_finish g c =
     lends.all_else lends.lent in
     rw c.as_slice.ensures fits.1
 
-pub put-requires-clause-out : goal.put-requires-clause-out
-put-requires-clause-out g c =
+pub settle-requires-clause-out : goal.settle-requires-clause-out
+settle-requires-clause-out g c =
     lent_once c.args.number c.lend.new.self c.in-Some.zone.literals
     (rw c.in-Some.is at c.in_ok-zone.ensures.ok).lent
 

@@ -1,5 +1,5 @@
 use Rattle.std.proofs.Common.{IfOk, subst}
-use Rattle.score_box.specs.inside.Settings.{ZoneBoxView}
+use Rattle.score_box.specs.inside.ZoneBoxViews.{ZoneBoxView}
 use Rattle.score_box.specs.inside.PlayedViews.{PlayedView}
 use Rattle.reason_core.specs.inside.Findings.{IsTrueFinding}
 use Rattle.branch_rules.specs.inside.Found.{IsFoundIn}

@@ -1,4 +1,4 @@
--- None is counted exactly where all pass.
+-- None is counted exactly when all pass.
 use Rattle.std.proofs.Common.{◌≡◌, ◌==◌, ap, subst, ◌∙◌}
 use Rattle.std.specs.List.{list_all}
 use Rattle.league_core.specs.search.Options.{has_one_outcome}

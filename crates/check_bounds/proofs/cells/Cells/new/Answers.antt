@@ -1,4 +1,4 @@
--- The corners of a season's scopes, and what they add up to.
+-- The extremes of a season's domains, and what they add up to.
 use Rattle.std.proofs.Common.{◌≡◌, List, [], subst, sym}
 use Rattle.league_core.specs.declared.sheet.Fixture.{Fixture}
 use Rattle.league_core.specs.declared.sheet.Sheet.{Sheet}
@@ -17,7 +17,7 @@ use Rattle.check_bounds.proofs.ScoreDomainLemmas.{played_over}
 use Rattle.check_bounds.proofs.CellLemmas.{fit_zone}
 use Rattle.check_bounds.proofs.cells.Cells.new.Goals as goal
 
--- corners that fit the scopes of a season are played
+-- extremes that fit the domains of a season are played
 played : (sheet : Sheet) (season : Results) (scores : List (Option Score))
     (scopes lent : List ScoreDomain) (corners : List (List Score)) → IsLeague sheet season
     → scores ≡ season.scores → lent ≡ scopes

@@ -1,7 +1,7 @@
--- The match points of all clubs are kept near 0, and are those of the corners.
+-- The match points of all clubs are kept near 0, and are those of the extremes.
 use Rattle.std.proofs.Common.{◌≡◌, ◌∷◌, [], subst, ◌∙◌}
 use Rattle.league_core.specs.search.PointRanges.{points_range}
-use Rattle.check_bounds.specs.inside.IntRanges.{range_of_span}
+use Rattle.check_bounds.specs.inside.IntRanges.{as_sum_range}
 use Rattle.check_bounds.specs.inside.Cells.{CellsView}
 use Rattle.check_bounds.proofs.WonLemmas.{won_near, points_by_table-is}
 use Rattle.check_bounds.proofs.cells.Cells.points.Goals as goal
@@ -15,7 +15,7 @@ points_of_club-requires-clause-near c =
 pub returns-clause-range : goal.returns-clause-range
 returns-clause-range c =
     let cells = c.self.inside in
-    let Says : CellsView → Type 0 = λ kept. range_of_span c.points_of_club.result
+    let Says : CellsView → Type 0 = λ kept. as_sum_range c.points_of_club.result
     ≡ points_range kept.sheet c.args.season.now kept.corners (c.args.club ∷ []) in
     subst Says c.self.view_is
     (c.points_of_club.ensures.range

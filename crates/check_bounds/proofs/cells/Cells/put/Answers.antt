@@ -1,11 +1,11 @@
--- One scope, its corners and the points of its two clubs change together.
+-- One domain, its extremes and the points of its two clubs change together.
 use Rattle.std.proofs.Common.{◌≡◌, ◌<◌, List, length, get_or, [], subst, sym, ◌∙◌, arith}
 use Rattle.std.proofs.lemmas.List.{get_or_default}
 use Rattle.league_core.specs.declared.sheet.Fixture.{Fixture}
 use Rattle.league_core.specs.declared.season.Score.{Score}
 use Rattle.league_core.specs.game.Sums.{match_points, worth_to}
 use Rattle.league_core.specs.search.PointRanges.{added, range_of}
-use Rattle.check_bounds.specs.inside.IntRanges.{range_of_span, span_at}
+use Rattle.check_bounds.specs.inside.IntRanges.{as_sum_range, range_at}
 use Rattle.check_bounds.specs.inside.Cells.{CellsView}
 use Rattle.check_bounds.proofs.WonLemmas.{won_near, won_exchanged}
 use Rattle.check_bounds.specs.inside.OpenCounts.{AreExchanged, IsAmong}
@@ -57,8 +57,8 @@ invariant_of-self c =
     (λ club.
     let Says : List Fixture → List Score → Type 0 = λ fixtures old.
     let gives = range_of (worth_to match_points club (get_or fixtures place none)) in
-    added (range_of_span (span_at c.exchange_match.new.won club)) (gives old)
-    ≡ added (range_of_span (span_at cells.won club)) (gives c.of-corners.result) in
+    added (as_sum_range (range_at c.exchange_match.new.won club)) (gives old)
+    ≡ added (as_sum_range (range_at cells.won club)) (gives c.of-corners.result) in
     let Old : List Score → Type 0 = λ old. Says sheet.fixtures old in
     let Over : List Fixture → Type 0 = λ fixtures. Says fixtures c.index.result.now in
     subst Old (c.index.ensures ∙ get_or_default cells.corners.items place _ [] there)

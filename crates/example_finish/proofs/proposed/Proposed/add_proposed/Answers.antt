@@ -3,7 +3,7 @@ use Rattle.std.proofs.Common.{subst, arith}
 use Rattle.league_core.specs.game.Seasons.{IsSeasonOf}
 use Rattle.league_core.specs.game.Sheets.{IsWithinLimits}
 use Rattle.league_core.specs.game.ClubSets.{clubs_in}
-use Rattle.score_box.specs.inside.Settings.{HasFinish}
+use Rattle.score_box.specs.inside.ZoneBoxViews.{HasFinish}
 use Rattle.score_box.specs.inside.Unplayed.{unplayed_in}
 use Rattle.score_box.proofs.SplitLemmas.{unplayed_few, unplayed_in_range}
 use Rattle.example_finish.specs.inside.ProposalViews.{ProposedView, sheet_asked, season_asked}

@@ -1,7 +1,7 @@
 use Rattle.std.proofs.Common.{ℕ, List, sym, subst}
 use Rattle.league_core.specs.game.Sheets.{IsWithinLimits}
 use Rattle.league_core.specs.game.ClubSets.{clubs_in}
-use Rattle.score_box.specs.inside.Settings.{ZoneBoxView}
+use Rattle.score_box.specs.inside.ZoneBoxViews.{ZoneBoxView}
 use Rattle.example_finish.specs.inside.ProposalViews.{sheet_asked, season_asked, finish_asked}
 use Rattle.example_finish.specs.inside.ProposedTotals.{AreTotalsFor, AreTotalsOver}
 use Rattle.example_finish.proofs.ProposedTotalLemmas.{over_from_among, among_from_over}

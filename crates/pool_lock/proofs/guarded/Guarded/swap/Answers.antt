@@ -12,11 +12,11 @@ pub returns-clause-lent : goal.returns-clause-lent
 returns-clause-lent g c =
     subst (λ (events : List Event). TakesFrom g.J.Job.sheet g.J.Job.questions events
     c.take_next-took.result) (sym (ap (λ (badge : BadgeView). badge.list) c.note.ensures))
-    (taken_from g.J.Job.sheet g.J.Job.questions c.seen.new.eye.list c.give_found-gave.new.self
+    (taken_from g.J.Job.sheet g.J.Job.questions c.seen.new.eye.list c.give_leaving-gave.new.self
     c.take_next-took.new.self.pool c.self.inside.feeder_busy c.take_next-took.result
-    c.recall_invariant.ensures.sound (c.give_found-gave.ensures.sheet ∙ c.self.invariant.3)
-    (c.give_found-gave.ensures.questions ∙ c.self.invariant.4)
+    c.recall_invariant.ensures.sound (c.give_leaving-gave.ensures.sheet ∙ c.self.invariant.3)
+    (c.give_leaving-gave.ensures.questions ∙ c.self.invariant.4)
     (sym c.take_next-took.ensures.log
     ∙ sym (ap (λ (held : GuardedView). held.pool.log) c.self-2.view_is)
     ∙ sym c.self-2.invariant.1 ∙ sym (ap (λ (eye : EyeView). eye.list) c.seen.ensures.eye))
-    c.take_next-took.ensures.taking (λ busy. (c.take_next-took.ensures.rest busy).0))
+    c.take_next-took.ensures.taking (λ busy. (c.take_next-took.ensures.unchanged busy).0))

@@ -1,6 +1,6 @@
 use Rattle.pool_lock.proofs.lock.PoolLock.back.Goals as goal
 
--- what is handed on is true, as what was done is
-pub give-gave-requires-clause-sound : goal.give-gave-requires-clause-sound
-give-gave-requires-clause-sound g c =
-    c.fitting-done.ensures.sound g.J.Job.sheet c.requires.sound
+-- what is handed on is true of the piece, as what was done is
+pub give-requires : goal.give-requires
+give-requires g c =
+    record { sound = c.fitting-finding.ensures.sound g.J.Job.sheet c.requires.sound }

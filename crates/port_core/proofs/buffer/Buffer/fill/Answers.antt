@@ -4,7 +4,7 @@ use Rattle.port_core.specs.inside.Buffers.{part}
 use Rattle.port_core.proofs.PieceLemmas.{Fills-behind}
 use Rattle.port_core.proofs.buffer.Buffer.fill.Goals as goal
 
--- what was in hand stands at the front, and the read put its bytes after it
+-- what was in hand stands at the start, and the read put its bytes after it
 pub returns-in-Bytes-clause-bytes : goal.returns-in-Bytes-clause-bytes
 returns-in-Bytes-clause-bytes g c =
     let count = c.self.inside.to - c.self.inside.from in

@@ -6,7 +6,7 @@ use Rattle.port_core.specs.declared.line.ReadStop.{ReadStop}
 use Rattle.port_core.proofs.line_reader.LineReader.next.Given as goal
 
 -- the lines so far were passed over: what is to come is the same; an answer in hand is in hand
--- still; and where a stop was in hand, none was passed
+-- still; and if a stop was in hand, none was passed
 abbrev pub invariant-lines : goal.invariant-lines
 invariant-lines g l = record {
   same : contents_to_come l.fn.self (g.S.Source.left l.fn.source)

@@ -3,7 +3,7 @@ use Rattle.std.proofs.lemmas.List.{take_rest}
 use Rattle.port_core.proofs.PieceLemmas.{Reads-piece}
 use Rattle.port_core.proofs.mem_source.MemSourceSource.read.Goals as goal
 
--- the piece that was copied is the front of the bytes left
+-- the piece that was copied is the start of the bytes left
 pub returns-clause-bytes : goal.returns-clause-bytes
 returns-clause-bytes c =
     let s = c.self.inside in

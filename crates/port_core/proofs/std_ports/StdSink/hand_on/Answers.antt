@@ -1,4 +1,4 @@
-use Rattle.std.proofs.Common.{take, drop, sym, take-append-drop}
+use Rattle.std.proofs.Common.{take, drop, take-append-drop}
 use Rattle.std.proofs.KnownBytes.{Appends-kept}
 use Rattle.port_core.proofs.std_ports.StdSink.hand_on.Goals as goal
 
@@ -8,6 +8,6 @@ returns-in-Err-clause-writer g c =
     let piece = c.args.piece.now in
     let count = c.in-Ok.count in (
       take count piece,
-      (drop count piece, sym (take-append-drop count piece)),
+      (drop count piece, take-append-drop count piece),
       Appends-kept _ _ _ (take count piece) c.in-Ok.ensures.bytes c.in-Err.ensures.bytes,
     )

@@ -1,4 +1,4 @@
--- A cell has no score but one exactly where the goals of each of its outcomes are that score's.
+-- A cell has no score but one exactly when the goals of each of its outcomes are that score's.
 use Rattle.std.proofs.lemmas.Bool.{and_parts, and_from}
 use Rattle.league_core.specs.search.Options.{is_home_win, is_draw, is_away_win}
 use Rattle.score_box.proofs.CellLemmas.{no_other, all_at}

@@ -1,7 +1,7 @@
-use Rattle.score_box.proofs.CellLemmas.{home_wins_span}
+use Rattle.score_box.proofs.CellLemmas.{home_wins_range}
 use Rattle.score_box.proofs.cell.Cell.home_wins.Goals as goal
 
 pub returns-then-self-4-clause-goals : goal.returns-then-self-4-clause-goals
 returns-then-self-4-clause-goals c =
-    home_wins_span c.args.self.now c.max.result c.min.result c.if-self.true c.if-self-2.true
+    home_wins_range c.args.self.now c.max.result c.min.result c.if-self.true c.if-self-2.true
     c.if-self-3.true c.if-self-4.true c.max.ensures c.min.ensures

@@ -13,7 +13,7 @@ use Rattle.score_box.specs.inside.Points.{left_to}
 use Rattle.score_box.specs.declared.totals.Totals.{Totals}
 use Rattle.score_box.specs.inside.Totals.{AreTotalsNear, totals_at, points_column}
 use Rattle.score_box.proofs.EndLemmas.{matches_of}
-use Rattle.score_box.proofs.SetLemmas.{first_spans, none_empty}
+use Rattle.score_box.proofs.SetLemmas.{first_ranges, none_empty}
 use Rattle.score_box.proofs.ends.Ends.of.Goals as goal
 
 -- the points of the table are small; past the clubs there are none
@@ -61,7 +61,7 @@ pub returns : goal.returns
 returns c season league are unplayed_are tables =
     let options = options_in c.args.sheet.now season [] in
     record {
-      spans = first_spans c.args.sheet.now season c.args.tables.now.clubs.items
+      ranges = first_ranges c.args.sheet.now season c.args.tables.now.clubs.items
           c.args.tables.now.pairs.items c.args.unplayed.now c.points_won-points.result
           c.add_left.new.lows c.add_left.new.highs league tables unplayed_are
           (c.add_left.auto.lows ∙ c.points_won-points.ensures.many)

@@ -8,7 +8,7 @@ use Rattle.league_core.specs.declared.zone.Literal.{Literal}
 use Rattle.league_core.specs.search.Zones.{is_test_of}
 use Rattle.league_core.specs.search.Options.{options_in}
 use Rattle.score_box.specs.declared.cell.Cell.{Cell}
-use Rattle.score_box.specs.inside.Settings.{ZoneBoxView}
+use Rattle.score_box.specs.inside.ZoneBoxViews.{ZoneBoxView}
 use Rattle.score_box.specs.inside.Ends.{HasEndsOfCells, IsMatch}
 use Rattle.std.specs.List.{All}
 use Rattle.score_box.specs.declared.trail.Undo.{Undo}

@@ -1,7 +1,7 @@
--- No fixture is without an option exactly where each has one.
+-- No fixture is without an option exactly when each has one.
 use Rattle.std.proofs.Common.{◌≡◌, ◌==◌, ap, ◌∙◌, subst}
 use Rattle.league_core.specs.search.Options.{options_in, has_option, has_finish}
-use Rattle.score_box.specs.inside.Settings.{ZoneBoxView}
+use Rattle.score_box.specs.inside.ZoneBoxViews.{ZoneBoxView}
 use Rattle.score_box.proofs.EndLemmas.{all_counted}
 use Rattle.score_box.proofs.zone_box.ZoneBox.has_finish.Goals as goal
 

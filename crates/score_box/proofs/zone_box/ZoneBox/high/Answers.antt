@@ -7,16 +7,16 @@ use Rattle.std.proofs.lemmas.Int.{ints}
 use Rattle.league_core.specs.search.Options.{options_in}
 use Rattle.league_core.specs.search.PointRanges.{most_points_of}
 use Rattle.score_box.specs.inside.Ends.{end_at}
-use Rattle.score_box.specs.inside.Settings.{ZoneBoxView}
-use Rattle.score_box.proofs.EndLemmas.{spans_small}
+use Rattle.score_box.specs.inside.ZoneBoxViews.{ZoneBoxView}
+use Rattle.score_box.proofs.EndLemmas.{ranges_small}
 use Rattle.score_box.proofs.zone_box.ZoneBox.high.Goals as goal
 
 pub overflow_sub-result : goal.overflow_sub-result
 overflow_sub-result c =
     let box = c.self.inside in
-    let small = spans_small box.sheet.now.fixtures (options_in box.sheet.now box.season.now
+    let small = ranges_small box.sheet.now.fixtures (options_in box.sheet.now box.season.now
     box.zone.items) box.ends.lows box.ends.highs c.self.invariant.league.limits.most_fixtures
-    c.self.invariant.ends_are.spans c.args.club in
+    c.self.invariant.ends_are.ranges c.args.club in
     omega (arith, ints, small.1.0, small.1.1, c.from-off.ensures, c.deducted.type_inv)
 
 pub returns-clause-value : goal.returns-clause-value
@@ -25,8 +25,8 @@ returns-clause-value c =
     let box = c.self.inside in
     let club = c.args.club in
     let options = options_in box.sheet.now box.season.now box.zone.items in
-    let small = spans_small box.sheet.now.fixtures options box.ends.lows box.ends.highs
-    c.self.invariant.league.limits.most_fixtures c.self.invariant.ends_are.spans club in
+    let small = ranges_small box.sheet.now.fixtures options box.ends.lows box.ends.highs
+    c.self.invariant.league.limits.most_fixtures c.self.invariant.ends_are.ranges club in
     let below : club < 24 = omega (
       arith,
       c.requires.in_range,
@@ -41,7 +41,7 @@ returns-clause-value c =
     let is : to_z w32 (of_z w32 (to_z w32 (of_z w32 (end_at box.ends.highs club)) -ℤ to_z w32
     (of_z w32 c.from-off.result)))
     ≡ most_points_of box.sheet.now box.season.now box.zone.items (club ∷ []) =
-    omega (arith, ints, fits, off, c.self.invariant.ends_are.spans.most club below) in
+    omega (arith, ints, fits, off, c.self.invariant.ends_are.ranges.most club below) in
     let At : ZoneBoxView → Type 0 = λ v. to_z w32 (of_z w32 (to_z w32 (of_z w32
     (end_at box.ends.highs club)) -ℤ to_z w32 (of_z w32 c.from-off.result)))
     ≡ most_points_of v.sheet v.season v.zone (club ∷ []) in
@@ -50,9 +50,9 @@ returns-clause-value c =
 pub returns-clause-within : goal.returns-clause-within
 returns-clause-within c =
     let box = c.self.inside in
-    let small = spans_small box.sheet.now.fixtures (options_in box.sheet.now box.season.now
+    let small = ranges_small box.sheet.now.fixtures (options_in box.sheet.now box.season.now
     box.zone.items) box.ends.lows box.ends.highs c.self.invariant.league.limits.most_fixtures
-    c.self.invariant.ends_are.spans c.args.club in (
+    c.self.invariant.ends_are.ranges c.args.club in (
       omega (arith, ints, small.1.0, small.1.1, c.from-off.ensures, c.deducted.type_inv),
       omega (arith, ints, small.1.0, small.1.1, c.from-off.ensures, c.deducted.type_inv),
     )

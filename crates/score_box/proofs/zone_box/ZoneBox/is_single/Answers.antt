@@ -1,11 +1,11 @@
--- Each cell has one score exactly where each fixture has one option.
+-- Each cell has one score exactly when each fixture has one option.
 use Rattle.std.proofs.Common.{List, subst, sym}
 use Rattle.std.specs.List.{All}
 use Rattle.league_core.specs.search.Options.{options_in}
 use Rattle.score_box.specs.declared.cell.Cell.{Cell}
 use Rattle.score_box.specs.inside.Cells.{HasOneScore}
 use Rattle.score_box.specs.inside.Boxes.{AreCellsOf}
-use Rattle.score_box.specs.inside.Settings.{ZoneBoxView}
+use Rattle.score_box.specs.inside.ZoneBoxViews.{ZoneBoxView}
 use Rattle.score_box.proofs.BoxLemmas.{is_single-is}
 use Rattle.score_box.proofs.zone_box.ZoneBox.is_single.Goals as goal
 

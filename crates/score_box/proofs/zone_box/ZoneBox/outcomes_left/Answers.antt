@@ -3,7 +3,7 @@ use Rattle.std.proofs.Common.{◌<◌, [], length, get_or, subst, sym, ap, ◌�
 use Rattle.league_core.specs.search.Options.{options_in}
 use Rattle.score_box.specs.inside.Cells.{allows, IsCellOf, IsExactCell}
 use Rattle.score_box.specs.inside.Boxes.{AreCellsOf}
-use Rattle.score_box.specs.inside.Settings.{ZoneBoxView}
+use Rattle.score_box.specs.inside.ZoneBoxViews.{ZoneBoxView}
 use Rattle.score_box.proofs.BoxLemmas.{cells_of_season}
 use Rattle.score_box.proofs.LeftLemmas.{left_among, same_left}
 use Rattle.score_box.proofs.zone_box.ZoneBox.outcomes_left.Goals as goal

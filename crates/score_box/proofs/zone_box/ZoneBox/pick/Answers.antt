@@ -7,7 +7,7 @@ use Rattle.league_core.specs.search.Options.{options_in}
 use Rattle.score_box.specs.declared.cell.Cell.{Cell}
 use Rattle.score_box.specs.inside.Cells.{allows, IsEmptyCell}
 use Rattle.score_box.specs.inside.Boxes.{AreCellsOf}
-use Rattle.score_box.specs.inside.Settings.{ZoneBoxView}
+use Rattle.score_box.specs.inside.ZoneBoxViews.{ZoneBoxView}
 use Rattle.score_box.proofs.BoxLemmas.{cells_of_season, some_in_each}
 use Rattle.score_box.proofs.zone_box.ZoneBox.pick.Goals as goal
 

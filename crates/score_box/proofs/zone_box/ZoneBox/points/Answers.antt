@@ -13,7 +13,7 @@ use Rattle.league_core.specs.search.PointRanges.{least_points_of, most_points_of
 use Rattle.score_box.specs.declared.cell.Cell.{Cell}
 use Rattle.score_box.specs.inside.Cells.{IsEmptyCell}
 use Rattle.score_box.specs.inside.Boxes.{AreCellsOf}
-use Rattle.score_box.specs.inside.Settings.{ZoneBoxView}
+use Rattle.score_box.specs.inside.ZoneBoxViews.{ZoneBoxView}
 use Rattle.score_box.specs.inside.Points.{IsRangeOver}
 use Rattle.score_box.proofs.BoxLemmas.{cells_of_season, some_in_each}
 use Rattle.score_box.proofs.EndLemmas.{matches_of}

@@ -1,6 +1,6 @@
 use Rattle.std.proofs.Common.{◌≡◌, pos, slice_index, ap, ◌∙◌, arith}
 use Rattle.std.proofs.lemmas.Int.{ints}
-use Rattle.score_box.specs.inside.Settings.{ZoneBoxView}
+use Rattle.score_box.specs.inside.ZoneBoxViews.{ZoneBoxView}
 use Rattle.score_box.specs.inside.Totals.{points_column}
 use Rattle.score_box.proofs.zone_box.ZoneBox.points_so_far.Goals as goal
 

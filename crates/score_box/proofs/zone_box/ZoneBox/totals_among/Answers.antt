@@ -1,7 +1,7 @@
 use Rattle.std.proofs.Common.{length, subst, ap, arith}
 use Rattle.league_core.specs.game.ClubSets.{clubs_in}
 use Rattle.league_core.specs.game.Sums.{sum_among}
-use Rattle.score_box.specs.inside.Settings.{ZoneBoxView}
+use Rattle.score_box.specs.inside.ZoneBoxViews.{ZoneBoxView}
 use Rattle.score_box.specs.inside.Totals.{AreTotals}
 use Rattle.score_box.proofs.TotalLemmas.{among-is}
 use Rattle.score_box.proofs.zone_box.ZoneBox.totals_among.Goals as goal

@@ -12,27 +12,27 @@ use Rattle.tie_bound.proofs.sides.Sides.of.Goals as goal
 pub returns-in-Some-clause-home : goal.returns-in-Some-clause-home
 returns-in-Some-clause-home c =
     let cell = c.args.cell.now in
-    let span = c.in-Some.goals in
+    let range = c.in-Some.goals in
     let all = all_home_wins cell _ c.requires c.in-Some.ensures.widest in
     let test : (score : Score) → allows cell score ≡ true
     → is_home_win score ≡ true = λ score is. lt-ltb score.away score.home (all score is) in
     c.won.ensures cell all
-    (home_goals_are cell is_home_win span c.home_goals.result test c.in-Some.ensures.goals
+    (home_goals_are cell is_home_win range c.home_goals.result test c.in-Some.ensures.goals
     c.home_goals.ensures.least c.home_goals.ensures.most)
-    (away_goals_are cell is_home_win span c.away_goals.result test c.in-Some.ensures.goals
+    (away_goals_are cell is_home_win range c.away_goals.result test c.in-Some.ensures.goals
     c.away_goals.ensures.least c.away_goals.ensures.most)
 
 pub returns-in-Some-clause-away : goal.returns-in-Some-clause-away
 returns-in-Some-clause-away c =
     let cell = c.args.cell.now in
-    let span = c.in-Some.goals in
+    let range = c.in-Some.goals in
     let all = all_home_wins cell _ c.requires c.in-Some.ensures.widest in
     let test : (score : Score) → allows cell score ≡ true
     → is_home_win score ≡ true = λ score is. lt-ltb score.away score.home (all score is) in
     c.lost.ensures cell all
-    (away_goals_are cell is_home_win span c.away_goals-in-Some.result test c.in-Some.ensures.goals
+    (away_goals_are cell is_home_win range c.away_goals-in-Some.result test c.in-Some.ensures.goals
     c.away_goals-in-Some.ensures.least c.away_goals-in-Some.ensures.most)
-    (home_goals_are cell is_home_win span c.home_goals-in-Some.result test c.in-Some.ensures.goals
+    (home_goals_are cell is_home_win range c.home_goals-in-Some.result test c.in-Some.ensures.goals
     c.home_goals-in-Some.ensures.least c.home_goals-in-Some.ensures.most)
 
 pub returns-in-Some-draws-clause-home : goal.returns-in-Some-draws-clause-home
@@ -60,30 +60,30 @@ returns-in-Some-draws-clause-away c =
 pub returns-in-Some-away_wins-clause-home : goal.returns-in-Some-away_wins-clause-home
 returns-in-Some-away_wins-clause-home c =
     let cell = c.args.cell.now in
-    let span = c.in-Some-away_wins.goals in
+    let range = c.in-Some-away_wins.goals in
     let all = all_away_wins cell _ c.requires c.in-Some-away_wins.ensures.widest in
     let test : (score : Score) → allows cell score ≡ true
     → is_away_win score ≡ true = λ score is. lt-ltb score.home score.away (all score is) in
     c.lost-in-Some-away_wins.ensures cell all
-    (home_goals_are cell is_away_win span c.home_goals-in-Some-away_wins.result test
+    (home_goals_are cell is_away_win range c.home_goals-in-Some-away_wins.result test
     c.in-Some-away_wins.ensures.goals c.home_goals-in-Some-away_wins.ensures.least
     c.home_goals-in-Some-away_wins.ensures.most)
-    (away_goals_are cell is_away_win span c.away_goals-in-Some-away_wins.result test
+    (away_goals_are cell is_away_win range c.away_goals-in-Some-away_wins.result test
     c.in-Some-away_wins.ensures.goals c.away_goals-in-Some-away_wins.ensures.least
     c.away_goals-in-Some-away_wins.ensures.most)
 
 pub returns-in-Some-away_wins-clause-away : goal.returns-in-Some-away_wins-clause-away
 returns-in-Some-away_wins-clause-away c =
     let cell = c.args.cell.now in
-    let span = c.in-Some-away_wins.goals in
+    let range = c.in-Some-away_wins.goals in
     let all = all_away_wins cell _ c.requires c.in-Some-away_wins.ensures.widest in
     let test : (score : Score) → allows cell score ≡ true
     → is_away_win score ≡ true = λ score is. lt-ltb score.home score.away (all score is) in
     c.won-in-Some-away_wins.ensures cell all
-    (away_goals_are cell is_away_win span c.away_goals-in-Some-away_wins-2.result test
+    (away_goals_are cell is_away_win range c.away_goals-in-Some-away_wins-2.result test
     c.in-Some-away_wins.ensures.goals c.away_goals-in-Some-away_wins-2.ensures.least
     c.away_goals-in-Some-away_wins-2.ensures.most)
-    (home_goals_are cell is_away_win span c.home_goals-in-Some-away_wins-2.result test
+    (home_goals_are cell is_away_win range c.home_goals-in-Some-away_wins-2.result test
     c.in-Some-away_wins.ensures.goals c.home_goals-in-Some-away_wins-2.ensures.least
     c.home_goals-in-Some-away_wins-2.ensures.most)
 

@@ -9,7 +9,7 @@ use Rattle.tie_criteria.specs.inside.Records.{record_at}
 use Rattle.tie_criteria.proofs.RowLemmas.{row_at, rows_are}
 use Rattle.tie_criteria.proofs.mini_table.MiniTable.of.Goals as goal
 
--- the row of a club, where the club is kept
+-- the row of a club, if the club is kept
 row-cond : (f : ℕ → Row) (row : Row) (keep : Bool) (club : ℕ) → row ≡ f club
     → cond keep (row ∷ []) [] ≡ map f (cond keep (club ∷ []) [])
 row-cond f row true club is = ap (λ r. r ∷ []) is

@@ -2,7 +2,7 @@ use Rattle.std.proofs.Common.{List, length, reverse, refl, sym, subst, ap, â—Œâˆ
 use Rattle.league_core.specs.declared.zone.Literal.{Literal}
 use Rattle.league_core.specs.search.Trees.{preorder}
 use Rattle.tree_reuse.specs.inside.Arena.{tree_below}
-use Rattle.tree_reuse.specs.inside.KeptWays.{LeadsToNode}
+use Rattle.tree_reuse.specs.inside.LastPaths.{LeadsToNode}
 use Rattle.tree_reuse.proofs.BuildLemmas.{lents_few, built_roomy}
 use Rattle.tree_reuse.proofs.tree.Tree.of_list.Goals as goal
 

@@ -1,6 +1,6 @@
 use Rattle.std.proofs.Common.{length, reverse}
 use Rattle.league_core.specs.inside.Lending.{all_opened}
-use Rattle.tree_reuse.specs.inside.KeptWays.{LeadsToNode}
+use Rattle.tree_reuse.specs.inside.LastPaths.{LeadsToNode}
 use Rattle.tree_reuse.proofs.RoomLemmas.{OpensLast}
 use Rattle.tree_reuse.proofs.tree.Tree.reopen_all.Given as goal
 

@@ -1,6 +1,6 @@
 use Rattle.std.proofs.Common.{List, reverse, refl, sym, subst}
 use Rattle.league_core.specs.declared.zone.Literal.{Literal}
-use Rattle.tree_reuse.specs.inside.KeptWays.{LeadsToNode}
+use Rattle.tree_reuse.specs.inside.LastPaths.{LeadsToNode}
 use Rattle.tree_reuse.proofs.RoomLemmas.{root_pushed}
 use Rattle.tree_reuse.proofs.tree.Tree.root.Goals as goal
 

@@ -4,8 +4,8 @@ use Rattle.league_core.specs.search.Trees.{Tree}
 use Rattle.league_core.specs.inside.Lending.{times_lent}
 use Rattle.tree_reuse.specs.declared.node.Node.{Node}
 use Rattle.tree_reuse.specs.inside.Arena.{IsLeafAt, IsPathTo}
-use Rattle.tree_reuse.specs.inside.KeptWays.{LeadsToNode}
-use Rattle.tree_reuse.proofs.KeptWayLemmas.{kept_way_is}
+use Rattle.tree_reuse.specs.inside.LastPaths.{LeadsToNode}
+use Rattle.tree_reuse.proofs.LastPathLemmas.{kept_way_is}
 use Rattle.tree_reuse.proofs.RoomLemmas.{marked_once}
 use Rattle.tree_reuse.proofs.tree.Tree.zone.Goals as goal
 

@@ -1,3 +1,0 @@
--- Answers, and tables.
-pub mod AnswerLemmas
-pub mod TableLemmas

@@ -1,3 +1,0 @@
--- Reading order: what is known of each season, and of tables.
-pub mod SeasonAnswers
-pub mod TableLaws

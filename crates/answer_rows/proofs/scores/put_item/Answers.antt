@@ -1,0 +1,12 @@
+use Rattle.answer_rows.proofs.ScoreLemmas.{item-front, item-puts}
+use Rattle.answer_rows.proofs.scores.put_item.Goals as goal
+
+pub returns-in-Ok-clause-text : goal.returns-in-Ok-clause-text
+returns-in-Ok-clause-text g c =
+    item-puts c.args.sheet.now c.args.found.now _ _ _ _ c.put_trees.result
+    c.club_name-name.ensures c.in-Ok.ensures.text c.put_trees.ensures.text
+
+pub returns-in-Err-clause-text : goal.returns-in-Err-clause-text
+returns-in-Err-clause-text g c =
+    item-front c.args.sheet.now c.args.found.now _ _ _ c.club_name-name.ensures
+    c.in-Err.ensures.text

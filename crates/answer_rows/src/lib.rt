@@ -1,0 +1,27 @@
+//! The answers of an ask: verdicts, the table and the two scores, as rows on their way to the sink.
+//!
+//! Read `specs/Items.antt` and `specs/Rows.antt` first, then `specs/inside/Outputs.antt`.
+#![tactic(auto)]
+
+mod bound;
+mod fields;
+mod lines;
+mod output;
+mod places;
+mod rows;
+mod scores;
+mod table;
+mod table_row;
+mod verdicts;
+mod word;
+
+pub use bound::{Bound, ClubScores, Score2};
+pub use fields::{club_name, number_field, signed_field, text_field};
+pub use lines::{put_ask, put_lines};
+pub use output::{OutputStop, put_row};
+pub use places::put_table;
+pub use scores::put_scores;
+pub use table::{ClubRow, table_rows};
+pub use table_row::TableRow;
+pub use verdicts::put_verdicts;
+pub use word::{Verdict, Word};

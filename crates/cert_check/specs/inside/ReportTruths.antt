@@ -1,0 +1,54 @@
+-- What it means that the report in an input is accepted: each part of it tells the truth of the
+-- season at its ask, for every finish and every drawing of lots.
+use Rattle.std.specs.Prelude.{◌≡◌, ℕ, true, List, [], ◌∷◌, map, drop, Ok, None, Some}
+use Rattle.league_core.specs.declared.sheet.Sheet.{Sheet}
+use Rattle.port_core.specs.Contents.{Contents}
+use Rattle.fixture_sheet.specs.Sheets.{sheet_reading_of}
+use Rattle.result_log.specs.declared.entry.Entry.{Entry}
+use Rattle.result_log.specs.declared.entry.Entry.TheVariants.{Change, Ask, Proofs, End}
+use Rattle.result_log.specs.Feeds.{Feed, feed_of}
+use Rattle.cert_check.specs.Tokens.{counted_lines}
+use Rattle.cert_check.specs.LineLists.{tokens_of}
+use Rattle.cert_check.specs.Machine.{basis_of}
+use Rattle.cert_check.specs.inside.Calls.{SaysTruly}
+use Rattle.cert_check.specs.declared.outcome.CheckOutcome.TheVariants.{Accepted}
+use Rattle.cert_check.specs.Outcomes.{ReportInput, ReportProgressView, progress_with}
+use Rattle.cert_check.specs.Outcomes.{progress_after}
+use Rattle.cert_check.specs.Outcomes.{first_progress, numbered, outcome_of}
+
+-- each part from here on tells the truth of the season at its ask, when these entries of the feed
+-- are left, and nothing that counts comes after the last
+abbrev pub PartsTellTruly : ReportInput → List Entry → ReportProgressView → Type 0
+PartsTellTruly report [] standing =
+    counted_lines (drop standing.at (tokens_of report.lines)) ≡ []
+PartsTellTruly report (Change event ∷ entries) standing =
+    PartsTellTruly report entries (progress_with standing (Change event))
+PartsTellTruly report (Ask ∷ entries) standing =
+    (next : ℕ) × (unsettled : ℕ)
+    × SaysTruly (basis_of report.sheet standing.season standing.epoch) report.lines standing.at
+    next
+    × PartsTellTruly report entries (progress_after report.sheet standing next unsettled)
+PartsTellTruly report (Proofs ∷ entries) standing = PartsTellTruly report entries standing
+PartsTellTruly report (End ∷ entries) standing = PartsTellTruly report entries standing
+
+-- an input is a sheet, a feed that ends with the record `proofs`, and a report of it that tells the
+-- truth
+pub record HasTrueReport (contents : Contents) : Type 0 where
+  pub sheet : Sheet
+  pub behind : Contents
+  pub feed : Feed
+  pub end : ℕ
+  pub is_sheet : sheet_reading_of contents None ≡ record { gives = Ok sheet; rest = behind }
+  pub is_feed : feed_of sheet true behind [] ≡ feed
+  pub closed : feed.close ≡ Ok Proofs
+  pub whole : feed.rest.ending ≡ Ok end
+  pub tells : PartsTellTruly
+      (record { sheet = sheet; lines = map numbered feed.rest.lines; end = end }) feed.entries
+      (first_progress sheet)
+
+-- an input whose report is accepted has one that tells the truth
+abbrev pub AcceptedInputsTellTruly : Type 0
+AcceptedInputsTellTruly =
+    (contents : Contents) (rows unsettled : ℕ)
+    → outcome_of contents ≡ Some (Accepted rows unsettled)
+    → HasTrueReport contents

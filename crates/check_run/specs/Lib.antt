@@ -1,3 +1,0 @@
--- What an input comes to.
-pub mod Outcomes
-pub mod inside

@@ -1,0 +1,97 @@
+-- What the status of a run says, by its mode.
+use Rattle.std.proofs.Common.{◌≡◌, ◌≢◌, ℕ, Bool, List, [], ◌++◌, Option, Some, None, refl, subst}
+use Rattle.std.proofs.Common.{codes, replicate, inl}
+use Rattle.std.proofs.Common.{inr}
+use Rattle.futmax_main.specs.declared.status.Status.{Status}
+use Rattle.futmax_main.specs.declared.status.Status.TheVariants.{Done, BadWords, BadSheet, BadFeed}
+use Rattle.futmax_main.specs.declared.status.Status.TheVariants.{ReadFault, WriteFault, OutOfMemory}
+use Rattle.futmax_main.specs.declared.status.Status.TheVariants.{NotProved, TooLong}
+use Rattle.command_words.specs.declared.command.Mode.{Mode}
+use Rattle.command_words.specs.declared.command.Mode.TheVariants.{Check, Sample}
+use Rattle.futmax_main.specs.Checks.{ServesCheck}
+use Rattle.futmax_main.specs.SampleRows.{ServesSample}
+use Rattle.futmax_main.specs.Modes.{IsCheckSettled, IsSettledAs, ServesAs}
+use Rattle.futmax_main.specs.inside.Turns.{MayEndAs}
+use Rattle.futmax_main.proofs.EarnedLemmas.{settled}
+use Rattle.futmax_main.proofs.CheckedLemmas.{checked-bad_feed, checked-bad_sheet, checked-done}
+use Rattle.futmax_main.proofs.CheckedLemmas.{checked-not_proved, checked-too_long, ended_line}
+use Rattle.futmax_main.proofs.CheckedLemmas.{pair_sheet}
+use Rattle.futmax_main.proofs.TurnLemmas.{serves-nothing}
+use Rattle.futmax_main.proofs.CheckLemmas.{check-starved}
+use Rattle.answer_rows.proofs.OutputLemmas.{append_known-nothing}
+
+-- the status of a check in which no device failed
+check-settled : (input left old now : Option (List ℕ)) (status : Status)
+    → ServesCheck input left old now status → status ≢ BadWords → status ≢ ReadFault
+    → status ≢ WriteFault → IsCheckSettled input status
+check-settled None left old now Done serves words read write = inl
+    (pair_sheet ++ ended_line (codes "proofs"), checked-done)
+check-settled None left old now BadWords serves words read write = absurd (words refl)
+check-settled None left old now BadSheet serves words read write = inl ([], checked-bad_sheet)
+check-settled None left old now BadFeed serves words read write = inl
+    (pair_sheet ++ ended_line (codes "x"), checked-bad_feed)
+check-settled None left old now ReadFault serves words read write = absurd (read refl)
+check-settled None left old now WriteFault serves words read write = absurd (write refl)
+check-settled None left old now OutOfMemory serves words read write = inr refl
+check-settled None left old now NotProved serves words read write = inl
+    (pair_sheet, checked-not_proved)
+check-settled None left old now TooLong serves words read write = inl
+    (replicate 1025 97, checked-too_long)
+check-settled (Some input) left old now Done serves words read write =
+    let text = serves.2.0 in inl (text.0, text.1, text.2)
+check-settled (Some input) left old now BadWords serves words read write = absurd (words refl)
+check-settled (Some input) left old now BadSheet serves words read write =
+    let text = serves.2 in inl (text.0, text.1, text.2)
+check-settled (Some input) left old now BadFeed serves words read write =
+    let text = serves.2 in inl (text.0, text.1, text.2)
+check-settled (Some input) left old now ReadFault serves words read write = absurd (read refl)
+check-settled (Some input) left old now WriteFault serves words read write = absurd (write refl)
+check-settled (Some input) left old now OutOfMemory serves words read write = inr refl
+check-settled (Some input) left old now NotProved serves words read write =
+    let text = serves.2 in inl (text.0, text.1, text.2)
+check-settled (Some input) left old now TooLong serves words read write =
+    let text = serves.2 in inl (text.0, text.1, text.2)
+
+-- of a sample
+sample-settled : (seed : ℕ) (old now : Option (List ℕ)) (input : Option (List ℕ)) (status : Status)
+    → ServesSample seed old now status → status ≢ WriteFault
+    → IsSettledAs (Some (Sample seed)) input status
+sample-settled seed old now input Done serves write = inl refl
+sample-settled seed old now input BadWords serves write = absurd serves
+sample-settled seed old now input BadSheet serves write = absurd serves
+sample-settled seed old now input BadFeed serves write = absurd serves
+sample-settled seed old now input ReadFault serves write = absurd serves
+sample-settled seed old now input WriteFault serves write = absurd (write refl)
+sample-settled seed old now input OutOfMemory serves write = inr refl
+sample-settled seed old now input NotProved serves write = absurd serves
+sample-settled seed old now input TooLong serves write = absurd serves
+
+-- of any run
+pub mode-settled : (mode : Mode) (input left : Option (List ℕ)) (told : Bool)
+    (old now : Option (List ℕ)) (status : Status)
+    → ServesAs (Some mode) input left told old now status → MayEndAs mode status
+    → status ≢ ReadFault → status ≢ WriteFault → IsSettledAs (Some mode) input status
+mode-settled Check input left told old now status serves may read write =
+    check-settled input left old now status serves may read write
+mode-settled (Sample seed) input left told old now status serves may read write =
+    sample-settled seed old now input status serves write
+mode-settled mode input left told old now status serves may read write =
+    settled mode input left told old now status serves may read write
+
+-- nothing was written, since there was no memory for the words
+pub serves_as-no_memory : (mode : Option Mode) (input left : Option (List ℕ)) (told : Bool)
+    (old : Option (List ℕ)) → ServesAs mode input left told old old OutOfMemory
+serves_as-no_memory None input left told old = ([], append_known-nothing old, refl)
+serves_as-no_memory (Some Check) input left told old = check-starved input left old
+serves_as-no_memory (Some (Sample seed)) input left told old = refl
+serves_as-no_memory (Some mode) input left told old = serves-nothing mode input left told old
+
+-- running out of memory is a status of any run
+pub settled_as-no_memory : (mode : Option Mode) (input : Option (List ℕ))
+    → IsSettledAs mode input OutOfMemory
+settled_as-no_memory None input = inr refl
+settled_as-no_memory (Some Check) None = inr refl
+settled_as-no_memory (Some Check) (Some input) = inr refl
+settled_as-no_memory (Some (Sample seed)) input = inr refl
+settled_as-no_memory (Some mode) None = inr refl
+settled_as-no_memory (Some mode) (Some input) = inr refl

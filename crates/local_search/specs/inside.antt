@@ -1,0 +1,2 @@
+-- What contracts see of a solver that walks.
+pub mod WalkedViews

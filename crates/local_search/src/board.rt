@@ -1,0 +1,207 @@
+//! A finish as it is walked over: the scores of the open matches, and what all matches add up to.
+
+use crate::row::{away_change, away_row, home_change, home_row, joined};
+use league_core::{Event, Fixture, OutOfMemory, Score, Season, Sheet};
+use score_box::Totals;
+use std::alloc::Global;
+
+/// A match that is not played, and the score that it has here.
+#[derive(Clone, Copy, Debug, PartialEq, Eq)]
+pub struct OpenMatch {
+    pub fixture: u16,
+    pub sides: Fixture,
+    pub score: Score,
+}
+
+impl OpenMatch {
+    /// The club is one of its sides.
+    pub fn is_of(&self, club: u8) -> bool {
+        self.sides.home == club || self.sides.away == club
+    }
+
+    /// The other side.
+    pub fn opponent(&self, club: u8) -> u8 {
+        if self.sides.home == club {
+            self.sides.away
+        } else {
+            self.sides.home
+        }
+    }
+
+    /// Its points for a club that plays in it.
+    pub fn points_of(&self, club: u8) -> i32 {
+        if self.sides.home == club {
+            home_row(self.score).points
+        } else {
+            away_row(self.score).points
+        }
+    }
+}
+
+/// A finish, by its open matches, and sums of all matches: of each club, less the points taken off
+/// it, and of each club against each other. What is not there has no sums, and takes no score.
+#[derive(Drop)]
+pub struct Board {
+    open: Vec<OpenMatch>,
+    rows: Vec<Totals>,
+    pairs: Vec<Totals>,
+}
+
+impl Board {
+    /// The finish in which all open matches end 0:0.
+    pub fn of(alloc: Global, sheet: &Sheet, season: &Season) -> Result<Board, OutOfMemory> {
+        let mut board = Board {
+            open: Vec::new(alloc),
+            rows: vec![in alloc; Totals::NONE; 24]?,
+            pairs: vec![in alloc; Totals::NONE; 576]?,
+        };
+        board.take_deductions(season.deductions());
+        board.take_matches(sheet.fixtures.as_slice(), season.scores())?;
+        Ok(board)
+    }
+
+    fn take_deductions(&mut self, deductions: &[u8]) {
+        for (club, points) in deductions.iter().enumerate() {
+            if club < self.rows.len() {
+                self.rows[club].points = -i32::from(*points);
+            }
+        }
+    }
+
+    fn take_matches(
+        &mut self,
+        fixtures: &[Fixture],
+        scores: &[Option<Score>],
+    ) -> Result<(), OutOfMemory> {
+        for (fixture, sides) in fixtures.iter().enumerate() {
+            let played = scores.get(fixture).copied().flatten();
+            self.take_match(fixture.min(600) as u16, *sides, played)?;
+        }
+        Ok(())
+    }
+
+    fn take_match(
+        &mut self,
+        fixture: u16,
+        sides: Fixture,
+        played: Option<Score>,
+    ) -> Result<(), OutOfMemory> {
+        let score = played.unwrap_or(Score { home: 0, away: 0 });
+        if played.is_none() {
+            self.open.push(OpenMatch {
+                fixture,
+                sides,
+                score,
+            })?;
+        }
+        self.add(sides, &home_row(score), &away_row(score));
+        Ok(())
+    }
+
+    // Adds to the sums of both sides.
+    fn add(&mut self, sides: Fixture, home: &Totals, away: &Totals) {
+        add_at(&mut self.rows, usize::from(sides.home), home);
+        add_at(&mut self.rows, usize::from(sides.away), away);
+        add_at(&mut self.pairs, pair_at(sides.home, sides.away), home);
+        add_at(&mut self.pairs, pair_at(sides.away, sides.home), away);
+    }
+
+    /// How many matches are open.
+    pub fn count(&self) -> u16 {
+        self.open.len().min(600) as u16
+    }
+
+    /// The open match at a place among them.
+    pub fn at(&self, place: u16) -> Option<OpenMatch> {
+        self.open.get(usize::from(place)).copied()
+    }
+
+    /// How many open matches a club has.
+    pub fn open_of(&self, club: u8) -> i32 {
+        let mut count: i32 = 0;
+        for open in &self.open {
+            if open.is_of(club) {
+                count = count.saturating_add(1);
+            }
+        }
+        count
+    }
+
+    /// What all matches of a club add up to; its points are less those taken off.
+    pub fn row(&self, club: u8) -> Totals {
+        row_at(&self.rows, usize::from(club))
+    }
+
+    /// What the matches of a club against another add up to.
+    pub fn pair(&self, club: u8, other: u8) -> Totals {
+        row_at(&self.pairs, pair_at(club, other))
+    }
+
+    /// Gives an open match, by its place among them, a score.
+    pub fn put(&mut self, place: u16, score: Score) {
+        let at = usize::from(place);
+        if at < self.open.len() {
+            let OpenMatch {
+                sides,
+                score: old,
+                ..
+            } = self.open[at];
+            self.open[at].score = score;
+            self.add(sides, &home_change(old, score), &away_change(old, score));
+        }
+    }
+
+    /// Swaps two results of a club, as it sees them.
+    pub fn swap(&mut self, one: u16, other: u16, club: u8) {
+        if let (Some(first), Some(second)) = (self.at(one), self.at(other)) {
+            let is_turned = (first.sides.home == club) != (second.sides.home == club);
+            self.put(one, turned_if(is_turned, second.score));
+            self.put(other, turned_if(is_turned, first.score));
+        }
+    }
+
+    /// The season with these scores of its open matches.
+    pub fn ended(&self, alloc: Global, season: &Season) -> Result<Season, OutOfMemory> {
+        let mut ended = season.copy(alloc)?;
+        for open in &self.open {
+            give(&mut ended, open);
+        }
+        Ok(ended)
+    }
+}
+
+// The score seen from the other side, if it is to be turned.
+fn turned_if(is_turned: bool, score: Score) -> Score {
+    if is_turned {
+        Score {
+            home: score.away,
+            away: score.home,
+        }
+    } else {
+        score
+    }
+}
+
+// Gives a season the score of an open match, where that may be.
+fn give(season: &mut Season, open: &OpenMatch) {
+    let OpenMatch { fixture, score, .. } = *open;
+    let is_there = usize::from(fixture) < season.scores().len();
+    if is_there && score.home <= 99 && score.away <= 99 {
+        season.apply(&Event::Set { fixture, score });
+    }
+}
+
+// The place of a club's row against another.
+fn pair_at(club: u8, other: u8) -> usize {
+    24 * usize::from(club) + usize::from(other)
+}
+
+fn row_at(rows: &[Totals], at: usize) -> Totals {
+    rows.get(at).copied().unwrap_or(Totals::NONE)
+}
+
+fn add_at(rows: &mut [Totals], at: usize, more: &Totals) {
+    if at < rows.len() {
+        rows[at] = joined(&rows[at], more);
+    }
+}

@@ -1,0 +1,114 @@
+//! What rivals cost that are level with a club on points: by the first criterion that puts them on
+//! the wrong side of it.
+
+use crate::board::Board;
+use crate::cost::Costs;
+use crate::lead::Lead;
+use crate::row::joined;
+use league_core::{Claim, ClubSet, Order, Question, Sheet};
+use score_box::Totals;
+
+/// The criteria at one finish, for the club of a question.
+#[derive(Clone, Copy)]
+pub struct TieCosts<'a> {
+    board: &'a Board,
+    sheet: &'a Sheet,
+    question: &'a Question,
+}
+
+impl<'a> TieCosts<'a> {
+    pub fn of(board: &'a Board, sheet: &'a Sheet, question: &'a Question) -> TieCosts<'a> {
+        TieCosts {
+            board,
+            sheet,
+            question,
+        }
+    }
+
+    /// Notes what each of the rivals costs, all level with the club on points. One that no
+    /// criterion tells from the club costs nothing, since lots go with the claim.
+    pub fn note(&self, rivals: ClubSet, costs: &mut Costs) {
+        match self.sheet.order {
+            Order::HeadFirst => self.note_by_head(rivals, costs),
+            Order::OverallFirst => {
+                let level = self.note_by_goals(rivals, costs);
+                self.note_by_head(level, costs);
+            }
+        }
+    }
+
+    // By the record in the group, again in each smaller group that it leaves level; then by all
+    // matches.
+    fn note_by_head(&self, rivals: ClubSet, costs: &mut Costs) {
+        let mut group = rivals;
+        for _ in 0..24 {
+            let level = self.note_by_records(group, costs);
+            if level == group {
+                self.note_by_sums(group, costs);
+                return;
+            }
+            group = level;
+        }
+    }
+
+    // By the record among the rivals and the club; gives those that it leaves level.
+    fn note_by_records(&self, rivals: ClubSet, costs: &mut Costs) -> ClubSet {
+        let own = self.record(rivals, self.question.club);
+        let mut level = ClubSet::empty();
+        for rival in 0..24 {
+            if rivals.has(rival) {
+                let lead = Lead::in_group(&self.record(rivals, rival), &own);
+                costs[rival as usize] = self.cost_of(lead);
+                level = level.with_if(lead.is_none(), rival);
+            }
+        }
+        level
+    }
+
+    // By difference and goals over all matches; gives those that they leave level.
+    fn note_by_goals(&self, rivals: ClubSet, costs: &mut Costs) -> ClubSet {
+        let own = self.board.row(self.question.club);
+        let mut level = ClubSet::empty();
+        for rival in 0..24 {
+            if rivals.has(rival) {
+                let lead = Lead::in_goals(&self.board.row(rival), &own);
+                costs[rival as usize] = self.cost_of(lead);
+                level = level.with_if(lead.is_none(), rival);
+            }
+        }
+        level
+    }
+
+    // By the sums over all matches and the rank.
+    fn note_by_sums(&self, rivals: ClubSet, costs: &mut Costs) {
+        let own = self.board.row(self.question.club);
+        let own_rank = self.sheet.rank_of(self.question.club);
+        for rival in 0..24 {
+            if rivals.has(rival) {
+                let ranks = (self.sheet.rank_of(rival), own_rank);
+                let lead = Lead::in_all(&self.board.row(rival), &own, ranks);
+                costs[rival as usize] = self.cost_of(lead);
+            }
+        }
+    }
+
+    // What the matches of a club against the rivals and the question's club add up to.
+    fn record(&self, rivals: ClubSet, club: u8) -> Totals {
+        let mut record = self.board.pair(club, self.question.club);
+        for rival in 0..24 {
+            if rivals.has(rival) {
+                record = joined(&record, &self.board.pair(club, rival));
+            }
+        }
+        record
+    }
+
+    // The weight of a lead to the wrong side.
+    fn cost_of(&self, lead: Option<Lead>) -> u32 {
+        match (lead, self.question.claim) {
+            (Some(lead), Claim::Inside) if lead.is_ahead => lead.weight,
+            (Some(lead), Claim::Outside) if !lead.is_ahead => lead.weight,
+            _ => 0,
+        }
+    }
+}

@@ -1,2 +1,0 @@
--- What is known of each question.
-pub mod Completeness

@@ -1,2 +1,0 @@
--- Events of a sample as a pool hears them.
-pub mod HeardLemmas

@@ -1,3 +1,0 @@
--- What the functions promise each other and the crates above: no promise of the program rests on
--- these words. Read in this order.
-pub mod SamplePools

@@ -1,2 +1,0 @@
--- The items of an answer, piece by piece.
-pub mod ScoreLemmas

@@ -1,0 +1,14 @@
+-- If there is no memory for the word, nothing was passed and nothing was read.
+use Rattle.std.proofs.Common.{inl, refl}
+use Rattle.league_core.proofs.PlainLemmas.{err-holds}
+use Rattle.result_log.specs.inside.Rounds.{live_entry}
+use Rattle.result_log.proofs.LiveLemmas.{goes-nowhere}
+use Rattle.worker_gate.proofs.threads.run_round.Goals as goal
+
+pub returns-in_err-start-clause-err : goal.returns-in_err-start-clause-err
+returns-in_err-start-clause-err g c =
+    err-holds c.from_residual.result _
+    (c.args.pool.log, goes-nowhere (live_entry c.args.pool.sheet) c.args.pool.log _)
+
+pub returns-in_err-start-clause-err_last : goal.returns-in_err-start-clause-err_last
+returns-in_err-start-clause-err_last g c = err-holds c.from_residual.result _ (inl (refl, refl))
