@@ -232,11 +232,15 @@ def from_zero(test: list) -> list:
 
 
 class Report:
-    """The lines of a report that are left."""
+    """The lines of a report that are left.
+
+    `base` is the zone that all trees and examples are in; where it has a literal, every node is new.
+    """
 
     def __init__(self, lines: list[tuple[int, str]], end: int) -> None:
         self.lines, self.end, self.at = lines, end, 0
         self.rows = self.unsettled = 0
+        self.base: list = []
 
     def next(self) -> tuple[int, object]:
         """The next line that counts, as a proof line, a row, or nothing of these."""
@@ -282,7 +286,9 @@ class Report:
         splits, leaves = ("split",), ("leaf",)
         if is_spent:
             splits, leaves = ("split", "new_split"), ("leaf", "new_leaf")
-        due, news, is_open = [[]], 0, False
+        if self.base:
+            splits, leaves = ("new_split",), ("new_leaf",)
+        due, news, is_open = [self.base], 0, False
         while due:
             zone = due.pop()
             number, word, rest = self.node(question, splits, leaves, is_spent)
@@ -306,6 +312,7 @@ class Report:
                                   and all(is_within(goals, 0, league.goal_limit)
                                           for goals in it[2:]))
             scores[fixture] = (line[2], line[3])
+        is_member = all(is_true(test, scores[test[1]]) == yes for test, yes in self.base)
         number, line = self.expect("proof", lambda it: it[0] == "lots" and len(it) == 2
                                    and type(it[1]) is list
                                    and all(type(club) is int for club in it[1])
@@ -317,6 +324,8 @@ class Report:
         points = points_in(league, Sums(league, scores), question.club)
         if is_inside != (question.claim == "inside") or not question.low <= points <= question.high:
             raise Stop(number, "no_proof")
+        if not is_member:
+            raise Stop(number, "no_member")
 
     def item(self, league: League, line: int, club: int) -> None:
         """A row, and what stands after it."""

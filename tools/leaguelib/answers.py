@@ -8,7 +8,8 @@ from dataclasses import dataclass, field
 from .records import Record, Refused, lines_of, number_of, record_of
 
 WORDS = ("clinched", "lost", "possible", "unsettled")
-WIDTHS = {"ask": 2, "verdict": 4, "place": 8, "score": 5, "fault": 3, "usage": 2,
+OUTCOMES = ("home", "draw", "away")
+WIDTHS = {"ask": 2, "when": 4, "verdict": 4, "place": 8, "score": 5, "fault": 3, "usage": 2,
           "accepted": 3, "refused": 3}
 
 
@@ -86,10 +87,14 @@ class Score:
 
 @dataclass
 class Answer:
-    """What stands after one `ask` row; `epoch` is the number of events before it."""
+    """What stands after one `ask` row; `epoch` is the number of events before it. After a `when`
+    row it is given that its fixture, from 1, has this outcome: `home`, `draw` or `away`.
+    """
 
     epoch: int
     line: int = 0
+    fixture: int = 0
+    outcome: str = ""
     verdicts: list[Verdict] = field(default_factory=list)
     table: list[Place] = field(default_factory=list)
     scores: list[Score] = field(default_factory=list)
@@ -145,6 +150,11 @@ class _ReportReader:
         self.is_behind_score = record.kind == "score"
         if record.kind == "ask":
             self.report.answers.append(Answer(_natural(record, 2), record.line))
+        elif record.kind == "when":
+            if fields[3] not in OUTCOMES:
+                raise BadAnswer(record.line, f"`{fields[3]}` is no outcome")
+            self.report.answers.append(Answer(_natural(record, 2), record.line,
+                                              _natural(record, 3), fields[3]))
         elif record.kind == "fault":
             self.report.fault = (_natural(record, 2), fields[2])
         elif record.kind == "usage":
@@ -157,7 +167,7 @@ class _ReportReader:
     def _take_answer_row(self, record: Record) -> None:
         """Takes a row that stands after an `ask`."""
         if not self.report.answers:
-            raise BadAnswer(record.line, "there is a row before the first `ask` row")
+            raise BadAnswer(record.line, "there is a row before the first `ask` or `when` row")
         answer, fields = self.report.answers[-1], record.fields
         if record.kind == "verdict":
             if fields[3] not in WORDS:

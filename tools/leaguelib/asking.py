@@ -15,7 +15,7 @@ from .given import Given
 from .line_names import asked_lines
 from .lines import joined_answer, line_runs, with_lines_of
 from .records import Refused, record_of, row_text
-from .running import Run, ask_lines, report_of, run_program
+from .running import Run, ask_lines, front_of, report_of, run_program
 from .stopped import Stop, stop_of, whole_report
 from .texts import MOST_BUDGET, Season, Sheet
 
@@ -158,6 +158,11 @@ def with_asks(data: bytes, league: Input, positions: list[int]) -> bytes:
         return data
     lines = data.split(b"\n")
     return b"\n".join(b"" if number in dropped else raw for number, raw in enumerate(lines, 1))
+
+
+def input_before(data: bytes, league: Input, position: int) -> bytes:
+    """The input up to an ask, without any; every line keeps its number."""
+    return front_of(with_asks(data, league, [position]), ask_lines(league)[position])
 
 
 def with_budget(data: bytes, budget: int) -> bytes:

@@ -14,7 +14,7 @@ from dataclasses import dataclass, field
 
 from . import common
 from .answers import Place, Verdict
-from .asking import (Asked, ask_mode, budget_note, position_of, run_mode, with_asks,
+from .asking import (ASK, Asked, ask_mode, budget_note, input_before, position_of, run_mode,
                      with_budget)
 from .changes import Change, changes_between, words_of
 from .enough import score_words
@@ -29,7 +29,7 @@ from .page import page_text
 from .progress import Progress, add_progress_argument
 from .proved import own_report
 from .reasons import Points, short_reason
-from .running import front_of, report_of
+from .running import report_of
 from .stopped import league_in
 from .texts import Season, Sheet
 from .view import table_at
@@ -106,7 +106,7 @@ def run(arguments: argparse.Namespace) -> int:
     with Progress("board", 0, arguments.progress):
         board = board_of(path, given, league, position, arguments.budget)
     if arguments.tonight and board.lines:
-        _add_outlook(board, path, _front(given, league, position, False), arguments.progress)
+        _add_outlook(board, path, input_before(given.data, league, position), arguments.progress)
     common.write_text(page_text(board), arguments.output)
     return common.DONE
 
@@ -133,7 +133,7 @@ def board_of(path: str, given: Given, league: Input, position: int,
         board.changes = changes_between(words_of(before.answer.verdicts),
                                         words_of(now.answer.verdicts))
         board.events_since = season.events - before.season.events
-    front = _front(given, league, position, True)
+    front = input_before(given.data, league, position) + ASK
     _add_reasons(board, path, front, league, now)
     _add_scores(board, path, front)
     return board
@@ -195,14 +195,7 @@ def _add_outlook(board: Board, path: str, front: bytes, is_wanted: bool) -> None
                    "in the sheet, twelve a day at most; they are left out")
         return
     runs = [with_lines_of(front, run) for run in line_runs(board.lines)]
-    board.outlook = outlook(path, board.sheet, runs, fixtures, is_wanted)
-
-
-def _front(given: Given, league: Input, position: int, has_ask: bool) -> bytes:
-    """The input up to an ask, with it alone or with none; every line keeps its number."""
-    data = with_asks(given.data, league, [position])
-    line = [entry.line for entry in league.entries if entry.kind == "ask"][position]
-    return front_of(data, line) + (b"ask\n" if has_ask else b"")
+    board.outlook = outlook(path, board.sheet, board.season, runs, fixtures, is_wanted)
 
 
 def _today() -> str:

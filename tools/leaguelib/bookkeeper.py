@@ -22,6 +22,7 @@ FIRST_WORD = re.compile(r"^(correct|correction|fix|annul|annulled|void|cancel|de
                         r"\s*:?\s+(\S.*)$", re.IGNORECASE)
 DEDUCTION = re.compile(r"^(?:(\d+)\s+points?\s+from\s+(.+)|(.+?)\s+[-−]?(\d+)(?:\s+points?)?)$",
                        re.IGNORECASE)
+WHEN = re.compile(r"^when(?:\s*,\s*(\S+)|\s+(\S.*))$", re.IGNORECASE)
 MEANINGS = {"correct": "fix", "correction": "fix", "annul": "void", "annulled": "void",
             "cancel": "void"}
 
@@ -131,6 +132,24 @@ class Bookkeeper:
         if kind != "void" and parts.told.word:
             raise Unclear(why_open(parts.told))
         return self.line_of_match(kind, parts.match)
+
+    def asked_match(self, text: str) -> Fixture | None:
+        """The open match of a line `when,5` or `when Germany - Scotland`; none of any other line.
+
+        Raises `Unclear` if the match is not one that is open.
+        """
+        found = WHEN.match(text.strip())
+        is_name = any(club.name.lower().startswith("when") for club in self.sheet.clubs)
+        if found is None or (is_name and not found.group(1)):
+            return None
+        number = found.group(1)
+        if number is None:
+            match = parts_of(found.group(2)).match
+            if match is None:
+                raise Unclear("a match is asked about like `when Germany - Scotland` or `when,5`")
+            number = self.fixture_of("when", match).number
+        line = self._tested(f"when,{number}")
+        return self.sheet.fixture(int(line.split(",")[1]))
 
     def line_of_listed(self, match: Match) -> str | None:
         """The line for a match of a list, none if its score stands already."""

@@ -10,7 +10,8 @@ from dataclasses import dataclass, field
 from .names import SPACES, tidy
 from .records import fields_of
 
-KINDS = ("league", "club", "match", "line", "season", "result", "fix", "void", "deduct", "ask")
+KINDS = ("league", "club", "match", "line", "season", "result", "fix", "void", "deduct", "ask",
+         "when")
 OTHER_WORDS = {
     "team": "club", "teams": "club", "clubs": "club", "verein": "club", "equipo": "club",
     "matches": "match", "game": "match", "games": "match", "fixture": "match",

@@ -24,6 +24,7 @@ PARTS = {
     "explain": "the same on one screen, what changed, and why",
     "places": "the best and the worst place still possible for each club",
     "board": "write an answer as a page for the browser",
+    "tonight": "what each open match of the evening would decide",
     "live": "keep a log and have each line answered at once",
     "many": "ask many leagues, and write what changed when, for a database",
     "sheet": "make a sheet from a list of fixtures",
@@ -39,6 +40,7 @@ examples:
   league sheet fixtures.csv --name "My league" --lines 1,4 --order overall_first -o sheet.csv
   league feed sheet.csv results.txt --ask > feed.csv
   league lint sheet.csv feed.csv
+  league tonight sheet.csv feed.csv
   league live sheet.csv feed.csv
 
 """

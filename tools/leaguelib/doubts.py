@@ -127,15 +127,16 @@ def some_pairs(pairs: list[tuple[str, str]]) -> str:
     return some([f"{home} - {away}" for home, away in pairs])
 
 
-def feed_doubts(sheet: Sheet, entries: list[Entry]) -> Iterator[Doubt]:
-    """What looks wrong in a feed."""
-    asks = [entry for entry in entries if entry.kind == "ask"]
+def feed_doubts(sheet: Sheet, entries: list[Entry], question: str = "ask") -> Iterator[Doubt]:
+    """What looks wrong in a feed whose mode answers an `ask`, or a `when`."""
+    asks = [entry for entry in entries if entry.kind == question]
     has_report = bool(entries) and entries[-1].kind == "proofs"
     entries = entries[:-1] if has_report else entries
     if not asks:
-        yield Doubt(0, "the feed has no `ask`, so the program answers nothing. Write `ask` as the "
-                       "last line")
-    elif entries[-1].kind != "ask":
+        written = "`ask`" if question == "ask" else "`when` with the number of an open match"
+        yield Doubt(0, f"the feed has no `{question}`, so the program answers nothing. Write "
+                       f"{written} as the last line")
+    elif question == "ask" and entries[-1].kind != "ask":
         yield Doubt(entries[-1].line, "what comes after the last `ask` is never answered. Write "
                                       "`ask` again at the end")
     yield from _goal_doubts(sheet, entries)

@@ -38,7 +38,7 @@ def kind_of(line: str) -> str:
 
 def is_event(line: str) -> bool:
     """Whether futmax is to be told a line."""
-    return kind_of(line) not in ("", "ask")
+    return kind_of(line) not in ("", "ask", "when")
 
 
 class Evening:
@@ -47,6 +47,7 @@ class Evening:
     def __init__(self, book: Bookkeeper) -> None:
         self.book = book
         self.book.forms = "`help`"
+        self.book.feed.takes_whens = True
         self._in_play: dict[int, Score] = {}
         self._back: list[str] = []
         self._told: list[str] = []

@@ -3,7 +3,8 @@
 --why gives the reasons: the shortest first, by points alone, by clubs that cannot pass, by matches
 between rivals, by clubs that can be level at the most; then the steps of the program's proof. The
 answer is the program's, or a report made elsewhere (--answer, or after the record `proofs` of the
-input). A proof is put into words only if the program's mode `check` has accepted its report.
+input). A proof is put into words only if the program's mode `check` has accepted its report. A feed
+with `when` lines is told as `league tonight` tells an evening.
 """
 
 from __future__ import annotations
@@ -23,6 +24,7 @@ from .running import ask_lines
 from .screen import limit_text
 from .stopped import league_in
 from .texts import Season, Sheet
+from .tonight import whens_text
 from .view import View, first_screen, viewed
 from .why import USUAL_STEPS, Why, why_text
 from .wording import listed, paragraph
@@ -60,6 +62,14 @@ def run(arguments: argparse.Namespace) -> int:
     """Explains one ask, and gives the exit status."""
     given = gather(arguments.files)
     path = common.program_path(arguments.program)
+    told = whens_text(given, path, arguments)
+    if told:
+        if arguments.why or arguments.all or arguments.answer:
+            raise common.Trouble("a feed with `when` lines is told match by match, and without "
+                                 "--why, --all and --answer: an answer of the mode `whatif` has no "
+                                 "proofs.", common.BAD_WORDS)
+        common.write_text(told)
+        return common.DONE
     with Progress("explain", 0, arguments.progress) as progress:
         if arguments.answer or given.report_line:
             view, proved, note = _given_report(arguments, given, path)
@@ -125,6 +135,9 @@ def _given_report(arguments: argparse.Namespace, given: Given,
         report_bytes = b"\n".join(lines[given.report_line - 1:])
     if arguments.answer:
         report_bytes = common.read_bytes(arguments.answer)
+    if report_bytes.startswith(b"when,"):
+        raise common.Trouble("this is an answer of the mode `whatif`, which has no proofs that "
+                             "could be checked: give the feed with its `when` lines alone.")
     found = refusal_of_report(path, ended(front), report_bytes)
     report = _read(report_bytes)
     if found not in ("accepted", "unknown"):

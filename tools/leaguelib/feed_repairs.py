@@ -92,6 +92,19 @@ def void_repairs(fields: list[str], sheet: Sheet, season: Season) -> Iterator[Ca
                         "is postponed or not yet played has no line. This line can be left out")
 
 
+def when_repairs(fields: list[str], sheet: Sheet, season: Season) -> Iterator[Candidate]:
+    """What a refused `when` was meant to be."""
+    yield from without_dates(fields)
+    names = BETWEEN.split(fields[1]) if len(fields) == 2 else fields[1:]
+    if len(names) == 2:
+        numbers = [found for found in fixtures_named(names[0], names[1], sheet)
+                   if found not in season.scores]
+        if len(numbers) == 1:
+            yield Candidate("a fixture goes by its number", [line_text("when", numbers[0])])
+    if len(fields) > 2 and number_of(fields[1]) is not None:
+        yield Candidate("`when` has the fixture's number alone", [line_text("when", fields[1])])
+
+
 def deduct_repairs(fields: list[str], sheet: Sheet) -> Iterator[Candidate]:
     """What a refused `deduct` was meant to be."""
     names = [club.name for club in sheet.clubs]

@@ -12,14 +12,16 @@ from .texts import (FEED_WIDTHS, MOST_DEDUCTION, MOST_EVENTS, MOST_GOALS, Entry,
 class FeedReader:
     """Takes the records of a feed one by one, and keeps the season as it stands."""
 
-    def __init__(self, sheet: Sheet, takes_proofs: bool = False) -> None:
+    def __init__(self, sheet: Sheet, takes_proofs: bool = False,
+                 takes_whens: bool = False) -> None:
         self.sheet = sheet
         self.season = Season()
         self.takes_proofs = takes_proofs
+        self.takes_whens = takes_whens
 
     def copy(self) -> FeedReader:
         """The same reader, to be tried apart from this one."""
-        other = FeedReader(self.sheet, self.takes_proofs)
+        other = FeedReader(self.sheet, self.takes_proofs, self.takes_whens)
         other.season = self.season.copy()
         return other
 
@@ -32,7 +34,8 @@ class FeedReader:
     def read(self, record: Record) -> Entry:
         """The entry of a record in the season as it stands; changes nothing."""
         kind = record.kind
-        if kind not in FEED_WIDTHS or (kind == "proofs" and not self.takes_proofs):
+        is_of_mode = {"proofs": self.takes_proofs, "when": self.takes_whens}.get(kind, True)
+        if kind not in FEED_WIDTHS or not is_of_mode:
             self._refuse(record, "unknown_record", 1)
         if len(record.fields) != FEED_WIDTHS[kind]:
             self._refuse(record, "wrong_width")
@@ -47,17 +50,17 @@ class FeedReader:
         return entry
 
     def _read_score(self, record: Record) -> Entry:
-        """A result, correction or annulment."""
+        """A result, correction or annulment, or a `when`."""
         fields, kind = record.fields, record.kind
         fixture = number_of(fields[1])
         if fixture is None or not 1 <= fixture <= len(self.sheet.fixtures):
             self._refuse(record, "unknown_fixture", 2)
         score = (0, 0)
-        if kind != "void":
+        if kind in ("result", "fix"):
             score = (self._goals_in(record, 3), self._goals_in(record, 4))
-        if kind == "result" and fixture in self.season.scores:
+        if kind in ("result", "when") and fixture in self.season.scores:
             self._refuse(record, "already_played", 2)
-        if kind != "result" and fixture not in self.season.scores:
+        if kind in ("fix", "void") and fixture not in self.season.scores:
             self._refuse(record, "not_played", 2)
         return Entry(kind, record.line, fixture, score)
 
@@ -108,10 +111,11 @@ class Input:
 class InputReader:
     """Takes the records of a whole input one by one: those of the sheet, then those of the feed."""
 
-    def __init__(self, takes_proofs: bool = False) -> None:
+    def __init__(self, takes_proofs: bool = False, takes_whens: bool = False) -> None:
         self.sheet_reader = SheetReader()
         self.feed_reader: FeedReader | None = None
         self.takes_proofs = takes_proofs
+        self.takes_whens = takes_whens
 
     @property
     def sheet(self) -> Sheet | None:
@@ -120,7 +124,7 @@ class InputReader:
 
     def copy(self) -> InputReader:
         """The same reader, to be tried apart from this one."""
-        other = InputReader(self.takes_proofs)
+        other = InputReader(self.takes_proofs, self.takes_whens)
         other.sheet_reader = self.sheet_reader.copy()
         if self.feed_reader is not None:
             other.feed_reader = self.feed_reader.copy()
@@ -132,7 +136,8 @@ class InputReader:
             return self.feed_reader.take(record)
         self.sheet_reader.take(record)
         if self.sheet_reader.is_ended:
-            self.feed_reader = FeedReader(self.sheet_reader.sheet, self.takes_proofs)
+            self.feed_reader = FeedReader(self.sheet_reader.sheet, self.takes_proofs,
+                                          self.takes_whens)
         return None
 
     def test_end(self, lines: int) -> None:
@@ -142,9 +147,9 @@ class InputReader:
             raise Refused(lines + 1, code, 0, "sheet")
 
 
-def read_input(data: bytes, takes_proofs: bool = False) -> Input:
+def read_input(data: bytes, takes_proofs: bool = False, takes_whens: bool = False) -> Input:
     """Reads a sheet and the feed after it, or raises `Refused` at the line the program refuses."""
-    reader = InputReader(takes_proofs)
+    reader = InputReader(takes_proofs, takes_whens)
     entries: list[Entry] = []
     for record in records_of(data):
         entry = reader.take(record)

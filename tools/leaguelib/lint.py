@@ -30,7 +30,7 @@ def add_arguments(parser: argparse.ArgumentParser) -> None:
     parser.add_argument("--sheet-only", action="store_true",
                         help="the files hold a sheet alone: expect no feed")
     parser.add_argument("--mode", default="verdicts",
-                        choices=("verdicts", "table", "scores", "check"),
+                        choices=("verdicts", "whatif", "table", "scores", "check"),
                         help="the mode in which futmax is to be run (verdicts)")
 
 
@@ -50,8 +50,7 @@ def looked_at(files: list[tuple[str, bytes]], is_sheet_only: bool = False,
     examined = [(name, examine(data)) for name, data in files]
     texts = [f"{name}: {capital(message)}.\n"
              for name, file in examined for message in file.messages]
-    takes_proofs = mode == "check"
-    original = refusal_of(b"".join(data for _, data in files), takes_proofs)
+    original = refusal_of(b"".join(data for _, data in files), mode)
     if not all(file.is_readable for _, file in examined):
         whole = joined(files)
         return "".join(texts) + outcome_text(Outcome(refused=original), whole), common.TO_MEND
@@ -66,8 +65,8 @@ def looked_at(files: list[tuple[str, bytes]], is_sheet_only: bool = False,
 def look(data: bytes, is_sheet_only: bool = False, mode: str = "verdicts") -> Outcome:
     """Looks at a whole input in UTF-8; in the mode `check` the report after `proofs` is not."""
     takes_proofs = mode == "check"
-    outcome = Outcome(refused=refusal_of(data, takes_proofs), league_line=_league_line(data))
-    reader = InputReader(takes_proofs)
+    outcome = Outcome(refused=refusal_of(data, mode), league_line=_league_line(data))
+    reader = InputReader(takes_proofs, mode == "whatif")
     entries: list[Entry] = []
     try:
         for number, raw in lines_of(data):
@@ -85,7 +84,8 @@ def look(data: bytes, is_sheet_only: bool = False, mode: str = "verdicts") -> Ou
     if reader.sheet is not None:
         outcome.doubts.extend(sheet_doubts(reader.sheet, mode == "table"))
         if reader.feed_reader is not None and not is_sheet_only:
-            outcome.doubts.extend(feed_doubts(reader.sheet, entries))
+            question = "when" if mode == "whatif" else "ask"
+            outcome.doubts.extend(feed_doubts(reader.sheet, entries, question))
             if takes_proofs and not any(entry.kind == "proofs" for entry in entries):
                 outcome.doubts.append(Doubt(0, "the input has no `proofs`; the report for the "
                                                "mode `check` comes after it"))
@@ -98,10 +98,10 @@ def _league_line(data: bytes) -> int:
     return data.count(b"\n", 0, place) + 1 if place or data.startswith(b"league,") else 0
 
 
-def refusal_of(data: bytes, takes_proofs: bool = False) -> Refused | None:
-    """The line at which the program stops, if it does."""
+def refusal_of(data: bytes, mode: str = "verdicts") -> Refused | None:
+    """The line at which the program stops in a mode, if it does."""
     try:
-        read_input(data, takes_proofs)
+        read_input(data, mode == "check", mode == "whatif")
     except Refused as refused:
         return refused
     return None

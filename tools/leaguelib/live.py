@@ -1,11 +1,12 @@
 """Takes results as they come, and has each `ask` answered at once. Lines are as in `league feed`:
 `Germany 5-1 Scotland`, `correct ..`, `annul ..`, `deduct ..`, `ask`, or lines of the feed. Each is
 tested first: what futmax would refuse is not sent, and the session goes on. A score in play,
-`Germany ~1-0 Scotland`, is no result. `help` lists the other words: undo, table, tonight, rows.
+`Germany ~1-0 Scotland`, is no result. `help` lists the other words: undo, table, tonight, when
+and rows.
 
 Each line is echoed in words, and an ask says what changed since the one before. With --rows each
-ask has the rows of futmax, and after them a line `# end of answer N, after E events`. The log keeps
-events, asks with an answer, and scores in play as comments; it is a feed. Lines that another
+ask or `when` has the rows of futmax, and after them a line `# end of answer N, after E events`. The
+log keeps events, asks with an answer, and scores in play as comments; it is a feed. Lines that another
 program adds to it are taken as if they were typed here.
 """
 

@@ -69,25 +69,31 @@ def _date(year: int, month: int, day: int) -> date | None:
         return None
 
 
-def read_day(text: str) -> date | int:
-    """The day of --since; raises `Trouble` if it is none."""
+def read_day(text: str, option: str = "--since") -> date | int:
+    """The day that an option names; raises `Trouble` if it is none."""
     found = day_of(text)
     if found is None:
-        raise common.Trouble(f"--since takes a date like 2024-05-19, or the number of a matchday, "
+        raise common.Trouble(f"{option} takes a date like 2024-05-19, or the number of a matchday, "
                              f"and not `{text}`.", common.BAD_WORDS)
     return found
+
+
+def days_like(days: dict[int, str], wanted: date | int) -> dict[int, date | int]:
+    """The days of matches that are of one kind with this one: dates, or numbers of matchdays."""
+    read = {number: day_of(text) for number, text in days.items()}
+    fitting = {number: day for number, day in read.items() if isinstance(day, type(wanted))}
+    if not fitting:
+        kind = "dates" if isinstance(wanted, date) else "matchdays"
+        raise common.Trouble(f"the comments of the sheet have no {kind}, so nothing is known of "
+                             "that day.")
+    return fitting
 
 
 def later_lines(league: Input, days: dict[int, str], since: date | int, ask_line: int) -> set[int]:
     """The lines of the events since a day, up to an ask: of matches on that day or later, and the
     deductions after the first of them. Raises `Trouble` if the sheet tells no such days.
     """
-    read = {number: day_of(text) for number, text in days.items()}
-    fitting = {number: day for number, day in read.items() if isinstance(day, type(since))}
-    if not fitting:
-        kind = "dates" if isinstance(since, date) else "matchdays"
-        raise common.Trouble(f"the comments of the sheet have no {kind}, so nothing is known of "
-                             f"that day; leave out --since.")
+    fitting = days_like(days, since)
     later: set[int] = set()
     for entry in league.entries:
         if entry.line >= ask_line or not entry.is_event:

@@ -5,7 +5,7 @@ from __future__ import annotations
 import json
 from typing import Iterator
 
-from .answers import Example, Place, Score, Verdict
+from .answers import OUTCOMES, Example, Place, Score, Verdict
 from .asking import Asked
 from .texts import Season, Sheet
 
@@ -31,6 +31,24 @@ def objects_of(sheet: Sheet, ask: Asked, has_finishes: bool = False) -> Iterator
     rows = len(answer.verdicts) + len(answer.table) + len(answer.scores)
     yield {"type": "end", "ask": number, "rows": rows, "unsettled": ask.unsettled,
            "budget": ask.budget}
+
+
+def given_objects(evening) -> Iterator[dict]:
+    """The objects of an evening: the opening of its ask, one a match, outcome, line and club, with
+    the word now and the word given the outcome; and the one that closes it.
+    """
+    sheet, ask, rows = evening.sheet, evening.ask, 0
+    yield next(objects_of(sheet, ask))
+    for fixture in evening.fixtures:
+        for outcome in OUTCOMES:
+            for (line, club), word in evening.given[fixture.number, outcome].items():
+                rows += 1
+                yield {"type": "given", "ask": ask.position + 1, "match": fixture.number,
+                       "home": _text(fixture.home), "away": _text(fixture.away),
+                       "outcome": outcome, "line": line, "club": _text(club),
+                       "now": evening.now[line, club], "verdict": word}
+    yield {"type": "end", "ask": ask.position + 1, "rows": rows, "unsettled": evening.unsettled,
+           "budget": evening.budget}
 
 
 def _text(name: str) -> str:

@@ -9,6 +9,7 @@ import argparse
 from . import common
 from .answer_end import AnswerEnd
 from .asker import Asker
+from .asking import run_mode
 from .bookkeeper import Unclear
 from .evening import Evening, is_event, kind_of
 from .line_names import names_in
@@ -17,8 +18,10 @@ from .livelog import LiveLog
 from .names import shown as quoted
 from .outlook import next_matches, outlook
 from .progress import Progress
-from .records import lines_of
+from .records import lines_of, row_text
+from .running import report_of
 from .session import Ended, Session
+from .texts import Fixture
 from .voices import HELP, Rows, Speaker, events_text, words_of_answer
 from .wording import days_of
 
@@ -117,8 +120,11 @@ class Live:
             commands.update({"table": self._table, "rows": self._all_rows, "tonight": self._tonight,
                              "help": lambda: self.voice.tell(HELP.rstrip("\n"))})
         try:
+            fixture = self.book.asked_match(text)
             if word in commands:
                 commands[word]()
+            elif fixture is not None:
+                self._when(fixture)
             else:
                 self._keep(self.evening.line_of(text))
         except Unclear as unclear:
@@ -175,6 +181,8 @@ class Live:
         self.voice.noted(words, "" if is_own else origin)
         if kind_of(line) == "ask":
             self._write_answer()
+        elif kind_of(line) == "when":
+            self._when(self.book.asked_match(line))
         elif is_event(line) and not self.session.send(line):
             self._tell_restart("futmax had ended")
 
@@ -232,8 +240,26 @@ class Live:
         if not fixtures:
             raise Unclear("no match is open, or so many that the next ones need dates in the "
                           "sheet, twelve a day at most")
-        self.voice.tonight(fixtures, outlook(self.asker.path, sheet,
-                                             self.asker.inputs(self.session.events), fixtures))
+        self._tell_outlook(fixtures)
+
+    def _when(self, fixture: Fixture) -> None:
+        """What one match can decide, in words or as futmax's rows; the log does not keep it."""
+        if not isinstance(self.voice, Rows):
+            self._tell_outlook([fixture])
+            return
+        self.answers += 1
+        when = row_text("when", fixture.number).encode("ascii")
+        run = run_mode(self.asker.path, "whatif",
+                       b"".join([self.asker.data, *self.session.events, when]))
+        report_of(run)
+        events = events_text(self.book.feed.season.events)
+        self.voice.answer([run.output], f"end of answer {self.answers}, after {events}")
+
+    def _tell_outlook(self, fixtures: list[Fixture]) -> None:
+        """What each outcome of these matches decides."""
+        found = outlook(self.asker.path, self.book.sheet, self.book.feed.season,
+                        self.asker.inputs(self.session.events), fixtures)
+        self.voice.tonight(fixtures, found)
 
     def _table(self) -> None:
         """The table, and how it stands with the scores in play."""

@@ -1,7 +1,7 @@
 """What each of the next matches can decide by itself, whatever the others bring.
 
-For each match futmax is asked with every score of a home win, of a draw and of an away win, within
-the goal limit. Only what it answers to all scores of an outcome is told.
+The mode `whatif` of futmax answers `when,F` for a home win, a draw and an away win: each word holds
+for every score of the outcome within the goal limit, and however the other open matches end.
 """
 
 from __future__ import annotations
@@ -9,19 +9,18 @@ from __future__ import annotations
 import re
 from dataclasses import dataclass
 
-from . import common
-from .asking import run_mode
-from .changes import Change, Words, changes_between
+from .answers import OUTCOMES
+from .asking import ASK, greater_budget, run_mode, with_budget
+from .changes import Change, Words, changes_between, words_of
 from .progress import Progress
-from .records import fields_of
-from .running import ENDINGS
+from .records import row_text
+from .running import report_of
 from .texts import Fixture, Season, Sheet
 
 MOST_MATCHES = 12
 ISO_DATE = re.compile(r"^\d{4}-\d{2}-\d{2}$")
-OUTCOMES = ("home", "draw", "away")
 
-Score = tuple[int, int]
+Given = dict[tuple[int, str], Words]
 
 
 @dataclass(frozen=True)
@@ -47,66 +46,60 @@ def next_matches(sheet: Sheet, season: Season, days: dict[int, str]) -> list[Fix
     return found if len(found) <= MOST_MATCHES else []
 
 
-def outlook(path: str, sheet: Sheet, runs: list[bytes], fixtures: list[Fixture],
+def outlook(path: str, sheet: Sheet, season: Season, runs: list[bytes], fixtures: list[Fixture],
             is_wanted: bool = False) -> list[Outlook]:
     """What each outcome of these matches decides; the runs are inputs without an ask, by lines."""
-    first = _answers(path, runs, [(it.number, score) for it in fixtures
-                                  for score in ((1, 0), (0, 0), (0, 1))])
-    now, tried = first[0], iter(first[1:])
-    likely = [(it, outcome, changes) for it in fixtures for outcome in OUTCOMES
-              if (changes := _decided(now, next(tried)))]
-    found = []
-    with Progress("what the next matches decide", len(likely), is_wanted) as progress:
-        for fixture, outcome, changes in likely:
-            scores = _scores(outcome, sheet.goal_limit)
-            answers = _answers(path, runs, [(fixture.number, score) for score in scores])
-            kept = changes.intersection(*(_decided(now, answer) for answer in answers[1:]))
+    now: Words = {}
+    for data in runs:
+        now.update(words_of(report_of(run_mode(path, "verdicts", data + ASK)).answers[-1].verdicts))
+    given, _ = given_words(path, sheet, season, runs, fixtures, is_wanted=is_wanted)
+    return decided(now, given, fixtures)
+
+
+def given_words(path: str, sheet: Sheet, season: Season, runs: list[bytes],
+                fixtures: list[Fixture], budget: int | None = None,
+                is_wanted: bool = False) -> tuple[Given, int]:
+    """The words given each outcome of each match, and the budget that they were asked with.
+
+    Without a budget of its own a match with unsettled words is asked again with a greater one.
+    """
+    given: Given = {}
+    most = budget or greater_budget(sheet, season)
+    used = budget or sheet.budget
+    with Progress("what the next matches decide", len(fixtures), is_wanted) as progress:
+        for fixture in fixtures:
+            words = _of_match(path, runs, fixture, budget or sheet.budget)
+            if most > sheet.budget and budget is None and _is_unsettled(words):
+                words, used = _of_match(path, runs, fixture, most), most
+            given.update(words)
             progress.step()
-            if kept:
-                order = [change for change in changes_between(now, answers[1]) if change in kept]
-                found.append(Outlook(fixture, outcome, tuple(order)))
+    return given, used
+
+
+def _of_match(path: str, runs: list[bytes], fixture: Fixture, budget: int) -> Given:
+    """The words given each outcome of a match, over all lines."""
+    found: Given = {(fixture.number, outcome): {} for outcome in OUTCOMES}
+    for data in runs:
+        when = row_text("when", fixture.number).encode("ascii")
+        report = report_of(run_mode(path, "whatif", with_budget(data, budget) + when))
+        for answer in report.answers:
+            found[answer.fixture, answer.outcome].update(words_of(answer.verdicts))
     return found
 
 
-def _decided(before: Words, now: Words) -> set[Change]:
-    """What is clinched or lost that was possible."""
-    return {change for change in changes_between(before, now)
-            if change.before == "possible" and change.now in ("clinched", "lost")}
+def _is_unsettled(given: Given) -> bool:
+    """Whether a word is missing because the budget was spent."""
+    return any(word == "unsettled" for words in given.values() for word in words.values())
 
 
-def _scores(outcome: str, limit: int) -> list[Score]:
-    """Every score of an outcome within the goal limit."""
-    goals = range(limit + 1)
-    signs = {"home": 1, "draw": 0, "away": -1}
-    return [(home, away) for home in goals for away in goals
-            if (home > away) - (home < away) == signs[outcome]]
-
-
-def _answers(path: str, runs: list[bytes], trials: list[tuple[int, Score]]) -> list[Words]:
-    """The words now, and with each of these scores alone, over all lines."""
-    lines = ["ask"]
-    for fixture, (home, away) in trials:
-        lines += [f"result,{fixture},{home},{away}", "ask", f"void,{fixture}"]
-    feed = "".join(line + "\n" for line in lines).encode("ascii")
-    answers: list[Words] = [{} for _ in range(len(trials) + 1)]
-    for data in runs:
-        for answer, words in zip(answers, _words_of_run(path, data + feed)):
-            answer.update(words)
-    return answers
-
-
-def _words_of_run(path: str, data: bytes) -> list[Words]:
-    """The words of each answer of a run; its finishes are not read."""
-    run = run_mode(path, "verdicts", data)
-    if run.status != 0:
-        reason = ENDINGS.get(run.status, "it takes these results no more")
-        raise common.Trouble(f"futmax ended with status {run.status}: {reason}.",
-                             common.NO_PROGRAM)
-    answers: list[Words] = []
-    for raw in run.output.split(b"\n"):
-        if raw.startswith(b"ask,"):
-            answers.append({})
-        elif raw.startswith(b"verdict,"):
-            fields = fields_of(raw)
-            answers[-1][(int(fields[1]), fields[2])] = fields[3]
-    return answers
+def decided(now: Words, given: Given, fixtures: list[Fixture]) -> list[Outlook]:
+    """The outcomes by which something is decided that is open now, match after match."""
+    found = []
+    for fixture in fixtures:
+        for outcome in OUTCOMES:
+            words = given[fixture.number, outcome]
+            changes = tuple(change for change in changes_between(now, words)
+                            if change.now in ("clinched", "lost"))
+            if changes:
+                found.append(Outlook(fixture, outcome, changes))
+    return found

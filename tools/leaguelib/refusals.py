@@ -95,6 +95,8 @@ def candidates(fields: list[str], reader: InputReader) -> Iterator[Candidate]:
         yield from feed_repairs.deduct_repairs(fields, sheet)
     elif kind == "ask":
         yield from feed_repairs.ask_repairs()
+    elif kind == "when" and feed.takes_whens:
+        yield from feed_repairs.when_repairs(fields, sheet, feed.season)
 
 
 def _comment(fields: list[str]) -> Iterator[Candidate]:

@@ -70,7 +70,7 @@ def _refusal(status: int, line: int, code: str, given: Given) -> Stop:
     if status == 7:
         return Stop(status, code, line,
                     f"{place}: {REPORT_WORDS.get(code, code)} (`{code}`). {REFUSED_REPORT}.")
-    finding = _finding(given, line)
+    finding = _finding(given, line, code)
     reason = finding.message if finding else f"{_words(given, line, code)}."
     text = f"{place}: {reason} (`{code}`)"
     if finding and finding.instead:
@@ -82,20 +82,20 @@ def _refusal(status: int, line: int, code: str, given: Given) -> Stop:
     return Stop(status, code, line, f"{text}\n{more}".rstrip())
 
 
-def league_in(given: Given) -> Input:
+def league_in(given: Given, takes_whens: bool = False) -> Input:
     """The sheet and feed of an input; a refused line ends the command with a message."""
     try:
-        return read_input(given.data, takes_proofs=True)
+        return read_input(given.data, True, takes_whens)
     except Refused as refused:
         stop = _refusal(refused.status, refused.line, refused.code, given)
         raise common.Trouble(stop.message) from refused
 
 
-def _finding(given: Given, line: int) -> Finding | None:
+def _finding(given: Given, line: int, code: str) -> Finding | None:
     """What the look for mistakes says of this line, where it says the same as futmax."""
     outcome = look(given.data, is_sheet_only=True)
     found = outcome.refused
-    if found is None or found.line != line:
+    if found is None or (found.line, found.code) != (line, code):
         return None
     return next((finding for finding in outcome.findings if finding.line == line), None)
 

@@ -23,7 +23,7 @@ MOST_GOALS = 99
 MOST_DEDUCTION = 99
 MOST_EVENTS = 100_000
 SHEET_WIDTHS = {"league": (3, 4, 5), "club": (3,), "match": (3,), "line": (2,), "season": (1,)}
-FEED_WIDTHS = {"result": 4, "fix": 4, "deduct": 3, "void": 2, "ask": 1, "proofs": 1}
+FEED_WIDTHS = {"result": 4, "fix": 4, "deduct": 3, "void": 2, "ask": 1, "proofs": 1, "when": 2}
 
 
 @dataclass(frozen=True)

@@ -26,6 +26,7 @@ ask                           what has changed since the last ask
 rows                          every row of the last answer
 table                         the table, and how it stands with the scores in play
 tonight                       what each of the next matches can decide by itself
+when Arsenal - Chelsea        what this match can decide by itself
 quit                          end the evening; the log keeps everything
 """
 

@@ -17,7 +17,9 @@ FORMS = {
     "void": "`void,FIXTURE`, like `void,1`",
     "deduct": "`deduct,CLUB,POINTS`, with the points taken away in all",
     "ask": "`ask` alone",
+    "when": "`when,FIXTURE`, like `when,1`",
 }
+FEED_FORMS = ("result", "fix", "void", "deduct", "ask")
 ANSWER_WORDS = ("verdict", "place", "fault", "usage", "accepted", "refused", "sample")
 BAD_FIELDS = {
     ("league", 2): "the league's name (field 2) is 1 to 40 bytes long, without control signs",
@@ -62,7 +64,10 @@ def _unknown_record(kind: str, where: str) -> str:
         return "clubs come before the first match and the first line: move this line up"
     if where == "sheet" and kind == "league":
         return "`league` comes once, as the first record: leave this line out"
-    fitting = list(FORMS)[:5] if where == "sheet" else list(FORMS)[5:]
+    if kind == "when":
+        return ("`when` asks what a match would decide, which the mode `whatif` alone answers: "
+                "`league lint --mode whatif` looks at such a feed")
+    fitting = list(FORMS)[:5] if where == "sheet" else list(FEED_FORMS)
     near = nearest_name(kind, fitting)
     hint = f"; the nearest is `{near}`, written {FORMS[near]}" if near else ""
     return (f"{shown(kind)} is no word that begins a record here: {', '.join(fitting)} do{hint}. "
@@ -103,7 +108,9 @@ def _plain_words(code: str, fields: list[str], sheet: Sheet | None) -> str:
         "bad_goals": "goals are whole numbers from 0 to 99; if the match was not played, leave "
                      "the line out",
         "bad_points": "the points taken away are a whole number from 0 to 99, without a sign",
-        "already_played": "this match has a result already; to correct it, write `fix`",
+        "already_played": "this match has a result already; " + (
+            "nothing is open in it: leave the line out" if fields[:1] == ["when"] else
+            "to correct it, write `fix`"),
         "not_played": "this match has no result yet",
         "log_full": "more than 100,000 events: begin a new feed with one `result` a match",
         "line_too_long": "this line has more than 1,024 bytes",

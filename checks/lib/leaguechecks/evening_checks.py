@@ -188,6 +188,24 @@ def _check_tonight(counter: Counter, evening: Evening) -> None:
         "  Dock United - Anchor, if it is a draw: Köln, the first place: out",
         "  Dock United - Anchor, if Anchor win: Anchor, the first place: in; Köln, the first "
         "place: out; Dock United, the first place: out"))
+    counter.check("evening: what one match decides", missing(
+        evening.run("when dock - anchor\nwhen,2\n", "result,1,2,1\n"),
+        "of 1 match, each by itself, whatever its score up to 2 goals a side and however the other "
+        "open matches end:",
+        "  Dock United - Anchor, if it is a draw: Köln, the first place: out",
+        "  Köln - Dock United, if it is a draw: Köln, the first place: out"))
+    asked = evening.run("when,1\nwhen Köln\nwhen,7\n", "result,1,2,1\n")
+    for says in ("line 1, `when,1`: refused, not sent: This match has a result already; nothing",
+                 "line 2, `when Köln`: refused, not sent: a match is asked about like `when ",
+                 "There is no fixture 7"):
+        counter.check("evening: a match that cannot be asked about", said(asked, 2, says))
+    counter.check("evening: a question is not kept", [] if evening.kept() == "result,1,2,1\n"
+                  else [evening.kept()])
+    rows = evening.run("when,2\n", "result,1,2,1\nwhen,3\n", more=("--rows",))
+    lines = rows.stdout.decode("utf-8").splitlines()
+    counter.check("evening: rows of a when", sound_end(rows) + (
+        [] if lines[0] == "when,1,2,home" and lines[-1] == "# end of answer 1, after 1 event"
+        else lines))
     counter.check("evening: no more than that", [] if sum("the first place" in it for it in lines_of(run)) == 4
                   else lines_of(run))
 

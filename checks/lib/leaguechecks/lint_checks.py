@@ -45,6 +45,25 @@ def mistake_faults(mistake: Mistake) -> list[str]:
     return faults + (["lint said: " + text] if faults else [])
 
 
+def check_whens(counter: Counter) -> None:
+    """A `when` is right in the mode `whatif`, and in no other one."""
+    played = SHEET + "result,1,2,1\n"
+    for name, text, mode, status, says in (
+            ("right", played + "ask\nwhen,2\nwhen,02\n", "whatif", 0, ""),
+            ("none", played + "ask\n", "whatif", 3, "the feed has no `when`"),
+            ("in verdicts", played + "when,2\nask\n", "verdicts", 2, "`league lint --mode whatif`"),
+            ("played", played + "when,1\n", "whatif", 2, "nothing is open in it"),
+            ("too many fields", played + "when,2,0\n", "whatif", 2, "    write:      when,2"),
+            ("a date", played + "when,2024-05-09,2\n", "whatif", 2, "    write:      when,2"),
+            ("names", played + "when,Anchor,Köln\nwhen,Köln - Dock\n", "whatif", 2,
+             "you wrote:  when,Köln - Dock\n    write:      when,2"),
+            ("no number", played + "when,99\n", "whatif", 2, "there is no fixture 99")):
+        told, ended = looked_at([("standard input", text.encode())], mode=mode)
+        faults = [] if ended == status else [f"status {ended}, not {status}"]
+        counter.check("lint of a when: " + name, faults + (
+            [] if says.lower() in told.lower() and not faults else [told]))
+
+
 def program_answers() -> bool:
     """Whether the program is built, and knows deductions and the order of the criteria."""
     if not os.access(PROGRAM, os.X_OK):

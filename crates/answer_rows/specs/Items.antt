@@ -33,21 +33,25 @@ abbrev pub ShowsPart : Sheet → Results → Question → Bool → List ProofLin
 ShowsPart sheet season question true lines = ShowsSpentNow sheet season question lines
 ShowsPart sheet season question false lines = IsExampleInLines sheet season question lines
 
--- the part of `Inside` and then that of `Outside`, of which at least one is a tree
+-- the part of `Inside` and then that of `Outside`, each spent or not, by what stands for a question
+abbrev pub ShowsBothParts : (Question → Bool → List ProofLine → Type 0) → Bool → Bool → ℕ → ℕ
+    → List ProofLine → Type 0
+ShowsBothParts Shows is_inside_spent is_outside_spent line club lines =
+    (inside : List ProofLine) × (outside : List ProofLine) × (lines ≡ inside ++ outside)
+    × Shows (full_question club line Inside) is_inside_spent inside
+    × Shows (full_question club line Outside) is_outside_spent outside
+
+-- both parts, of which at least one is a tree
 abbrev pub ShowsUnsettled : Sheet → Results → ℕ → ℕ → List ProofLine → Type 0
 ShowsUnsettled sheet season line club lines =
     (is_inside_spent : Bool) × (is_outside_spent : Bool)
     × IsTrue (is_inside_spent || is_outside_spent)
-    × (inside : List ProofLine) × (outside : List ProofLine) × (lines ≡ inside ++ outside)
-    × ShowsPart sheet season (full_question club line Inside) is_inside_spent inside
-    × ShowsPart sheet season (full_question club line Outside) is_outside_spent outside
+    × ShowsBothParts (ShowsPart sheet season) is_inside_spent is_outside_spent line club lines
 
 -- an example of `Inside` and then one of `Outside`
 abbrev pub ShowsPossible : Sheet → Results → ℕ → ℕ → List ProofLine → Type 0
 ShowsPossible sheet season line club lines =
-    (inside : List ProofLine) × (outside : List ProofLine) × (lines ≡ inside ++ outside)
-    × IsExampleInLines sheet season (full_question club line Inside) inside
-    × IsExampleInLines sheet season (full_question club line Outside) outside
+    ShowsBothParts (ShowsPart sheet season) false false line club lines
 
 -- if proofs are asked for, the lines are a refutation of the question under its head; otherwise
 -- there are none

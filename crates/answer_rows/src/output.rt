@@ -29,7 +29,7 @@ pub fn put_row<K: Sink>(sink: &mut K, row: &[u8]) -> Result<(), WriteFault>
 }
 
 /// Writes a row of an answer, as `put_row` does.
-pub(crate) fn put_part<K: Sink>(sink: &mut K, row: &[u8]) -> Result<(), OutputStop>
+pub fn put_part<K: Sink>(sink: &mut K, row: &[u8]) -> Result<(), OutputStop>
     ensures text { Puts row.now (K.holds sink.old) (K.holds sink.new) result }
     ensures counts { CountsPut (K.faults sink.old) (K.faults sink.new) result }
 {

@@ -39,7 +39,8 @@ pub fn put_verdicts<K: Sink>(
     }
 }
 
-fn put_items<K: Sink>(
+/// Writes the items of verdicts alone. After a stop a prefix of them went out, perhaps none of it.
+pub fn put_items<K: Sink>(
     alloc: Global,
     proofs: bool,
     sheet: &Sheet,

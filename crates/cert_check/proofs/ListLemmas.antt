@@ -1,5 +1,5 @@
--- A part of an item of a list, seen through the list of what the items show.
-use Rattle.std.proofs.Common.{◌≡◌, ◌<◌, ℕ, ◌∙◌, List, length, map, get_or, sym, ap, arith}
+-- What the line at a position is, and the last test of a way.
+use Rattle.std.proofs.Common.{◌≡◌, ◌<◌, ℕ, ◌∙◌, List, length, sym, ap, arith}
 use Rattle.std.proofs.Common.{drop, Result, Ok, Err, [], ◌∷◌, ◌+◌}
 use Rattle.std.specs.Prelude.{IfOk}
 use Rattle.std.proofs.lemmas.List.{length-map, get_or-map, drop_more}
@@ -14,16 +14,6 @@ use Rattle.cert_check.specs.declared.token.Token.{Token}
 use Rattle.cert_check.specs.declared.token.Token.TheVariants.{Unknown}
 use Rattle.cert_check.specs.Tokens.{token_of}
 use Rattle.cert_check.specs.LineLists.{NumberedLine, tokens_of, text_at}
-
--- what an item of a list shows of itself stands at its place
-pub shown_at : {A B C : Type 0} (f : A → B) (g : B → C) (items : List A) (at : ℕ) (item : A)
-    (other : C) → at < length items → item ≡ get_or items at item
-    → g (f item) ≡ get_or (map g (map f items)) at other
-shown_at f g items at item other within there =
-    let there_too : at < length (map f items) = omega (arith, length-map items f) in
-    ap (λ it. g (f it)) there
-    ∙ ap g (sym (get_or-map f items at item (f item) within))
-    ∙ sym (get_or-map g (map f items) at (f item) other there_too)
 
 -- what is read of the text of a line is what the line is among all
 pub token_there : (lines : List NumberedLine) (at : ℕ) (result : Result Token OutOfMemory)

@@ -29,7 +29,7 @@ use Rattle.cert_check.specs.Machine.{Ending, whole_at, bad_line, no_proof, short
 use Rattle.cert_check.specs.Machine.{basis_of}
 use Rattle.cert_check.specs.inside.Calls.{ChecksPart, ChecksEnd}
 use Rattle.cert_check.proofs.TruthLemmas.{told_truly}
-use Rattle.cert_check.specs.declared.outcome.ReportFault.TheVariants.{BadLine, NoProof, Short}
+use Rattle.cert_check.specs.declared.outcome.ReportFault.TheVariants.{BadLine}
 use Rattle.cert_check.specs.declared.outcome.CheckOutcome.{CheckOutcome}
 use Rattle.cert_check.specs.declared.outcome.CheckOutcome.TheVariants.{Accepted, Refused}
 use Rattle.cert_check.specs.Outcomes.{ReportInput, ReportProgressView, outcome_at_end, outcome_by}

@@ -4,16 +4,16 @@
 //! What may come is in `specs/ExpectedItems.antt`, what a report comes to in `specs/Machine.antt`,
 //! and the grammar by cases in `specs/inside/Grammar.antt`; `src/laws.rt` joins them.
 //!
-//! `check_input` reads a whole input in which a report is checked: a sheet, a feed that ends with
-//! the record `proofs`, and the report, which is judged when all of it was read. What it comes to
-//! is in `specs/Outcomes.antt`; what the calls promise, in `specs/inside/InputCalls.antt`.
+//! A whole input in which a report is checked has a sheet, a feed that ends with the record
+//! `proofs`, and the report, which is judged when all of it was read. What it comes to is in
+//! `specs/Outcomes.antt`; what the calls promise, in `specs/inside/InputCalls.antt`. The crate
+//! above, `par_check`, goes over it.
 #![tactic(auto)]
 
 mod checking;
 mod example;
 mod expected;
 mod feed;
-mod input;
 mod input_laws;
 mod item;
 mod laws;
@@ -21,7 +21,6 @@ mod line_list;
 mod lines;
 mod outcome;
 mod path;
-mod progress;
 mod ranges;
 mod report;
 mod row;
@@ -31,17 +30,18 @@ mod tree;
 
 pub use checking::{check, check_end};
 pub use expected::{Head, RowWord, Tally, TreeKind};
-pub use feed::FeedRead;
-pub use input::check_input;
+pub use feed::{FeedRead, FeedSoFar, read_feed};
 pub use input_laws::{
     accepted_inputs_tell_truly, written_lines_read_back, written_reports_read_back,
 };
+pub use item::Item;
 pub use laws::{
     accepted_parts_are_proved, proved_parts_are_accepted, proved_rows_are_true,
     shown_answers_are_accepted, stops_are_exact,
 };
 pub use line_list::LineList;
-pub use lines::{LinesStop, ReportLines};
+pub use lines::{LinesStop, ReportLines, read_lines};
 pub use outcome::{CheckFailure, CheckOutcome, ReportFault};
-pub use stop::{Accepted, CheckStop};
+pub use report::Report;
+pub use stop::{Accepted, CheckStop, CheckStopAt};
 pub use token::Token;

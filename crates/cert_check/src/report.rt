@@ -3,6 +3,8 @@
 ghost use Rattle.std.specs.Prelude.{◌≡◌, ◌<◌, ◌≤◌, ◌+◌, ◌∷◌, length, drop, IfOk};
 ghost use Rattle.league_core.specs.game.Seasons.{IsLeague};
 ghost use Rattle.check_bounds.specs.inside.Trails.{root_of};
+ghost use Rattle.cert_check.specs.LineLists.{tokens_of};
+ghost use Rattle.cert_check.specs.Machine.{basis_of};
 ghost use Rattle.cert_check.specs.inside.Calls.{IsNextAt, FindsNext};
 
 use crate::line_list::LineList;
@@ -44,6 +46,30 @@ impl<'a> Model for Report<'a> {
 }
 
 impl<'a> Report<'a> {
+    /// The lines as a report on the season of a sheet.
+    pub fn new(
+        alloc: Global,
+        sheet: &'a Sheet,
+        season: &'a Season,
+        epoch: u64,
+        lines: &'a LineList,
+    ) -> Result<Report<'a>, OutOfMemory>
+        requires { IsLeague sheet.now season.now }
+        ensures { IfOk result (λ report. report ≡ record {
+          basis = basis_of sheet.now season.now epoch;
+          tokens = tokens_of lines.now;
+        }) }
+    {
+        Ok(Report {
+            alloc,
+            sheet,
+            season,
+            epoch,
+            lines,
+            root: Trail::new(alloc, sheet, season)?,
+        })
+    }
+
     /// Hands on what the type keeps: a sheet within the limits, and a season of it.
     pub fn recall_invariant(&self)
         ensures { IsLeague self.now.basis.sheet self.now.basis.season }

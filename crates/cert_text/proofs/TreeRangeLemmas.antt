@@ -34,22 +34,37 @@ use Rattle.cert_text.specs.Ranges.{is_in_range}
 use Rattle.cert_text.specs.TreeLines.{plain_line, marked_line, plain_lines, marked_lines}
 use Rattle.cert_text.specs.TreeLines.{is_test_for, are_tests_for}
 
--- each literal's test is in range
-abbrev is_zone_in_range : List Literal → Bool
-is_zone_in_range zone = list_all (λ literal. is_test_in_range literal.test) zone
+-- a rival that the test names is a club of a league
+abbrev pub is_rival_in_range : Test → Bool
+is_rival_in_range (Home fixture) = true
+is_rival_in_range (Draw fixture) = true
+is_rival_in_range (HomeMost fixture most) = true
+is_rival_in_range (AwayMost fixture most) = true
+is_rival_in_range (Rival club) = is_club_number club
+
+-- so is each rival that the zone names
+abbrev pub are_rivals_in_range : List Literal → Bool
+are_rivals_in_range zone = list_all (λ literal. is_rival_in_range literal.test) zone
+
+rival_in_range : (test : Test) → is_test_in_range test ≡ true → is_rival_in_range test ≡ true
+rival_in_range (Home fixture) known = refl
+rival_in_range (Draw fixture) known = refl
+rival_in_range (HomeMost fixture most) known = refl
+rival_in_range (AwayMost fixture most) known = refl
+rival_in_range (Rival club) known = known
 
 -- a marked rival is a club of a league
 marked_is_club : (side : Literal → Bool) (zone : List Literal) (club : ℕ)
-    → is_zone_in_range zone ≡ true
+    → are_rivals_in_range zone ≡ true
     → list_any (λ literal. is_of_rival club literal.test && side literal) zone ≡ true
     → is_club_number club ≡ true
 marked_is_club side [] club within marked = absurd (false≢true marked)
 marked_is_club side (literal ∷ zone) club within marked =
-    let parts = and_parts (is_test_in_range literal.test) (is_zone_in_range zone) within in
+    let parts = and_parts (is_rival_in_range literal.test) (are_rivals_in_range zone) within in
     by_first (is_of_rival club literal.test && side literal) refl parts.0
     (λ more. marked_is_club side zone club parts.1 more) marked
   where
-    of_test : (test : Test) → is_test_in_range test ≡ true → is_of_rival club test ≡ true
+    of_test : (test : Test) → is_rival_in_range test ≡ true → is_of_rival club test ≡ true
         → is_club_number club ≡ true
     of_test (Home fixture) known of = absurd (false≢true of)
     of_test (Draw fixture) known of = absurd (false≢true of)
@@ -59,7 +74,7 @@ marked_is_club side (literal ∷ zone) club within marked =
         subst (λ (x : ℕ). is_club_number x ≡ true) (eqb-true rival club of) known
 
     by_first : (b : Bool) → (is_of_rival club literal.test && side literal) ≡ b
-        → is_test_in_range literal.test ≡ true
+        → is_rival_in_range literal.test ≡ true
         → (list_any (λ l. is_of_rival club l.test && side l) zone ≡ true
         → is_club_number club ≡ true)
         → (b || list_any (λ l. is_of_rival club l.test && side l) zone) ≡ true
@@ -82,7 +97,7 @@ set_in_range clubs marked test known holds =
 
 -- a reason that holds is in range
 reason_in_range : (sheet : Sheet) (season : Results) (question : Question) (zone : List Literal)
-    (reason : Reason) → is_zone_in_range zone ≡ true
+    (reason : Reason) → are_rivals_in_range zone ≡ true
     → has_reason sheet season question zone reason ≡ true → is_reason_in_range reason ≡ true
 unfolding has_reason
 reason_in_range sheet season question zone Count within holds = refl
@@ -110,15 +125,17 @@ is_node_in_range Open = true
 is_node_in_range (Lent number) = true
 is_node_in_range (Refuted reason fresh) = is_reason_in_range reason
 
-zone_with : (zone : List Literal) (test : Test) (holds : Bool) → is_zone_in_range zone ≡ true
-    → is_test_in_range test ≡ true → is_zone_in_range (with_test zone test holds) ≡ true
+zone_with : (zone : List Literal) (test : Test) (holds : Bool) → are_rivals_in_range zone ≡ true
+    → is_test_in_range test ≡ true → are_rivals_in_range (with_test zone test holds) ≡ true
 zone_with zone test holds within known =
-    list_all-with (λ literal. is_test_in_range literal.test) zone test holds
-    ∙ and_from (is_zone_in_range zone) (is_test_in_range test) within known
+    list_all-with (λ literal. is_rival_in_range literal.test) zone test holds
+    ∙ and_from (are_rivals_in_range zone) (is_rival_in_range test) within
+    (rival_in_range test known)
 
 -- the nodes of a tree are
 nodes_in_range : (sheet : Sheet) (season : Results) (question : Question) (tree : Tree)
-    (zone : List Literal) → is_zone_in_range zone ≡ true → are_tests_for sheet question tree ≡ true
+    (zone : List Literal) → are_rivals_in_range zone ≡ true
+    → are_tests_for sheet question tree ≡ true
     → AreReasonsTrue sheet season question zone tree
     → list_all is_node_in_range (preorder tree) ≡ true
 nodes_in_range sheet season question open_leaf zone within tests reasons = refl
@@ -176,10 +193,17 @@ plain_lines_in_range sheet season question tree tests reasons =
     lines_of_nodes plain_line plain_range (preorder tree)
     ∙ nodes_in_range sheet season question tree [] refl tests reasons
 
--- and with marks
+-- and with marks, also below a zone
+pub marked_lines_below : (sheet : Sheet) (season : Results) (question : Question) (tree : Tree)
+    (zone : List Literal) → are_rivals_in_range zone ≡ true
+    → are_tests_for sheet question tree ≡ true → AreReasonsTrue sheet season question zone tree
+    → list_all is_in_range (marked_lines tree) ≡ true
+marked_lines_below sheet season question tree zone within tests reasons =
+    lines_of_nodes marked_line marked_range (preorder tree)
+    ∙ nodes_in_range sheet season question tree zone within tests reasons
+
 pub marked_lines_in_range : (sheet : Sheet) (season : Results) (question : Question) (tree : Tree)
     → are_tests_for sheet question tree ≡ true → AreReasonsTrue sheet season question [] tree
     → list_all is_in_range (marked_lines tree) ≡ true
 marked_lines_in_range sheet season question tree tests reasons =
-    lines_of_nodes marked_line marked_range (preorder tree)
-    ∙ nodes_in_range sheet season question tree [] refl tests reasons
+    marked_lines_below sheet season question tree [] refl tests reasons

@@ -12,8 +12,8 @@ use Rattle.clap.specs.declared.builder.action.ArgAction.TheVariants.{SetTrue}
 use Rattle.clap.specs.Words.{App, Kinds, Row, Rule, Text, fault_of, first_of, matches_of, new_app}
 use Rattle.clap.specs.Words.{new_rule, with_rule}
 use Rattle.command_words.specs.declared.command.Mode.{Mode}
-use Rattle.command_words.specs.declared.command.Mode.TheVariants.{Verdicts, Table, Scores, Check}
-use Rattle.command_words.specs.declared.command.Mode.TheVariants.{Sample}
+use Rattle.command_words.specs.declared.command.Mode.TheVariants.{Verdicts, Table, Scores, WhatIf}
+use Rattle.command_words.specs.declared.command.Mode.TheVariants.{Check, Sample}
 use Rattle.command_words.specs.declared.command.Command.{Command}
 
 -- ---- the words that may stand
@@ -59,6 +59,7 @@ mode_named word proofs seed =
     if bytes_eq word (codes "verdicts") then Some (Verdicts proofs)
     else if bytes_eq word (codes "table") then Some Table
     else if bytes_eq word (codes "scores") then Some Scores
+    else if bytes_eq word (codes "whatif") then Some WhatIf
     else if bytes_eq word (codes "check") then Some Check
     else if bytes_eq word (codes "sample") then Some (Sample seed)
     else None

@@ -10,6 +10,8 @@ pub enum Mode {
     Table,
     /// At each ask, how many points are enough and how few can still do.
     Scores,
+    /// At each match that is asked about, what its outcome would decide.
+    WhatIf,
     /// A report of verdicts is checked.
     Check,
     /// The verdicts of the league that this number gives are counted. No input is read.

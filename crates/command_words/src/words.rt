@@ -91,6 +91,8 @@ fn mode_named(word: &str, proofs: bool, seed: u64) -> Option<Mode>
         Some(Mode::Table)
     } else if word == "scores" {
         Some(Mode::Scores)
+    } else if word == "whatif" {
+        Some(Mode::WhatIf)
     } else if word == "check" {
         Some(Mode::Check)
     } else if word == "sample" {

@@ -2,7 +2,7 @@
 -- limits, and each such season has one, whatever is answered.
 use Rattle.std.proofs.Common.{◌≡◌, ℕ, ◌<◌, Bool, true, false, eqb, List, [], ◌∷◌, ◌++◌, length, map}
 use Rattle.std.proofs.Common.{Option, None, Some, Result, Ok, Err, refl, ap, sym, ◌∙◌, subst, arith}
-use Rattle.std.specs.Prelude.{All}
+use Rattle.std.specs.Prelude.{All, IfSome}
 use Rattle.std.specs.List.{range_with_len}
 use Rattle.std.proofs.lemmas.Bool.{or_left, or_right, eq-eqb}
 use Rattle.std.proofs.lemmas.List.Elements.{All-nil, All-cons, All-head, All-tail}
@@ -26,7 +26,9 @@ use Rattle.result_log.specs.declared.entry.Entry.{Entry}
 use Rattle.result_log.specs.declared.entry.Entry.TheVariants.{Change, Ask, Proofs, End}
 use Rattle.result_log.specs.declared.fault.FeedFault.{FeedFault}
 use Rattle.result_log.proofs.FeedLemmas.{contents_may_come}
+use Rattle.result_log.specs.Feeds.{entry_in}
 use Rattle.result_log.specs.inside.FeedParts.{EntryReading, entry_reading_by}
+use Rattle.result_log.specs.inside.Rounds.{live_entry}
 use Rattle.cert_text.specs.ExampleLines.{text_of_proof_lines}
 use Rattle.final_rank.proofs.PlaceLemmas.{best_is, worst_is}
 use Rattle.final_rank.proofs.TierLemmas.{below_clubs}
@@ -43,13 +45,20 @@ use Rattle.answer_rows.specs.Tables.{IsPlaceRow, IsTableRow, IsTableText, count_
 use Rattle.answer_rows.proofs.TableLemmas.{first_lots-range}
 use Rattle.answer_rows.specs.ScoreTexts.{text_of_scores}
 use Rattle.command_words.specs.declared.command.Mode.{Mode}
-use Rattle.command_words.specs.declared.command.Mode.TheVariants.{Verdicts, Table, Scores, Check}
-use Rattle.command_words.specs.declared.command.Mode.TheVariants.{Sample}
+use Rattle.what_if.specs.inside.StepCalls.{IsUnplayedFixture}
+use Rattle.what_if.specs.declared.step.Step.{Step as AskStep}
+use Rattle.what_if.specs.declared.step.Step.TheVariants as step
+use Rattle.what_if.specs.Steps.{about_of, forgotten, step_in, step_line}
+use Rattle.what_if.proofs.StepLemmas.{asks-unplayed, other-same, step-about}
+use Rattle.what_if.proofs.WhenLemmas.{when_there}
+use Rattle.command_words.specs.declared.command.Mode.TheVariants.{Verdicts, Table, Scores, WhatIf}
+use Rattle.command_words.specs.declared.command.Mode.TheVariants.{Check, Sample}
 use Rattle.futmax_main.specs.Plays.{Played}
-use Rattle.futmax_main.specs.Courses.{Course, Origin, asked_at, course_after, course_by, course_in}
-use Rattle.futmax_main.specs.Courses.{course_of}
+use Rattle.futmax_main.specs.Courses.{Course, Origin, about_in, asked_at, course_after, course_by}
+use Rattle.futmax_main.specs.Courses.{course_in, course_of}
 use Rattle.futmax_main.specs.inside.Progress.{line_after}
 use Rattle.futmax_main.specs.Answers.{IsAnswerTo, IsItemText, IsScoresText, IsVerdictsText}
+use Rattle.futmax_main.specs.Answers.{IsWhatIfText}
 use Rattle.futmax_main.specs.Texts.{AreAnswers}
 use Rattle.futmax_main.proofs.LimitLemmas.{GivesLimits, sheet-limits}
 
@@ -144,17 +153,32 @@ scores-there sheet season epoch league results =
     let found = scores_there sheet season league results in
     (text_of_scores sheet epoch found.0, (found.0, found.1, refl))
 
+-- what is asked about is an unplayed fixture, if it is one
+abbrev pub CanBeAsked : Sheet → Results → Option ℕ → Type 0
+CanBeAsked sheet season about = IfSome about (IsUnplayedFixture sheet season)
+
+-- the text of what is asked about
+what_if-there : (sheet : Sheet) (season : Results) (epoch : ℕ) (about : Option ℕ)
+    → IsLeague sheet season → are_results season ≡ true → CanBeAsked sheet season about
+    → (text : List ℕ) × IsWhatIfText sheet season epoch about text
+what_if-there sheet season epoch None league results can = ([], refl)
+what_if-there sheet season epoch (Some fixture) league results can =
+    when_there sheet season epoch fixture league results can.0 can.1
+
 -- there is an answer to an ask of a league
 answer-there : (mode : Mode) (asked : Played) → IsLeague asked.sheet asked.season
-    → are_results asked.season ≡ true → (text : List ℕ) × IsAnswerTo mode asked text
-answer-there (Verdicts proofs) asked league results =
+    → are_results asked.season ≡ true → CanBeAsked asked.sheet asked.season asked.about
+    → (text : List ℕ) × IsAnswerTo mode asked text
+answer-there (Verdicts proofs) asked league results can =
     verdicts-there proofs asked.sheet asked.season asked.epoch league results
-answer-there Table asked league results =
+answer-there Table asked league results can =
     table-there asked.sheet asked.season asked.epoch league.limits
-answer-there Scores asked league results =
+answer-there Scores asked league results can =
     scores-there asked.sheet asked.season asked.epoch league results
-answer-there Check asked league results = ([], refl)
-answer-there (Sample seed) asked league results = ([], refl)
+answer-there WhatIf asked league results can =
+    what_if-there asked.sheet asked.season asked.epoch asked.about league results can
+answer-there Check asked league results can = ([], refl)
+answer-there (Sample seed) asked league results can = ([], refl)
 
 -- ---- the asks of a course
 
@@ -169,17 +193,53 @@ answers-behind mode [] others all = all
 answers-behind mode (asked ∷ asks) others all =
     answers-behind mode asks others (all.1.1, all.1.4)
 
--- a line's event may come after events of the sheet
-event-may_come : (mode : Mode) (sheet : Sheet) (events : List Event) (content : List ℕ)
-    (event : Event) → AreEventsOf sheet events
-    → line_after mode sheet events content ≡ Ok (Some (Change event))
+-- an event of a feed may come after events of the sheet
+entry-may_come : (sheet : Sheet) (events : List Event) (content : List ℕ) (event : Event)
+    → AreEventsOf sheet events → live_entry sheet events content ≡ Ok (Some (Change event))
     → AreEventsOf sheet (events ++ event ∷ [])
-event-may_come mode sheet events content event of_sheet is =
+entry-may_come sheet events content event of_sheet is =
     let none : EntryReading = record { gives = Ok End; rest = ended (Ok 0) } in
     AreEventsOf-push sheet events event of_sheet
     (contents_may_come sheet (season_after sheet events) (epoch_of events) false
     (with_line 0 content (ended (Ok 0))) (Change event) (season_after_of sheet events)
     (ap (λ found. (entry_reading_by 0 (ended (Ok 0)) none found).gives) is)).0
+
+-- a line that tells an event is no `when`, and is read as in every feed
+change-back : (line : Result (Option AskStep) FeedFault) (event : Event)
+    → forgotten line ≡ Ok (Some (Change event)) → line ≡ Ok (Some (step.Entry (Change event)))
+change-back (Ok None) event is = cc
+change-back (Ok (Some (step.Entry entry))) event is = cc
+change-back (Ok (Some (step.When fixture))) event is = cc
+change-back (Err fault) event is = cc
+
+change-told : (sheet : Sheet) (season : Results) (events : ℕ) (content : List ℕ) (event : Event)
+    → step_line sheet season events content ≡ Ok (Some (Change event))
+    → entry_in sheet season events false content ≡ Ok (Some (Change event))
+change-told sheet season events content event is =
+    let none : about_of content ≡ None =
+    step-about sheet season events content (step.Entry (Change event))
+    (change-back (step_in sheet season events content) event is) in
+    sym (other-same sheet season events content none) ∙ is
+
+-- so may a line's event
+event-may_come : (mode : Mode) (sheet : Sheet) (events : List Event) (content : List ℕ)
+    (event : Event) → AreEventsOf sheet events
+    → line_after mode sheet events content ≡ Ok (Some (Change event))
+    → AreEventsOf sheet (events ++ event ∷ [])
+event-may_come WhatIf sheet events content event of_sheet is =
+    entry-may_come sheet events content event of_sheet
+    (change-told sheet (season_after sheet events) (epoch_of events) content event is)
+event-may_come mode sheet events content event of_sheet is =
+    entry-may_come sheet events content event of_sheet is
+
+-- what a line asks about is an unplayed fixture, if it is one
+line-can : (mode : Mode) (sheet : Sheet) (events : List Event) (content : List ℕ)
+    → line_after mode sheet events content ≡ Ok (Some Ask)
+    → CanBeAsked sheet (season_after sheet events) (about_in mode content)
+line-can WhatIf sheet events content is =
+    asks-unplayed sheet (season_after sheet events) (epoch_of events) content
+    (season_after_of sheet events) is
+line-can mode sheet events content is = tt
 
 -- where lines have answers after any events of the sheet, a line before them has, by what it is
 line-there : (mode : Mode) (origin : Origin) (line : ℕ × List ℕ)
@@ -199,7 +259,8 @@ line-there mode origin line onward events limits of_sheet behind
 line-there mode origin line onward events limits of_sheet behind (Ok (Some Ask)) is =
     let first = answer-there mode (asked_at mode origin events line.1)
     (record { limits = limits; of_sheet = season_after_of origin.sheet events })
-    (season_after_results origin.sheet events of_sheet) in
+    (season_after_results origin.sheet events of_sheet)
+    (line-can mode origin.sheet events line.1 is) in
     let more = behind events of_sheet in
     (first.0 ++ more.0, (first.0, more.0, refl, first.1, more.1))
 line-there mode origin line onward events limits of_sheet behind (Ok (Some Proofs)) is =

@@ -30,6 +30,7 @@ use Rattle.futmax_main.specs.inside.TurnReads.{HasComeToPool, TurnStops}
 use Rattle.futmax_main.specs.inside.Progress.{IsOriginOf, PathToPool, line_after}
 use Rattle.futmax_main.specs.inside.Stops.{CountsEnd, CountsStop, StopEnds, stop_of_feed}
 use Rattle.futmax_main.specs.inside.Stops.{stop_of_sheet}
+use Rattle.futmax_main.specs.inside.Halts.{IsAboutAt}
 use Rattle.futmax_main.specs.inside.Turns.{CloseGives, CountsClose, CountsTurn, TurnCounts}
 use Rattle.futmax_main.specs.inside.Turns.{TurnGives, TurnGoesOn, TurnIsLive}
 use Rattle.futmax_main.proofs.LastReadLemmas.{round-goes_on, round-stops, sheet-ends}
@@ -38,55 +39,55 @@ use Rattle.futmax_main.proofs.RoundLemmas.{round-ask, round-end, round-stop}
 -- ---- the way
 
 module _ (mode : Mode) (input : Option (List ℕ)) (told0 : Bool) (pool next : PoolView)
-    (from to : Spot) (old now0 now1 : Option (List ℕ))
+    (about : Option ℕ) (from to : Spot) (old now0 now1 : Option (List ℕ))
     (path : PathToPool mode input told0 (stream_of from.reader from.left) from.ended
     from.reader.position pool old now0) where
   -- whatever ended the round, from the origin of the way
   origin-gives : (end : RoundEnd) (turn : Step)
       → EndsRound (line_after mode path.0.sheet) pool.log next.log from to (close_of end)
-      → IsOriginOf path.0 next
-      → CloseGives mode next end now0 now1 turn
+      → IsOriginOf path.0 next → IsAboutAt mode end to.reader.text about
+      → CloseGives mode next about end now0 now1 turn
       → TurnGives mode input told0 (stream_of to.reader to.left) to.ended to.reader.position
       to.left old now1 turn
-  origin-gives Ask turn ends of_pool gives =
-      round-ask mode input told0 path.0 pool.log next.log from to old now0 path.2 next now1
-      turn ends refl of_pool gives
-  origin-gives End (GoesOn other) ends of_pool gives = absurd gives
-  origin-gives End (Ends status) ends of_pool gives =
+  origin-gives Ask turn ends of_pool about_is gives =
+      round-ask mode input told0 path.0 pool.log next.log from to old now0 path.2 next about now1
+      turn ends refl of_pool about_is gives
+  origin-gives End (GoesOn other) ends of_pool about_is gives = absurd gives
+  origin-gives End (Ends status) ends of_pool about_is gives =
       round-end mode input told0 path.0 pool.log next.log from to old now0 path.2 now1 status
       ends gives.0 gives.1
-  origin-gives (Stop stop) (GoesOn other) ends of_pool gives = absurd gives
-  origin-gives (Stop stop) (Ends status) ends of_pool gives =
+  origin-gives (Stop stop) (GoesOn other) ends of_pool about_is gives = absurd gives
+  origin-gives (Stop stop) (Ends status) ends of_pool about_is gives =
       round-stop mode input told0 path.0 pool.log next.log from to old now0 path.2 stop now1
       status ends gives
 
   -- from the pool before it
   pub close-gives : (end : RoundEnd) (turn : Step)
       → EndsRound (line_after mode pool.sheet) pool.log next.log from to (close_of end)
-      → next.sheet ≡ pool.sheet
-      → CloseGives mode next end now0 now1 turn
+      → next.sheet ≡ pool.sheet → IsAboutAt mode end to.reader.text about
+      → CloseGives mode next about end now0 now1 turn
       → TurnGives mode input told0 (stream_of to.reader to.left) to.ended to.reader.position
       to.left old now1 turn
-  close-gives end turn ends same gives =
+  close-gives end turn ends same about_is gives =
       let P : Sheet → Type 0 =
       λ s. EndsRound (line_after mode s) pool.log next.log from to (close_of end) in
-      origin-gives end turn (subst P (sym path.1) ends) (path.1 ∙ sym same) gives
+      origin-gives end turn (subst P (sym path.1) ends) (path.1 ∙ sym same) about_is gives
 
 -- ---- how it goes on
 
 -- an ask keeps the sheet, and moves the reader on
-pub close-goes_on : (mode : Mode) (pool : PoolView) (end : RoundEnd) (old now : Option (List ℕ))
-    (turn : Step) (reader new : LineReaderView) (sheet : Sheet) → pool.sheet ≡ sheet
-    → MovesToEntry reader new (close_of end) → TurnIsLive mode turn
-    → CloseGives mode pool end old now turn
+pub close-goes_on : (mode : Mode) (pool : PoolView) (about : Option ℕ) (end : RoundEnd)
+    (old now : Option (List ℕ)) (turn : Step) (reader new : LineReaderView) (sheet : Sheet)
+    → pool.sheet ≡ sheet → MovesToEntry reader new (close_of end) → TurnIsLive mode turn
+    → CloseGives mode pool about end old now turn
     → TurnGoesOn mode sheet reader.position.bytes new.position.bytes turn
-close-goes_on mode pool Ask old now (GoesOn next) reader new sheet same moves live gives =
+close-goes_on mode pool about Ask old now (GoesOn next) reader new sheet same moves live gives =
     (live, gives.0.0 ∙ same, moves.0, moves.1)
-close-goes_on mode pool End old now (GoesOn next) reader new sheet same moves live gives =
+close-goes_on mode pool about End old now (GoesOn next) reader new sheet same moves live gives =
     absurd gives
-close-goes_on mode pool (Stop stop) old now (GoesOn next) reader new sheet same moves live gives =
-    absurd gives
-close-goes_on mode pool end old now (Ends status) reader new sheet same moves live gives = tt
+close-goes_on mode pool about (Stop stop) old now (GoesOn next) reader new sheet same moves live
+    gives = absurd gives
+close-goes_on mode pool about end old now (Ends status) reader new sheet same moves live gives = tt
 
 -- ---- the counts of faults
 
@@ -171,37 +172,38 @@ module _ {S : Type 0} (left : S → Option (List ℕ)) (reads : S → List ℕ �
   stop-last stop old now status ways stops = origin-stops status ways
 
   -- whatever ended the round
-  origin-last : (next : PoolView) (end : RoundEnd) (old now : Option (List ℕ)) (turn : Step)
-      (x y : Bool) (m n : ℕ)
+  origin-last : (next : PoolView) (about : Option ℕ) (end : RoundEnd) (old now : Option (List ℕ))
+      (turn : Step) (x y : Bool) (m n : ℕ)
       → EndsRound (line_after mode come.0.sheet) pool.log next.log
       (record { reader = reader; left = left before; ended = x; faults = m })
       (record { reader = new; left = left after; ended = y; faults = n }) (close_of end)
       → StopsAtClose left reads (line_after mode come.0.sheet) pool.log reader new before after
       (close_of end)
-      → IsOriginOf come.0 next → CloseGives mode next end old now turn
+      → IsOriginOf come.0 next → CloseGives mode next about end old now turn
       → TurnStops left reads mode first new after turn
-  origin-last next Ask old now turn x y m n ends ways of_pool gives =
+  origin-last next about Ask old now turn x y m n ends ways of_pool gives =
       round-goes_on left reads first reader new before after mode come.0 pool.log come.2 ways
-      next old now turn x y m n ends of_pool gives
-  origin-last next End old now (GoesOn other) x y m n ends ways of_pool gives = absurd gives
-  origin-last next End old now (Ends status) x y m n ends ways of_pool gives =
-      origin-stops status ways
-  origin-last next (Stop stop) old now (GoesOn other) x y m n ends ways of_pool gives =
+      next about old now turn x y m n ends of_pool gives
+  origin-last next about End old now (GoesOn other) x y m n ends ways of_pool gives =
       absurd gives
-  origin-last next (Stop stop) old now (Ends status) x y m n ends ways of_pool gives =
+  origin-last next about End old now (Ends status) x y m n ends ways of_pool gives =
+      origin-stops status ways
+  origin-last next about (Stop stop) old now (GoesOn other) x y m n ends ways of_pool gives =
+      absurd gives
+  origin-last next about (Stop stop) old now (Ends status) x y m n ends ways of_pool gives =
       stop-last stop old now status ways gives
 
   -- from the pool before it
-  pub close-last : (next : PoolView) (end : RoundEnd) (old now : Option (List ℕ)) (turn : Step)
-      (x y : Bool) (m n : ℕ)
+  pub close-last : (next : PoolView) (about : Option ℕ) (end : RoundEnd)
+      (old now : Option (List ℕ)) (turn : Step) (x y : Bool) (m n : ℕ)
       → EndsRound (line_after mode pool.sheet) pool.log next.log
       (record { reader = reader; left = left before; ended = x; faults = m })
       (record { reader = new; left = left after; ended = y; faults = n }) (close_of end)
       → StopsAtClose left reads (line_after mode pool.sheet) pool.log reader new before after
       (close_of end)
-      → next.sheet ≡ pool.sheet → CloseGives mode next end old now turn
+      → next.sheet ≡ pool.sheet → CloseGives mode next about end old now turn
       → TurnStops left reads mode first new after turn
-  close-last next end old now turn x y m n ends ways same gives =
+  close-last next about end old now turn x y m n ends ways same gives =
       let P : Sheet → Type 0 =
       λ s. EndsRound (line_after mode s) pool.log next.log
       (record { reader = reader; left = left before; ended = x; faults = m })
@@ -209,7 +211,7 @@ module _ {S : Type 0} (left : S → Option (List ℕ)) (reads : S → List ℕ �
       let Q : Sheet → Type 0 =
       λ s. StopsAtClose left reads (line_after mode s) pool.log reader new before after
       (close_of end) in
-      origin-last next end old now turn x y m n (subst P (sym come.1) ends)
+      origin-last next about end old now turn x y m n (subst P (sym come.1) ends)
       (subst Q (sym come.1) ways) (come.1 ∙ sym same) gives
 
   -- where no memory was found

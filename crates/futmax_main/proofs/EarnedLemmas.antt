@@ -11,6 +11,7 @@ use Rattle.futmax_main.specs.declared.status.Status.TheVariants.{Done, BadWords,
 use Rattle.futmax_main.specs.declared.status.Status.TheVariants.{ReadFault, WriteFault, OutOfMemory}
 use Rattle.futmax_main.specs.declared.status.Status.TheVariants.{NotProved, TooLong}
 use Rattle.command_words.specs.declared.command.Mode.{Mode}
+use Rattle.command_words.specs.declared.command.Mode.TheVariants.{WhatIf}
 use Rattle.futmax_main.specs.Top.{session_status, IsSettled, Serves}
 use Rattle.futmax_main.specs.inside.Turns.{MayEndSession}
 
@@ -37,6 +38,7 @@ earned-bad_sheet mode = refl
 earned-bad_feed : (mode : Mode)
     → session_status mode (two_clubs ++ line (codes "x")) ≡ BadFeed
 unfolding line two_clubs next_record strip_bom is_utf8 chars encode
+earned-bad_feed WhatIf = refl
 earned-bad_feed mode = refl
 
 -- a line of 1025 bytes

@@ -270,18 +270,19 @@ module _ {S : Type 0} (left : S → Option (List ℕ)) (reads : S → List ℕ �
     }
 
     -- the session goes on after it, or ends there
-    pub round-goes_on : (pool : PoolView) (old now : Option (List ℕ)) (turn : Step) (x y : Bool)
-        (m n : ℕ)
+    pub round-goes_on : (pool : PoolView) (about : Option ℕ) (old now : Option (List ℕ))
+        (turn : Step) (x y : Bool) (m n : ℕ)
         → EndsRound (line_after mode origin.sheet) log pool.log
         (record { reader = reader; left = left before; ended = x; faults = m })
         (record { reader = new; left = left after; ended = y; faults = n }) (Ok Ask)
-        → IsOriginOf origin pool → AskGives mode pool old now turn
+        → IsOriginOf origin pool → AskGives mode pool about old now turn
         → TurnStops left reads mode first new after turn
-    round-goes_on pool old now (GoesOn next) x y m n ends of_pool gives =
+    round-goes_on pool about old now (GoesOn next) x y m n ends of_pool gives =
         let P : List Event → Type 0 =
         λ told. HasComeTo left reads mode first new after origin told in (
           origin,
           of_pool ∙ sym gives.0.0,
           subst P (sym gives.0.1) (round-come pool.log x y m n ends),
         )
-    round-goes_on pool old now (Ends status) x y m n ends of_pool gives = round-stops status
+    round-goes_on pool about old now (Ends status) x y m n ends of_pool gives =
+        round-stops status

@@ -7,6 +7,7 @@ pub mod TextLemmas
 pub mod EndLemmas
 pub mod AnswerLemmas
 pub mod TurnLemmas
+pub mod HaltLemmas
 pub mod RoundLemmas
 pub mod LastReadLemmas
 pub mod CloseLemmas

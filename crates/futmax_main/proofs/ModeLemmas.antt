@@ -1,17 +1,20 @@
 -- What the status of a run says, by its mode.
 use Rattle.std.proofs.Common.{◌≡◌, ◌≢◌, ℕ, Bool, List, [], ◌++◌, Option, Some, None, refl, subst}
-use Rattle.std.proofs.Common.{codes, replicate, inl}
-use Rattle.std.proofs.Common.{inr}
+use Rattle.std.proofs.Common.{codes, replicate, sym, inl, inr}
+use Rattle.std.specs.Prelude.{◌⊎◌}
 use Rattle.futmax_main.specs.declared.status.Status.{Status}
 use Rattle.futmax_main.specs.declared.status.Status.TheVariants.{Done, BadWords, BadSheet, BadFeed}
 use Rattle.futmax_main.specs.declared.status.Status.TheVariants.{ReadFault, WriteFault, OutOfMemory}
 use Rattle.futmax_main.specs.declared.status.Status.TheVariants.{NotProved, TooLong}
 use Rattle.command_words.specs.declared.command.Mode.{Mode}
+use Rattle.command_words.specs.declared.command.Mode.TheVariants.{Verdicts, Table, Scores, WhatIf}
 use Rattle.command_words.specs.declared.command.Mode.TheVariants.{Check, Sample}
 use Rattle.futmax_main.specs.Checks.{ServesCheck}
 use Rattle.futmax_main.specs.SampleRows.{ServesSample}
-use Rattle.futmax_main.specs.Modes.{IsCheckSettled, IsSettledAs, ServesAs}
-use Rattle.futmax_main.specs.inside.Turns.{MayEndAs}
+use Rattle.futmax_main.specs.Top.{Serves}
+use Rattle.futmax_main.specs.LastReads.{StopsAs, StopsSession}
+use Rattle.futmax_main.specs.Modes.{IsCheckSettled, IsSettledAs, ReadsNothing, ServesAs}
+use Rattle.futmax_main.specs.inside.Turns.{MayEndAs, MayEndSession}
 use Rattle.futmax_main.proofs.EarnedLemmas.{settled}
 use Rattle.futmax_main.proofs.CheckedLemmas.{checked-bad_feed, checked-bad_sheet, checked-done}
 use Rattle.futmax_main.proofs.CheckedLemmas.{checked-not_proved, checked-too_long, ended_line}
@@ -95,3 +98,54 @@ settled_as-no_memory (Some Check) (Some input) = inr refl
 settled_as-no_memory (Some (Sample seed)) input = inr refl
 settled_as-no_memory (Some mode) None = inr refl
 settled_as-no_memory (Some mode) (Some input) = inr refl
+
+-- ---- the modes that answer asks
+
+abbrev pub AnswersAsks : Mode → Type 0
+AnswersAsks mode =
+    ((proofs : Bool) × (mode ≡ Verdicts proofs))
+    ⊎ ((mode ≡ Table) ⊎ ((mode ≡ Scores) ⊎ (mode ≡ WhatIf)))
+
+-- what holds of each of them
+asking : (P : Mode → Type 0) → ((proofs : Bool) → P (Verdicts proofs)) → P Table → P Scores
+    → P WhatIf → (mode : Mode) → AnswersAsks mode → P mode
+asking P verdicts table scores what_if mode (inl is) = subst P (sym is.1) (verdicts is.0)
+asking P verdicts table scores what_if mode (inr (inl is)) = subst P (sym is) table
+asking P verdicts table scores what_if mode (inr (inr (inl is))) = subst P (sym is) scores
+asking P verdicts table scores what_if mode (inr (inr (inr is))) = subst P (sym is) what_if
+
+-- a session serves as its mode has to
+pub session-serves : (mode : Mode) (input left : Option (List ℕ)) (told : Bool)
+    (old now : Option (List ℕ)) (status : Status) → AnswersAsks mode
+    → Serves mode input left told old now status
+    → ServesAs (Some mode) input left told old now status
+session-serves mode input left told old now status is =
+    let P : Mode → Type 0 =
+    λ m. Serves m input left told old now status
+    → ServesAs (Some m) input left told old now status in
+    asking P (λ proofs serves. serves) (λ serves. serves) (λ serves. serves)
+    (λ serves. serves) mode is
+
+-- and stops so
+pub session-stops : {S : Type 0} (left : S → Option (List ℕ)) (reads : S → List ℕ → S → Type 0)
+    (mode : Mode) (before after : S) (status : Status) → AnswersAsks mode
+    → StopsSession left reads mode before after status
+    → StopsAs left reads (Some mode) before after status
+session-stops left reads mode before after status is =
+    let P : Mode → Type 0 =
+    λ m. StopsSession left reads m before after status
+    → StopsAs left reads (Some m) before after status in
+    asking P (λ proofs stops. stops) (λ stops. stops) (λ stops. stops) (λ stops. stops) mode is
+
+-- and ends so
+pub session-ends : (mode : Mode) (status : Status) → AnswersAsks mode → MayEndSession status
+    → MayEndAs mode status
+session-ends mode status is =
+    let P : Mode → Type 0 = λ m. MayEndSession status → MayEndAs m status in
+    asking P (λ proofs may. may) (λ may. may) (λ may. may) (λ may. may) mode is
+
+-- and reads its input
+pub session-reads : (mode : Mode) → AnswersAsks mode → ReadsNothing (Some mode) → ⊥
+session-reads mode is =
+    let P : Mode → Type 0 = λ m. ReadsNothing (Some m) → ⊥ in
+    asking P (λ proofs none. none) (λ none. none) (λ none. none) (λ none. none) mode is

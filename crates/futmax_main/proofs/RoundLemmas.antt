@@ -31,7 +31,8 @@ use Rattle.futmax_main.specs.declared.run_end.RunEnd.TheVariants.{Complete, Refu
 use Rattle.futmax_main.specs.declared.session.Step.{Step}
 use Rattle.futmax_main.specs.declared.session.Step.TheVariants.{GoesOn, Ends}
 use Rattle.futmax_main.specs.Plays.{Played, played_after}
-use Rattle.futmax_main.specs.Courses.{Course, Origin, asked_at, course_ended, course_from}
+use Rattle.futmax_main.specs.Courses.{Course, Origin, about_in, asked_at, course_ended}
+use Rattle.futmax_main.specs.Courses.{course_from}
 use Rattle.futmax_main.specs.Courses.{course_of, input_fault, line_fault, outcome_at_stop}
 use Rattle.futmax_main.specs.Courses.{with_asks}
 use Rattle.futmax_main.specs.Answers.{IsAnswerTo}
@@ -172,17 +173,21 @@ module _ (mode : Mode) (told0 told' : Bool) (to : Position) (origin : Origin)
 
   -- ---- an ask
 
-  module _ (number : ℕ) (text : List ℕ) (pool : PoolView) (left now1 : Option (List ℕ))
+  module _ (number : ℕ) (text : List ℕ) (pool : PoolView) (about : Option ℕ)
+      (left now1 : Option (List ℕ))
       (is : line_after mode origin.sheet log text ≡ Ok (Some Ask))
-      (told : log ≡ pool.log) (of_pool : IsOriginOf origin pool) where
-    -- what the line asks is what the pool was told
-    line-asks : asked_at mode origin log text ≡ reported_to pool
-    line-asks = ap₂ (λ sheet events. played_after sheet events) of_pool told
+      (told : log ≡ pool.log) (of_pool : IsOriginOf origin pool)
+      (about_is : about ≡ about_in mode text) where
+    -- what the line asks is what the pool was told, about the same fixture
+    line-asks : asked_at mode origin log text ≡ reported_to pool about
+    line-asks =
+        ap₂ (λ sheet events. played_after sheet events (about_in mode text)) of_pool told
+        ∙ ap (played_after pool.sheet pool.log) (sym about_is)
 
     -- an ask of an input that is told
     ask-turn : (input after : List ℕ) (turn : Step)
         → Onward mode input after told0 told' to ((number, text) ∷ []) origin log old now0
-        → AskGives mode pool now0 now1 turn
+        → AskGives mode pool about now0 now1 turn
         → TurnGives mode (Some input) told0 (Some after) told' to left old now1 turn
     ask-turn input after (GoesOn next) on gives =
         let answer = gives.1.0 in
@@ -212,7 +217,7 @@ module _ (mode : Mode) (told0 told' : Bool) (to : Position) (origin : Origin)
 
     pub turn-ask : (input after : Option (List ℕ)) (turn : Step)
         → OnwardKnown mode input after told0 told' to ((number, text) ∷ []) origin log old now0
-        → AskGives mode pool now0 now1 turn
+        → AskGives mode pool about now0 now1 turn
         → TurnGives mode input told0 after told' to left old now1 turn
     turn-ask None after turn on gives =
         turn-untold mode told0 after told' to left old now1 turn
@@ -330,16 +335,16 @@ module _ (mode : Mode) (input : Option (List ℕ)) (told0 : Bool) (origin : Orig
       ends.passes ends.tells
 
   -- by an ask, which the pool of the round answers
-  pub round-ask : (pool : PoolView) (now1 : Option (List ℕ)) (turn : Step)
+  pub round-ask : (pool : PoolView) (about : Option ℕ) (now1 : Option (List ℕ)) (turn : Step)
       → EndsRound (line_after mode origin.sheet) log log' from to (Ok Ask) → log' ≡ pool.log
-      → IsOriginOf origin pool
-      → AskGives mode pool now0 now1 turn
+      → IsOriginOf origin pool → about ≡ about_in mode to.reader.text
+      → AskGives mode pool about now0 now1 turn
       → TurnGives mode input told0 (stream_of to.reader to.left) to.ended to.reader.position
       to.left old now1 turn
-  round-ask pool now1 turn ends told of_pool gives =
+  round-ask pool about now1 turn ends told of_pool about_is gives =
       turn-ask mode told0 to.ended to.reader.position origin log' old now0
-      to.reader.position.lines to.reader.text pool to.left now1 ends.comes told of_pool input
-      (stream_of to.reader to.left) turn (ends-onward (Ok Ask) ends) gives
+      to.reader.position.lines to.reader.text pool about to.left now1 ends.comes told of_pool
+      about_is input (stream_of to.reader to.left) turn (ends-onward (Ok Ask) ends) gives
 
   -- by the end of the input
   pub round-end : (now1 : Option (List ℕ)) (status : Status)

@@ -1,5 +1,5 @@
 -- The answer of an ask, by the mode.
-use Rattle.std.specs.Prelude.{◌≡◌, ℕ, Bool, List, [], ◌++◌}
+use Rattle.std.specs.Prelude.{◌≡◌, ℕ, Bool, List, [], ◌++◌, Option, None, Some}
 use Rattle.league_core.specs.declared.sheet.Sheet.{Sheet}
 use Rattle.league_core.specs.game.Results.{Results}
 use Rattle.cert_text.specs.declared.proof_line.ProofLine.{ProofLine}
@@ -13,9 +13,10 @@ use Rattle.answer_rows.specs.Tables.{IsTableText}
 use Rattle.answer_rows.specs.declared.bound.ClubScores.{ClubScores}
 use Rattle.answer_rows.specs.ScoreTexts.{text_of_scores}
 use Rattle.qual_scores.specs.AllScores.{AreScoresOf}
+use Rattle.what_if.specs.WhenTexts.{IsWhenText}
 use Rattle.command_words.specs.declared.command.Mode.{Mode}
-use Rattle.command_words.specs.declared.command.Mode.TheVariants.{Verdicts, Table, Scores, Check}
-use Rattle.command_words.specs.declared.command.Mode.TheVariants.{Sample}
+use Rattle.command_words.specs.declared.command.Mode.TheVariants.{Verdicts, Table, Scores, WhatIf}
+use Rattle.command_words.specs.declared.command.Mode.TheVariants.{Check, Sample}
 use Rattle.futmax_main.specs.Plays.{Played}
 
 -- the item of a line and a club: the row of a word that is right, and then lines that show it,
@@ -40,16 +41,23 @@ IsScoresText sheet season epoch text =
     (scores : List ClubScores) × AreScoresOf sheet season scores
     × (text ≡ text_of_scores sheet epoch scores)
 
--- the text answers from a season after so many events; the modes without asks answer nothing
-abbrev pub IsAnswerFrom : Mode → Sheet → Results → ℕ → List ℕ → Type 0
-IsAnswerFrom (Verdicts proofs) sheet season epoch text =
+-- the text of what is asked about, if something is: an ask about no fixture has none
+abbrev pub IsWhatIfText : Sheet → Results → ℕ → Option ℕ → List ℕ → Type 0
+IsWhatIfText sheet season epoch None text = text ≡ []
+IsWhatIfText sheet season epoch (Some fixture) text = IsWhenText sheet season epoch fixture text
+
+-- the text answers from a season after so many events, by the fixture that is asked about, if one
+-- is; the modes without asks answer nothing
+abbrev pub IsAnswerFrom : Mode → Sheet → Results → ℕ → Option ℕ → List ℕ → Type 0
+IsAnswerFrom (Verdicts proofs) sheet season epoch about text =
     IsVerdictsText proofs sheet season epoch text
-IsAnswerFrom Table sheet season epoch text = IsTableText sheet season epoch text
-IsAnswerFrom Scores sheet season epoch text = IsScoresText sheet season epoch text
-IsAnswerFrom Check sheet season epoch text = text ≡ []
-IsAnswerFrom (Sample seed) sheet season epoch text = text ≡ []
+IsAnswerFrom Table sheet season epoch about text = IsTableText sheet season epoch text
+IsAnswerFrom Scores sheet season epoch about text = IsScoresText sheet season epoch text
+IsAnswerFrom WhatIf sheet season epoch about text = IsWhatIfText sheet season epoch about text
+IsAnswerFrom Check sheet season epoch about text = text ≡ []
+IsAnswerFrom (Sample seed) sheet season epoch about text = text ≡ []
 
 -- the text answers an ask, from what was played there
 abbrev pub IsAnswerTo : Mode → Played → List ℕ → Type 0
 IsAnswerTo mode played text =
-    IsAnswerFrom mode played.sheet played.season played.epoch text
+    IsAnswerFrom mode played.sheet played.season played.epoch played.about text

@@ -1,7 +1,6 @@
 -- The course of an input: what is asked on the way through it, and how it ends. The sheet comes
--- first, and then line after line, each read in the season of the events before it. The mode and
--- the text of an ask are handed along; no course depends on them yet, as each mode reads the same
--- lines.
+-- first, and then line after line, each read in the season of the events before it. Each mode reads
+-- the same lines, but for the record `when`, which only `whatif` knows.
 use Rattle.std.specs.Prelude.{ℕ, false, List, [], ◌∷◌, ◌++◌, Option, None, Some, Result, Ok, Err}
 use Rattle.league_core.specs.declared.sheet.Sheet.{Sheet}
 use Rattle.league_core.specs.declared.season.Event.{Event}
@@ -17,7 +16,9 @@ use Rattle.result_log.specs.declared.entry.Entry.{Entry}
 use Rattle.result_log.specs.declared.entry.Entry.TheVariants as entry
 use Rattle.result_log.specs.declared.fault.FeedFault.{FeedFault}
 use Rattle.result_log.specs.Feeds.{entry_in}
+use Rattle.what_if.specs.Steps.{about_of, step_line}
 use Rattle.command_words.specs.declared.command.Mode.{Mode}
+use Rattle.command_words.specs.declared.command.Mode.TheVariants.{WhatIf}
 use Rattle.futmax_main.specs.declared.run_end.Cause.TheVariants as cause
 use Rattle.futmax_main.specs.declared.run_end.Fault.{Fault}
 use Rattle.futmax_main.specs.declared.run_end.RunEnd.{RunEnd}
@@ -60,13 +61,20 @@ pub record Origin : Type 0 where
   pub sheet : Sheet
 
 -- what the content of such a line is, in this season and after so many events: an entry of a feed
--- that no proofs follow, or a refusal
+-- that no proofs follow, or a refusal; where a `when` may stand, it is an ask too
 abbrev pub line_of : Mode → Sheet → Results → ℕ → List ℕ → Result (Option Entry) FeedFault
+line_of WhatIf sheet season events content = step_line sheet season events content
 line_of mode sheet season events content = entry_in sheet season events false content
+
+-- the fixture that a line with this content asks about, if it asks about one: only a `when` does
+abbrev pub about_in : Mode → List ℕ → Option ℕ
+about_in WhatIf content = about_of content
+about_in mode content = None
 
 -- what a line with this content asks after these events, if it is an ask
 abbrev pub asked_at : Mode → Origin → List Event → List ℕ → Played
-asked_at mode origin events content = played_after origin.sheet events
+asked_at mode origin events content =
+    played_after origin.sheet events (about_in mode content)
 
 -- what was played at each ask, in their order, and how the input ends
 pub record Course : Type 0 where

@@ -3,6 +3,7 @@
 pub mod Statuses
 pub mod FeedCourses
 pub mod Progress
+pub mod Halts
 pub mod Stops
 pub mod Turns
 pub mod TurnReads

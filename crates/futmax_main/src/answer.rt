@@ -1,11 +1,13 @@
 //! The pool of a session, and the answer of an ask.
 
-ghost use Rattle.std.specs.Prelude.{◌≡◌, ◌≤◌, [], All, IfOk, length};
+ghost use Rattle.std.specs.Prelude.{◌≡◌, ◌≤◌, [], All, IfOk, None, length};
 ghost use Rattle.league_core.specs.game.Questions.{IsQuestionOf};
 ghost use Rattle.league_core.specs.game.Sheets.{IsWithinLimits};
 ghost use Rattle.verdict_run.specs.inside.Working.{AreSettled};
 ghost use Rattle.answer_rows.specs.inside.Outputs.{CountsPut};
 ghost use Rattle.command_words.specs.declared.command.Mode.TheVariants.{Verdicts, Table, Scores};
+ghost use Rattle.command_words.specs.declared.command.Mode.TheVariants.{WhatIf};
+ghost use Rattle.futmax_main.specs.inside.Halts.{IsAskable};
 ghost use Rattle.futmax_main.specs.inside.Turns.{AnswersAsk, IsLive, IsReportedSame, IsWorkedOut};
 ghost use Rattle.futmax_main.specs.inside.Turns.{PutsAnswer, asked_by};
 
@@ -17,6 +19,7 @@ use port_core::Sink;
 use qual_scores::all_scores;
 use std::alloc::Global;
 use verdict_run::{finish, questions, verdicts};
+use what_if::put_when;
 
 /// The pool of a session whose sheet is whole, before the first event.
 pub fn begin_pool(alloc: Global, mode: Mode, sheet: Sheet) -> Result<Pool, OutOfMemory>
@@ -37,26 +40,31 @@ fn questions_for(alloc: Global, mode: Mode, sheet: &Sheet) -> Result<Vec<Questio
 {
     match mode {
         Mode::Verdicts { .. } => questions(alloc, sheet),
-        Mode::Table | Mode::Scores | Mode::Check | Mode::Sample { .. } => Ok(Vec::new(alloc)),
+        Mode::Table | Mode::Scores | Mode::WhatIf | Mode::Check | Mode::Sample { .. } => {
+            Ok(Vec::new(alloc))
+        }
     }
 }
 
-/// Writes the answer of an ask, and gives back the pool, which may know more then.
+/// Writes the answer of an ask, about a fixture if it is about one, and gives back the pool, which
+/// may know more then.
 pub fn put_answer<K: Sink>(
     alloc: Global,
     mode: Mode,
     pool: Pool,
+    about: Option<u16>,
     sink: &mut K,
 ) -> Result<Pool, OutputStop>
-    requires { IsLive mode pool }
-    ensures answer { AnswersAsk mode pool (K.holds sink.old) (K.holds sink.new) result }
+    requires live { IsLive mode pool }
+    requires askable { IsAskable pool about }
+    ensures answer { AnswersAsk mode pool about (K.holds sink.old) (K.holds sink.new) result }
     ensures live { IfOk result (IsLive mode) }
     ensures counts { CountsPut (K.faults sink.old) (K.faults sink.new) result }
 {
     let Ok(pool) = work_out(alloc, mode, pool) else {
         return Err(OutputStop::OutOfMemory);
     };
-    match put_worked(alloc, mode, &pool, sink) {
+    match put_worked(alloc, mode, &pool, about, sink) {
         Ok(()) => Ok(pool),
         Err(stop) => Err(stop),
     }
@@ -71,7 +79,7 @@ fn work_out(alloc: Global, mode: Mode, pool: Pool) -> Result<Pool, OutOfMemory>
 {
     match mode {
         Mode::Verdicts { .. } => finish(alloc, pool),
-        Mode::Table | Mode::Scores | Mode::Check | Mode::Sample { .. } => Ok(pool),
+        Mode::Table | Mode::Scores | Mode::WhatIf | Mode::Check | Mode::Sample { .. } => Ok(pool),
     }
 }
 
@@ -79,17 +87,20 @@ fn put_worked<K: Sink>(
     alloc: Global,
     mode: Mode,
     pool: &Pool,
+    about: Option<u16>,
     sink: &mut K,
 ) -> Result<(), OutputStop>
     requires live { IsLive mode pool.now }
     requires worked { IsWorkedOut mode pool.now }
-    ensures answer { PutsAnswer mode pool.now (K.holds sink.old) (K.holds sink.new) result }
+    requires askable { IsAskable pool.now about }
+    ensures answer { PutsAnswer mode pool.now about (K.holds sink.old) (K.holds sink.new) result }
     ensures counts { CountsPut (K.faults sink.old) (K.faults sink.new) result }
 {
     match mode {
         Mode::Verdicts { proofs } => put_found(alloc, proofs, pool, sink),
         Mode::Table => put_order(alloc, pool, sink),
         Mode::Scores => put_numbers(alloc, pool, sink),
+        Mode::WhatIf => put_outcomes(alloc, pool, about, sink),
         Mode::Check | Mode::Sample { .. } => Ok(()),
     }
 }
@@ -102,8 +113,8 @@ fn put_found<K: Sink>(
 ) -> Result<(), OutputStop>
     requires live { IsLive (Verdicts proofs) pool.now }
     requires settled { AreSettled pool.now }
-    ensures answer { PutsAnswer (Verdicts proofs) pool.now (K.holds sink.old) (K.holds sink.new)
-        result }
+    ensures answer { PutsAnswer (Verdicts proofs) pool.now None (K.holds sink.old)
+        (K.holds sink.new) result }
     ensures counts { CountsPut (K.faults sink.old) (K.faults sink.new) result }
 {
     let Ok(found) = verdicts(alloc, pool) else {
@@ -121,7 +132,7 @@ fn put_found<K: Sink>(
 
 fn put_order<K: Sink>(alloc: Global, pool: &Pool, sink: &mut K) -> Result<(), OutputStop>
     requires { IsLive Table pool.now }
-    ensures answer { PutsAnswer Table pool.now (K.holds sink.old) (K.holds sink.new) result }
+    ensures answer { PutsAnswer Table pool.now None (K.holds sink.old) (K.holds sink.new) result }
     ensures counts { CountsPut (K.faults sink.old) (K.faults sink.new) result }
 {
     let Ok(rows) = table_rows(alloc, pool.sheet(), pool.season()) else {
@@ -132,11 +143,34 @@ fn put_order<K: Sink>(alloc: Global, pool: &Pool, sink: &mut K) -> Result<(), Ou
 
 fn put_numbers<K: Sink>(alloc: Global, pool: &Pool, sink: &mut K) -> Result<(), OutputStop>
     requires { IsLive Scores pool.now }
-    ensures answer { PutsAnswer Scores pool.now (K.holds sink.old) (K.holds sink.new) result }
+    ensures answer { PutsAnswer Scores pool.now None (K.holds sink.old) (K.holds sink.new)
+        result }
     ensures counts { CountsPut (K.faults sink.old) (K.faults sink.new) result }
 {
     let Ok(found) = all_scores(alloc, pool.sheet(), pool.season()) else {
         return Err(OutputStop::OutOfMemory);
     };
     put_scores(alloc, pool.epoch(), pool.sheet(), found.as_slice(), sink)
+}
+
+// A match that is asked about has its outcomes written; an ask about none has nothing.
+fn put_outcomes<K: Sink>(
+    alloc: Global,
+    pool: &Pool,
+    about: Option<u16>,
+    sink: &mut K,
+) -> Result<(), OutputStop>
+    requires live { IsLive WhatIf pool.now }
+    requires askable { IsAskable pool.now about }
+    ensures answer { PutsAnswer WhatIf pool.now about (K.holds sink.old) (K.holds sink.new)
+        result }
+    ensures counts { CountsPut (K.faults sink.old) (K.faults sink.new) result }
+{
+    match about {
+        Some(fixture) => {
+            let (sheet, season) = (pool.sheet(), pool.season());
+            put_when(alloc, sheet, season, pool.epoch(), fixture, sink)
+        }
+        None => Ok(()),
+    }
 }

@@ -10,14 +10,21 @@ use crate::rows::fault_row;
 use crate::run_end::{Cause, Fault};
 use crate::status::Status;
 use answer_rows::{number_field, put_row, text_field};
-use cert_check::{CheckFailure, CheckOutcome, ReportFault, check_input};
+use cert_check::{CheckFailure, CheckOutcome, ReportFault};
 use cert_text::write_row;
 use league_core::OutOfMemory;
+use par_check::check_input;
 use port_core::{LineReader, Sink, Source};
 use std::alloc::Global;
+use std::thread::Threads;
 
 /// Reads the whole input, then judges the report in it, and writes one row.
-pub fn run_check<S: Source, K: Sink>(alloc: Global, source: &mut S, sink: &mut K) -> Status
+pub fn run_check<R: Threads + Sync, S: Source, K: Sink>(
+    rt: &R,
+    alloc: Global,
+    source: &mut S,
+    sink: &mut K,
+) -> Status
     ensures serves { ServesCheck (S.left source.old) (S.left source.new)
         (K.holds sink.old) (K.holds sink.new) result }
     ensures counts { Counts (S.faults source.old) (S.faults source.new)
@@ -27,7 +34,7 @@ pub fn run_check<S: Source, K: Sink>(alloc: Global, source: &mut S, sink: &mut K
     let Ok(mut reader) = LineReader::new(alloc) else {
         return Status::OutOfMemory;
     };
-    match check_input(alloc, &mut reader, source) {
+    match check_input(rt, alloc, &mut reader, source) {
         Ok(outcome) => put_outcome(alloc, outcome, sink),
         Err(CheckFailure::ReadFault) => Status::ReadFault,
         Err(CheckFailure::OutOfMemory) => Status::OutOfMemory,

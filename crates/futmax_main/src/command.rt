@@ -88,8 +88,10 @@ fn run_mode<R: Threads + Wait + Sync, S: Source + Send, K: Sink, G: Gate + Sync>
     ensures unread { ReadsNothing (Some setup.now.mode) → source.new ≡ source.old }
 {
     match setup.mode {
-        Mode::Verdicts { .. } | Mode::Table | Mode::Scores => run_session(setup, source, sink),
-        Mode::Check => run_check(setup.alloc, source, sink),
+        Mode::Verdicts { .. } | Mode::Table | Mode::Scores | Mode::WhatIf => {
+            run_session(setup, source, sink)
+        }
+        Mode::Check => run_check(setup.rt, setup.alloc, source, sink),
         Mode::Sample { seed } => run_sample(setup.alloc, seed, sink),
     }
 }

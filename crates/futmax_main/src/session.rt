@@ -13,7 +13,9 @@ ghost use Rattle.futmax_main.specs.Top.{Counts, Serves};
 ghost use Rattle.futmax_main.specs.inside.Progress.{PathToPool, line_after};
 ghost use Rattle.futmax_main.specs.inside.TurnReads.{RoundStops, RoundsStop, TurnStops};
 ghost use Rattle.futmax_main.specs.inside.Turns.{AskGives, CloseGives, CountsClose, CountsTurn};
-ghost use Rattle.futmax_main.specs.inside.Turns.{IsLive, MayEndSession, TurnCounts, TurnGives};
+ghost use Rattle.futmax_main.specs.inside.Halts.{IsAboutAt, IsAskable, about_at, round_end_of};
+ghost use Rattle.futmax_main.specs.inside.Turns.{IsLive, MayEndSession};
+ghost use Rattle.futmax_main.specs.inside.Turns.{TurnCounts, TurnGives};
 ghost use Rattle.futmax_main.specs.inside.Turns.{TurnBegins, TurnGoesOn, TurnIsLive};
 
 use crate::answer::{begin_pool, put_answer};
@@ -29,7 +31,16 @@ use port_core::{LineReader, Sink, Source};
 use std::alloc::Global;
 use std::sync::Wait;
 use std::thread::Threads;
+use what_if::{StepEnd, StepRound, read_steps};
 use worker_gate::{Gate, Round, RoundEnd, read_round, run_round};
+
+/// Where a round of the feed halted, and the fixture that it halted at an ask about, if it did.
+#[derive(Drop)]
+struct Halt {
+    pool: Pool,
+    end: RoundEnd,
+    about: Option<u16>,
+}
 
 /// What came of a turn.
 #[derive(Drop)]
@@ -151,32 +162,37 @@ fn take_round<R: Threads + Wait + Sync, S: Source + Send, K: Sink, G: Gate + Syn
         (K.faults sink.old) (K.faults sink.new) result }
 {
     match next_round(setup, sheet, pool, reader, source) {
-        Ok(Round { pool, end }) => close_round(setup.alloc, setup.mode, pool, end, sink),
+        Ok(Halt { pool, end, about }) => {
+            close_round(setup.alloc, setup.mode, pool, end, about, sink)
+        }
         Err(_) => Step::Ends(Status::OutOfMemory),
     }
 }
 
 // Reads the feed on to the next ask, its end or a stop. In the mode `verdicts` workers work on the
-// pool meanwhile.
+// pool meanwhile; in the mode `whatif` an ask may be about a match.
 fn next_round<R: Threads + Wait + Sync, S: Source + Send, G: Gate + Sync>(
     setup: &Setup<'_, R, G>,
     sheet: &Sheet,
     pool: Pool,
     reader: &mut LineReader,
     source: &mut S,
-) -> Result<Round, OutOfMemory>
+) -> Result<Halt, OutOfMemory>
     requires live { IsLive setup.now.mode pool }
     requires of_pool { sheet.now ≡ pool.sheet }
-    ensures live { IfOk result (λ round. IsLive setup.now.mode round.pool) }
-    ensures sheet { IfOk result (λ round. round.pool.sheet ≡ pool.sheet) }
-    ensures ends { IfOk result (λ round. EndsRound (line_after setup.now.mode pool.sheet)
-        pool.log round.pool.log
+    ensures live { IfOk result (λ halt. IsLive setup.now.mode halt.pool) }
+    ensures sheet { IfOk result (λ halt. halt.pool.sheet ≡ pool.sheet) }
+    ensures about { IfOk result (λ halt.
+        IsAboutAt setup.now.mode halt.end reader.new.text halt.about) }
+    ensures askable { IfOk result (λ halt. IsAskable halt.pool halt.about) }
+    ensures ends { IfOk result (λ halt. EndsRound (line_after setup.now.mode pool.sheet)
+        pool.log halt.pool.log
         (spot_of reader.old (S.left source.old) (S.ended source.old) (S.faults source.old))
         (spot_of reader.new (S.left source.new) (S.ended source.new) (S.faults source.new))
-        (close_of round.end)) }
-    ensures last { IfOk result (λ round. StopsAtClose S.left S.reads
+        (close_of halt.end)) }
+    ensures last { IfOk result (λ halt. StopsAtClose S.left S.reads
         (line_after setup.now.mode pool.sheet) pool.log reader.old reader.new source.old
-        source.new (close_of round.end)) }
+        source.new (close_of halt.end)) }
     ensures err { OnErr result ((S.faults source.new ≡ S.faults source.old)
         × ReadsOnWay S.left S.reads
         (GivesEvents (line_after setup.now.mode pool.sheet) pool.log) reader.old reader.new
@@ -184,7 +200,7 @@ fn next_round<R: Threads + Wait + Sync, S: Source + Send, G: Gate + Sync>(
 {
     match setup.mode {
         Mode::Verdicts { .. } => {
-            run_round(
+            let Round { pool, end } = run_round(
                 setup.rt,
                 setup.alloc,
                 sheet,
@@ -193,35 +209,89 @@ fn next_round<R: Threads + Wait + Sync, S: Source + Send, G: Gate + Sync>(
                 source,
                 setup.workers,
                 setup.gate,
-            )
+            )?;
+            Ok(Halt {
+                pool,
+                end,
+                about: None,
+            })
+        }
+        Mode::WhatIf => {
+            let StepRound { pool, end } = read_steps(setup.alloc, pool, reader, source)?;
+            Ok(Halt {
+                pool,
+                end: round_end_of(end),
+                about: about_at(end),
+            })
         }
         Mode::Table | Mode::Scores | Mode::Check | Mode::Sample { .. } => {
-            read_round(setup.alloc, pool, reader, source)
+            let Round { pool, end } = read_round(setup.alloc, pool, reader, source)?;
+            Ok(Halt {
+                pool,
+                end,
+                about: None,
+            })
         }
     }
 }
 
+// A round that ended on a `when` ended on an ask.
+fn round_end_of(end: StepEnd) -> RoundEnd
+    ensures { result ≡ round_end_of end }
+{
+    match end {
+        StepEnd::Ask | StepEnd::When(_) => RoundEnd::Ask,
+        StepEnd::End => RoundEnd::End,
+        StepEnd::Stop(stop) => RoundEnd::Stop(stop),
+    }
+}
+
+// The fixture of that `when`.
+fn about_at(end: StepEnd) -> Option<u16>
+    ensures { result ≡ about_at end }
+{
+    match end {
+        StepEnd::When(fixture) => Some(fixture),
+        StepEnd::Ask | StepEnd::End | StepEnd::Stop(_) => None,
+    }
+}
+
 // An ask is answered, the end or a stop ends the run.
-fn close_round<K: Sink>(alloc: Global, mode: Mode, pool: Pool, end: RoundEnd, sink: &mut K) -> Step
-    requires { IsLive mode pool }
-    ensures gives { CloseGives mode pool end (K.holds sink.old) (K.holds sink.new) result }
+fn close_round<K: Sink>(
+    alloc: Global,
+    mode: Mode,
+    pool: Pool,
+    end: RoundEnd,
+    about: Option<u16>,
+    sink: &mut K,
+) -> Step
+    requires live { IsLive mode pool }
+    requires askable { IsAskable pool about }
+    ensures gives { CloseGives mode pool about end (K.holds sink.old) (K.holds sink.new) result }
     ensures live { TurnIsLive mode result }
     ensures counts { CountsClose end (K.faults sink.old) (K.faults sink.new) result }
 {
     match end {
-        RoundEnd::Ask => take_ask(alloc, mode, pool, sink),
+        RoundEnd::Ask => take_ask(alloc, mode, pool, about, sink),
         RoundEnd::End => Step::Ends(Status::Done),
         RoundEnd::Stop(stop) => Step::Ends(end_at_stop(alloc, stop_of_feed(stop), sink)),
     }
 }
 
-fn take_ask<K: Sink>(alloc: Global, mode: Mode, pool: Pool, sink: &mut K) -> Step
-    requires { IsLive mode pool }
-    ensures answer { AskGives mode pool (K.holds sink.old) (K.holds sink.new) result }
+fn take_ask<K: Sink>(
+    alloc: Global,
+    mode: Mode,
+    pool: Pool,
+    about: Option<u16>,
+    sink: &mut K,
+) -> Step
+    requires live { IsLive mode pool }
+    requires askable { IsAskable pool about }
+    ensures answer { AskGives mode pool about (K.holds sink.old) (K.holds sink.new) result }
     ensures live { TurnIsLive mode result }
     ensures counts { CountsTurn (K.faults sink.old) (K.faults sink.new) result }
 {
-    match put_answer(alloc, mode, pool, sink) {
+    match put_answer(alloc, mode, pool, about, sink) {
         Ok(pool) => Step::GoesOn(pool),
         Err(OutputStop::WriteFault) => Step::Ends(Status::WriteFault),
         Err(OutputStop::OutOfMemory) => Step::Ends(Status::OutOfMemory),

@@ -69,6 +69,7 @@ impl Sink for Noting<'_> {
 // How the run ends, and what had been read at each of the first pieces.
 fn notes_of(
     rt: &(impl Threads + Wait + Sync + Alloc<A = Global>),
+    mode: &str,
     bytes: &[u8],
 ) -> Result<(Status, [u64; 8]), Fail> {
     let given = AtomicU64::new(0);
@@ -83,7 +84,7 @@ fn notes_of(
         notes: [0; 8],
         pieces: 0,
     };
-    let words = words_of(rt.alloc(), &["futmax", "verdicts"])?;
+    let words = words_of(rt.alloc(), &["futmax", mode])?;
     let status = futmax(rt, rt.alloc(), words, &mut source, &mut sink, &OpenGate);
     Ok((status, sink.notes))
 }
@@ -93,7 +94,7 @@ fn notes_of(
 fn an_answer_comes_before_the_next_line(rt: HostRuntime) -> Result<(), Fail> {
     let end = CORRECTED.len() as u64;
     let first = end - 14;
-    let (status, notes) = notes_of(&rt, CORRECTED)?;
+    let (status, notes) = notes_of(&rt, "verdicts", CORRECTED)?;
     assert_eq!(rt; status, Status::Done);
     let wanted = [first, first, first, end, end, end, 0, 0];
     assert_eq!(rt; notes.as_slice(), wanted.as_slice());
@@ -105,12 +106,21 @@ fn an_answer_comes_before_the_next_line(rt: HostRuntime) -> Result<(), Fail> {
 // 1,025th.
 #[test]
 fn a_fault_comes_before_the_next_line(rt: HostRuntime) -> Result<(), Fail> {
-    let (status, notes) = notes_of(&rt, b"league,Tiny,1\nclub,A,0\nclub,B,2\n")?;
+    let (status, notes) = notes_of(&rt, "verdicts", b"league,Tiny,1\nclub,A,0\nclub,B,2\n")?;
     assert!(rt; status == Status::BadSheet && notes == [23, 0, 0, 0, 0, 0, 0, 0]);
     let feed = b"league,Tiny,1\nclub,A,1\nclub,B,2\nmatch,A,B\nline,1\nseason\nfix,1,1,0\nask\n";
-    let (status, notes) = notes_of(&rt, feed)?;
+    let (status, notes) = notes_of(&rt, "verdicts", feed)?;
     assert!(rt; status == Status::BadFeed && notes == [66, 0, 0, 0, 0, 0, 0, 0]);
-    let (status, notes) = notes_of(&rt, &[b'#'; 2000])?;
+    let (status, notes) = notes_of(&rt, "verdicts", &[b'#'; 2000])?;
     assert!(rt; status == Status::TooLong && notes == [1025, 0, 0, 0, 0, 0, 0, 0]);
+    Ok(())
+}
+
+// The `when` ends 4 bytes before the end. It has 21 rows.
+#[test]
+fn a_match_is_answered_before_the_next_line(rt: HostRuntime) -> Result<(), Fail> {
+    let feed = b"league,Tiny,1\nclub,A,1\nclub,B,2\nmatch,A,B\nline,1\nseason\nwhen,1\nask\n";
+    let (status, notes) = notes_of(&rt, "whatif", feed)?;
+    assert!(rt; status == Status::Done && notes == [63; 8]);
     Ok(())
 }

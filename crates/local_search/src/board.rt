@@ -146,8 +146,10 @@ impl Board {
                 score: old,
                 ..
             } = self.open[at];
-            self.open[at].score = score;
-            self.add(sides, &home_change(old, score), &away_change(old, score));
+            if old != score {
+                self.open[at].score = score;
+                self.add(sides, &home_change(old, score), &away_change(old, score));
+            }
         }
     }
 

@@ -95,10 +95,8 @@ impl<'a> TieCosts<'a> {
     // What the matches of a club against the rivals and the question's club add up to.
     fn record(&self, rivals: ClubSet, club: u8) -> Totals {
         let mut record = self.board.pair(club, self.question.club);
-        for rival in 0..24 {
-            if rivals.has(rival) {
-                record = joined(&record, &self.board.pair(club, rival));
-            }
+        for rival in rivals.clubs() {
+            record = joined(&record, &self.board.pair(club, rival));
         }
         record
     }

@@ -48,8 +48,52 @@ impl<'a> Trials<'a> {
         })
     }
 
-    /// Makes so many trials, fewer where nothing is missing before; gives whether nothing is.
+    /// Makes so many trials, fewer where nothing is missing before; gives whether nothing is. Where
+    /// the live matches have no more finishes than that, these are gone through instead.
     pub fn run(&mut self, trials: u32) -> bool {
+        match self.few_finishes(trials) {
+            Some(finishes) => self.go_through(finishes),
+            None => self.try_changes(trials),
+        }
+    }
+
+    // How many finishes the five scores give the live matches, if no more than so many.
+    fn few_finishes(&self, most: u32) -> Option<u32> {
+        let mut finishes: u32 = 1;
+        for _ in &self.live {
+            finishes = finishes.saturating_mul(5);
+        }
+        if finishes <= most {
+            Some(finishes)
+        } else {
+            None
+        }
+    }
+
+    // Goes through so many finishes of the live matches, until nothing is missing.
+    fn go_through(&mut self, finishes: u32) -> bool {
+        for number in 0..finishes {
+            if self.cost == 0 {
+                return true;
+            }
+            self.set_live(number);
+            self.cost = cost(&self.board, self.sheet, self.question, self.clubs);
+        }
+        self.cost == 0
+    }
+
+    // Gives each live match the score that a digit of the number says, to the base of five.
+    fn set_live(&mut self, number: u32) {
+        let mut left = number;
+        for place in &self.live {
+            let score = score_of(self.sheet.goal_limit, left % 5);
+            self.board.put(*place, score);
+            left /= 5;
+        }
+    }
+
+    // Changes one thing at a time, so often.
+    fn try_changes(&mut self, trials: u32) -> bool {
         for trial in 0..trials {
             if self.cost == 0 {
                 return true;

@@ -9,6 +9,7 @@ pub mod StopLemmas
 pub mod ContentLemmas
 pub mod AnswerLemmas
 pub mod HandLemmas
+pub mod AwaitedLemmas
 pub mod TakingLemmas
 pub mod PassingLemmas
 pub mod WaitLemmas

@@ -5,14 +5,16 @@ use Rattle.std.proofs.Common.{take, drop, slice_index, get_or, Option, Some, ap,
 use Rattle.std.proofs.Common.{arith, length-drop}
 use Rattle.std.specs.List.{copy_within}
 use Rattle.std.proofs.Math.Seq.{take-add}
-use Rattle.std.proofs.lemmas.List.{get_or-drop, take_at, take-append-drop, take-take}
-use Rattle.std.proofs.lemmas.List.{length-take-le, drop_all, drop_more, drop-drop}
+use Rattle.std.proofs.lemmas.List.{get_or-drop, take_at, drop_at, take-append-drop, take-append-le}
+use Rattle.std.proofs.lemmas.List.{take-take, length-take-le, drop_all, drop_more, drop-drop}
 use Rattle.std.proofs.lemmas.List.Elements.{All-append, All-take}
 use Rattle.std.proofs.lemmas.Slice.{between_is}
+use borrow.Rule.Slice.PartMut.{put_mid, post_of}
 use Rattle.port_core.specs.declared.ports.Got.{Got}
 use Rattle.port_core.specs.declared.ports.Got.TheVariants.{Bytes}
 use Rattle.port_core.specs.Lines.{HasNoLineFeed}
-use Rattle.port_core.specs.inside.Buffers.{part, EndsAt, IsOverlong, ReadsAfter, Fills}
+use Rattle.port_core.specs.Ports.{HoldsOfRead, Reads}
+use Rattle.port_core.specs.inside.Buffers.{part, EndsAt, IsOverlong, Fills}
 
 -- what is moved to the start stands there
 pub take-moved : (bytes : List ℕ) (from to : ℕ) → from ≤ to → to ≤ length bytes
@@ -76,24 +78,30 @@ IsOverlong-open held bytes is none long =
 
 -- the bytes that a read put after those in hand are added to them
 pub Fills-behind : (left left' : Option (List ℕ)) (fact : List ℕ → Type 0) (got : Got)
-    (n count end : ℕ) (old before new whole : List ℕ) → got ≡ Bytes n → take count before ≡ old
-    → end ≤ length new → ReadsAfter left left' fact got count end before new → whole ≡ new
+    (n count room : ℕ) (old before into whole : List ℕ) → got ≡ Bytes n → take count before ≡ old
+    → count ≤ length before → Reads left left' got into → HoldsOfRead fact got into
+    → whole ≡ put_mid count room before into
     → Fills left left' fact got old (take (count + n) whole)
-Fills-behind left left' fact got n count end old before new whole is kept inside reads same =
-    let P : Got → Type 0 = λ g. ReadsAfter left left' fact g count end before new
-    → Fills left left' fact g old (take (count + n) new) in
+Fills-behind left left' fact got n count room old before into whole is kept inside reads holds same
+    =
+    let rest = into ++ post_of count room before in
+    let size = length-take-le count before inside in
+    let P : Got → Type 0 = λ g. Reads left left' g into → HoldsOfRead fact g into
+    → Fills left left' fact g old (take (count + n) (take count before ++ rest)) in
     let Q : List ℕ → Type 0 = λ bytes. Fills left left' fact got old (take (count + n) bytes) in
-    subst Q (sym same) (subst P (sym is) (λ r.
-    let room : n ≤ length (drop count new) = omega (arith, length-drop count new, r.0) in (
-      take n (drop count new),
-      take-add count n new
-          ∙ ap (λ l. l ++ take n (drop count new)) (r.1 ∙ kept),
-      length-take-le n (drop count new) room,
+    subst Q (sym same) (subst P (sym is) (λ r fits. (
+      take n into,
+      take-add count n (take count before ++ rest)
+          ∙ ap (λ l. take count (take count before ++ rest) ++ take n l)
+          (drop_at (take count before) rest count size)
+          ∙ ap (λ l. l ++ take n rest) (take_at (take count before) rest count size ∙ kept)
+          ∙ ap (λ l. old ++ l) (take-append-le n into (post_of count room before) r.0),
+      length-take-le n into r.0,
+      r.1,
       r.2,
-      r.3,
-      r.4,
+      fits,
     ))
-    reads)
+    reads holds)
 
 -- ---- a source over memory
 

@@ -13,7 +13,7 @@ use Rattle.port_core.specs.declared.line.ReadStop.TheVariants.{InputTooLong}
 use Rattle.port_core.specs.declared.buffer.Due.{Due}
 use Rattle.port_core.specs.declared.buffer.Due.TheVariants.{Ended, Open, Failed, Stuck, Full}
 use Rattle.port_core.specs.Lines.{lines_of, text_of_line, HasNoLineFeed}
-use Rattle.port_core.specs.inside.Buffers.{EndSeen, LastFill, StopsReading}
+use Rattle.port_core.specs.inside.Buffers.{CountsDue, EndSeen, LastFill, StopsReading}
 use Rattle.port_core.specs.Contents.{Position, position_after, number_at, content_at, is_skipped}
 use Rattle.port_core.specs.Contents.{stop_due, is_whole, has_answer}
 use Rattle.port_core.specs.Readers.{LineReaderView, HasAnswer, stream_of, contents_after}
@@ -192,6 +192,17 @@ wait-stopped old mid new left left' Stuck result waits ends =
 wait-stopped old mid new left left' Full result waits ends =
     stop-answers old mid new result _ (stays old mid left left' Full waits)
     (stop-held mid.position mid.held _ (λ rest. full-stop old mid left left' rest waits)) ends
+
+-- ---- the faults counted
+
+-- a line that was passed over left the count as it was
+pub none-counts : (mid new : LineReaderView) (before now : ℕ) (due : Due)
+    → EndsWait mid new due None → CountsDue before now due → now ≡ before
+none-counts mid new before now (Ended at) ends counts = counts
+none-counts mid new before now Open ends counts = counts
+none-counts mid new before now Failed ends counts = absurd (none-some (Err ReadFault) ends.0)
+none-counts mid new before now Stuck ends counts = counts
+none-counts mid new before now Full ends counts = counts
 
 -- ---- the lines passed
 

@@ -9,7 +9,7 @@ ghost use Rattle.std.specs.Io.KnownBytes.{prepend_known};
 ghost use Rattle.port_core.specs.Ports.{CountsRead, TellsEnd};
 ghost use Rattle.port_core.specs.Lines.{HasNoLineFeed};
 ghost use Rattle.port_core.specs.inside.Buffers.{CountsDue, EndSeen, EndsAt, Fills, IsDue, IsReady};
-ghost use Rattle.port_core.specs.inside.Buffers.{ReadsAfter, StopsReading, Takes};
+ghost use Rattle.port_core.specs.inside.Buffers.{StopsReading, Takes};
 
 use crate::bytes::{find_line_feed, move_to_start};
 use crate::line::LINE_LIMIT;
@@ -94,23 +94,13 @@ impl Buffer {
         move_to_start(&mut self.bytes, self.from, self.to);
         self.from = 0;
         self.to = count;
-        let got = read_after(source, &mut self.bytes, count, most.min(ROOM));
+        let end = most.min(ROOM);
+        let got = source.read(&mut self.bytes[count..end]);
         if let Got::Bytes(count) = &got {
             self.to += *count;
         }
         got
     }
-}
-
-fn read_after<S: Source>(source: &mut S, bytes: &mut [u8], to: usize, end: usize) -> Got
-    requires some { to < end }
-    requires within { end ≤ length bytes.old }
-    ensures bytes { ReadsAfter (S.left source.old) (S.left source.new)
-        (λ bytes. S.reads source.old bytes source.new) result to end bytes.old bytes.new }
-    ensures cause { CountsRead (S.faults source.old) (S.faults source.new) result }
-    ensures end { TellsEnd (S.ended source.old) (S.ended source.new) result }
-{
-    source.read(&mut bytes[to..end])
 }
 
 /// The place of the first LF. The first `seen` bytes are known to have none.

@@ -11,15 +11,11 @@ ghost use Rattle.std.specs.Prelude.{◌≡◌, ◌+◌, ◌-◌, ◌<◌, ◌≤
 ghost use Rattle.std.specs.Prelude.{take};
 ghost use Rattle.port_core.specs.Contents.{input_limit, number_at, start};
 ghost use Rattle.port_core.specs.Readers.{HasAnswer, TakesInput, bytes_taken, contents_to_come};
-ghost use Rattle.port_core.specs.inside.ReaderCalls.{AnswersStop, CountsNext, CountsLine};
-ghost use Rattle.port_core.specs.inside.ReaderCalls.{EndsInput, EndsLine, EndsWait, IsWithin};
-ghost use Rattle.port_core.specs.inside.ReaderCalls.{KeepsContent, KeepsText, NextGives};
-ghost use Rattle.port_core.specs.inside.ReaderCalls.{KeepsAnswer, LeavesAfter, LeavesReader};
-ghost use Rattle.port_core.specs.inside.ReaderCalls.{LineGives, LineKeepsText, LineMovesOn};
-ghost use Rattle.port_core.specs.inside.ReaderCalls.{LineStopsReading, MovesOn, PassesLine};
-ghost use Rattle.port_core.specs.inside.ReaderCalls.{PassesTo, StaysStopped, StopsAtAnswer, Waits};
-ghost use Rattle.port_core.specs.inside.ReaderCalls.{given_by, given_there, most_held};
-ghost use Rattle.port_core.specs.inside.Buffers.{CountsDue, EndSeen, StopsReading};
+ghost use Rattle.port_core.specs.inside.ReaderCalls.{CountsNext, EndsInput, EndsLine, EndsWait};
+ghost use Rattle.port_core.specs.inside.ReaderCalls.{IsWithin, KeepsContent, KeepsText, NextGives};
+ghost use Rattle.port_core.specs.inside.ReaderCalls.{LeavesReader, LineKeepsText, MovesOn};
+ghost use Rattle.port_core.specs.inside.ReaderCalls.{PassesLine, PassesTo, StaysStopped};
+ghost use Rattle.port_core.specs.inside.ReaderCalls.{StopsAtAnswer, given_by, most_held};
 
 use crate::buffer::{Buffer, Due, await_line};
 use crate::content::{content_of, is_skipped};
@@ -113,46 +109,12 @@ impl LineReader {
         ensures stopped { StaysStopped self.old self.new result }
     {
         'lines: loop {
-            if let Some(result) = self.take_line(source) {
+            let most = self.most();
+            let due = await_line(&mut self.held, most, source);
+            if let Some(result) = self.end_wait(due) {
                 return result;
             }
         }
-    }
-
-    // The next answer, or none if the line that was due is passed over.
-    fn take_line<S: Source>(&mut self, source: &mut S) -> Option<Result<Line, ReadStop>>
-        ensures gives { LineGives (contents_to_come self.old (S.left source.old))
-            (contents_to_come self.new (S.left source.new)) self.new.text result }
-        ensures passes { PassesTo self.old self.new (S.left source.old) (S.left source.new)
-            (S.ended source.old) (S.ended source.new) (given_there result self.new.text) }
-        ensures leaves { LeavesAfter self.old self.new (S.left source.new) result }
-        ensures moves { LineMovesOn self.old self.new result }
-        ensures kept { LineKeepsText self.old self.new result }
-        ensures passed { self.new.position.bytes ≤ input_limit }
-        ensures within { bytes_taken self.new ≤ input_limit + 1 }
-        ensures takes { TakesInput self.old self.new (S.left source.old) (S.left source.new) }
-        ensures ready { HasAnswer self.old → source.new ≡ source.old }
-        ensures last { LineStopsReading S.left S.reads self.old self.new source.old source.new
-            result }
-        ensures keeps { KeepsAnswer self.old self.new result }
-        ensures cause { CountsLine (S.faults source.old) (S.faults source.new) result }
-        ensures stopped { AnswersStop self.old self.new result }
-    {
-        let due = self.await_due(source);
-        self.end_wait(due)
-    }
-
-    // Waits for the end of the line that is due.
-    fn await_due<S: Source>(&mut self, source: &mut S) -> Due
-        ensures waits { Waits self.old self.new (S.left source.old) (S.left source.new) result }
-        ensures ready { HasAnswer self.old → source.new ≡ source.old }
-        ensures last { StopsReading S.left S.reads (most_held self.old) self.old.held self.new.held
-            source.old source.new result }
-        ensures end { EndSeen (S.ended source.old) (S.ended source.new) result }
-        ensures cause { CountsDue (S.faults source.old) (S.faults source.new) result }
-    {
-        let most = self.most();
-        await_line(&mut self.held, most, source)
     }
 
     // What comes of the line that is due, after the wait for it.

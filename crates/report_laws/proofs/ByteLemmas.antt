@@ -1,5 +1,5 @@
 -- The bytes of answers are read as the lines of answers, so a report of them is accepted.
-use Rattle.std.proofs.Common.{sym, ap, subst, ◌≡◌, ℕ, List, map, Some}
+use Rattle.std.proofs.Common.{sym, ap, subst, List, map, Some}
 use Rattle.std.specs.Prelude.{length}
 use Rattle.league_core.specs.game.Seasons.{unplayed_season}
 use Rattle.cert_check.specs.declared.token.Token.{Token}

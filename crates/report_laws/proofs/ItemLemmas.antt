@@ -60,7 +60,7 @@ unsettled_shown basis line club false true inside outside some one other =
 unsettled_shown basis line club false false inside outside some one other = absurd cc
 
 -- what shows an item of an answer shows it in a report
-word_shown : (basis : Basis) (line club : ℕ) (word : Word) (lines : List ProofLine)
+pub word_shown : (basis : Basis) (line club : ℕ) (word : Word) (lines : List ProofLine)
     → IsItemShown true basis.sheet basis.season line club word lines
     → ShowsWord basis line club (row_word word) lines
 word_shown basis line club Clinched lines shown = shown.1
@@ -68,10 +68,11 @@ word_shown basis line club Lost lines shown = shown.1
 word_shown basis line club Possible lines shown =
     (shown.0, shown.1, shown.3, shown.4, shown.2)
 word_shown basis line club Unsettled lines shown = (
-  shown.3,
-  shown.4,
-  unsettled_shown basis line club shown.0 shown.1 shown.3 shown.4 shown.2 shown.6 shown.7,
-  shown.5,
+  shown.3.0,
+  shown.3.1,
+  unsettled_shown basis line club shown.0 shown.1 shown.3.0 shown.3.1 shown.2 shown.3.3
+      shown.3.4,
+  shown.3.2,
 )
 
 -- ---- all items
@@ -90,13 +91,12 @@ items_shown sheet season epoch (verdict ∷ verdicts) all = (
 )
 
 -- the row that an answer's row is in a report
-due_of_row : AnswerRow → Expected
+abbrev pub due_of_row : AnswerRow → Expected
 due_of_row row = verdict_row row.line row.club
 
 -- the rows of verdicts
 dues_of_verdicts : (verdicts : List Verdict)
     → map row_due (map item_of_verdict verdicts) ≡ map due_of_row (map answer_row verdicts)
-unfolding due_of_row
 dues_of_verdicts [] = refl
 dues_of_verdicts (verdict ∷ verdicts) =
     ap (λ (rest : List Expected). verdict_row verdict.line verdict.club ∷ rest)
@@ -106,13 +106,12 @@ dues_of_verdicts (verdict ∷ verdicts) =
 dues_on_line : (clubs : List ℕ) (line : ℕ)
     → map due_of_row (map (λ (club : ℕ). record { line = line; club = club }) clubs)
     ≡ rows_on_line clubs line
-unfolding due_of_row
 dues_on_line [] line = refl
 dues_on_line (club ∷ clubs) line =
     ap (λ (rest : List Expected). verdict_row line club ∷ rest) (dues_on_line clubs line)
 
 -- the rows about all lines
-dues_on_lines : (clubs : ℕ) (lines : List ℕ)
+pub dues_on_lines : (clubs : ℕ) (lines : List ℕ)
     → map due_of_row (flat_map (answer_rows_of clubs) lines)
     ≡ flat_map (rows_on_line (range_with_len 0 clubs)) lines
 dues_on_lines clubs [] = refl

@@ -1,4 +1,20 @@
--- Answers item by item, then reports answer by answer, and the bytes of reports.
+-- Answers item by item, then reports answer by answer, and the bytes of reports. For whole sessions
+-- after these: lines as a type holds them, that the lines of an answer are short and read as they
+-- were written, what an input and its feed give before the record `proofs`, and all of it together.
 pub mod ItemLemmas
 pub mod ReportLemmas
 pub mod ByteLemmas
+pub mod KeptLemmas
+pub mod KeptTreeLemmas
+pub mod BriefLemmas
+pub mod SizeLemmas
+pub mod RowSizeLemmas
+pub mod WithinLemmas
+pub mod LineReadLemmas
+pub mod PutLemmas
+pub mod AnswerTextLemmas
+pub mod CourseTextLemmas
+pub mod FrontLemmas
+pub mod FeedProofsLemmas
+pub mod KnownEndLemmas
+pub mod AcceptedTextLemmas

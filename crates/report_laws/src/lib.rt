@@ -2,8 +2,9 @@
 //! a report that the checker accepts.
 //!
 //! The statements are in `specs/inside/AcceptedAnswers.antt`, of one answer,
-//! `specs/inside/AcceptedReports.antt`, of whole reports, and `specs/inside/AcceptedBytes.antt`, of
-//! their bytes. Nothing runs here, and neither side knows of the other.
+//! `specs/inside/AcceptedReports.antt`, of whole reports, `specs/inside/AcceptedBytes.antt`, of
+//! their bytes, and `specs/inside/AcceptedTexts.antt`, of whole sessions. Nothing runs here, and
+//! neither side knows of the other.
 #![tactic(auto)]
 
 mod laws;

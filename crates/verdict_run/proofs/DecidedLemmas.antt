@@ -1,7 +1,7 @@
 -- Each question has an example or a refutation, and an example is met by fair splits: by the weight
 -- of zones.
 use Rattle.std.proofs.Common.{◌≡◌, ◌⊎◌, inl, inr, ℕ, zero, suc, ◌<◌, ◌≤◌, Bool, true, false}
-use Rattle.std.proofs.Common.{List, [], length, refl, sym, ◌∙◌, arith}
+use Rattle.std.proofs.Common.{List, [], ◌∷◌, length, refl, sym, ◌∙◌, arith}
 use Rattle.std.proofs.lemmas.Bool.{false≢true, and_from, cases_Bool}
 use Rattle.league_core.specs.declared.sheet.Sheet.{Sheet}
 use Rattle.league_core.specs.declared.question.Question.{Question}
@@ -15,7 +15,7 @@ use Rattle.league_core.specs.game.Questions.{IsExample, IsQuestionOf, holds_at}
 use Rattle.league_core.specs.game.Verdicts.{HasExample, HasNoExample}
 use Rattle.league_core.specs.inside.LotsFor.{lots_for_claim}
 use Rattle.league_core.specs.search.Zones.{IsMember, with_test}
-use Rattle.league_core.specs.search.Options.{has_finish, is_single}
+use Rattle.league_core.specs.search.Options.{has_finish, is_single, IsInBox}
 use Rattle.league_core.specs.search.Proposals.{proposed_finish}
 use Rattle.league_core.specs.search.Reasons.{has_reason}
 use Rattle.league_core.specs.search.Splits.{IsFairSplit, IsProperNode, AreReasonsTrue, is_proper}
@@ -33,6 +33,7 @@ use Rattle.cert_text.proofs.ProperLemmas.{proper_tests}
 use Rattle.branch_rules.specs.inside.Found.{IsProposedInVain}
 use Rattle.branch_rules.proofs.FoundLemmas.{has_several}
 use Rattle.verdict_run.specs.inside.Completeness.{CanBeMet, at_once, in_a_half, HasRefutation}
+use Rattle.verdict_run.proofs.BoxPrefixLemmas.{box_prefix}
 use Rattle.verdict_run.proofs.DueLemmas.{IsDueTest, due_test}
 
 -- ---- refutations
@@ -44,10 +45,16 @@ pub record RefutesBelow (sheet : Sheet) (season : Results) (question : Question)
   pub reasons : AreReasonsTrue sheet season question zone tree
   pub proper : NodesMeet (IsProperNode sheet season question) zone tree
 
--- an example, or a tree that refutes the question below a zone
+-- some example lies in the box of the zone
+abbrev pub HasExampleInBox : Sheet → Results → Question → List Literal → Type 0
+HasExampleInBox sheet season question zone =
+    (finish : Results) × (lots : List ℕ) × IsExample sheet season question finish lots
+    × IsInBox sheet season zone finish
+
+-- an example in the box of a zone, or a tree that refutes the question below the zone
 abbrev DecidedBelow : Sheet → Results → Question → List Literal → Type 0
 DecidedBelow sheet season question zone =
-    HasExample sheet season question
+    HasExampleInBox sheet season question zone
     ⊎ ((tree : Tree) × RefutesBelow sheet season question zone tree)
 
 leaf_refutes : (sheet : Sheet) (season : Results) (question : Question) (zone : List Literal)
@@ -93,9 +100,21 @@ single_is_decided sheet season question zone of_sheet club_in some single =
               (λ holds. false≢true (sym no_window ∙ holds))
               (λ holds. false≢true (sym no_tie ∙ holds))
               (proposed_in_box sheet season question zone of_sheet some),
+          proposed_in_box sheet season question zone of_sheet some,
         )
       ]
     ]
+
+-- what is in the box of a half is in that of its zone
+from_half : (sheet : Sheet) (season : Results) (question : Question) (zone : List Literal)
+    (test : Test) (holds : Bool) → HasExampleInBox sheet season question (with_test zone test holds)
+    → HasExampleInBox sheet season question zone
+from_half sheet season question zone test holds has = (
+  has.0,
+  has.1,
+  has.2,
+  box_prefix sheet season zone (record { test = test; yes = holds } ∷ []) has.0 has.3,
+)
 
 -- each zone with a finish is decided: it is split until all is single
 zone_decided : (fuel : ℕ) (sheet : Sheet) (season : Results) (question : Question)
@@ -131,21 +150,33 @@ zone_decided (suc fuel) sheet season question zone of_sheet club_in some light =
         → DecidedBelow sheet season question (with_test zone due.test true)
         → DecidedBelow sheet season question (with_test zone due.test false)
         → DecidedBelow sheet season question zone
-    both due (inl example) second = inl example
-    both due (inr first) (inl example) = inl example
+    both due (inl example) second =
+        inl (from_half sheet season question zone due.test true example)
+    both due (inr first) (inl example) =
+        inl (from_half sheet season question zone due.test false example)
     both due (inr first) (inr second) = inr (
       branch due.test true first.0 second.0,
       branch_refutes sheet season question zone due.test first.0 second.0 due.proper first.1
           second.1,
     )
 
+-- a zone that has a finish is decided
+pub zone_is_decided : (sheet : Sheet) (season : Results) (question : Question)
+    (zone : List Literal) → IsSeasonOf sheet season → IsQuestionOf sheet question
+    → has_finish sheet season zone ≡ true
+    → HasExampleInBox sheet season question zone
+    ⊎ ((tree : Tree) × RefutesBelow sheet season question zone tree)
+zone_is_decided sheet season question zone of_sheet asked some =
+    zone_decided (weight_of sheet season question zone) sheet season question zone of_sheet
+    asked.club some (omega arith)
+
 pub question_decided : (sheet : Sheet) (season : Results) (question : Question)
     → IsLeague sheet season → are_results season ≡ true → IsQuestionOf sheet question
     → HasExample sheet season question ⊎ HasRefutation sheet season question
 question_decided sheet season question league results asked =
-    elim (zone_decided (weight_of sheet season question []) sheet season question []
-    league.of_sheet asked.club (root_has_finish sheet season) (omega arith)) [
-      | inl example ↦ inl example
+    elim (zone_is_decided sheet season question [] league.of_sheet asked
+    (root_has_finish sheet season)) [
+      | inl example ↦ inl (example.0, example.1, example.2)
       | inr found ↦ inr (
         found.0,
         record {

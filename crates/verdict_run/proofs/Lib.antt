@@ -13,6 +13,7 @@ pub mod KeptLemmas
 pub mod VerdictLemmas
 pub mod SampleLemmas
 pub mod DueLemmas
+pub mod BoxPrefixLemmas
 pub mod DecidedLemmas
 pub mod AnswerLemmas
 pub mod TableLemmas

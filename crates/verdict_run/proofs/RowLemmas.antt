@@ -16,7 +16,7 @@ abbrev pub IsRowOf : Sheet → AnswerRow → Type 0
 IsRowOf sheet row = (claim : Claim) → IsQuestionOf sheet (full_question row.club row.line claim)
 
 -- a line of the sheet and one of its clubs make a row of it
-row_asked : (sheet : Sheet) (line club : ℕ) → club < length sheet.clubs
+pub row_asked : (sheet : Sheet) (line club : ℕ) → club < length sheet.clubs
     → is_line (length sheet.clubs) line ≡ true
     → IsRowOf sheet (record { line = line; club = club })
 row_asked sheet line club within may claim =

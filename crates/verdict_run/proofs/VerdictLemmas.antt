@@ -154,16 +154,16 @@ shown_by sheet season line club Won Refuted first second club_in one two =
 shown_by sheet season line club Won Won first second club_in one two =
     (first, second, refl, one, two)
 shown_by sheet season line club Won Spent first second club_in one two =
-    (false, true, refl, first, second, refl, one, two)
+    (false, true, refl, (first, second, refl, one, two))
 shown_by sheet season line club Spent Refuted first second club_in one two =
     (clinched_shown sheet season line club second club_in two, two)
 shown_by sheet season line club Spent Won first second club_in one two =
-    (true, false, refl, first, second, refl, one, two)
+    (true, false, refl, (first, second, refl, one, two))
 shown_by sheet season line club Spent Spent first second club_in one two =
-    (true, true, refl, first, second, refl, one, two)
+    (true, true, refl, (first, second, refl, one, two))
 
 -- lines in range, whichever they are
-range_by : (word : Word) (first second : List ProofLine) → list_all is_in_range first ≡ true
+pub range_by : (word : Word) (first second : List ProofLine) → list_all is_in_range first ≡ true
     → list_all is_in_range second ≡ true → list_all is_in_range (proof_by word first second) ≡ true
 range_by Clinched first second one two = two
 range_by Lost first second one two = one
@@ -186,7 +186,7 @@ known_by Spent Won one two = λ e. one refl
 known_by Spent Spent one two = λ e. one refl
 
 -- lines of which each is in range
-all_lines : (lines : List ProofLine) → list_all is_in_range lines ≡ true
+pub all_lines : (lines : List ProofLine) → list_all is_in_range lines ≡ true
     → All (λ line. IsTrue (is_in_range line)) lines
 all_lines [] all = All-nil (λ line. is_in_range line ≡ true)
 all_lines (line ∷ lines) all =

@@ -80,8 +80,8 @@ fn verdict_at(alloc: Global, pool: &Pool, place: u16) -> Result<Verdict, OutOfMe
     })
 }
 
-// The word, by what is known of `Inside` and of `Outside`.
-fn word_of(inside: Known, outside: Known) -> Word
+/// The word, by what is known of `Inside` and of `Outside`.
+pub fn word_of(inside: Known, outside: Known) -> Word
     ensures { result ≡ word_by inside outside }
 {
     match (inside, outside) {
@@ -92,8 +92,8 @@ fn word_of(inside: Known, outside: Known) -> Word
     }
 }
 
-// The lines after the word.
-fn joined(word: Word, inside: Part, outside: Part) -> Result<Vec<ProofLine>, OutOfMemory>
+/// The lines after the word, out of those of the two parts.
+pub fn joined(word: Word, inside: Part, outside: Part) -> Result<Vec<ProofLine>, OutOfMemory>
     ensures { IfOk result (λ lines. lines.items
         ≡ proof_by word inside.lines.items outside.lines.items) }
 {

@@ -21,13 +21,14 @@ mod season_answers;
 mod table_laws;
 mod turns;
 
-pub use answer::verdicts;
+pub use answer::{joined, verdicts, word_of};
 pub use answer_rows::{Verdict, Word};
 pub use asked::{full_question, questions};
 pub use completeness::{examples_can_be_met, questions_are_decided, some_split_is_due};
 pub use counts::{Counts, count_sample};
 pub use fresh::{Solved, solve_fresh};
-pub use lines::window_lines;
+pub use lines::{example_lines, spent_lines, window_lines};
+pub use part::{Known, Part};
 pub use sample::make_sample;
 pub use season_answers::{each_season_has_an_answer, items_need_no_proofs};
 pub use table_laws::each_season_has_a_table;

@@ -40,7 +40,7 @@ fn plain_line(node: TreeNode) -> ProofLine
 
 /// A tree on which the budget for the claim was spent, under its head. The list is that of its
 /// nodes.
-pub(crate) fn spent_lines(
+pub fn spent_lines(
     alloc: Global,
     claim: Claim,
     nodes: &[TreeNode],
@@ -99,7 +99,7 @@ fn marked_line(node: TreeNode) -> ProofLine
 }
 
 /// An example of the claim: how the fixtures end that the season has no score for, and the lots.
-pub(crate) fn example_lines(
+pub fn example_lines(
     alloc: Global,
     season: &Season,
     claim: Claim,

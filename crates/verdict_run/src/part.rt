@@ -25,17 +25,20 @@ use tree_reuse::Tree;
 
 /// How far a question is.
 #[derive(Clone, Copy)]
-pub(crate) enum Known {
+pub enum Known {
+    /// An example is there.
     Won,
+    /// There is none.
     Refuted,
+    /// The budget was spent before this was known.
     Spent,
 }
 
 /// What is known of a question, and the lines that show it.
 #[derive(Drop)]
-pub(crate) struct Part {
-    pub(crate) known: Known,
-    pub(crate) lines: Vec<ProofLine>,
+pub struct Part {
+    pub known: Known,
+    pub lines: Vec<ProofLine>,
 }
 
 /// The part of the question at a place. A tree that is not all new is no part of an answer: if the

@@ -9,6 +9,7 @@ ghost use Rattle.verdict_run.specs.inside.Working.{IsEnough, FinishesWork};
 use branch_pool::{Pool, Turn};
 use branch_rules::ZoneSolver;
 use league_core::{OutOfMemory, Season, Sheet};
+use local_search::WalkingSolver;
 use reason_core::Solver;
 use score_box::Played;
 use std::alloc::Global;
@@ -62,8 +63,9 @@ fn finish_over(alloc: Global, played: &Played, pool: &mut Pool) -> Result<(), Ou
     requires home { out_count pool.old.loans ≡ 0 }
     ensures { OnOk result (FinishesWork pool.old pool.new) }
 {
-    let mut worker = ZoneSolver::new(alloc, played)?;
-    finish_by(pool, &mut worker)
+    let zones = ZoneSolver::new(alloc, played)?;
+    let mut solver = WalkingSolver::new(alloc, played, zones);
+    finish_by(pool, &mut solver)
 }
 
 // Works until there is nothing left to work on.

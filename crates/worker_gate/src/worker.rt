@@ -15,6 +15,7 @@ use crate::sole_worker::go_on;
 use branch_pool::Ticket;
 use branch_rules::ZoneSolver;
 use league_core::{OutOfMemory, Season, Sheet};
+use local_search::WalkingSolver;
 use pool_lock::{Job, PoolLock, WorkBadge};
 use reason_core::Solver;
 use score_box::Played;
@@ -130,7 +131,10 @@ fn work_over<J: Job, R: Wait, G: Gate>(
     ensures begins { IsPrefix badge.old.list badge.new.list }
 {
     match ZoneSolver::new(crew.alloc, played) {
-        Ok(mut solver) => work_on(crew, badge, worker, &mut solver, ticket),
+        Ok(zones) => {
+            let mut solver = WalkingSolver::new(crew.alloc, played, zones);
+            work_on(crew, badge, worker, &mut solver, ticket)
+        }
         Err(OutOfMemory) => give_up(crew, badge, worker, ticket),
     }
 }

@@ -16,6 +16,7 @@ use Rattle.verdict_run.specs.inside.AskedQuestions.{questions_of}
 use Rattle.verdict_run.specs.inside.Working.{AreSettled}
 use Rattle.answer_rows.specs.declared.output.OutputStop.{OutputStop}
 use Rattle.answer_rows.specs.declared.output.OutputStop.TheVariants as output
+use Rattle.answer_rows.specs.inside.Outputs.{PutsSomePrefix, PutsSomeText}
 use Rattle.futmax_main.specs.declared.status.Status.{Status}
 use Rattle.futmax_main.specs.declared.status.Status.TheVariants.{Done, BadWords, ReadFault}
 use Rattle.futmax_main.specs.declared.status.Status.TheVariants.{WriteFault, OutOfMemory, NotProved}
@@ -44,9 +45,9 @@ pub record IsLive (mode : Mode) (pool : PoolView) : Type 0 where
   pub season : pool.season ≡ season_after pool.sheet pool.log
   pub home : out_count pool.loans ≡ 0
 
--- what was reported to a pool
-abbrev pub reported_to : PoolView → Played
-reported_to pool = played_after pool.sheet pool.log
+-- what was reported to a pool, where this is asked about
+abbrev pub reported_to : PoolView → Option ℕ → Played
+reported_to pool about = played_after pool.sheet pool.log about
 
 -- a pool of the same sheet, to which the same was reported
 abbrev pub IsReportedSame : PoolView → PoolView → Type 0
@@ -59,50 +60,43 @@ abbrev pub IsWorkedOut : Mode → PoolView → Type 0
 IsWorkedOut (Verdicts proofs) pool = AreSettled pool
 IsWorkedOut mode pool = Unit {0}
 
--- a prefix of some answer was written
-abbrev pub PutsPrefix : (List ℕ → Type 0) → Option (List ℕ) → Option (List ℕ) → Type 0
-PutsPrefix IsAnswer old now = (answer : List ℕ) × IsAnswer answer × AppendsPrefix old now answer
-
 -- an answer was written; or a prefix of one, or, if memory ran out, nothing
-abbrev pub PutsAnswer : {A : Type 0} → Mode → PoolView → Option (List ℕ) → Option (List ℕ)
-    → Result A OutputStop → Type 0
-PutsAnswer mode pool old now (Ok done) =
-    (answer : List ℕ) × IsAnswerTo mode (reported_to pool) answer
-    × (now ≡ append_known old answer)
-PutsAnswer mode pool old now (Err output.WriteFault) =
-    PutsPrefix (IsAnswerTo mode (reported_to pool)) old now
-PutsAnswer mode pool old now (Err output.OutOfMemory) =
-    (now ≡ old) ⊎ PutsPrefix (IsAnswerTo mode (reported_to pool)) old now
+abbrev pub PutsAnswer : {A : Type 0} → Mode → PoolView → Option ℕ → Option (List ℕ)
+    → Option (List ℕ) → Result A OutputStop → Type 0
+PutsAnswer mode pool about old now result =
+    PutsSomeText (IsAnswerTo mode (reported_to pool about)) old now result
 
 -- an ask was answered, and nothing more reported to the pool; or a prefix of an answer was written,
 -- or, if memory ran out, nothing
-abbrev pub AnswersAsk : Mode → PoolView → Option (List ℕ) → Option (List ℕ)
+abbrev pub AnswersAsk : Mode → PoolView → Option ℕ → Option (List ℕ) → Option (List ℕ)
     → Result PoolView OutputStop → Type 0
-AnswersAsk mode pool old now (Ok next) =
+AnswersAsk mode pool about old now (Ok next) =
     IsReportedSame pool next
-    × ((answer : List ℕ) × IsAnswerTo mode (reported_to pool) answer
+    × ((answer : List ℕ) × IsAnswerTo mode (reported_to pool about) answer
     × (now ≡ append_known old answer))
-AnswersAsk mode pool old now (Err output.WriteFault) =
-    PutsPrefix (IsAnswerTo mode (reported_to pool)) old now
-AnswersAsk mode pool old now (Err output.OutOfMemory) =
-    (now ≡ old) ⊎ PutsPrefix (IsAnswerTo mode (reported_to pool)) old now
+AnswersAsk mode pool about old now (Err output.WriteFault) =
+    PutsSomePrefix (IsAnswerTo mode (reported_to pool about)) old now
+AnswersAsk mode pool about old now (Err output.OutOfMemory) =
+    (now ≡ old) ⊎ PutsSomePrefix (IsAnswerTo mode (reported_to pool about)) old now
 
 -- ---- what ends a run
 
 -- how an ask ends it, if it does
 abbrev pub AskEnds : Mode → Played → Option (List ℕ) → Option (List ℕ) → Status → Type 0
 AskEnds mode asked old now OutOfMemory =
-    (now ≡ old) ⊎ PutsPrefix (IsAnswerTo mode asked) old now
-AskEnds mode asked old now WriteFault = PutsPrefix (IsAnswerTo mode asked) old now
+    (now ≡ old) ⊎ PutsSomePrefix (IsAnswerTo mode asked) old now
+AskEnds mode asked old now WriteFault = PutsSomePrefix (IsAnswerTo mode asked) old now
 AskEnds mode asked old now status = ⊥
 
 -- a turn on an ask: its answer is written, or the run ends
-abbrev pub AskGives : Mode → PoolView → Option (List ℕ) → Option (List ℕ) → Step → Type 0
-AskGives mode pool old now (GoesOn next) =
+abbrev pub AskGives : Mode → PoolView → Option ℕ → Option (List ℕ) → Option (List ℕ) → Step
+    → Type 0
+AskGives mode pool about old now (GoesOn next) =
     IsReportedSame pool next
-    × ((answer : List ℕ) × IsAnswerTo mode (reported_to pool) answer
+    × ((answer : List ℕ) × IsAnswerTo mode (reported_to pool about) answer
     × (now ≡ append_known old answer))
-AskGives mode pool old now (Ends status) = AskEnds mode (reported_to pool) old now status
+AskGives mode pool about old now (Ends status) =
+    AskEnds mode (reported_to pool about) old now status
 
 -- the run ends, with such a status
 abbrev pub EndsAs : (Status → Type 0) → Step → Type 0
@@ -110,12 +104,12 @@ EndsAs Is (GoesOn next) = ⊥
 EndsAs Is (Ends status) = Is status
 
 -- a turn after a round that is over: its ask is answered, or the run ends
-abbrev pub CloseGives : Mode → PoolView → RoundEnd → Option (List ℕ) → Option (List ℕ) → Step
-    → Type 0
-CloseGives mode pool round_end.Ask old now turn = AskGives mode pool old now turn
-CloseGives mode pool round_end.End old now turn =
+abbrev pub CloseGives : Mode → PoolView → Option ℕ → RoundEnd → Option (List ℕ)
+    → Option (List ℕ) → Step → Type 0
+CloseGives mode pool about round_end.Ask old now turn = AskGives mode pool about old now turn
+CloseGives mode pool about round_end.End old now turn =
     EndsAs (λ status. (status ≡ Done) × (now ≡ old)) turn
-CloseGives mode pool (round_end.Stop stop) old now turn =
+CloseGives mode pool about (round_end.Stop stop) old now turn =
     EndsAs (StopEnds (stop_of_feed stop) old now) turn
 
 -- ---- a turn

@@ -16,17 +16,6 @@ use Rattle.port_core.specs.Lines.{HasNoLineFeed, line_feed, line_limit}
 abbrev pub part : ℕ → ℕ → List ℕ → List ℕ
 part from to bytes = drop from (take to bytes)
 
--- a read after the first bytes of a list and before a place: those stay, and the next bytes of the
--- source, of which this fact holds, come after them
-abbrev pub ReadsAfter : Option (List ℕ) → Option (List ℕ) → (List ℕ → Type 0) → Got → ℕ → ℕ
-    → List ℕ → List ℕ → Type 0
-ReadsAfter left left' fact (Bytes n) to end old new =
-    (to + n ≤ end) × (take to new ≡ take to old)
-    × (left ≡ prepend_known (take n (drop to new)) left') × (n ≡ 0 → IsAtEnd left')
-    × fact (take n (drop to new))
-ReadsAfter left left' fact got.Failed to end old new =
-    (take to new ≡ take to old) × (left ≡ left')
-
 -- what one read adds to the bytes in hand, and what it takes from the source
 abbrev pub Fills : Option (List ℕ) → Option (List ℕ) → (List ℕ → Type 0) → Got → List ℕ → List ℕ
     → Type 0

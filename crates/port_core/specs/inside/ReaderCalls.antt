@@ -239,11 +239,6 @@ abbrev pub LineKeepsText : LineReaderView → LineReaderView → Option (Result 
 LineKeepsText old new None = new.text ≡ old.text
 LineKeepsText old new (Some result) = KeepsText old new result
 
--- a fault is returned only if the source's count rose, and else that count stays
-abbrev pub CountsLine : ℕ → ℕ → Option (Result Line ReadStop) → Type 0
-CountsLine before now None = now ≡ before
-CountsLine before now (Some result) = CountsNext before now result
-
 -- a line that is not failed by the source reads nothing, or stops at the read that ends it
 abbrev pub LineStopsReading : {S : Type 0} → (S → Option (List ℕ)) → (S → List ℕ → S → Type 0)
     → LineReaderView → LineReaderView → S → S → Option (Result Line ReadStop) → Type 0

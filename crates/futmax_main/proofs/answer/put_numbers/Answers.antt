@@ -1,3 +1,4 @@
+use Rattle.std.proofs.Common.{None}
 use Rattle.answer_rows.specs.ScoreTexts.{text_of_scores}
 use Rattle.command_words.specs.declared.command.Mode.TheVariants.{Scores}
 use Rattle.futmax_main.proofs.AnswerLemmas.{puts-answer, scores-answer}
@@ -6,7 +7,7 @@ use Rattle.futmax_main.proofs.answer.put_numbers.Goals as goal
 pub returns-clause-answer : goal.returns-clause-answer
 returns-clause-answer g c =
     let found = c.in-Ok.found.items in
-    puts-answer Scores c.args.pool.now _ _
+    puts-answer Scores c.args.pool.now None _ _
     (text_of_scores c.sheet-2.result.now c.epoch.result found) c.put_scores.result
     (scores-answer c.args.pool.now found _ _ _ _ c.requires c.sheet-2.ensures.sheet
     c.sheet.ensures.sheet c.season.ensures.season c.epoch.ensures c.in-Ok.ensures.right)

@@ -1,3 +1,4 @@
+use Rattle.std.proofs.Common.{None}
 use Rattle.answer_rows.specs.inside.Places.{text_of_table}
 use Rattle.command_words.specs.declared.command.Mode.TheVariants.{Table}
 use Rattle.futmax_main.proofs.AnswerLemmas.{puts-answer, rows-answer}
@@ -6,7 +7,7 @@ use Rattle.futmax_main.proofs.answer.put_order.Goals as goal
 pub returns-clause-answer : goal.returns-clause-answer
 returns-clause-answer g c =
     let rows = c.in-Ok.rows.items in
-    puts-answer Table c.args.pool.now _ _
+    puts-answer Table c.args.pool.now None _ _
     (text_of_table c.sheet-2.result.now c.epoch.result rows) c.put_table.result
     (rows-answer c.args.pool.now rows _ _ _ _ c.requires c.sheet-2.ensures.sheet
     c.sheet.ensures.sheet c.season.ensures.season c.epoch.ensures c.in-Ok.ensures)

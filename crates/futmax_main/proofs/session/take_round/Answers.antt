@@ -6,20 +6,22 @@ use Rattle.futmax_main.proofs.session.take_round.Goals as goal
 
 pub returns-in-Ok-clause-way : goal.returns-in-Ok-clause-way
 returns-in-Ok-clause-way g c = λ input ended old path.
-    close-gives c.args.setup.now.mode input ended c.args.pool c.in-Ok.field-0.pool _ _ old _ _ path
-    c.in-Ok.field-0.end c.close_round.result c.in-Ok.ensures.ends c.in-Ok.ensures.sheet
-    c.close_round.ensures.gives
+    close-gives c.args.setup.now.mode input ended c.args.pool c.in-Ok.field-0.pool
+    c.in-Ok.field-0.about _ _ old _ _ path c.in-Ok.field-0.end c.close_round.result
+    c.in-Ok.ensures.ends c.in-Ok.ensures.sheet c.in-Ok.ensures.about c.close_round.ensures.gives
 
 pub returns-in-Ok-clause-last : goal.returns-in-Ok-clause-last
 returns-in-Ok-clause-last g c = λ first come.
     close-last g.S.Source.left g.S.Source.reads first c.args.reader.now c.next_round.new.reader
     c.args.source.now c.next_round.new.source c.args.setup.now.mode c.args.pool come
-    c.in-Ok.field-0.pool c.in-Ok.field-0.end _ _ c.close_round.result _ _ _ _ c.in-Ok.ensures.ends
-    c.in-Ok.ensures.last c.in-Ok.ensures.sheet c.close_round.ensures.gives
+    c.in-Ok.field-0.pool c.in-Ok.field-0.about c.in-Ok.field-0.end _ _
+    c.close_round.result _ _ _ _ c.in-Ok.ensures.ends c.in-Ok.ensures.last c.in-Ok.ensures.sheet
+    c.close_round.ensures.gives
 
 pub returns-in-Ok-clause-goes_on : goal.returns-in-Ok-clause-goes_on
 returns-in-Ok-clause-goes_on g c =
-    close-goes_on c.args.setup.now.mode c.in-Ok.field-0.pool c.in-Ok.field-0.end _ _
+    close-goes_on c.args.setup.now.mode c.in-Ok.field-0.pool c.in-Ok.field-0.about
+    c.in-Ok.field-0.end _ _
     c.close_round.result c.args.reader.now c.next_round.new.reader c.args.pool.sheet
     c.in-Ok.ensures.sheet c.in-Ok.ensures.ends.moves c.close_round.ensures.live
     c.close_round.ensures.gives

@@ -1,3 +1,4 @@
+use Rattle.report_laws.proofs.AcceptedTextLemmas.{texts_accepted}
 use Rattle.report_laws.proofs.ByteLemmas.{bytes_of_answers}
 use Rattle.report_laws.proofs.ItemLemmas.{answer_of_verdicts}
 use Rattle.report_laws.proofs.ReportLemmas.{report_of_answers}
@@ -11,3 +12,6 @@ returns-clause-reports c = report_of_answers
 
 pub returns-clause-bytes : goal.returns-clause-bytes
 returns-clause-bytes c = bytes_of_answers
+
+pub returns-clause-texts : goal.returns-clause-texts
+returns-clause-texts c = texts_accepted

@@ -1,21 +1,19 @@
-use Rattle.std.proofs.Common.{◌≡◌, ◌<◌, List, length, ap, subst, arith}
-use Rattle.std.proofs.lemmas.List.{length-map}
-use Rattle.cert_check.specs.declared.line_list.Numbered.{Numbered}
+use Rattle.std.proofs.Common.{◌≡◌, ◌<◌, List, ap, ◌∙◌, length, arith, subst}
 use Rattle.cert_check.specs.LineLists.{NumberedLine, line_number_at}
-use Rattle.cert_check.proofs.ListLemmas.{shown_at}
+use Rattle.cert_check.proofs.LineEndLemmas.{kept-length, number-kept}
 use Rattle.cert_check.proofs.line_list.LineList.number.Goals as goal
+
+pub index-requires : goal.index-requires
+index-requires c =
+    let kept = c.self.inside in
+    omega (arith, ap length c.self.view_is, kept-length kept.bytes.items 0 kept.ends.items)
 
 pub returns : goal.returns
 returns c =
-    let shown = λ (it : Numbered). let line : NumberedLine = record {
-      number = it.number;
-      text = it.text.items;
-    } in line in
-    let kept = c.self.inside.lines.items in
-    let within : c.args.at < length kept =
-    omega (arith, c.requires, ap length c.self.view_is, length-map kept shown) in
-    let P : List NumberedLine → Type 0 = λ it. c.index.result.now.number ≡ line_number_at it
-    c.args.at in
+    let kept = c.self.inside in
+    let within : c.args.at < length kept.ends.items =
+    omega (arith, ap length c.self.view_is, kept-length kept.bytes.items 0 kept.ends.items) in
+    let P : List NumberedLine → Type 0 = λ lines. c.from.result ≡ line_number_at lines c.args.at in
     subst P c.self.view_is
-    (shown_at shown (λ (it : NumberedLine). it.number) kept c.args.at c.index.result.now 0 within
-    c.index.ensures)
+    (c.from.ensures ∙ ap (λ it. it.number) c.index.ensures
+    ∙ number-kept kept.bytes.items 0 kept.ends.items c.args.at c.index.result.now within)

@@ -1,0 +1,3 @@
+-- Facts of places, and of items that were judged before.
+pub mod PlaceLemmas
+pub mod KnownLemmas

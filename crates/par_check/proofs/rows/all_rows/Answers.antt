@@ -1,0 +1,87 @@
+use Rattle.std.proofs.Common.{◌≡◌, ◌<◌, ◌+◌, ◌∙◌, ℕ, List, ◌∷◌, length, drop, get_or}
+use Rattle.std.proofs.Common.{subst, sym, ap, arith}
+use Rattle.std.specs.List.{flat_map}
+use Rattle.std.proofs.lemmas.List.{drop_more}
+use Rattle.league_core.specs.game.Sheets.{clubs_of}
+use Rattle.std.proofs.lemmas.Result.{err_from_is_err_and}
+use Rattle.cert_check.specs.Machine.{rows_of, rows_on_line}
+use Rattle.league_core.specs.declared.sheet.Sheet.{Sheet}
+use Rattle.cert_check.specs.inside.Calls.{Reaches}
+use Rattle.cert_check.proofs.ReachLemmas.{reach_halt, reach_on}
+use Rattle.par_check.proofs.PlaceLemmas.{line_of_same}
+use Rattle.par_check.proofs.rows.all_rows.Goals as goal
+
+pub line_rows-requires-clause-line : goal.line_rows-requires-clause-line
+line_rows-requires-clause-line c =
+    line_of_same c.args.report.now.basis.sheet c.args.sheet.now c.line_at-line.result
+    c.requires.sheet c.line_at-line.ensures.line
+
+pub returns-in_err-line_rows : goal.returns-in_err-line_rows
+returns-in_err-line_rows c =
+    let judged = c.args.report.now in
+    let lines = judged.basis.sheet.lines in
+    let rows = rows_on_line (clubs_of judged.basis.sheet) in
+    let place = c.loop-place.place in
+    let found = c.loop-place.found in
+    let number = c.line_at-line.result in
+    let same : get_or lines place 0 ≡ number =
+    ap (λ (it : Sheet). get_or it.lines place 0) c.requires.sheet
+    ∙ sym c.line_at-line.ensures.value in
+    let within : place < length lines = omega (
+      arith,
+      c.len-place-end.ensures,
+      ap (λ (it : Sheet). length it.lines) c.requires.sheet,
+    ) in
+    let left : drop place lines ≡ number ∷ drop (place + 1) lines =
+    drop_more lines place 0 within
+    ∙ ap (λ it. it ∷ drop (place + 1) lines) same in
+    let R : List ℕ → Type 0 = λ it. Reaches judged c.args.from (rows_of judged.basis.sheet)
+    found.next (flat_map rows it) found.unsettled in
+    let gone = err_from_is_err_and c.from_residual.result c.from_residual.ensures.1 in
+    rw (gone.1, gone.2)
+    (reach_halt judged c.args.from found.next found.unsettled (rows_of judged.basis.sheet)
+    (rows number) (flat_map rows (drop (place + 1) lines)) c.in_err-line_rows.field-0.0
+    (subst R left c.loop-place.invariant.2) c.in_err-line_rows.ensures.goes)
+
+pub loop-place-preserved : goal.loop-place-preserved
+loop-place-preserved c =
+    let judged = c.args.report.now in
+    let lines = judged.basis.sheet.lines in
+    let rows = rows_on_line (clubs_of judged.basis.sheet) in
+    let place = c.loop-place.place in
+    let found = c.loop-place.found in
+    let item = c.in_ok-line_rows.field-0 in
+    let number = c.line_at-line.result in
+    let same : get_or lines place 0 ≡ number =
+    ap (λ (it : Sheet). get_or it.lines place 0) c.requires.sheet
+    ∙ sym c.line_at-line.ensures.value in
+    let within : place < length lines = omega (
+      arith,
+      c.len-place-end.ensures,
+      ap (λ (it : Sheet). length it.lines) c.requires.sheet,
+    ) in
+    let left : drop place lines ≡ number ∷ drop (place + 1) lines =
+    drop_more lines place 0 within
+    ∙ ap (λ it. it ∷ drop (place + 1) lines) same in
+    let later = flat_map rows (drop (place + 1) lines) in
+    let wanted = rows_of judged.basis.sheet in
+    let R : List ℕ → Type 0 = λ it. Reaches judged c.args.from wanted
+    found.next (flat_map rows it) found.unsettled in
+    let on = reach_on judged c.args.from found.next found.unsettled wanted
+    (rows number) later item (subst R left c.loop-place.invariant.2)
+    c.in_ok-line_rows.ensures.goes in
+    let A : ℕ → Type 0 = λ it. Reaches judged c.args.from wanted it later
+    (found.unsettled + item.unsettled) in
+    let B : ℕ → Type 0 = λ it. Reaches judged c.args.from wanted c.and-found.result.next later it
+    in (
+      omega (arith, c.in_ok-line_rows.ensures.goes.0, c.and-found.ensures.next),
+      omega (
+        arith,
+        c.in_ok-line_rows.ensures.few,
+        c.and-found.ensures.unsettled,
+        c.loop-place.invariant.1,
+        c.requires.limits.most_clubs,
+        ap (λ (it : Sheet). length it.clubs) c.requires.sheet,
+      ),
+      subst B (sym c.and-found.ensures.unsettled) (subst A (sym c.and-found.ensures.next) on),
+    )

@@ -1,0 +1,2 @@
+-- Where an item may begin, and what is known of items that were judged.
+pub mod ItemPlaces

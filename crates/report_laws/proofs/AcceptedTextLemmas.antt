@@ -1,0 +1,209 @@
+-- What a complete session writes is accepted, with its input.
+use Rattle.std.proofs.Common.{◌≡◌, ℕ, ◌+◌, ◌*◌, ◌≤◌, Bool, true, false, ◌==◌, cond, List, [], ◌∷◌}
+use Rattle.std.proofs.Common.{◌++◌, map, length, Some, None, Result, Ok, Err, refl, sym, ap}
+use Rattle.std.proofs.Common.{subst, ◌∙◌, append_assoc, append-nil, arith}
+use Rattle.std.specs.Prelude.{codes}
+use Rattle.std.specs.List.{flat_map}
+use Rattle.std.proofs.lemmas.List.{length-append}
+use Rattle.std.proofs.lemmas.List.Elements.{All-nil}
+use Rattle.league_core.specs.declared.sheet.Sheet.{Sheet}
+use Rattle.league_core.specs.game.Seasons.{IsEventOf, unplayed_season}
+use Rattle.port_core.specs.Lines.{lines_of}
+use Rattle.port_core.specs.Contents.{Contents, Position, contents_from, contents_of, content_at}
+use Rattle.port_core.specs.Contents.{input_limit, number_at, position_after, start, with_content}
+use Rattle.port_core.specs.Contents.{with_line, with_lines, without_mark, without_return}
+use Rattle.port_core.proofs.LineLemmas.{AreLines-lines_of, concat-lines_of}
+use Rattle.fixture_sheet.specs.declared.fault.SheetStop.{SheetStop}
+use Rattle.fixture_sheet.specs.Sheets.{SheetReading, sheet_reading_from, sheet_reading_of}
+use Rattle.result_log.specs.Feeds.{feed_of}
+use Rattle.result_log.proofs.FeedLemmas.{feed_of-log}
+use Rattle.cert_check.specs.declared.token.Token.{Token}
+use Rattle.cert_check.specs.declared.outcome.CheckOutcome.TheVariants.{Accepted}
+use Rattle.cert_check.specs.Outcomes.{numbered, outcome_of_feed}
+use Rattle.cert_check.specs.Outcomes.{outcome_of_report, outcome_of_sheet}
+use Rattle.cert_check.specs.inside.WrittenReports.{written}
+use Rattle.cert_check.proofs.ReadingLemmas.{sheet_read}
+use Rattle.command_words.specs.declared.command.Mode.TheVariants.{Verdicts}
+use Rattle.futmax_main.specs.declared.run_end.RunEnd.{RunEnd}
+use Rattle.futmax_main.specs.declared.run_end.RunEnd.TheVariants.{Complete}
+use Rattle.futmax_main.specs.Checks.{ComesTo}
+use Rattle.futmax_main.specs.Courses.{Course, course_of}
+use Rattle.futmax_main.specs.Rows.{last_row}
+use Rattle.futmax_main.specs.Texts.{AreAnswers}
+use Rattle.futmax_main.specs.inside.FeedCourses.{asks_in, course_with_feed, outcome_at_feed}
+use Rattle.futmax_main.proofs.CourseLemmas.{course-of_feed}
+use Rattle.futmax_main.proofs.LimitLemmas.{GivesLimits, sheet-limits}
+use Rattle.report_laws.specs.inside.AcceptedReports.{rows_written}
+use Rattle.report_laws.specs.inside.AcceptedTexts.{TextsAreAccepted, input_with_answers}
+use Rattle.report_laws.specs.inside.AcceptedTexts.{line_ended, rows_of_asks, unsettled_told}
+use Rattle.report_laws.proofs.CourseTextLemmas.{TextRead, rows-same, text-read}
+use Rattle.report_laws.proofs.FeedProofsLemmas.{GoesBefore, contents-before}
+use Rattle.report_laws.proofs.FrontLemmas.{GivesFront, lines-front}
+use Rattle.report_laws.proofs.KnownEndLemmas.{done-complete, feed-unrefused, sheet-refused}
+use Rattle.report_laws.proofs.LineReadLemmas.{contents-text}
+use Rattle.report_laws.proofs.PutLemmas.{ArePut, ReadsAs, put-back}
+use Rattle.report_laws.proofs.ReportLemmas.{ArePartsRead, report_of_parts}
+use Rattle.report_laws.proofs.WithinLemmas.{no_feed}
+
+-- ---- the bytes
+
+-- the input before the record `proofs` and other bytes
+input-front : (input rest : List ℕ) (end : ℕ) → (contents_of input).ending ≡ Ok end
+    → length (line_ended input) ≤ input_limit
+    → GivesFront start (line_ended input) (contents_of input).lines rest
+input-front input rest end read inside =
+    let lines = (contents_of input).lines in
+    let Front : List ℕ → Type 0 = λ bytes. length (line_ended bytes) ≤ input_limit
+    → GivesFront start (line_ended bytes) lines rest in
+    subst Front (concat-lines_of input)
+    (λ fits. lines-front (lines_of input) start lines end rest (AreLines-lines_of input)
+    (λ i. record { lines = lines; ending = read i }) (omega (arith, fits))) inside
+
+-- the record `proofs` stays as it is, wherever it stands
+proofs_content : (position : Position) → content_at position (codes "proofs") ≡ codes "proofs"
+proofs_content position = by_test (position.lines == 0)
+  where
+    by_test : (first : Bool) → cond first (without_mark (without_return (codes "proofs")))
+        (without_return (codes "proofs")) ≡ codes "proofs"
+    by_test true = refl
+    by_test false = refl
+
+-- the contents of an input with lines of answers
+record GivesReport (input : List ℕ) (text : List ℕ) (told : List Token) : Type 0 where
+  number : ℕ
+  tail : Contents
+  reads : ReadsAs tail told
+  gives : contents_of (input_with_answers input text)
+      ≡ with_lines (contents_of input).lines (with_line number (codes "proofs") tail)
+
+report-given : (input : List ℕ) (end : ℕ) (told : List Token) (text : List ℕ)
+    → (contents_of input).ending ≡ Ok end → text ≡ flat_map written told
+    → ArePut told
+    → length (input_with_answers input text) ≤ input_limit → GivesReport input text told
+report-given input end told text read bytes put inside =
+    let after = codes "proofs" ++ 10 ∷ text in
+    let fits : length (line_ended input ++ after) ≤ input_limit = inside in
+    let size : length (line_ended input ++ after) ≡ length (line_ended input) + length after =
+    length-append (line_ended input) after in
+    let six : length after ≡ 6 + length (10 ∷ text) = length-append (codes "proofs") (10 ∷ text) in
+    let front = input-front input after end read (omega (arith, fits, size)) in
+    let passed = front.passed in
+    let there = position_after front.next (6 + 1) in
+    let tail = contents_from there (lines_of text) in
+    let Reads : List ℕ → Type 0 = λ these. there.bytes + length these ≤ input_limit
+    → ReadsAs (contents_from there (lines_of these)) told in
+    record {
+      number = number_at front.next;
+      tail = tail;
+      reads = subst Reads (sym bytes) (put-back told there put (λ same. omega (arith, same)))
+          (omega (arith, fits, size, six, passed));
+      gives = front.gives
+          ∙ ap (with_lines (contents_of input).lines)
+          (contents-text front.next (codes "proofs") text (no_feed (codes "proofs") refl)
+          (omega arith) (omega (arith, fits, size, six, passed))
+          ∙ ap (λ (content : List ℕ). with_content (number_at front.next) content tail)
+          (proofs_content front.next));
+    }
+
+-- ---- what they come to
+
+-- a report after a sheet and its feed
+comes-to : (input text : List ℕ) (sheet : Sheet) (rest : Contents) (unsettled : ℕ)
+    (read : TextRead sheet (feed_of sheet false rest []).entries
+    (unplayed_season (length sheet.clubs) (length sheet.fixtures)) 0 text unsettled)
+    → sheet_reading_of (contents_of input) None ≡ record { gives = Ok sheet; rest = rest }
+    → GoesBefore sheet rest.lines rest.ending [] → GivesReport input text read.told
+    → ComesTo (input_with_answers input text)
+    (Accepted (rows_written (length sheet.lines * length sheet.clubs)
+    (feed_of sheet false rest []).entries) unsettled)
+comes-to input text sheet rest unsettled read is before given =
+    let entries = (feed_of sheet false rest []).entries in
+    let found = sheet_read (contents_of input) sheet rest is in
+    let tail = given.tail in
+    let more = (given.number, codes "proofs") ∷ tail.lines in
+    let other : Contents = record { lines = rest.lines ++ more; ending = tail.ending } in
+    let lines : (contents_of input).lines ++ more ≡ found.0 ++ other.lines =
+    ap (λ (c : Contents). c.lines ++ more) found.1 ∙ append_assoc found.0 rest.lines more in
+    let reading : sheet_reading_of (contents_of (input_with_answers input text)) None
+    ≡ record { gives = Ok sheet; rest = other } =
+    ap (λ (c : Contents). sheet_reading_of c None) given.gives
+    ∙ ap (λ (these : List (ℕ × List ℕ)). sheet_reading_from these tail.ending None) lines
+    ∙ found.2 other in
+    let Of : List Token → Type 0 = λ told. ArePartsRead sheet entries
+    (unplayed_season (length sheet.clubs) (length sheet.fixtures)) 0 told unsettled in
+    ap (λ (r : SheetReading). outcome_of_sheet r.rest r.gives) reading
+    ∙ ap (outcome_of_feed sheet) (before.goes given.number tail.lines tail.ending)
+    ∙ ap (outcome_of_report sheet entries tail.lines) given.reads.ending
+    ∙ ap Some (report_of_parts
+    (record { sheet = sheet; lines = map numbered tail.lines; end = given.reads.end }) entries
+    unsettled (subst Of (sym given.reads.lines) read.parts))
+
+module _ (input text : List ℕ) (inside : length (input_with_answers input text) ≤ input_limit) where
+  abbrev contents : Contents
+  contents = contents_of input
+
+  -- a text with so many rows, and so many unsettled ones, is accepted
+  abbrev IsAccepted : ℕ → ℕ → Type 0
+  IsAccepted rows unsettled = ComesTo (input_with_answers input text) (Accepted rows unsettled)
+
+  -- a session of this course that is complete writes only what is accepted
+  abbrev WritesAccepted : Course → Type 0
+  WritesAccepted course =
+      (answers : List ℕ) (made : AreAnswers (Verdicts true) course.asks answers)
+      → course.outcome ≡ Complete → text ≡ answers
+      → IsAccepted (rows_of_asks course.asks) (unsettled_told course.asks answers made)
+
+  -- one whose text is all of the answers
+  with_text : (sheet : Sheet) (rest : Contents)
+      → sheet_reading_of contents None ≡ record { gives = Ok sheet; rest = rest }
+      → outcome_at_feed (feed_of sheet false rest []).close ≡ Complete
+      → (made : AreAnswers (Verdicts true) (asks_in sheet (feed_of sheet false rest []).entries [])
+      text)
+      → IsAccepted (rows_of_asks (asks_in sheet (feed_of sheet false rest []).entries []))
+      (unsettled_told (asks_in sheet (feed_of sheet false rest []).entries []) text made)
+  with_text sheet rest is complete made =
+      let entries = (feed_of sheet false rest []).entries in
+      let unsettled = unsettled_told (asks_in sheet entries []) text made in
+      let found = sheet_read contents sheet rest is in
+      let limits = subst GivesLimits (ap (λ (r : SheetReading). r.gives) is)
+      (sheet-limits contents) in
+      let before = contents-before sheet rest []
+      (feed-unrefused sheet rest.lines start (lines_of input) rest.ending
+      (ap (λ (c : Contents). c.ending) found.1) complete) in
+      let kept = feed_of-log sheet false rest []
+      (All-nil (IsEventOf (unplayed_season (length sheet.clubs) (length sheet.fixtures))))
+      (omega arith) in
+      let read = text-read sheet entries [] text limits kept.0 kept.1 made in
+      let given = report-given input before.end read.told text
+      (ap (λ (c : Contents). c.ending) found.1 ∙ before.read) read.bytes read.put inside in
+      comes-to input text sheet rest unsettled read is before given
+      ∙ ap (λ (rows : ℕ). Some (Accepted rows unsettled)) (rows-same sheet entries [])
+
+  -- by what comes of the sheet
+  by_gives : (gives : Result Sheet SheetStop) (rest : Contents)
+      → sheet_reading_of contents None ≡ record { gives = gives; rest = rest }
+      → WritesAccepted (course_with_feed gives rest)
+  by_gives (Ok sheet) rest is answers made complete same =
+      let asks = asks_in sheet (feed_of sheet false rest []).entries [] in
+      let All : List ℕ → Type 0 = λ these. (told : AreAnswers (Verdicts true) asks these)
+      → IsAccepted (rows_of_asks asks) (unsettled_told asks these told) in
+      subst All same (with_text sheet rest is complete) made
+  by_gives (Err stop) rest is answers made complete same =
+      absurd (sheet-refused (lines_of input) start stop
+      (ap (λ (r : SheetReading). r.gives) is) complete)
+
+pub texts_accepted : TextsAreAccepted
+texts_accepted input text done told inside =
+    let contents = contents_of input in
+    let reading = sheet_reading_of contents None in
+    let course = course_of (Verdicts true) contents in
+    let complete : course.outcome ≡ Complete = done-complete course.outcome done in
+    let same : text ≡ told.0 =
+    told.2 ∙ ap (λ (outcome : RunEnd). told.0 ++ last_row outcome) complete ∙ append-nil told.0 in
+    let Writes : Course → Type 0 = λ c. WritesAccepted input text inside c in (
+      Accepted (rows_of_asks course.asks) (unsettled_told course.asks told.0 told.1),
+      subst Writes (sym (course-of_feed (Verdicts true) contents tt))
+          (by_gives input text inside reading.gives reading.rest refl) told.0 told.1 complete same,
+      refl,
+      refl,
+    )

@@ -1,0 +1,17 @@
+use Rattle.what_if.proofs.PartLemmas.{clinched_by, right_by}
+use Rattle.what_if.proofs.given.verdict_given.Goals as goal
+
+pub returns-in-Refuted-clause-right : goal.returns-in-Refuted-clause-right
+returns-in-Refuted-clause-right c =
+    clinched_by c.args.played.now.sheet c.args.played.now.season c.args.base.now c.args.line
+    c.args.club c.in_ok-outside.outside c.requires.club
+    (rw c.full_question-question.ensures at c.in_ok-outside.ensures.part) c.in-Refuted.is
+
+pub returns-clause-right : goal.returns-clause-right
+returns-clause-right c =
+    right_by c.args.played.now.sheet c.args.played.now.season c.args.base.now c.args.line
+    c.args.club c.in_ok-inside.inside c.in_ok-outside.outside c.in_ok-proof.proof
+    c.word_of-word.result c.requires.club
+    (rw c.full_question-question-2.ensures at c.in_ok-inside.ensures.part)
+    (rw c.full_question-question.ensures at c.in_ok-outside.ensures.part)
+    c.word_of-word.ensures c.in_ok-proof.ensures

@@ -1,0 +1,81 @@
+//! What stands for one question given a base.
+
+ghost use Rattle.std.specs.Prelude.{◌≡◌, ◌<◌, [], IfOk, length};
+ghost use Rattle.league_core.specs.game.Questions.{IsQuestionOf};
+ghost use Rattle.cert_text.specs.TreeLines.{marked_lines, with_spent_head};
+ghost use Rattle.cert_text.specs.ExampleLines as shown;
+ghost use Rattle.what_if.specs.inside.GivenParts.{IsAnswerPartGiven, IsBaseIn};
+
+use crate::task::solve_given;
+use branch_rules::ZoneSolver;
+use league_core::{Finish, Literal, Lots, OutOfMemory, Question, Season};
+use score_box::Played;
+use std::alloc::Global;
+use tree_reuse::Tree;
+use verdict_run::{Known, Part, Solved, example_lines, spent_lines};
+
+/// The part of a question, worked on from its root on, below the base: an example that is a member
+/// of the base, or the tree on which the budget was spent. No line shows that it holds nowhere.
+pub(crate) fn part_given(
+    alloc: Global,
+    played: &Played,
+    solver: &mut ZoneSolver,
+    question: &Question,
+    base: &[Literal],
+) -> Result<Part, OutOfMemory>
+    requires sheet { solver.old.sheet ≡ played.now.sheet }
+    requires season { solver.old.season ≡ played.now.season }
+    requires of_sheet { IsQuestionOf played.now.sheet question.now }
+    requires base { IsBaseIn played.now.sheet played.now.season base.now }
+    ensures part { IfOk result
+        (IsAnswerPartGiven played.now.sheet played.now.season base.now question.now) }
+    ensures same_sheet { solver.new.sheet ≡ solver.old.sheet }
+    ensures same_season { solver.new.season ≡ solver.old.season }
+{
+    let budget = played.sheet().budget;
+    let season = played.season();
+    let _scores = season.scores();
+    match solve_given(alloc, solver, question, base, budget)? {
+        Solved::Won(finish, lots) => won(alloc, season, question, &finish, &lots),
+        Solved::Refuted(_) => Ok(refuted(alloc)),
+        Solved::Spent(tree) => spent(alloc, question, &tree),
+    }
+}
+
+fn won(
+    alloc: Global,
+    season: &Season,
+    question: &Question,
+    finish: &Finish,
+    lots: &Lots,
+) -> Result<Part, OutOfMemory>
+    requires same { length finish.now.scores ≡ length season.now.scores }
+    requires few { length season.now.scores < 65536 }
+    ensures known { IfOk result (λ part. part.known ≡ Known.Won) }
+    ensures lines { IfOk result (λ part. part.lines.items
+        ≡ shown.example_lines question.now.claim season.now finish.now lots.now) }
+{
+    let lines = example_lines(alloc, season, question.claim, finish, lots)?;
+    let known = Known::Won;
+    Ok(Part { known, lines })
+}
+
+fn refuted(alloc: Global) -> Part
+    ensures known { result.known ≡ Known.Refuted }
+    ensures lines { result.lines.items ≡ [] }
+{
+    let lines = Vec::new(alloc);
+    let known = Known::Refuted;
+    Part { known, lines }
+}
+
+fn spent(alloc: Global, question: &Question, tree: &Tree) -> Result<Part, OutOfMemory>
+    ensures known { IfOk result (λ part. part.known ≡ Known.Spent) }
+    ensures lines { IfOk result (λ part. part.lines.items
+        ≡ with_spent_head question.now.claim (marked_lines tree.now)) }
+{
+    let nodes = tree.nodes()?;
+    let lines = spent_lines(alloc, question.claim, nodes.as_slice())?;
+    let known = Known::Spent;
+    Ok(Part { known, lines })
+}
